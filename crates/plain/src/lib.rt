@@ -1,0 +1,19 @@
+//! Small owners that contracts see as plain data: a text as its bytes, a list as its items, JSON as its
+//! reading. A struct or an enum over them is plain data in every clause.
+#![tactic(auto)]
+
+mod bytes;
+mod copied;
+mod items;
+mod json;
+mod members;
+mod text;
+mod told;
+
+pub use bytes::Bytes;
+pub use copied::Copied;
+pub use items::Items;
+pub use json::Json;
+pub use members::Members;
+pub use text::Text;
+pub use told::Told;
