@@ -1,0 +1,4 @@
+pub mod CutLemmas
+pub mod LastLemmas
+pub mod Pathed
+pub mod PathLemmas

@@ -1,0 +1,10 @@
+//! Paths of files, the file URLs that name them, and maps that are kept by path.
+#![tactic(auto)]
+
+mod by_path;
+mod file_url;
+mod path;
+
+pub use by_path::ByPath;
+pub use file_url::{UrlFault, path_of_url};
+pub use path::VfsPath;
