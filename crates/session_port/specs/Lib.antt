@@ -1,0 +1,3 @@
+pub mod Honest
+pub mod Jobs
+pub mod Record
