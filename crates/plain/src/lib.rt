@@ -8,8 +8,10 @@ mod copied;
 mod items;
 mod json;
 mod members;
+mod plain_json;
 mod text;
 mod told;
+mod within;
 
 pub use by_number::ByNumber;
 pub use bytes::Bytes;
@@ -17,5 +19,6 @@ pub use copied::Copied;
 pub use items::Items;
 pub use json::Json;
 pub use members::Members;
+pub use plain_json::Plain;
 pub use text::Text;
 pub use told::Told;
