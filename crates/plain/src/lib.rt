@@ -2,6 +2,7 @@
 //! reading. A struct or an enum over them is plain data in every clause.
 #![tactic(auto)]
 
+mod by_number;
 mod bytes;
 mod copied;
 mod items;
@@ -10,6 +11,7 @@ mod members;
 mod text;
 mod told;
 
+pub use by_number::ByNumber;
 pub use bytes::Bytes;
 pub use copied::Copied;
 pub use items::Items;
