@@ -1,4 +1,4 @@
 pub mod CutLemmas
+pub mod FileUrlLemmas
 pub mod LastLemmas
-pub mod Pathed
 pub mod PathLemmas

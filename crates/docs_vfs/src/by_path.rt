@@ -1,21 +1,23 @@
-ghost use Rattle.std.specs.Prelude.{◌≡◌, OnOk, OnErr, IfOk, IfSome, MatchOption, option_copied, is_some, Some, [], ◌∷◌};
+ghost use Rattle.std.specs.Prelude.{◌≡◌, ◌↔◌, [], ◌∷◌, OnOk, OnErr, IfOk, IsTrue, MatchOption, is_some};
+ghost use Rattle.std.specs.Option.{option_copied};
 ghost use Rattle.std.specs.FinMap as map;
 
 use crate::VfsPath;
+use plain::Copied;
 use std::alloc::{AllocError, Global};
 use std::collections::BTreeMap;
 use std::marker::Model;
 
 /// Values by path, which contracts see as a finite map.
-#[derive(Drop)]
+#[derive(Debug, Drop)]
 pub struct ByPath<V> {
     rows: BTreeMap<VfsPath, V>,
 }
 
 impl<V> Model for ByPath<V> {
     ghost use Rattle.std.specs.FinMap as map;
-    ghost use Rattle.docs_vfs.specs.Paths.{path_cmp};
     ghost use Rattle.std.specs.Coded.{coded_ℕ, coded_list};
+    ghost use Rattle.docs_vfs.specs.Paths.{path_cmp};
 
     ghost Value = { map.FinMap path_cmp V };
 
@@ -24,13 +26,27 @@ impl<V> Model for ByPath<V> {
     ghost view = { λ a. map.from_entries a.rows.entries };
 }
 
-impl<V: Drop> ByPath<V> {
-    pub fn new(alloc: Global) -> Self
+impl<V> ByPath<V> {
+    /// A map with nothing in it.
+    pub fn new(alloc: Global) -> ByPath<V>
         ensures { result ≡ map.empty }
     {
-        Self {
+        ByPath {
             rows: BTreeMap::new(alloc),
         }
+    }
+
+    pub fn len(&self) -> usize
+        ensures { result ≡ map.len self.now }
+    {
+        self.rows.len()
+    }
+
+    pub fn is_empty(&self) -> bool
+        ensures { IsTrue result ↔ (self.now ≡ map.empty) }
+    {
+        let _in_order = self.rows.iter();
+        self.rows.is_empty()
     }
 
     pub fn get(&self, path: &VfsPath) -> Option<&V>
@@ -47,11 +63,20 @@ impl<V: Drop> ByPath<V> {
 
     /// Puts a value at a path, and answers the one that was there.
     pub fn insert(&mut self, path: VfsPath, value: V) -> Result<Option<V>, AllocError>
+    where
+        V: Drop,
         ensures old { IfOk result (λ old. old ≡ map.get self.old path) }
         ensures ok { OnOk result (self.new ≡ map.insert self.old path value) }
         ensures err { OnErr result (self.new ≡ self.old) }
     {
         Ok(self.rows.insert(path, value)?)
+    }
+
+    pub fn remove(&mut self, path: &VfsPath) -> Option<V>
+        ensures value { result ≡ map.get self.old path.now }
+        ensures map { self.new ≡ map.remove self.old path.now }
+    {
+        self.rows.remove(path)
     }
 
     /// Takes the first path out, with its value.
@@ -62,11 +87,18 @@ impl<V: Drop> ByPath<V> {
         let _in_order = self.rows.iter();
         self.rows.pop_first()
     }
+}
 
-    pub fn remove(&mut self, path: &VfsPath) -> Option<V>
-        ensures value { result ≡ map.get self.old path.now }
-        ensures map { self.new ≡ map.remove self.old path.now }
-    {
-        self.rows.remove(path)
+impl<V: Copied + Drop> Clone for ByPath<V> {
+    ghost is_clone = { λ m copy. copy ≡ m };
+
+    fn clone(&self) -> Result<ByPath<V>, AllocError> {
+        Ok(ByPath {
+            rows: self.rows.clone()?,
+        })
     }
+}
+
+impl<V: Copied + Drop> Copied for ByPath<V> {
+    ghost copies = { λ x y h. h };
 }

@@ -58,9 +58,11 @@ fn is_plain_path_text(text: &str) -> bool
 fn plain_path_in(url: &str) -> Option<&str>
     ensures { MatchOption result (path_of url.now ≡ Err NotFile) (λ path. path_of url.now ≡ Ok path.now) }
 {
-    match url.strip_prefix("file://") {
-        Some(path) if is_plain_path_text(path) => Some(path),
-        _ => None,
+    let path = url.strip_prefix("file://")?;
+    if is_plain_path_text(path) {
+        Some(path)
+    } else {
+        None
     }
 }
 
@@ -77,7 +79,13 @@ pub fn path_of_url(alloc: Global, url: &str) -> Result<VfsPath, UrlFault>
     Ok(VfsPath::from_text(Text::from_str(alloc, path)?))
 }
 
-/// The path that a URL names is a path.
-pub fn names_a_path(url: &str)
-    ensures law { IfOk (path_of url.now) (λ path. is_path path ≡ true) }
+/// A URL that names a path is `file://` and that path, which is a path of [`VfsPath`].
+pub fn url_is_scheme_and_path(url: &str)
+    ensures text { IfOk (path_of url.now) (λ path. url.now ≡ file_scheme ++ path) }
+    ensures path { IfOk (path_of url.now) (λ path. is_path path ≡ true) }
+{}
+
+/// `file://` and a path whose segments need no escape is a URL of that path.
+pub fn url_names_its_path(path: &str)
+    ensures law { is_plain_path path.now ≡ true → path_of (file_scheme ++ path.now) ≡ Ok path.now }
 {}
