@@ -1,0 +1,93 @@
+// The first frame of a byte string.
+ghost use Rattle.std.specs.Prelude.{◌≡◌, ◌+◌, ◌≤◌, length, IfSome, None, Some};
+ghost use Rattle.lsp_frame.specs.Find.{place_of};
+ghost use Rattle.lsp_frame.specs.Frames.{empty_line, window, head_of, cut_at, cut_of, NoneBelow, LiesWithin};
+
+use crate::frame::{Cut, Head};
+use crate::header::read_body_size;
+use memchr::memmem;
+
+/// The bytes within which a frame's empty line ends.
+pub const HEADER_LIMIT: usize = 4096;
+
+#[tactic(auto, using(std::proofs::lemmas::List::take_all), unfolding(crate::specs::Frames::window))]
+fn header_window(bytes: &[u8]) -> &[u8]
+    ensures is { result.now ≡ window bytes.now }
+    ensures within { length result.now ≤ length bytes.now }
+    ensures limit { length result.now ≤ 4096 }
+{
+    if bytes.len() < HEADER_LIMIT {
+        bytes
+    } else {
+        &bytes[..HEADER_LIMIT]
+    }
+}
+
+/// The first empty line, where none begins below `from`.
+fn find_empty_line(bytes: &[u8], from: usize) -> Option<usize>
+    requires within { from ≤ length (window bytes.now) }
+    requires none { NoneBelow bytes.now from }
+    ensures place { result ≡ place_of empty_line (window bytes.now) }
+    ensures limit { IfSome result (λ k. k + 4 ≤ 4096) }
+    ensures within { IfSome result (λ k. k + 4 ≤ length bytes.now) }
+{
+    let window = header_window(bytes);
+    match memmem::find(&window[from..], b"\r\n\r\n") {
+        Some(place) => Some(from + place),
+        None => None,
+    }
+}
+
+/// What the header says, where no empty line begins below `from`.
+#[tactic(auto, using(crate::proofs::Sizes::size_fits), unfolding(crate::specs::Frames::head_of, crate::specs::Frames::head_at))]
+pub fn read_head(bytes: &[u8], from: usize) -> Head
+    requires within { from ≤ length (window bytes.now) }
+    requires none { NoneBelow bytes.now from }
+    ensures { result ≡ head_of bytes.now }
+{
+    match find_empty_line(bytes, from) {
+        None => {
+            if bytes.len() < HEADER_LIMIT {
+                Head::Open
+            } else {
+                Head::Broken
+            }
+        }
+        Some(place) => match read_body_size(&bytes[..place]) {
+            None => Head::Broken,
+            Some(size) => Head::Body {
+                start: place + 4,
+                end: place + 4 + size,
+            },
+        },
+    }
+}
+
+/// The first frame of so many bytes that begin with this header.
+pub fn cut_at(len: usize, head: Head) -> Cut
+    ensures { result ≡ cut_at len head }
+{
+    match head {
+        Head::Open => Cut::NeedMore,
+        Head::Broken => Cut::Bad,
+        Head::Body { start, end } => {
+            if len < end {
+                Cut::NeedMore
+            } else {
+                Cut::Frame {
+                    body_start: start,
+                    body_end: end,
+                }
+            }
+        }
+    }
+}
+
+/// The first frame of some bytes.
+#[tactic(auto, unfolding(crate::specs::Frames::cut_of))]
+pub fn cut(bytes: &[u8]) -> Cut
+    ensures is { result ≡ cut_of bytes.now }
+    ensures within { LiesWithin result (length bytes.now) }
+{
+    cut_at(bytes.len(), read_head(bytes, 0))
+}

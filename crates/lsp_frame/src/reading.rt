@@ -1,0 +1,103 @@
+ghost use Rattle.std.specs.Prelude.{◌≡◌, IfOk, Some, None, option_map};
+ghost use Rattle.lsp_frame.specs.Rules.{message_of, members_message, id_of, optional_id, error_object, optional_error, error_of, params_of, call_of, response_of};
+
+use crate::message::{Message, Notification, Request, RequestId, Response, ResponseError};
+use plain::{Json, Members, Text};
+use std::alloc::{AllocError, Global};
+
+/// The message that a body is, or none.
+pub fn read_body(alloc: Global, bytes: &[u8]) -> Result<Option<Message>, AllocError>
+    ensures { IfOk result (λ message. message ≡ message_of bytes.now) }
+{
+    match Json::read(alloc, bytes)? {
+        Some(json) => match json.into_members() {
+            Some(members) => Ok(message_from(members)),
+            None => Ok(None),
+        },
+        None => Ok(None),
+    }
+}
+
+/// The message that an object is, or none. It takes no memory.
+pub fn message_from(mut members: Members) -> Option<Message>
+    ensures { result ≡ members_message members }
+{
+    let method = members.take("method");
+    let id = members.take("id");
+    match (method, id) {
+        (Some(method), id) => call_from(method.into_text()?, id, members),
+        (None, Some(id)) => response_from(id, members),
+        (None, None) => None,
+    }
+}
+
+fn call_from(method: Text, id: Option<Json>, members: Members) -> Option<Message>
+    ensures { result ≡ call_of method id members }
+{
+    let params = params_from(members);
+    match id {
+        Some(id) if !id.is_null() => {
+            let id = id_from(id)?;
+            Some(Message::Request(Request { id, method, params }))
+        }
+        _ => Some(Message::Notification(Notification { method, params })),
+    }
+}
+
+fn params_from(mut members: Members) -> Json
+    ensures { result ≡ params_of members }
+{
+    match members.take("params") {
+        Some(params) => params,
+        None => Json::null(),
+    }
+}
+
+fn response_from(id: Json, mut members: Members) -> Option<Message>
+    ensures { result ≡ response_of id members }
+{
+    let id = optional_id_from(id)?;
+    let result = members.take("result");
+    let error = error_from(members.take("error"))?;
+    Some(Message::Response(Response { id, result, error }))
+}
+
+fn optional_id_from(json: Json) -> Option<Option<RequestId>>
+    ensures { result ≡ optional_id json }
+{
+    if json.is_null() {
+        return Some(None);
+    }
+    Some(Some(id_from(json)?))
+}
+
+fn id_from(json: Json) -> Option<RequestId>
+    ensures { result ≡ id_of json }
+{
+    match json.as_i32() {
+        Some(number) => Some(RequestId::Number(number)),
+        None => Some(RequestId::Text(json.into_text()?)),
+    }
+}
+
+fn error_from(json: Option<Json>) -> Option<Option<ResponseError>>
+    ensures { result ≡ error_of json }
+{
+    match json {
+        Some(json) if !json.is_null() => Some(Some(error_object_from(json.into_members()?)?)),
+        _ => Some(None),
+    }
+}
+
+fn error_object_from(mut members: Members) -> Option<ResponseError>
+    ensures { result ≡ error_object members }
+{
+    let code = members.take("code")?.as_i32()?;
+    let message = members.take("message")?.into_text()?;
+    let extra = members.take("data");
+    Some(ResponseError {
+        code,
+        message,
+        extra,
+    })
+}

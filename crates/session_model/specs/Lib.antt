@@ -1,0 +1,10 @@
+pub mod Course
+pub mod Headline
+pub mod Machine
+pub mod Meets
+pub mod Methods
+pub mod Opening
+pub mod Run
+pub mod State
+pub mod Texts
+pub mod Written
