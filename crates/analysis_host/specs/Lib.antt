@@ -3,3 +3,4 @@ pub mod HostData
 pub mod Polls
 pub mod SnapshotData
 pub mod Versions
+pub mod Codes

@@ -52,6 +52,10 @@ impl Model for AnalysisHost {
 
     ghost Value = { HostData };
 
+    ghost use Rattle.analysis_host.specs.Codes.{host_code};
+
+    ghost coded = { host_code };
+
     ghost view = { λ h. record { world = h.world; revision = h.revision } };
 }
 

@@ -33,6 +33,10 @@ impl Model for GlobalStateSnapshot {
 
     ghost Value = { SnapshotData };
 
+    ghost use Rattle.analysis_host.specs.Codes.{snapshot_code};
+
+    ghost coded = { snapshot_code };
+
     ghost view = { λ s. record { world = s.parts.world; versions = s.parts.versions; config = arc_value s.parts.config; revision = s.parts.revision } };
 }
 

@@ -24,6 +24,10 @@ impl Model for World {
 
     ghost Value = { WorldData };
 
+    ghost use Rattle.analysis_host.specs.Codes.{world_code};
+
+    ghost coded = { world_code };
+
     ghost view = { λ w. record { texts = arc_value w.texts } };
 }
 

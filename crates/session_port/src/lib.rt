@@ -5,17 +5,15 @@
 mod cause;
 mod command;
 mod event;
-mod inline_host;
+
 mod job;
-mod memory_sink;
-mod memory_source;
+
 mod peers;
 
 pub use cause::HostError;
 pub use command::{Command, LogCode};
 pub use event::{HostEvent, TaskBody, TaskMsg};
-pub use inline_host::InlineHost;
+
 pub use job::{Job, JobKind, JobResult, JobValue, PoolClass};
-pub use memory_sink::MemorySink;
-pub use memory_source::MemorySource;
+
 pub use peers::{Host, Sink, Source};
