@@ -9,6 +9,8 @@ mod items;
 mod json;
 mod members;
 mod plain_json;
+mod same;
+mod same_number;
 mod text;
 mod told;
 mod within;
