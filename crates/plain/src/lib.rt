@@ -23,4 +23,4 @@ pub use json::Json;
 pub use members::Members;
 pub use plain_json::Plain;
 pub use text::Text;
-pub use told::Told;
+pub use told::{Told, is_same};
