@@ -32,9 +32,10 @@ impl From<AllocError> for UrlFault {
 fn has_plain_bytes(text: &str) -> bool
     ensures { result ≡ list_all is_plain_byte text.now }
 {
-    text.as_bytes()
-        .iter()
-        .all(|b| b.is_ascii_alphanumeric() || *b == b'.' || *b == b'_' || *b == b'-')
+    text.as_bytes().iter().all(|b| b.is_ascii_alphanumeric()
+        || *b == b'.'
+        || *b == b'_'
+        || *b == b'-')
 }
 
 /// Whether a text may stand between two slashes of an accepted URL.

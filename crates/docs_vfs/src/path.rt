@@ -1,7 +1,7 @@
 ghost use Rattle.std.specs.Prelude.{◌==◌, length, option_and_then, ◌≡◌, ◌↔◌, IsTrue, IfOk, IfNone, IfSome, MatchOption, true, IsUtf8, option_copied, None, Some, OnOk, Ok, nat_eq, refl};
 ghost use Rattle.std.specs.Ordering.{nat_cmp};
 ghost use Rattle.std.specs.Hash as fed;
-ghost use Rattle.std.specs.Cmp.Lexicographic.{pointwise, slice_cmp, nat_list_eq_equiv, nat_list_cmp_total, texts_ties, texts_po};
+ghost use Rattle.std.specs.Cmp.Lexicographic.{pointwise, slice_cmp, nat_list_eq_equiv, nat_list_cmp_total, texts_ties, texts_po, bytes_decides};
 ghost use Rattle.std.specs.Cmp.{partial_equiv_from_equiv};
 ghost use Rattle.std.specs.Cmp.Rules.{hashing};
 ghost use Rattle.std.proofs.Common.{rules};
@@ -9,7 +9,7 @@ ghost use Rattle.std.specs.Prelude.{slice_index, false, ◌++◌, ◌∷◌};
 ghost use Rattle.std.specs.List.{starts_with, list_any, before_last, after_last};
 ghost use Rattle.docs_vfs.specs.Paths.{is_slash, is_dot, is_dots, has_nul, is_segment, is_path, path_from, name_of, extension_of, parent_of, is_within};
 
-use plain::{Copied, Text};
+use plain::{Copied, Text, Told};
 use std::alloc::{AllocError, Global};
 use std::cmp::Ordering;
 use std::fmt;
@@ -221,6 +221,10 @@ impl PartialEq for VfsPath {
 
 impl Eq for VfsPath {
     ghost laws = { nat_list_eq_equiv };
+}
+
+impl Told for VfsPath {
+    ghost tells = { bytes_decides };
 }
 
 impl PartialOrd for VfsPath {

@@ -7,7 +7,7 @@ use std::alloc::{AllocError, Global};
 use std::marker::Model;
 
 /// The settings of a session.
-#[derive(Drop)]
+#[derive(Debug, Drop)]
 pub struct Config {
     root_path: VfsPath,
     workspace_roots: Items<VfsPath>,
@@ -27,7 +27,7 @@ impl Model for Config {
 }
 
 impl Config {
-    /// The settings of a client that can do nothing but the least, with one workspace.
+    /// The settings for a client without capabilities, with one workspace: the root.
     pub fn new(alloc: Global, root: VfsPath, threads: u32) -> Result<Config, AllocError>
         ensures { IfOk result (λ config. config ≡ config_at root threads) }
     {
