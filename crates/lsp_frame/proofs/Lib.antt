@@ -7,3 +7,5 @@ pub mod Keeping
 pub mod Parted
 pub mod Streams
 pub mod Turns
+pub mod Written
+pub mod Bodies

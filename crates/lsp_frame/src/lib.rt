@@ -2,16 +2,21 @@
 #![tactic(auto)]
 
 mod cutting;
+mod encoding;
 mod fault;
 mod frame;
 mod header;
+mod laws;
 mod message;
 mod reader;
 mod reading;
+mod writing;
 
 pub use cutting::cut;
 pub use fault::FrameFault;
 pub use frame::Cut;
 pub use header::fields_are_lines;
+pub use laws::{any_cutting, frames_end, frames_go_on, written_frames_are_cut};
 pub use message::{Message, Notification, Request, RequestId, Response, ResponseError};
 pub use reader::FrameReader;
+pub use writing::write_message;
