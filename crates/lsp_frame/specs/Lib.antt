@@ -6,3 +6,4 @@ pub mod Rules
 pub mod Written
 pub mod Reader
 pub mod Kept
+pub mod Ids
