@@ -9,3 +9,4 @@ pub mod Streams
 pub mod Turns
 pub mod Written
 pub mod Bodies
+pub mod Rows

@@ -7,3 +7,4 @@ pub mod Written
 pub mod Reader
 pub mod Kept
 pub mod Ids
+pub mod Pending
