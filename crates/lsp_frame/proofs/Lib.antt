@@ -10,3 +10,4 @@ pub mod Turns
 pub mod Written
 pub mod Bodies
 pub mod Rows
+pub mod InStep
