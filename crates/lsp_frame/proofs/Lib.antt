@@ -11,3 +11,4 @@ pub mod Written
 pub mod Bodies
 pub mod Rows
 pub mod InStep
+pub mod Readings

@@ -8,3 +8,4 @@ pub mod Reader
 pub mod Kept
 pub mod Ids
 pub mod Pending
+pub mod Pieces

@@ -1,10 +1,11 @@
 // The requests that wait for an answer.
-ghost use Rattle.std.specs.Prelude.{◌≡◌, Some, IsSome, is_some, IfOk, OnOk, OnErr};
+ghost use Rattle.std.specs.Prelude.{◌≡◌, ℕ, None, Some, IsSome, is_some, IfOk, OnOk, OnErr};
 ghost use Rattle.std.specs.Option.{option_copied};
 ghost use Rattle.std.specs.Ordering.{nat_cmp};
 ghost use Rattle.std.specs.BTreeMap.{get, Updates};
 ghost use Rattle.lsp_frame.specs.Ids.{id_cmp};
-ghost use Rattle.lsp_frame.specs.Pending.{none_pending, id_of, ticket_of, is_pending, registered, completed, closed};
+ghost use Rattle.lsp_frame.specs.declared.message.RequestId.{RequestId};
+ghost use Rattle.lsp_frame.specs.Pending.{Pending, InStep, none_pending, id_of, ticket_of, is_pending, registered, completed, closed};
 
 use crate::message::RequestId;
 use std::alloc::{AllocError, Global};
@@ -149,3 +150,14 @@ fn put_back(ids: &mut BTreeMap<u64, RequestId>, ticket: u64, before: Option<Requ
         }
     }
 }
+
+/// Tickets and ids stay in step, and then a request is closed by either alike.
+pub fn pending_stays_in_step()
+    ensures none { InStep none_pending }
+    ensures registered { (ticket : ℕ) (id : RequestId) (p : Pending) → id_of ticket p ≡ None
+        → ticket_of id p ≡ None → InStep p → InStep (registered ticket id p) }
+    ensures completed { (ticket : ℕ) (p : Pending) → InStep p → InStep (completed ticket p) }
+    ensures closed { (id : RequestId) (p : Pending) → InStep p → InStep (closed id p) }
+    ensures alike { (ticket : ℕ) (id : RequestId) (p : Pending) → InStep p
+        → id_of ticket p ≡ Some id → completed ticket p ≡ closed id p }
+{}
