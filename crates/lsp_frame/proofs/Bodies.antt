@@ -1,10 +1,12 @@
 -- The values of a message that can be written make a body that can be written.
-use Rattle.std.proofs.Common.{◌≡◌, ◌≤◌, ℕ, false, List, Option, None, Some, refl, arith, codes}
+use Rattle.std.proofs.Common.{◌≡◌, ◌≤◌, ℕ, true, false, List, Option, None, Some, refl, arith, codes}
 use Rattle.std.specs.Prelude.{ℤ, pos, negsuc, option_map, IfSome}
 use Rattle.serde_json.specs.Data.{Data, null, boolean, number, string, array, object, no_members, put, depth}
 use Rattle.serde_json.specs.Find.{of_integer}
 use Rattle.serde_json.specs.Read.{max_depth}
 use Rattle.serde_json.specs.Written.{has_float}
+use Rattle.plain.specs.Plain.{is_plain}
+use Rattle.plain.proofs.PlainLemmas.{is_plain-no_float, is_plain-depth}
 use Rattle.lsp_frame.specs.declared.message.RequestId.{RequestId}
 use Rattle.lsp_frame.specs.declared.message.RequestId.TheVariants.{Number, Text}
 use Rattle.lsp_frame.specs.declared.message.ResponseError.{ResponseError}
@@ -72,6 +74,7 @@ fault_fits None h = tt
 fault_fits (Some e) h = error_fits (number (of_integer e.code)) e.message e.extra (integer_fits e.code) (value_fits e.extra h)
 
 message_fits : (m : Message) → AreWritable m → Fits 127 (data_of m)
+unfolding data_of
 message_fits (Request r) h = request_fits (id_data r.id) r.method (params_data r.params) (id_fits r.id) (params_fit r.params h)
 message_fits (Notification n) h = notice_fits n.method (params_data n.params) (params_fit n.params h)
 message_fits (Response r) h = response_fits (optional_id_data r.id) r.result (option_map error_data r.error) (optional_id_fits r.id) (value_fits r.result h.0) (fault_fits r.error h.1)
@@ -81,3 +84,14 @@ body_no_float m h = (message_fits m h).no_float
 
 pub body_nests : (m : Message) → AreWritable m → depth (data_of m) ≤ max_depth
 body_nests m h = (message_fits m h).nests
+
+-- plain values can be written
+pub plain_IsWritable : (d : Data) → is_plain d ≡ true → IsWritable d
+unfolding value_depth
+plain_IsWritable d h = record { no_float = is_plain-no_float d h; nests = omega (arith, is_plain-depth d h) }
+
+pub IsWritable-null : IsWritable null
+IsWritable-null = record { no_float = refl; nests = omega arith }
+
+pub IsWritable-string : (s : List ℕ) → IsWritable (string s)
+IsWritable-string s = record { no_float = refl; nests = omega arith }

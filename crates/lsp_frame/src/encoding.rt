@@ -20,6 +20,7 @@ pub fn encode(alloc: Global, message: &Message) -> Result<Vec<u8>, AllocError>
 }
 
 /// A message as JSON.
+#[tactic(auto, unfolding(crate::specs::Written::data_of))]
 fn json_of(alloc: Global, message: &Message) -> Result<Json, AllocError>
     ensures value { IfOk result (λ json. json ≡ data_of message.now) }
     ensures reads_back { OnOk result (data_message (data_of message.now) ≡ Some message.now) }
@@ -58,6 +59,7 @@ fn versioned(alloc: Global) -> Result<Members, AllocError>
     Ok(members)
 }
 
+#[tactic(auto, unfolding(crate::specs::Written::data_of))]
 fn response_json(alloc: Global, response: &Response) -> Result<Json, AllocError>
     ensures value { IfOk result (λ json. json ≡ data_of (Message.Response response.now)) }
     ensures reads_back { OnOk result (data_message (data_of (Message.Response response.now))
