@@ -5,3 +5,10 @@ pub mod Sizes
 pub mod Cuts
 pub mod Keeping
 pub mod Parted
+pub mod Streams
+pub mod Turns
+pub mod Written
+pub mod Bodies
+pub mod Rows
+pub mod InStep
+pub mod Readings

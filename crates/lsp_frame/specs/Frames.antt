@@ -1,5 +1,5 @@
 -- The first frame of a byte string, and all of its frames with their places.
-use Rattle.std.specs.Prelude.{Bool, true, false, ◌<◌, ◌≤◌, ℕ, zero, suc, ◌+◌, List, [], ◌∷◌, ◌++◌, length, take, drop, nat_lt, slice_range, Option, None, Some, if◌then◌else◌}
+use Rattle.std.specs.Prelude.{◌<◌, ◌≤◌, ℕ, zero, suc, ◌+◌, List, [], ◌∷◌, length, take, drop, nat_lt, slice_range, Option, None, Some, if◌then◌else◌}
 use Rattle.lsp_frame.specs.declared.frame.Cut.{Cut}
 use Rattle.lsp_frame.specs.declared.frame.Cut.TheVariants.{NeedMore, Bad, Frame}
 use Rattle.lsp_frame.specs.declared.frame.Head.{Head}

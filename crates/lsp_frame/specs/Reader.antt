@@ -1,11 +1,11 @@
 -- What a reader is: where the bytes that it holds stand in the stream, and whether they begin with a fault.
-use Rattle.std.specs.Prelude.{◌≡◌, ℕ, ◌+◌, Bool, true, false, List, ◌++◌, length, drop, slice_range, Option, None, Some, is_none, if◌then◌else◌}
+use Rattle.std.specs.Prelude.{◌≡◌, ℕ, ◌+◌, Bool, true, false, List, ◌++◌, drop, slice_range, None, Some, is_none, if◌then◌else◌}
 use Rattle.lsp_frame.specs.declared.fault.FrameFault.{FrameFault}
 use Rattle.lsp_frame.specs.declared.fault.FrameFault.TheVariants.{BadFrame, BadMessage, NoMemory}
 use Rattle.lsp_frame.specs.declared.frame.Cut.{Cut}
 use Rattle.lsp_frame.specs.declared.frame.Cut.TheVariants.{NeedMore, Bad, Frame}
 use Rattle.lsp_frame.specs.declared.message.Message.{Message}
-use Rattle.lsp_frame.specs.Frames.{cut_of, Frames, frame, frames_from}
+use Rattle.lsp_frame.specs.Frames.{cut_of, frame, frames_from}
 use Rattle.lsp_frame.specs.Rules.{message_of}
 
 -- where the first byte that is held stands in the stream, the bytes held, and whether a fault was answered

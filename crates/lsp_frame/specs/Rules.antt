@@ -67,5 +67,5 @@ abbrev pub data_message : Data → Option Message
 data_message d = option_and_then members_message (as_object d)
 
 -- the message that a body is
-abbrev pub message_of : List ℕ → Option Message
+unfoldable pub message_of : List ℕ → Option Message
 message_of body = option_and_then data_message (read_body body)

@@ -48,14 +48,14 @@ abbrev pub call_members : List ℕ → Data → Members
 call_members method params = put_some (codes "params") (params_data params) (put (codes "method") (string method) version)
 
 -- a message as JSON
-abbrev pub data_of : Message → Data
+unfoldable pub data_of : Message → Data
 data_of (Request r) = object (put (codes "id") (id_data r.id) (call_members r.method r.params))
 data_of (Notification n) = object (call_members n.method n.params)
 data_of (Response r) =
     object (put_some (codes "error") (option_map error_data r.error) (put_some (codes "result") r.result (put (codes "id") (optional_id_data r.id) version)))
 
 -- the body
-abbrev pub body_of : Message → List ℕ
+unfoldable pub body_of : Message → List ℕ
 body_of m = compact_text (data_of m)
 
 -- how deep the values in a message nest at most: two less than what is read, since a response holds its error, and that its data
