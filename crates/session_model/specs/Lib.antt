@@ -1,5 +1,6 @@
 pub mod Course
 pub mod Headline
+pub mod Invariant
 pub mod Machine
 pub mod Meets
 pub mod Methods

@@ -4,10 +4,10 @@
 
 mod fault;
 mod input;
-
+mod laws;
 mod notice;
 
 pub use fault::{Counter, SessionError, TurnError};
 pub use input::{Event, Input};
-
+pub use laws::{any_pieces, rows_keep_the_invariant, steps_are_rows, turns_are_read};
 pub use notice::DidOpen;
