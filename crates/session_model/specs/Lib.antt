@@ -1,3 +1,4 @@
+pub mod Codes
 pub mod Course
 pub mod Headline
 pub mod Invariant

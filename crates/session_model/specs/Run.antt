@@ -1,5 +1,5 @@
 -- A whole run: the machine's turns, and the lists that the host and the sink keep of it.
-use Rattle.std.specs.Prelude.{◌≡◌, ◌≤◌, ◌<◌, ◌⊎◌, ℕ, ◌+◌, ◌-◌, ◌^◌, List, [], ◌∷◌, ◌++◌, length, map, Bool, IsTrue, Option, None, Some, Result, Ok, Err}
+use Rattle.std.specs.Prelude.{◌≡◌, ◌≤◌, ◌<◌, ◌⊎◌, ℕ, ◌+◌, ◌-◌, ◌^◌, List, [], ◌∷◌, ◌++◌, length, map, Bool, false, IsTrue, Option, None, Some, Result, Ok, Err}
 use Rattle.std.specs.FinMap as maps
 use Rattle.serde_json.specs.Data.{Data}
 use Rattle.lsp_frame.specs.Reader.{Reader}
@@ -166,6 +166,10 @@ EndsWell to old new = ((more : List HostEvent) → to more ≡ stops exit) × (n
 abbrev pub Ends : {T : Type 0} → Meaning → State → (List HostEvent → Course) → ℕ → Told → Told → Result T SessionError → Type 0
 Ends meaning state to used old new (Ok x) = EndsWell to old new
 Ends meaning state to used old new (Err e) = EndsBy meaning state to used old new e
+
+-- a reader that was fed nothing
+abbrev pub empty_reader : Reader
+empty_reader = record { place = 0; held = []; failed = false }
 
 -- the bytes that a reader was fed
 abbrev pub fed_bytes : Reader → ℕ
