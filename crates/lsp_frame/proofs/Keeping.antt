@@ -1,5 +1,5 @@
 -- What a reader knows stays true when bytes are added and moved.
-use Rattle.std.proofs.Common.{◌≡◌, ◌+◌, ◌-◌, ◌^◌, ◌<◌, ◌≤◌, ℕ, Bool, false, List, ◌++◌, None, length, drop, sym, ap, subst, ◌∙◌, arith, lit<, length-append}
+use Rattle.std.proofs.Common.{◌≡◌, ◌+◌, ◌-◌, ◌^◌, ◌<◌, ◌≤◌, ℕ, Bool, true, false, List, ◌++◌, None, length, drop, sym, ap, subst, ◌∙◌, arith, lit<, length-append}
 use Rattle.std.proofs.lemmas.Bool.{false≢true}
 use Rattle.std.proofs.lemmas.List.{drop-append-le}
 use Rattle.memchr.specs.Find.{FindsNeedle}
@@ -7,6 +7,7 @@ use Rattle.lsp_frame.specs.declared.frame.Head.{Head}
 use Rattle.lsp_frame.specs.declared.frame.Head.TheVariants.{Open, Broken, Body}
 use Rattle.lsp_frame.specs.Frames.{empty_line, window, head_of}
 use Rattle.lsp_frame.specs.Kept.{IsHead, Knows, IsKept}
+use Rattle.lsp_frame.specs.Reader.{is_faulty}
 use Rattle.lsp_frame.proofs.Places.{finds_place}
 use Rattle.lsp_frame.proofs.Cuts.{head_more, head_open, NoneBelow-more, length-window-more, window-short}
 
@@ -36,6 +37,10 @@ IsKept-moved place start to buf new head searched failed same le h = record {
   knows = rw same h.knows;
   faulty = rw same h.faulty;
 }
+
+-- a fault that was found
+pub IsKept-faulty : (place start : ℕ) (buf : List ℕ) (head : Head) (searched : ℕ) (failed now : Bool) → is_faulty (drop start buf) ≡ true → IsKept place start buf head searched failed → IsKept place start buf head searched now
+IsKept-faulty place start buf head searched failed now is h = record { within = h.within; counted = h.counted; knows = h.knows; faulty = λ _. is }
 
 -- more bytes behind them, where they fit
 pub IsKept-more : (place start : ℕ) (buf more : List ℕ) (head : Head) (searched : ℕ) (failed : Bool) → failed ≡ false → place + length (drop start buf) + length more < 2 ^ 64 → IsKept place start buf head searched failed → IsKept place start (buf ++ more) head searched failed

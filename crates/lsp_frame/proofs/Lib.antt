@@ -5,3 +5,5 @@ pub mod Sizes
 pub mod Cuts
 pub mod Keeping
 pub mod Parted
+pub mod Streams
+pub mod Turns

@@ -84,7 +84,7 @@ pub fn cut_at(len: usize, head: Head) -> Cut
 }
 
 /// The first frame of some bytes.
-#[tactic(auto, unfolding(crate::specs::Frames::cut_of))]
+#[tactic(auto, using(crate::proofs::Turns::lies_within), unfolding(crate::specs::Frames::cut_of))]
 pub fn cut(bytes: &[u8]) -> Cut
     ensures is { result ≡ cut_of bytes.now }
     ensures within { LiesWithin result (length bytes.now) }

@@ -154,7 +154,8 @@ impl FrameReader {
             return Ok(());
         }
         self.start = compact(&mut self.buf, self.start);
-        self.buf.extend_from_slice(bytes)
+        self.buf.extend_from_slice(bytes)?;
+        Ok(())
     }
 
     /// Reads the next header as far as it has come, and says what the next frame is.
