@@ -1,3 +1,4 @@
 pub mod Honest
 pub mod Jobs
+pub mod Memory
 pub mod Record

@@ -2,18 +2,19 @@
 //! source of what is read; and the host that runs everything on one thread.
 #![tactic(auto)]
 
+mod calls;
 mod cause;
 mod command;
 mod event;
-
 mod job;
-
+mod memory_sink;
+mod memory_source;
 mod peers;
 
 pub use cause::HostError;
 pub use command::{Command, LogCode};
 pub use event::{HostEvent, TaskBody, TaskMsg};
-
 pub use job::{Job, JobKind, JobResult, JobValue, PoolClass};
-
+pub use memory_sink::MemorySink;
+pub use memory_source::MemorySource;
 pub use peers::{Host, Sink, Source};
