@@ -1,5 +1,5 @@
 -- What the sink and the source in memory are.
-use Rattle.std.specs.Prelude.{◌≡◌, ℕ, ◌+◌, ◌-◌, ◌^◌, min, Bool, List, [], ◌∷◌, take, Option, None, Some, Result, Ok, Err, Contains}
+use Rattle.std.specs.Prelude.{ℕ, ◌+◌, ◌-◌, ◌^◌, min, List, [], ◌∷◌, take, Option, None, Some, Result, Ok, Err, Contains}
 use Rattle.session_port.specs.declared.cause.HostError.{HostError}
 use Rattle.session_port.specs.declared.cause.HostError.TheVariants.{Failed, NoMemory}
 

@@ -6,6 +6,8 @@ use Rattle.session_port.proofs.memory_source.MemorySourceSource.read_piece.Goals
 
 pub returns-clause-piece : goal.returns-clause-piece
 returns-clause-piece c =
-    let is : c.in_ok-piece.piece ≡ take c.min-len.result (drop c.self.inside.given c.self.inside.bytes) = grind (arith, common_steps) in
-    (grind (arith, common_steps, is), grind (arith, common_steps, is),
-    ap Some (sym (ap (λ s. s.left) c.self.view_is) ∙ parted c.self.inside.given c.min-len.result c.self.inside.bytes c.in_ok-piece.piece is))
+    let is : c.in_ok-piece.piece ≡ take c.min-len.result (drop c.self.inside.given c.self.inside.bytes) = grind (arith, common_steps) in (
+      grind (arith, common_steps, is),
+      grind (arith, common_steps, is),
+      ap Some (sym (ap (λ s. s.left) c.self.view_is) ∙ parted c.self.inside.given c.min-len.result c.self.inside.bytes c.in_ok-piece.piece is),
+    )
