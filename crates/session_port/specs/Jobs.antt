@@ -1,10 +1,9 @@
 -- Jobs, and what they come to.
-use Rattle.std.specs.Prelude.{◌≡◌, ℕ, List, [], ◌∷◌, Bool, true, Option, Some, None, if◌then◌else◌}
+use Rattle.std.specs.Prelude.{ℕ, List, [], ◌∷◌, Bool, true, Option, None, if◌then◌else◌}
 use Rattle.std.specs.Ordering.{nat_cmp}
 use Rattle.std.specs.FinMap as map
 use Rattle.plain.specs.Plain.{is_plain}
 use Rattle.analysis_host.specs.Answers.{Finding, answer, fault}
-use Rattle.analysis_host.specs.SnapshotData.{SnapshotData}
 use Rattle.analysis_host.specs.declared.ask.Answer.{Answer}
 use Rattle.analysis_host.specs.declared.ask.Answer.TheVariants.{Json as JsonAnswer}
 use Rattle.analysis_host.specs.declared.ask.Ask.{Ask}

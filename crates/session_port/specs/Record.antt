@@ -1,6 +1,5 @@
 -- What a host, a sink and a source record.
 use Rattle.std.specs.Prelude.{◌≡◌, ◌≤◌, ◌<◌, ℕ, ◌+◌, ◌-◌, ◌^◌, min, List, [], ◌∷◌, ◌++◌, length, Option, None, Some, Result, Ok, Err, IsErrOf}
-use Rattle.std.specs.Ordering.{nat_cmp}
 use Rattle.std.specs.FinMap as map
 use Rattle.session_port.specs.Jobs.{Jobs, after_batch}
 use Rattle.session_port.specs.declared.cause.HostError.{HostError}
