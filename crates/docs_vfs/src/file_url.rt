@@ -4,7 +4,8 @@ ghost use Rattle.docs_vfs.specs.Paths.{is_path};
 ghost use Rattle.docs_vfs.specs.FileUrls.{is_plain_byte, is_plain_segment, is_plain_path, file_scheme, path_of, Answers};
 ghost use Rattle.docs_vfs.specs.declared.file_url.UrlFault.TheVariants.{NotFile};
 
-use crate::path::{VfsPath, is_dots_text};
+use crate::path::VfsPath;
+use crate::path_text::is_dots_text;
 use plain::Text;
 use std::alloc::{AllocError, Global};
 

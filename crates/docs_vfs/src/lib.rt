@@ -4,6 +4,7 @@
 mod by_path;
 mod file_url;
 mod path;
+mod path_text;
 #[cfg(test)]
 mod tests;
 

@@ -20,9 +20,9 @@ impl Model for Config {
     ghost Value = { ConfigData };
 
     ghost view = { λ c. record {
-        root_path = c.root_path;
-        workspace_roots = c.workspace_roots;
-        threads = c.threads;
+      root_path = c.root_path;
+      workspace_roots = c.workspace_roots;
+      threads = c.threads;
     } };
 }
 
