@@ -1,13 +1,13 @@
 -- What the pending requests answer after one comes and after one goes, and that tickets and ids stay in step.
-use Rattle.std.proofs.Common.{◌≡◌, ◌≢◌, ◌↔◌, ℕ, Bool, true, false, cond, Option, None, Some, Ordering, refl, sym, ap, ◌∙◌}
+use Rattle.std.proofs.Common.{◌≡◌, ◌≢◌, ◌↔◌, ℕ, Bool, true, false, Option, None, Some, Ordering, refl, sym, ap, ◌∙◌}
 use Rattle.std.specs.Ordering.{nat_cmp, eq_by_cmp}
 use Rattle.std.specs.Cmp.{IsTotalOrder, Equal-is, eq_by_cmp_equiv, nat_cmp_total}
 use Rattle.std.specs.FinMap as map
 use Rattle.std.proofs.lemmas.Bool.{false≢true, cond-true, cond-false}
 use Rattle.lsp_frame.specs.declared.message.RequestId.{RequestId}
 use Rattle.lsp_frame.specs.Ids.{id_cmp, id_cmp_total, id_cmp-IsAntisymmetric}
-use Rattle.lsp_frame.specs.Pending.{Pending, none_pending, id_of, ticket_of, is_pending, registered, without, completed, completed_by, closed, closed_by, InStep}
-use Rattle.lsp_frame.proofs.Rows.{completed-some, completed-none, closed-some, closed-none}
+use Rattle.lsp_frame.specs.Pending.{Pending, none_pending, id_of, ticket_of, registered, without, completed, completed_by, closed, closed_by, InStep}
+use Rattle.lsp_frame.proofs.Rows.{completed-some, closed-some}
 
 some_not : {A : Type 0} (x : A) → None ≡ Some x → ⊥
 some_not x e = cc
@@ -152,9 +152,11 @@ by_keys new p ticket id h ids tickets here above beside = record { both = both }
         (λ off. either id_cmp_total id_cmp-IsAntisymmetric i id (λ is. rw is (beside q off)) (λ other. as_before new p q i (ids q off) (tickets i other) (h.both q i)))
 
 pub none_pending-InStep : InStep none_pending
-none_pending-InStep = record { both = λ ticket id. neither none_pending ticket id
-    (λ e. some_not id (sym (id_of-none_pending ticket) ∙ e))
-    (λ e. some_not ticket (sym (ticket_of-none_pending id) ∙ e)) }
+none_pending-InStep = record {
+  both = λ ticket id. neither none_pending ticket id
+      (λ e. some_not id (sym (id_of-none_pending ticket) ∙ e))
+      (λ e. some_not ticket (sym (ticket_of-none_pending id) ∙ e));
+}
 
 pub registered-InStep : (ticket : ℕ) (id : RequestId) (p : Pending) → id_of ticket p ≡ None → ticket_of id p ≡ None → InStep p → InStep (registered ticket id p)
 registered-InStep ticket id p no_id no_ticket h =
@@ -162,11 +164,11 @@ registered-InStep ticket id p no_id no_ticket h =
     by_keys new p ticket id h (id_of-registered_other ticket id p) (ticket_of-registered_other ticket id p)
     (λ _. ticket_of-registered_same ticket id p, λ _. id_of-registered_same ticket id p)
     (λ i other. neither new ticket i
-        (λ e. other (sym (some_same id i (sym (id_of-registered_same ticket id p) ∙ e))))
-        (λ e. some_not i (sym no_id ∙ (h.both ticket i).1 (sym (ticket_of-registered_other ticket id p i other) ∙ e))))
+    (λ e. other (sym (some_same id i (sym (id_of-registered_same ticket id p) ∙ e))))
+    (λ e. some_not i (sym no_id ∙ (h.both ticket i).1 (sym (ticket_of-registered_other ticket id p i other) ∙ e))))
     (λ q off. neither new q id
-        (λ e. some_not q (sym no_ticket ∙ (h.both q id).0 (sym (id_of-registered_other ticket id p q off) ∙ e)))
-        (λ e. off (sym (some_same ticket q (sym (ticket_of-registered_same ticket id p) ∙ e)))))
+    (λ e. some_not q (sym no_ticket ∙ (h.both q id).0 (sym (id_of-registered_other ticket id p q off) ∙ e)))
+    (λ e. off (sym (some_same ticket q (sym (ticket_of-registered_same ticket id p) ∙ e)))))
 
 pub without-InStep : (ticket : ℕ) (id : RequestId) (p : Pending) → id_of ticket p ≡ Some id → InStep p → InStep (without ticket id p)
 without-InStep ticket id p is h =
@@ -174,14 +176,14 @@ without-InStep ticket id p is h =
     let has : ticket_of id p ≡ Some ticket = (h.both ticket id).0 is in
     by_keys new p ticket id h (id_of-without_other ticket id p) (ticket_of-without_other ticket id p)
     (neither new ticket id
-        (λ e. some_not id (sym (id_of-without_same ticket id p) ∙ e))
-        (λ e. some_not ticket (sym (ticket_of-without_same ticket id p) ∙ e)))
+    (λ e. some_not id (sym (id_of-without_same ticket id p) ∙ e))
+    (λ e. some_not ticket (sym (ticket_of-without_same ticket id p) ∙ e)))
     (λ i other. neither new ticket i
-        (λ e. some_not i (sym (id_of-without_same ticket id p) ∙ e))
-        (λ e. other (some_same i id (sym ((h.both ticket i).1 (sym (ticket_of-without_other ticket id p i other) ∙ e)) ∙ is))))
+    (λ e. some_not i (sym (id_of-without_same ticket id p) ∙ e))
+    (λ e. other (some_same i id (sym ((h.both ticket i).1 (sym (ticket_of-without_other ticket id p i other) ∙ e)) ∙ is))))
     (λ q off. neither new q id
-        (λ e. off (some_same q ticket (sym ((h.both q id).0 (sym (id_of-without_other ticket id p q off) ∙ e)) ∙ has)))
-        (λ e. some_not q (sym (ticket_of-without_same ticket id p) ∙ e)))
+    (λ e. off (some_same q ticket (sym ((h.both q id).0 (sym (id_of-without_other ticket id p q off) ∙ e)) ∙ has)))
+    (λ e. some_not q (sym (ticket_of-without_same ticket id p) ∙ e)))
 
 pub completed-InStep : (ticket : ℕ) (p : Pending) → InStep p → InStep (completed ticket p)
 completed-InStep ticket p h = completed_cases ticket p InStep (λ none. h) (λ id is. without-InStep ticket id p is h)

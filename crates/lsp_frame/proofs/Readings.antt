@@ -1,18 +1,18 @@
 -- What the messages of a stream are while it is read.
-use Rattle.std.proofs.Common.{◌≡◌, ◌+◌, ◌-◌, ◌<◌, ◌≤◌, ℕ, suc, false, List, [], ◌∷◌, ◌++◌, length, get_or, drop, refl, sym, ap, ◌∙◌, arith, length-append, length-drop, append_assoc, add-one, Some, None}
+use Rattle.std.proofs.Common.{◌≡◌, ◌+◌, ◌<◌, ◌≤◌, ℕ, suc, false, List, [], ◌∷◌, ◌++◌, length, get_or, drop, refl, sym, ap, ◌∙◌, arith, length-append, length-drop, append_assoc, add-one, Some, None}
 use Rattle.std.specs.Global.{Vec}
 use Rattle.std.proofs.lemmas.List.{append-nil, drop_all}
 use Rattle.std.proofs.Math.Seq.{drop-cons}
 use Rattle.lsp_frame.specs.declared.fault.FrameFault.{FrameFault}
-use Rattle.lsp_frame.specs.declared.fault.FrameFault.TheVariants.{BadFrame, BadMessage, NoMemory}
-use Rattle.lsp_frame.specs.declared.frame.Cut.TheVariants.{NeedMore, Bad, Frame}
+use Rattle.lsp_frame.specs.declared.fault.FrameFault.TheVariants.{BadFrame, BadMessage}
+use Rattle.lsp_frame.specs.declared.frame.Cut.TheVariants.{NeedMore, Bad}
 use Rattle.lsp_frame.specs.declared.frame.Head.TheVariants.{Open}
 use Rattle.lsp_frame.specs.declared.message.Message.{Message}
 use Rattle.lsp_frame.specs.declared.pieces.Reading.{Reading}
 use Rattle.lsp_frame.specs.Find.{place_of}
 use Rattle.lsp_frame.specs.Frames.{empty_line, cut_of, frames_from}
 use Rattle.lsp_frame.specs.Reader.{Reader, fed, GivesMessage, IsBadFrame, IsBadMessage}
-use Rattle.lsp_frame.specs.Pieces.{stream_of, fault_at, message_first, reading_of, behind}
+use Rattle.lsp_frame.specs.Pieces.{stream_of, reading_of, behind}
 use Rattle.lsp_frame.proofs.Cuts.{cut_more, cut_bounds, cut_by_head, head_none, window-short}
 use Rattle.lsp_frame.proofs.Streams.{frames_bad, frames_given, frames_partial}
 

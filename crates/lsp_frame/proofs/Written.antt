@@ -15,7 +15,7 @@ use Rattle.memchr.specs.Find.{OccursAt, Nowhere}
 use Rattle.lsp_frame.specs.declared.frame.Cut.TheVariants.{Frame}
 use Rattle.lsp_frame.specs.declared.frame.Head.TheVariants.{Open, Body}
 use Rattle.lsp_frame.specs.Find.{place_of}
-use Rattle.lsp_frame.specs.Header.{is_field, is_length, is_value_byte, value_of, size_of, size_in, sizes, only, body_size, lines_of}
+use Rattle.lsp_frame.specs.Header.{is_field, is_length, is_value_byte, value_of, size_of, size_in, sizes, only_size, body_size, lines_of}
 use Rattle.lsp_frame.specs.Frames.{empty_line, sized, head_of, cut_of, frame, frames_from}
 use Rattle.lsp_frame.specs.Written.{header_for, frame_for}
 use Rattle.lsp_frame.proofs.Lines.{lines_of-one}
@@ -78,7 +78,7 @@ size_written size le =
     ∙ ap Some numeral.1
 
 one_size : (line : List ℕ) (size : ℕ) → is_field line ≡ true → is_length line ≡ true → size_of (value_of line) ≡ Some size → size_in (line ∷ []) ≡ Some size
-unfolding size_in sizes only
+unfolding size_in sizes only_size
 one_size line size field named is = rw (field, named, is) refl
 
 field_written : (size : ℕ) → size ≤ 67108864 → is_field (block_for size) ≡ true

@@ -10,6 +10,7 @@ use Rattle.std.proofs.Common.{ap}
 use Rattle.lsp_frame.specs.declared.message.RequestId.{RequestId}
 use Rattle.lsp_frame.specs.declared.message.RequestId.TheVariants.{Number, Text}
 
+-- numbers by size, texts by their bytes
 abbrev pub id_cmp : RequestId → RequestId → Ordering
 id_cmp (Number a) (Number b) = int_cmp a b
 id_cmp (Number a) (Text t) = Less

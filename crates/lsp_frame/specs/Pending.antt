@@ -26,6 +26,7 @@ id_of ticket p = map.get p.ids ticket
 abbrev pub ticket_of : RequestId → Pending → Option ℕ
 ticket_of id p = map.get p.tickets id
 
+-- whether a request of this id waits
 abbrev pub is_pending : RequestId → Pending → Bool
 is_pending id p = is_some (ticket_of id p)
 
@@ -57,7 +58,7 @@ closed id p = closed_by id (ticket_of id p) p
 pub record InStep (p : Pending) : Type 0 where
   pub both : (ticket : ℕ) (id : RequestId) → (id_of ticket p ≡ Some id) ↔ (ticket_of id p ≡ Some ticket)
 
--- how the logic stores them
+-- how the logic stores an id, and the pending requests
 abbrev split : RequestId → ℤ ⊎ List ℕ
 split (Number a) = inl a
 split (Text s) = inr s

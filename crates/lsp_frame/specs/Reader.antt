@@ -24,15 +24,17 @@ faulty_by held NeedMore = false
 faulty_by held Bad = true
 faulty_by held (Frame start end) = is_none (message_of (slice_range held start end))
 
+-- the same of some bytes
 unfoldable pub is_faulty : List ℕ → Bool
 is_faulty held = faulty_by held (cut_of held)
 
--- the fault that such bytes are
+-- the fault that such bytes are, at this place
 abbrev pub fault_by : ℕ → Cut → FrameFault
 fault_by at NeedMore = BadFrame at
 fault_by at Bad = BadFrame at
 fault_by at (Frame start end) = BadMessage at
 
+-- the fault that a reader that has failed answers
 abbrev pub fault_of : Reader → FrameFault
 fault_of r = fault_by r.place (cut_of r.held)
 

@@ -22,7 +22,7 @@ pub struct Incoming {
 impl Model for Incoming {
     ghost use Rattle.std.specs.FinMap as map;
     ghost use Rattle.lsp_frame.specs.Ids.{id_cmp};
-ghost use Rattle.lsp_frame.specs.Pending.{Pending, pending_code};
+    ghost use Rattle.lsp_frame.specs.Pending.{Pending, pending_code};
 
     ghost Value = { Pending };
 

@@ -24,3 +24,6 @@ pub use message::{Message, Notification, Request, RequestId, Response, ResponseE
 pub use pieces::{Reading, read_pieces};
 pub use reader::FrameReader;
 pub use writing::write_message;
+
+#[cfg(test)]
+mod tests;

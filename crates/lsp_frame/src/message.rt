@@ -17,9 +17,7 @@ impl PartialOrd for RequestId {
 
     ghost partial_cmp = { λ x y. Some (id_cmp x y) };
 
-    ghost laws = {
-        po id_cmp_total (id_ties _ (λ a b. refl) (λ a t. refl) (λ s b. refl) texts_ties)
-    };
+    ghost laws = { po id_cmp_total (id_ties _ (λ a b. refl) (λ a t. refl) (λ s b. refl) texts_ties) };
 
     fn partial_cmp(&self, other: &RequestId) -> Option<Ordering> {
         Some(self.cmp(other))

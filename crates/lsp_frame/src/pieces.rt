@@ -30,7 +30,7 @@ fn take_messages(
     ensures end { IfOk result (λ o. MatchOption o
         ((cut_of reader.new.held ≡ Cut.NeedMore) × (reader.new.failed ≡ false))
         (λ fault. (more : List ℕ) → reading_of (frames_from reader.new.place (reader.new.held ++ more))
-            ≡ record { messages = []; fault = Some fault })) }
+        ≡ record { messages = []; fault = Some fault })) }
 {
     'messages: loop {
         match reader.next() {

@@ -1,5 +1,4 @@
-use Rattle.std.proofs.Common.{◌+◌, ◌≤◌, length, refl, arith}
-use Rattle.lsp_frame.specs.Pieces.{stream_of}
+use Rattle.std.proofs.Common.{refl, arith}
 use Rattle.lsp_frame.proofs.Readings.{Follows-piece, Follows-end, Follows-fault, piece_fits, cut_nothing, stream_of-end}
 use Rattle.lsp_frame.proofs.pieces.read_pieces.Goals as goal
 
@@ -28,7 +27,7 @@ loop-piece-preserved c =
 pub returns-in-Some : goal.returns-in-Some
 returns-in-Some c =
     let follows = Follows-piece _ _ _ _ c.take_messages.new.reader _ _ _ _ _ c.loop-piece-test.true c.piece-item.is c.deref.ensures.value c.loop-piece.invariant.sound c.in_ok-feed.ensures.ok
-        c.in_ok-fault.ensures.reading c.in_ok-fault.ensures.counted c.loop-piece.invariant.follows in
+    c.in_ok-fault.ensures.reading c.in_ok-fault.ensures.counted c.loop-piece.invariant.follows in
     Follows-fault _ c.take_messages.new.reader _ _ _ (rw c.in-Some.is at c.in_ok-fault.ensures.end) follows
 
 pub returns : goal.returns
