@@ -1,11 +1,10 @@
 // The host that runs everything on one thread.
-ghost use Rattle.std.specs.Prelude.{◌≡◌, ◌≤◌, true, length, take, IsTrue, IfOk, IfErr, OnErr};
+ghost use Rattle.std.specs.Prelude.{◌≡◌, true, IsTrue, IfOk, IfErr, OnErr};
 ghost use Rattle.session_port.specs.Coming.{Comes, IsHeld, source_after, jobs_after};
 ghost use Rattle.session_port.specs.Framed.{waiting};
 ghost use Rattle.session_port.specs.Honest.{IsHonest};
 ghost use Rattle.session_port.specs.Inline.{new_inline, IfBytes, IfTasks, IfEnded, GivesBytes, GivesResults, GivesEnd};
 ghost use Rattle.session_port.specs.Record.{HasCause, AreRising, added, after_given, after_ok, after_order, last_number, spawned};
-ghost use Rattle.session_port.specs.declared.event.HostEvent.TheVariants.{Tasks};
 
 use crate::cause::HostError;
 use crate::command::Command;
@@ -14,7 +13,7 @@ use crate::framed_source::FramedSource;
 use crate::jobs_out::JobsOut;
 use crate::peers::{Host, Source};
 use analysis_host::Analysis;
-use plain::{Bytes, Copied, Items};
+use plain::{Bytes, Items};
 use std::alloc::{AllocError, Global};
 use std::marker::Model;
 
@@ -50,12 +49,12 @@ impl<'a, S: Source, A> Model for InlineHost<'a, S, A> {
     ghost view = { λ h. record { out = h.jobs.out; handed = h.jobs.handed; waiting = waiting h.source; given = h.given; taken = h.taken; faults = h.source.faults } };
 }
 
-/// Adds an entry to a record, if it is kept.
-fn keep<T: Copied + Drop>(record_of: &mut Option<Items<T>>, entry: &T) -> Result<(), AllocError>
-    ensures { record_of.new ≡ after_ok result (λ _. added record_of.old entry.now) record_of.old }
+/// Adds an event to the record, if one is kept.
+fn keep(given: &mut Option<Items<HostEvent>>, event: &HostEvent) -> Result<(), AllocError>
+    ensures { given.new ≡ after_ok result (λ _. added given.old event.now) given.old }
 {
-    if let Some(entries) = record_of {
-        entries.push(entry.clone()?)?;
+    if let Some(given) = given {
+        given.push(event.clone()?)?;
     }
     Ok(())
 }
