@@ -125,7 +125,6 @@ impl<'a, S: Source, A: Analysis> Host<A> for InlineHost<'a, S, A> {
     fn next(&mut self) -> Result<HostEvent, HostError>
         ensures out { self.new.out ≡ after_given result self.old.out }
         ensures handed { self.new.handed ≡ self.old.handed }
-        ensures honest_stays { true ≡ true }
         ensures honest { IfOk result (λ event. IsTrue true → IsHonest A.answer self.old.out event) }
         ensures given { self.new.given
             ≡ after_ok result (λ event. added self.old.given event) self.old.given }
@@ -136,8 +135,7 @@ impl<'a, S: Source, A: Analysis> Host<A> for InlineHost<'a, S, A> {
         ensures bytes { IfOk result (λ event. IfBytes event (GivesBytes self.old self.new)) }
         ensures results { IfOk result (λ event. IfTasks event (GivesResults self.old self.new)) }
         ensures ended { IfOk result (λ event. IfEnded event (GivesEnd self.old self.new)) }
-        ensures kept { OnErr result ((self.new.out ≡ self.old.out)
-            × (self.new.waiting ≡ self.old.waiting)) }
+        ensures kept { OnErr result (self.new.waiting ≡ self.old.waiting) }
     {
         let event = coming(self.alloc, &mut self.source, &self.jobs, self.analysis)?;
         keep(&mut self.given, &event)?;
@@ -150,7 +148,6 @@ impl<'a, S: Source, A: Analysis> Host<A> for InlineHost<'a, S, A> {
         ensures out { IfOk result (λ _. self.new.out ≡ after_order commands self.old.out) }
         ensures handed { IfOk result (λ _. self.new.handed
             ≡ last_number self.old.handed (spawned commands)) }
-        ensures honest_stays { true ≡ true }
         ensures given { self.new.given ≡ self.old.given }
         ensures taken { self.new.taken
             ≡ after_ok result (λ _. added self.old.taken commands) self.old.taken }
