@@ -1,11 +1,10 @@
 // The host that runs everything on one thread.
-ghost use Rattle.std.specs.Prelude.{◌≡◌, ◌≤◌, true, length, take, IsTrue, IfOk, IfErr, OnErr};
+ghost use Rattle.std.specs.Prelude.{◌≡◌, true, IsTrue, IfOk, IfErr, OnErr};
 ghost use Rattle.session_port.specs.Coming.{Comes, IsHeld, source_after, jobs_after};
 ghost use Rattle.session_port.specs.Framed.{waiting};
 ghost use Rattle.session_port.specs.Honest.{IsHonest};
 ghost use Rattle.session_port.specs.Inline.{new_inline, IfBytes, IfTasks, IfEnded, GivesBytes, GivesResults, GivesEnd};
 ghost use Rattle.session_port.specs.Record.{HasCause, AreRising, added, after_given, after_ok, after_order, last_number, spawned};
-ghost use Rattle.session_port.specs.declared.event.HostEvent.TheVariants.{Tasks};
 
 use crate::cause::HostError;
 use crate::command::Command;
@@ -14,7 +13,7 @@ use crate::framed_source::FramedSource;
 use crate::jobs_out::JobsOut;
 use crate::peers::{Host, Source};
 use analysis_host::Analysis;
-use plain::{Bytes, Copied, Items};
+use plain::{Bytes, Items};
 use std::alloc::{AllocError, Global};
 use std::marker::Model;
 
@@ -50,12 +49,12 @@ impl<'a, S: Source, A> Model for InlineHost<'a, S, A> {
     ghost view = { λ h. record { out = h.jobs.out; handed = h.jobs.handed; waiting = waiting h.source; given = h.given; taken = h.taken; faults = h.source.faults } };
 }
 
-/// Adds an entry to a record, if it is kept.
-fn keep<T: Copied + Drop>(record_of: &mut Option<Items<T>>, entry: &T) -> Result<(), AllocError>
-    ensures { record_of.new ≡ after_ok result (λ _. added record_of.old entry.now) record_of.old }
+/// Adds an event to the record, if one is kept.
+fn keep(given: &mut Option<Items<HostEvent>>, event: &HostEvent) -> Result<(), AllocError>
+    ensures { given.new ≡ after_ok result (λ _. added given.old event.now) given.old }
 {
-    if let Some(entries) = record_of {
-        entries.push(entry.clone()?)?;
+    if let Some(given) = given {
+        given.push(event.clone()?)?;
     }
     Ok(())
 }
@@ -126,7 +125,6 @@ impl<'a, S: Source, A: Analysis> Host<A> for InlineHost<'a, S, A> {
     fn next(&mut self) -> Result<HostEvent, HostError>
         ensures out { self.new.out ≡ after_given result self.old.out }
         ensures handed { self.new.handed ≡ self.old.handed }
-        ensures honest_stays { true ≡ true }
         ensures honest { IfOk result (λ event. IsTrue true → IsHonest A.answer self.old.out event) }
         ensures given { self.new.given
             ≡ after_ok result (λ event. added self.old.given event) self.old.given }
@@ -137,8 +135,7 @@ impl<'a, S: Source, A: Analysis> Host<A> for InlineHost<'a, S, A> {
         ensures bytes { IfOk result (λ event. IfBytes event (GivesBytes self.old self.new)) }
         ensures results { IfOk result (λ event. IfTasks event (GivesResults self.old self.new)) }
         ensures ended { IfOk result (λ event. IfEnded event (GivesEnd self.old self.new)) }
-        ensures kept { OnErr result ((self.new.out ≡ self.old.out)
-            × (self.new.waiting ≡ self.old.waiting)) }
+        ensures kept { OnErr result (self.new.waiting ≡ self.old.waiting) }
     {
         let event = coming(self.alloc, &mut self.source, &self.jobs, self.analysis)?;
         keep(&mut self.given, &event)?;
@@ -151,7 +148,6 @@ impl<'a, S: Source, A: Analysis> Host<A> for InlineHost<'a, S, A> {
         ensures out { IfOk result (λ _. self.new.out ≡ after_order commands self.old.out) }
         ensures handed { IfOk result (λ _. self.new.handed
             ≡ last_number self.old.handed (spawned commands)) }
-        ensures honest_stays { true ≡ true }
         ensures given { self.new.given ≡ self.old.given }
         ensures taken { self.new.taken
             ≡ after_ok result (λ _. added self.old.taken commands) self.old.taken }

@@ -14,6 +14,8 @@ mod memory_sink;
 mod memory_source;
 mod peers;
 mod run_job;
+#[cfg(test)]
+mod tests;
 
 pub use cause::HostError;
 pub use command::{Command, LogCode};
