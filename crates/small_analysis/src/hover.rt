@@ -1,8 +1,11 @@
 // What a hover answers.
-ghost use Rattle.std.specs.Prelude.{◌≡◌, None, IfOk};
+ghost use Rattle.std.specs.Prelude.{◌≡◌, true, None, IfOk, option_copied};
+ghost use Rattle.std.specs.FinMap as map;
+ghost use Rattle.docs_vfs.specs.FileUrls.{path_of};
 ghost use Rattle.plain.specs.Plain.{is_plain};
 ghost use Rattle.analysis_host.specs.Answers.{Answers, IsPlainOutcome};
-ghost use Rattle.small_analysis.specs.Params.{uri_of, position_of, hover_params};
+ghost use Rattle.small_analysis.specs.Params.{hover_params};
+ghost use Rattle.small_analysis.specs.Positions.{offset_of};
 ghost use Rattle.small_analysis.specs.Small.{hover_value, at_offset, in_file, at_path, hover_of, refusal};
 
 use crate::names::name_at;
@@ -25,15 +28,20 @@ pub(crate) fn refusal(message: Text) -> Outcome
 }
 
 /// What a hover shows for a name.
+#[tactic(auto, unfolding(plain::specs::Plain::most_levels))]
 fn hover_value(alloc: Global, name: Option<&str>) -> Result<Json, AllocError>
-    ensures value { IfOk result (λ json. json ≡ hover_value (option_copied name)) }
+    ensures value { IfOk result (λ json. json ≡ hover_value (option_copied name.entry)) }
     ensures plain { IfOk result (λ json. is_plain json ≡ true) }
 {
     let Some(name) = name else {
         return Ok(Json::null());
     };
     let mut members = Members::new(alloc);
-    members.put(alloc, "contents", Json::from_text(Text::from_str(alloc, name)?))?;
+    members.put(
+        alloc,
+        "contents",
+        Json::from_text(Text::from_str(alloc, name)?),
+    )?;
     Ok(members.into_json())
 }
 

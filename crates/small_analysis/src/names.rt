@@ -1,5 +1,6 @@
 // The name at a place of a text.
 ghost use Rattle.std.specs.Prelude.{◌≡◌, ◌≤◌, length, option_copied};
+ghost use Rattle.std.specs.List.{prefix_len, suffix_len};
 ghost use Rattle.small_analysis.specs.Names.{is_word_byte, run_start, run_end, is_name, name_at};
 
 fn is_word_byte(byte: u8) -> bool
@@ -8,28 +9,43 @@ fn is_word_byte(byte: u8) -> bool
     byte.is_ascii_alphanumeric() || byte == b'_'
 }
 
+/// How many word bytes there are at the end.
+fn words_before(front: &[u8]) -> usize
+    ensures value { result ≡ suffix_len is_word_byte front.now }
+    ensures within { result ≤ length front.now }
+{
+    front
+        .iter()
+        .rev()
+        .take_while(|byte| is_word_byte(**byte))
+        .count()
+}
+
+/// How many word bytes there are from the front on.
+fn words_from(rest: &[u8]) -> usize
+    ensures value { result ≡ prefix_len is_word_byte rest.now }
+    ensures within { result ≤ length rest.now }
+{
+    rest.iter().take_while(|byte| is_word_byte(**byte)).count()
+}
+
 /// Where the word bytes begin that end at a place.
 fn run_start(text: &[u8], offset: usize) -> usize
     requires { offset ≤ length text.now }
-    ensures { result ≡ run_start text.now offset }
+    ensures value { result ≡ run_start text.now offset }
+    ensures within { result ≤ offset }
 {
-    let front = &text[..offset];
-    match front.iter().rev().position(|byte| !is_word_byte(*byte)) {
-        Some(run) => offset - run,
-        None => 0,
-    }
+    offset - words_before(&text[..offset])
 }
 
 /// Where the word bytes end that begin at a place.
 fn run_end(text: &[u8], offset: usize) -> usize
     requires { offset ≤ length text.now }
-    ensures { result ≡ run_end text.now offset }
+    ensures value { result ≡ run_end text.now offset }
+    ensures after { offset ≤ result }
+    ensures within { result ≤ length text.now }
 {
-    let rest = &text[offset..];
-    match rest.iter().position(|byte| !is_word_byte(*byte)) {
-        Some(run) => offset + run,
-        None => text.len(),
-    }
+    offset + words_from(&text[offset..])
 }
 
 /// Whether a run is a name.

@@ -1,5 +1,5 @@
 // The place of a position in a text.
-ghost use Rattle.std.specs.Prelude.{◌≡◌, ◌≤◌, length, IfSome};
+ghost use Rattle.std.specs.Prelude.{◌≡◌, ◌+◌, ◌≤◌, length, position, IfSome};
 ghost use Rattle.small_analysis.specs.Positions.{ends_line, units, past_units, line_start, line_at, offset_of};
 
 /// The UTF-16 code units of the character that a byte begins.
@@ -14,8 +14,10 @@ fn units(byte: u8) -> u32
 }
 
 /// How many bytes of a line stand before a column.
+#[tactic(auto, using(crate::proofs::OffsetLemmas::past_steps))]
 fn past_units(line: &[u8], column: u32) -> Option<usize>
-    ensures { result ≡ past_units column line.now }
+    ensures value { result ≡ past_units column line.now }
+    ensures within { IfSome result (λ n. n ≤ length line.now) }
 {
     let mut left = column;
     for (i, byte) in line.iter().enumerate() {
@@ -29,8 +31,10 @@ fn past_units(line: &[u8], column: u32) -> Option<usize>
 }
 
 /// Where a line begins.
+#[tactic(auto, using(crate::proofs::OffsetLemmas::line_steps))]
 fn line_start(text: &[u8], line: u32) -> Option<usize>
-    ensures { result ≡ line_start line text.now }
+    ensures value { result ≡ line_start line text.now }
+    ensures within { IfSome result (λ start. start ≤ length text.now) }
 {
     if line == 0 {
         return Some(0);
@@ -47,13 +51,21 @@ fn line_start(text: &[u8], line: u32) -> Option<usize>
     None
 }
 
+fn line_end(rest: &[u8]) -> Option<usize>
+    ensures { result ≡ position ends_line rest.now }
+{
+    rest.iter().position(|byte| *byte == b'\n')
+}
+
 /// The line that begins at a place, with its LF.
+#[tactic(auto, using(crate::proofs::OffsetLemmas::lines))]
 fn line_at(text: &[u8], start: usize) -> &[u8]
     requires { start ≤ length text.now }
-    ensures { result.now ≡ line_at start text.now }
+    ensures value { result.now ≡ line_at start text.now }
+    ensures within { start + length result.now ≤ length text.now }
 {
     let rest = &text[start..];
-    match rest.iter().position(|byte| *byte == b'\n') {
+    match line_end(rest) {
         Some(end) => &rest[..end + 1],
         None => rest,
     }

@@ -18,11 +18,7 @@ pub(crate) struct Position {
 pub(crate) fn uri_of(params: &Json) -> Option<&str>
     ensures { option_copied result ≡ uri_of params.now }
 {
-    params
-        .as_value()
-        .get("textDocument")?
-        .get("uri")?
-        .as_str()
+    params.as_value().get("textDocument")?.get("uri")?.as_str()
 }
 
 fn number_at(value: &Value, key: &str) -> Option<u32>

@@ -25,11 +25,7 @@ fn is_hover(row: RowId) -> bool
 }
 
 /// What a question comes to.
-fn answer(
-    alloc: Global,
-    snapshot: &GlobalStateSnapshot,
-    ask: &Ask,
-) -> Result<Outcome, AllocError>
+fn answer(alloc: Global, snapshot: &GlobalStateSnapshot, ask: &Ask) -> Result<Outcome, AllocError>
     ensures answers { IfOk result (Answers (small_answer snapshot.now ask.now) None) }
     ensures plain { IfOk result IsPlainOutcome }
 {
