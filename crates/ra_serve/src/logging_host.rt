@@ -1,0 +1,67 @@
+// A host that prints log lines.
+ghost use Rattle.std.specs.Prelude.{◌≡◌};
+
+use analysis_host::Analysis;
+use log::{Log, warn};
+use plain::Items;
+use session_port::{Command, Host, HostError, HostEvent, LogCode};
+
+/// Passes every call on to the host that it wraps, and prints each line that a session orders to be logged.
+#[derive(Drop)]
+pub struct LoggingHost<'a, R, H> {
+    rt: &'a R,
+    host: H,
+}
+
+impl<'a, R, H> LoggingHost<'a, R, H> {
+    pub fn new(rt: &'a R, host: H) -> Self
+        ensures { result.host ≡ host }
+    {
+        LoggingHost { rt, host }
+    }
+}
+
+fn words_of(code: LogCode) -> &'static str {
+    match code {
+        LogCode::MalformedNotification => "notification with malformed params",
+        LogCode::UnhandledNotification => "notification that is not handled",
+        LogCode::UnknownRequest => "request of an unknown method",
+        LogCode::UnknownResponse => "response to no request",
+        LogCode::DuplicateOpen => "document opened twice",
+        LogCode::BadPath => "URL of no file",
+        LogCode::StrangeResult => "result that fits no job",
+    }
+}
+
+fn print_lines<R: Log>(rt: &R, commands: &Items<Command>) {
+    for command in commands.as_slice() {
+        if let Command::Log(code, text) = command {
+            let words = words_of(*code);
+            let text = text.as_str();
+            warn!(rt; "{words}: {text:?}");
+        }
+    }
+}
+
+impl<'a, R: Log, H: Host<A>, A: Analysis> Host<A> for LoggingHost<'a, R, H> {
+    ghost out = { λ h. H.out h.host };
+
+    ghost handed = { λ h. H.handed h.host };
+
+    ghost honest = { λ h. H.honest h.host };
+
+    ghost faults = { λ h. H.faults h.host };
+
+    ghost given = { λ h. H.given h.host };
+
+    ghost taken = { λ h. H.taken h.host };
+
+    fn next(&mut self) -> Result<HostEvent, HostError> {
+        self.host.next()
+    }
+
+    fn order(&mut self, commands: Items<Command>) -> Result<(), HostError> {
+        print_lines(self.rt, &commands);
+        self.host.order(commands)
+    }
+}
