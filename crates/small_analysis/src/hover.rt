@@ -47,7 +47,8 @@ fn hover_value(alloc: Global, name: Option<&str>) -> Result<Json, AllocError>
 
 /// Hover at a position of a text.
 fn in_text(alloc: Global, text: &str, position: Position) -> Result<Outcome, AllocError>
-    ensures answers { IfOk result (Answers (at_offset text.now (offset_of text.now position.line position.character)) None) }
+    ensures answers { let place = offset_of text.now position.line position.character in
+        IfOk result (Answers (at_offset text.now place) None) }
     ensures plain { IfOk result IsPlainOutcome }
 {
     match offset_of(text, position.line, position.character) {
@@ -66,7 +67,8 @@ fn in_file(
     path: &VfsPath,
     position: Position,
 ) -> Result<Outcome, AllocError>
-    ensures answers { IfOk result (Answers (in_file path.now (map.get snapshot.now.world.texts path.now) position) None) }
+    ensures answers { let text = map.get snapshot.now.world.texts path.now in
+        IfOk result (Answers (in_file path.now text position) None) }
     ensures plain { IfOk result IsPlainOutcome }
 {
     match snapshot.file_text(path) {

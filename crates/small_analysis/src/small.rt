@@ -66,7 +66,8 @@ impl Analysis for SmallAnalysis {
 
         // Cancelled exactly where the poll gave a number, with that number.
         ensures stopped { IfOk result (λ outcome. stopped_by outcome ≡ C.held cancel.new) }
-        ensures answers { IfOk result (Answers (small_answer snapshot.now ask.now) (C.held cancel.new)) }
+        ensures answers { let question = small_answer snapshot.now ask.now in
+            IfOk result (Answers question (C.held cancel.new)) }
         ensures plain { IfOk result IsPlainOutcome }
 
         ensures once { Counts (C.polls cancel.old) (C.polls cancel.new) }
