@@ -7,3 +7,8 @@ pub mod Keeping
 pub mod Parted
 pub mod Streams
 pub mod Turns
+pub mod Written
+pub mod Bodies
+pub mod Rows
+pub mod InStep
+pub mod Readings

@@ -1,10 +1,10 @@
 -- The frames of a byte string, one after another and however the bytes come.
-use Rattle.std.proofs.Common.{◌≡◌, ◌+◌, ◌-◌, ◌≤◌, ℕ, zero, suc, List, [], ◌∷◌, ◌++◌, length, take, drop, refl, sym, ap, ◌∙◌, arith, length-drop}
+use Rattle.std.proofs.Common.{◌≡◌, ◌+◌, ◌-◌, ◌≤◌, ℕ, zero, suc, List, ◌++◌, length, take, drop, refl, sym, ap, ◌∙◌, arith, length-drop}
 use Rattle.std.specs.Prelude.{slice_range}
 use Rattle.std.proofs.lemmas.List.{take-append-le, drop-append-le}
 use Rattle.lsp_frame.specs.declared.frame.Cut.{Cut}
 use Rattle.lsp_frame.specs.declared.frame.Cut.TheVariants.{NeedMore, Bad, Frame}
-use Rattle.lsp_frame.specs.Frames.{cut_of, Frames, frame, rest, first_and, frames_within, frames_from, frames_on}
+use Rattle.lsp_frame.specs.Frames.{cut_of, Frames, frame, rest, first_and, frames_within, frames_from, frames_on, rest_bytes, rest_place}
 use Rattle.lsp_frame.proofs.Cuts.{cut_more, cut_bounds}
 
 first_and-same : (f g : ℕ → List ℕ → Frames) (at : ℕ) (bytes : List ℕ) (c : Cut) → ((start end : ℕ) → c ≡ Frame start end → f (at + end) (drop end bytes) ≡ g (at + end) (drop end bytes)) → first_and f at bytes c ≡ first_and g at bytes c
@@ -99,3 +99,29 @@ continues_within (suc m) at front more le = cut_cases front
 
 pub continues : (at : ℕ) (front more : List ℕ) → Continues at front more
 continues at front more = continues_within (length front) at front more (omega arith)
+
+-- what is left ends where the bytes end, and no whole frame comes of it
+pub record Ends (at : ℕ) (bytes : List ℕ) (frames : Frames) : Type 0 where
+  pub place : rest_place frames + length (rest_bytes frames) ≡ at + length bytes
+  pub none : frames_from (rest_place frames) (rest_bytes frames) ≡ rest (rest_place frames) (rest_bytes frames)
+
+ends_at : (at : ℕ) (bytes : List ℕ) → frames_from at bytes ≡ rest at bytes → Ends at bytes (frames_from at bytes)
+ends_at at bytes none = rw none (record { place = refl; none = none })
+
+ends_later : (at : ℕ) (bytes : List ℕ) (start end : ℕ) → cut_of bytes ≡ Frame start end → Ends (at + end) (drop end bytes) (frames_from (at + end) (drop end bytes)) → Ends at bytes (frames_from at bytes)
+ends_later at bytes start end is later =
+    let b = cut_bounds bytes start end is in
+    rw (frames_whole at bytes start end is) (record { place = omega (arith, later.place, b.order, b.within, length-drop end bytes); none = later.none })
+
+ends_within : (n at : ℕ) (bytes : List ℕ) → length bytes ≤ n → Ends at bytes (frames_from at bytes)
+ends_within zero at bytes le = cut_cases bytes
+    (λ is. ends_at at bytes (frames_partial at bytes is))
+    (λ is. ends_at at bytes (frames_bad at bytes is))
+    (λ start end is. absurd (nothing bytes le start end is))
+ends_within (suc m) at bytes le = cut_cases bytes
+    (λ is. ends_at at bytes (frames_partial at bytes is))
+    (λ is. ends_at at bytes (frames_bad at bytes is))
+    (λ start end is. ends_later at bytes start end is (ends_within m (at + end) (drop end bytes) (shorter bytes m start end le is)))
+
+pub ends : (at : ℕ) (bytes : List ℕ) → Ends at bytes (frames_from at bytes)
+ends at bytes = ends_within (length bytes) at bytes (omega arith)

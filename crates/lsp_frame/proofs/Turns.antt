@@ -1,5 +1,5 @@
 -- What a turn of a reader gives.
-use Rattle.std.proofs.Common.{◌≡◌, ◌+◌, ◌<◌, ◌≤◌, ℕ, Bool, true, false, List, ◌++◌, Option, None, Some, Result, Ok, Err, length, drop, refl, sym, ap, ◌∙◌, arith, length-drop}
+use Rattle.std.proofs.Common.{◌≡◌, ◌+◌, ◌<◌, ◌≤◌, ℕ, Bool, true, false, List, Option, None, Some, length, drop, refl, sym, ap, ◌∙◌, arith, length-drop}
 use Rattle.std.specs.Prelude.{slice_range, is_none}
 use Rattle.std.proofs.lemmas.List.{drop-drop}
 use Rattle.std.proofs.lemmas.Bool.{false≢true, cond-false, le-ltb}
@@ -8,10 +8,10 @@ use Rattle.lsp_frame.specs.declared.frame.Cut.TheVariants.{NeedMore, Bad, Frame}
 use Rattle.lsp_frame.specs.declared.frame.Head.{Head}
 use Rattle.lsp_frame.specs.declared.frame.Head.TheVariants.{Body}
 use Rattle.lsp_frame.specs.declared.message.Message.{Message}
-use Rattle.lsp_frame.specs.Frames.{head_of, cut_at, cut_of, frame, frames_from, LiesWithin}
+use Rattle.lsp_frame.specs.Frames.{head_of, cut_at, cut_of, LiesWithin}
 use Rattle.lsp_frame.specs.Rules.{message_of}
 use Rattle.lsp_frame.specs.Reader.{Reader, is_faulty, faulty_by, GivesMessage, IsBadMessage}
-use Rattle.lsp_frame.proofs.Cuts.{cut_by_head, cut_bounds, need_more_bound}
+use Rattle.lsp_frame.proofs.Cuts.{cut_by_head, cut_bounds}
 use Rattle.lsp_frame.proofs.Streams.{frames_given}
 
 pub cut_whole : (held : List ℕ) (start end : ℕ) → Body start end ≡ head_of held → end ≤ length held → cut_of held ≡ Frame start end

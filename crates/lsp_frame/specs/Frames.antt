@@ -1,5 +1,5 @@
 -- The first frame of a byte string, and all of its frames with their places.
-use Rattle.std.specs.Prelude.{Bool, true, false, ◌<◌, ◌≤◌, ℕ, zero, suc, ◌+◌, List, [], ◌∷◌, ◌++◌, length, take, drop, nat_lt, slice_range, Option, None, Some, if◌then◌else◌}
+use Rattle.std.specs.Prelude.{◌<◌, ◌≤◌, ℕ, zero, suc, ◌+◌, List, [], ◌∷◌, length, take, drop, nat_lt, slice_range, Option, None, Some, if◌then◌else◌}
 use Rattle.lsp_frame.specs.declared.frame.Cut.{Cut}
 use Rattle.lsp_frame.specs.declared.frame.Cut.TheVariants.{NeedMore, Bad, Frame}
 use Rattle.lsp_frame.specs.declared.frame.Head.{Head}
@@ -26,6 +26,7 @@ unfoldable pub head_at : List ℕ → Option ℕ → Head
 head_at bytes None = if nat_lt (length bytes) 4096 then Open else Broken
 head_at bytes (Some place) = sized (place + 4) (body_size (take place bytes))
 
+-- what the header at the front of some bytes says
 unfoldable pub head_of : List ℕ → Head
 head_of bytes = head_at bytes (place_of empty_line (window bytes))
 
@@ -50,6 +51,7 @@ first_and later at bytes NeedMore = rest at bytes
 first_and later at bytes Bad = rest at bytes
 first_and later at bytes (Frame start end) = frame at (slice_range bytes start end) (later (at + end) (drop end bytes))
 
+-- the same, with at most so many frames
 unfoldable pub frames_within : ℕ → ℕ → List ℕ → Frames
 frames_within zero at bytes = rest at bytes
 frames_within (suc n) at bytes = first_and (frames_within n) at bytes (cut_of bytes)
@@ -68,11 +70,12 @@ abbrev pub bodies_of : Frames → List (List ℕ)
 bodies_of (frame at body later) = body ∷ bodies_of later
 bodies_of (rest at bytes) = []
 
--- the bytes that are left, and their place
+-- the bytes that are left
 abbrev pub rest_bytes : Frames → List ℕ
 rest_bytes (frame at body later) = rest_bytes later
 rest_bytes (rest at bytes) = bytes
 
+-- the place of the first of these
 abbrev pub rest_place : Frames → ℕ
 rest_place (frame at body later) = rest_place later
 rest_place (rest at bytes) = at

@@ -17,6 +17,7 @@ pub record Knows (held : List ℕ) (head : Head) (searched : ℕ) : Type 0 where
   pub passed : searched ≤ length (window held) - 3
   pub none : NoneBelow held searched
 
+-- what a reader keeps: where its bytes begin in the buffer, that their places fit 64 bits, what it knows of them, and that it failed for a reason
 pub record IsKept (place start : ℕ) (buf : List ℕ) (head : Head) (searched : ℕ) (failed : Bool) : Type 0 where
   pub within : start ≤ length buf
   pub counted : place + length (drop start buf) < 2 ^ 64

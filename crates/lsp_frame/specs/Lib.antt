@@ -6,3 +6,6 @@ pub mod Rules
 pub mod Written
 pub mod Reader
 pub mod Kept
+pub mod Ids
+pub mod Pending
+pub mod Pieces

@@ -1,11 +1,11 @@
 -- What a reader is: where the bytes that it holds stand in the stream, and whether they begin with a fault.
-use Rattle.std.specs.Prelude.{◌≡◌, ℕ, ◌+◌, Bool, true, false, List, ◌++◌, length, drop, slice_range, Option, None, Some, is_none, if◌then◌else◌}
+use Rattle.std.specs.Prelude.{◌≡◌, ℕ, ◌+◌, Bool, true, false, List, ◌++◌, drop, slice_range, None, Some, is_none, if◌then◌else◌}
 use Rattle.lsp_frame.specs.declared.fault.FrameFault.{FrameFault}
 use Rattle.lsp_frame.specs.declared.fault.FrameFault.TheVariants.{BadFrame, BadMessage, NoMemory}
 use Rattle.lsp_frame.specs.declared.frame.Cut.{Cut}
 use Rattle.lsp_frame.specs.declared.frame.Cut.TheVariants.{NeedMore, Bad, Frame}
 use Rattle.lsp_frame.specs.declared.message.Message.{Message}
-use Rattle.lsp_frame.specs.Frames.{cut_of, Frames, frame, frames_from}
+use Rattle.lsp_frame.specs.Frames.{cut_of, frame, frames_from}
 use Rattle.lsp_frame.specs.Rules.{message_of}
 
 -- where the first byte that is held stands in the stream, the bytes held, and whether a fault was answered
@@ -24,15 +24,17 @@ faulty_by held NeedMore = false
 faulty_by held Bad = true
 faulty_by held (Frame start end) = is_none (message_of (slice_range held start end))
 
+-- the same of some bytes
 unfoldable pub is_faulty : List ℕ → Bool
 is_faulty held = faulty_by held (cut_of held)
 
--- the fault that such bytes are
+-- the fault that such bytes are, at this place
 abbrev pub fault_by : ℕ → Cut → FrameFault
 fault_by at NeedMore = BadFrame at
 fault_by at Bad = BadFrame at
 fault_by at (Frame start end) = BadMessage at
 
+-- the fault that a reader that has failed answers
 abbrev pub fault_of : Reader → FrameFault
 fault_of r = fault_by r.place (cut_of r.held)
 

@@ -28,14 +28,17 @@ put_some k (Some d) ms = put k d ms
 abbrev pub params_data : Data → Option Data
 params_data d = if is_null d then None else Some d
 
+-- an id is a number or a text
 abbrev pub id_data : RequestId → Data
 id_data (Number z) = number (of_integer z)
 id_data (Text s) = string s
 
+-- no id is null
 abbrev pub optional_id_data : Option RequestId → Data
 optional_id_data None = null
 optional_id_data (Some id) = id_data id
 
+-- an error, with its data where it has some
 abbrev pub error_data : ResponseError → Data
 error_data e =
     object (put_some (codes "data") e.extra (put (codes "message") (string e.message) (put (codes "code") (number (of_integer e.code)) no_members)))
@@ -44,18 +47,19 @@ error_data e =
 abbrev pub version : Members
 version = put (codes "jsonrpc") (string (codes "2.0")) no_members
 
+-- the members of a request and of a notification
 abbrev pub call_members : List ℕ → Data → Members
 call_members method params = put_some (codes "params") (params_data params) (put (codes "method") (string method) version)
 
 -- a message as JSON
-abbrev pub data_of : Message → Data
+unfoldable pub data_of : Message → Data
 data_of (Request r) = object (put (codes "id") (id_data r.id) (call_members r.method r.params))
 data_of (Notification n) = object (call_members n.method n.params)
 data_of (Response r) =
     object (put_some (codes "error") (option_map error_data r.error) (put_some (codes "result") r.result (put (codes "id") (optional_id_data r.id) version)))
 
 -- the body
-abbrev pub body_of : Message → List ℕ
+unfoldable pub body_of : Message → List ℕ
 body_of m = compact_text (data_of m)
 
 -- how deep the values in a message nest at most: two less than what is read, since a response holds its error, and that its data
@@ -71,6 +75,7 @@ pub record IsWritable (d : Data) : Type 0 where
 abbrev pub IsWritableIfSome : Option Data → Type 0
 IsWritableIfSome value = IfSome value IsWritable
 
+-- the data of an error, where there is one
 abbrev pub IsErrorWritable : Option ResponseError → Type 0
 IsErrorWritable error = IfSome error (λ e. IsWritableIfSome e.extra)
 

@@ -1,11 +1,50 @@
 // The messages of JSON-RPC, as contracts see them too.
 use plain::{Copied, Json, Text};
+use std::cmp::Ordering;
 
 /// The id of a request.
-#[derive(Clone, Debug, PartialEq, Eq, PartialOrd, Ord, Hash, Drop)]
+#[derive(Clone, Debug, PartialEq, Eq, Hash, Drop)]
 pub enum RequestId {
     Number(i32),
     Text(Text),
+}
+
+impl PartialOrd for RequestId {
+    ghost use Rattle.std.specs.Prelude.{Some, refl};
+    ghost use Rattle.std.specs.Cmp.{po};
+    ghost use Rattle.std.specs.Cmp.Lexicographic.{texts_ties};
+    ghost use Rattle.lsp_frame.specs.Ids.{id_cmp, id_cmp_total, id_ties};
+
+    ghost partial_cmp = { λ x y. Some (id_cmp x y) };
+
+    ghost laws = { po id_cmp_total (id_ties _ (λ a b. refl) (λ a t. refl) (λ s b. refl) texts_ties) };
+
+    fn partial_cmp(&self, other: &RequestId) -> Option<Ordering> {
+        Some(self.cmp(other))
+    }
+}
+
+impl Ord for RequestId {
+    ghost use Rattle.std.specs.Prelude.{refl};
+    ghost use Rattle.std.specs.Cmp.Lexicographic.{texts_ties};
+    ghost use Rattle.lsp_frame.specs.Ids.{id_cmp, id_cmp_total, id_ties};
+
+    ghost cmp = { id_cmp };
+
+    ghost total = { id_cmp_total };
+
+    ghost matches_partial_cmp = { λ x y. refl };
+
+    ghost matches_eq = { id_ties _ (λ a b. refl) (λ a t. refl) (λ s b. refl) texts_ties };
+
+    fn cmp(&self, other: &RequestId) -> Ordering {
+        match (self, other) {
+            (RequestId::Number(a), RequestId::Number(b)) => a.cmp(b),
+            (RequestId::Number(_), RequestId::Text(_)) => Ordering::Less,
+            (RequestId::Text(_), RequestId::Number(_)) => Ordering::Greater,
+            (RequestId::Text(a), RequestId::Text(b)) => a.cmp(b),
+        }
+    }
 }
 
 /// A call that wants an answer.

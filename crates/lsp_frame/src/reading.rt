@@ -1,3 +1,4 @@
+// The message that a body is.
 ghost use Rattle.std.specs.Prelude.{◌≡◌, IfOk, Some, None, option_map};
 ghost use Rattle.lsp_frame.specs.Rules.{message_of, members_message, id_of, optional_id, error_object, optional_error, error_of, params_of, call_of, response_of};
 
@@ -6,6 +7,7 @@ use plain::{Json, Members, Text};
 use std::alloc::{AllocError, Global};
 
 /// The message that a body is, or none.
+#[tactic(auto, unfolding(crate::specs::Rules::message_of))]
 pub fn read_body(alloc: Global, bytes: &[u8]) -> Result<Option<Message>, AllocError>
     ensures { IfOk result (λ message. message ≡ message_of bytes.now) }
 {

@@ -1,4 +1,4 @@
-use Rattle.std.proofs.Common.{◌+◌, ◌<◌, ◌^◌, ap, sym, length, drop, arith}
+use Rattle.std.proofs.Common.{◌+◌, ◌<◌, ◌^◌, ap, length, drop, arith}
 use Rattle.lsp_frame.specs.Reader.{Reader}
 use Rattle.lsp_frame.proofs.Keeping.{IsKept-more, IsKept-moved}
 use Rattle.lsp_frame.proofs.reader.FrameReader.feed.Goals as goal

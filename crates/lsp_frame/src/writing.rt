@@ -1,0 +1,50 @@
+// Messages as they are written.
+ghost use Rattle.std.specs.Prelude.{◌≡◌, ◌++◌, Some, IfOk, OnOk, OnErr};
+ghost use Rattle.lsp_frame.specs.Rules.{message_of};
+ghost use Rattle.lsp_frame.specs.Written.{header_for, frame_for, body_of, AreWritable};
+
+use crate::encoding::encode;
+use crate::message::Message;
+use itoa::Buffer;
+use std::alloc::{AllocError, Global};
+
+/// The header of a body of this many bytes.
+#[tactic(auto, unfolding(crate::specs::Written::header_for))]
+fn header(alloc: Global, size: usize) -> Result<Vec<u8>, AllocError>
+    ensures { IfOk result (λ h. h.items ≡ header_for size) }
+{
+    let mut digits = Buffer::new();
+    let mut header = Vec::from_slice(alloc, b"Content-Length: ")?;
+    header.extend_from_slice(digits.format(size).as_bytes())?;
+    header.extend_from_slice(b"\r\n\r\n")?;
+    Ok(header)
+}
+
+/// Appends one frame.
+fn write_frame(alloc: Global, body: &[u8], into: &mut Vec<u8>) -> Result<(), AllocError>
+    ensures ok { OnOk result (into.new.items ≡ into.old.items ++ frame_for body.now) }
+    ensures err { OnErr result (into.new.items ≡ into.old.items) }
+{
+    let header = header(alloc, body.len())?;
+    let before = into.len();
+    into.extend_from_slice(&header)?;
+    match into.extend_from_slice(body) {
+        Ok(()) => Ok(()),
+        Err(error) => {
+            into.truncate(before);
+            Err(error)
+        }
+    }
+}
+
+/// Appends the frame of a message.
+pub fn write_message(message: &Message, into: &mut Vec<u8>) -> Result<(), AllocError>
+    requires { AreWritable message.now }
+    ensures ok { OnOk result (into.new.items ≡ into.old.items ++ frame_for (body_of message.now)) }
+    ensures reads_back { OnOk result (message_of (body_of message.now) ≡ Some message.now) }
+    ensures err { OnErr result (into.new.items ≡ into.old.items) }
+{
+    let alloc = *into.allocator();
+    let body = encode(alloc, message)?;
+    write_frame(alloc, &body, into)
+}
