@@ -1,9 +1,9 @@
 -- What file URLs name.
-use Rattle.std.proofs.Common.{◌≡◌, ◌≢◌, ℕ, ◌+◌, ◌<◌, Bool, true, false, not, ◌&&◌, ◌||◌, ◌==◌, List, [], ◌∷◌, ◌++◌, length, drop, All, Option, Some, None, Ok, Err, MatchOption, Bor, sym, refl, ap, ◌∙◌, arith, subst}
+use Rattle.std.proofs.Common.{◌≡◌, ◌≢◌, ℕ, ◌+◌, true, false, not, ◌&&◌, ◌==◌, List, [], ◌∷◌, ◌++◌, length, drop, Option, Some, None, Ok, Err, MatchOption, Bor, sym, refl, ap, ◌∙◌, subst}
 use Rattle.std.specs.Prelude.{nat_eq, IfOk, Result, if◌then◌else◌}
-use Rattle.std.specs.List.{list_all, list_any, starts_with}
+use Rattle.std.specs.List.{list_all, starts_with}
 use Rattle.std.specs.Str.Pattern.{FindsTextPrefix}
-use Rattle.std.proofs.lemmas.Bool.{true≢false, cond-true, cond-false, cond_both, and_from, and_parts, and_left, ne_eqb, or_right, false_from_ne_true, not-true, not_from_false}
+use Rattle.std.proofs.lemmas.Bool.{true≢false, cond-true, cond-false, cond_both, and_from, and_parts, and_left, ne_eqb, or_right, false_from_ne_true, not_from_false}
 use Rattle.std.proofs.lemmas.Bool.Decides.{Decides-eqb}
 use Rattle.std.proofs.lemmas.List.Elements.{All-weaker}
 use Rattle.std.proofs.lemmas.List.Folds.{list_any_none}

@@ -45,8 +45,7 @@ impl<V> ByPath<V> {
     pub fn is_empty(&self) -> bool
         ensures { IsTrue result ↔ (self.now ≡ map.empty) }
     {
-        let _in_order = self.rows.iter();
-        self.rows.is_empty()
+        self.len() == 0
     }
 
     pub fn get(&self, path: &VfsPath) -> Option<&V>

@@ -4,7 +4,8 @@ ghost use Rattle.docs_vfs.specs.Paths.{is_path};
 ghost use Rattle.docs_vfs.specs.FileUrls.{is_plain_byte, is_plain_segment, is_plain_path, file_scheme, path_of, Answers};
 ghost use Rattle.docs_vfs.specs.declared.file_url.UrlFault.TheVariants.{NotFile};
 
-use crate::path::{VfsPath, is_dots_text};
+use crate::path::VfsPath;
+use crate::path_text::is_dots_text;
 use plain::Text;
 use std::alloc::{AllocError, Global};
 
@@ -32,9 +33,10 @@ impl From<AllocError> for UrlFault {
 fn has_plain_bytes(text: &str) -> bool
     ensures { result ≡ list_all is_plain_byte text.now }
 {
-    text.as_bytes()
-        .iter()
-        .all(|b| b.is_ascii_alphanumeric() || *b == b'.' || *b == b'_' || *b == b'-')
+    text.as_bytes().iter().all(|b| b.is_ascii_alphanumeric()
+        || *b == b'.'
+        || *b == b'_'
+        || *b == b'-')
 }
 
 /// Whether a text may stand between two slashes of an accepted URL.

@@ -1,15 +1,15 @@
-ghost use Rattle.std.specs.Prelude.{◌==◌, length, option_and_then, ◌≡◌, ◌↔◌, IsTrue, IfOk, IfNone, IfSome, MatchOption, true, IsUtf8, option_copied, None, Some, OnOk, Ok, nat_eq, refl};
+ghost use Rattle.std.specs.Prelude.{◌==◌, ◌≡◌, length, true, nat_eq, refl, Some, IfOk, IsUtf8};
+ghost use Rattle.std.specs.Option.{option_copied, option_and_then};
 ghost use Rattle.std.specs.Ordering.{nat_cmp};
 ghost use Rattle.std.specs.Hash as fed;
-ghost use Rattle.std.specs.Cmp.Lexicographic.{pointwise, slice_cmp, nat_list_eq_equiv, nat_list_cmp_total, texts_ties, texts_po};
+ghost use Rattle.std.specs.Cmp.Lexicographic.{pointwise, slice_cmp, nat_list_eq_equiv, nat_list_cmp_total, texts_ties, texts_po, bytes_decides};
 ghost use Rattle.std.specs.Cmp.{partial_equiv_from_equiv};
 ghost use Rattle.std.specs.Cmp.Rules.{hashing};
 ghost use Rattle.std.proofs.Common.{rules};
-ghost use Rattle.std.specs.Prelude.{slice_index, false, ◌++◌, ◌∷◌};
-ghost use Rattle.std.specs.List.{starts_with, list_any, before_last, after_last};
-ghost use Rattle.docs_vfs.specs.Paths.{is_slash, is_dot, is_dots, has_nul, is_segment, is_path, path_from, name_of, extension_of, parent_of, is_within};
+ghost use Rattle.docs_vfs.specs.Paths.{is_path, path_from, name_of, extension_of, parent_of, is_within};
 
-use plain::{Copied, Text};
+use crate::path_text::{begins_with_folder_text, cut_at_last_slash, extension_text, is_path_text};
+use plain::{Copied, Text, Told};
 use std::alloc::{AllocError, Global};
 use std::cmp::Ordering;
 use std::fmt;
@@ -31,84 +31,6 @@ impl Model for VfsPath {
     ghost view = { λ p. p.text };
 
     ghost invariant = { λ p. is_path p.text ≡ true };
-}
-
-/// Whether a text is `.` or `..`.
-pub(crate) fn is_dots_text(text: &str) -> bool
-    ensures { result ≡ is_dots text.now }
-{
-    text == "." || text == ".."
-}
-
-/// Whether a text holds a NUL.
-fn has_nul_text(text: &str) -> bool
-    ensures { result ≡ has_nul text.now }
-{
-    text.as_bytes().iter().any(|b| *b == 0)
-}
-
-/// Whether a text may stand between two slashes of a path.
-fn is_segment_text(text: &str) -> bool
-    ensures { result ≡ is_segment text.now }
-{
-    !text.is_empty() && !is_dots_text(text) && !has_nul_text(text)
-}
-
-/// Whether a text is a path.
-fn is_path_text(text: &str) -> bool
-    ensures { result ≡ is_path text.now }
-{
-    match text.strip_prefix('/') {
-        None => false,
-        Some(rest) => rest.is_empty() || rest.split('/').all(|part| is_segment_text(part)),
-    }
-}
-
-/// Whether a text begins with another.
-fn begins_with(text: &str, front: &str) -> bool
-    ensures { result ≡ starts_with nat_eq text.now front.now }
-{
-    text.starts_with(front)
-}
-
-/// Whether a slash stands at a place of a text.
-fn has_slash_at(text: &str, at: usize) -> bool
-    ensures { result ≡ is_slash (slice_index text.now at) }
-{
-    match text.as_bytes().get(at) {
-        Some(b) => *b == b'/',
-        None => false,
-    }
-}
-
-/// The folder and the name of a path that isn't `/`.
-fn cut_at_last_slash(text: &str) -> Option<(&str, &str)>
-    ensures { MatchOption result (list_any is_slash text.now ≡ false)
-        (λ x. (text.now ≡ x.0.now ++ 47 ∷ x.1.now) × (list_any is_slash x.1.now ≡ false)
-        × (x.0.now ≡ before_last is_slash text.now) × (x.1.now ≡ after_last is_slash text.now)) }
-{
-    text.rsplit_once('/')
-}
-
-/// What stands before and after the last dot.
-fn cut_at_last_dot(text: &str) -> Option<(&str, &str)>
-    ensures { MatchOption result (list_any is_dot text.now ≡ false)
-        (λ x. (list_any is_dot text.now ≡ true) × (x.0.now ≡ before_last is_dot text.now)
-        × (x.1.now ≡ after_last is_dot text.now)) }
-{
-    text.rsplit_once('.')
-}
-
-/// What follows the last dot that isn't the first byte.
-fn extension_text(name: &str) -> Option<&str>
-    ensures { option_copied result ≡ extension_of name.now }
-{
-    let (front, extension) = cut_at_last_dot(name)?;
-    if front.is_empty() {
-        None
-    } else {
-        Some(extension)
-    }
 }
 
 impl VfsPath {
@@ -188,10 +110,7 @@ impl VfsPath {
     pub fn starts_with(&self, base: &VfsPath) -> bool
         ensures { result ≡ is_within base.now self.now }
     {
-        let text = self.as_str();
-        let base = base.as_str();
-        begins_with(text, base)
-            && (base.len() == 1 || text.len() == base.len() || has_slash_at(text, base.len()))
+        begins_with_folder_text(self.as_str(), base.as_str())
     }
 }
 
@@ -221,6 +140,10 @@ impl PartialEq for VfsPath {
 
 impl Eq for VfsPath {
     ghost laws = { nat_list_eq_equiv };
+}
+
+impl Told for VfsPath {
+    ghost tells = { bytes_decides };
 }
 
 impl PartialOrd for VfsPath {

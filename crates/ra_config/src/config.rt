@@ -7,7 +7,7 @@ use std::alloc::{AllocError, Global};
 use std::marker::Model;
 
 /// The settings of a session.
-#[derive(Drop)]
+#[derive(Debug, Drop)]
 pub struct Config {
     root_path: VfsPath,
     workspace_roots: Items<VfsPath>,
@@ -20,14 +20,14 @@ impl Model for Config {
     ghost Value = { ConfigData };
 
     ghost view = { λ c. record {
-        root_path = c.root_path;
-        workspace_roots = c.workspace_roots;
-        threads = c.threads;
+      root_path = c.root_path;
+      workspace_roots = c.workspace_roots;
+      threads = c.threads;
     } };
 }
 
 impl Config {
-    /// The settings of a client that can do nothing but the least, with one workspace.
+    /// The settings for a client without capabilities, with one workspace: the root.
     pub fn new(alloc: Global, root: VfsPath, threads: u32) -> Result<Config, AllocError>
         ensures { IfOk result (λ config. config ≡ config_at root threads) }
     {

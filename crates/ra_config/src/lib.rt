@@ -2,5 +2,7 @@
 #![tactic(auto)]
 
 mod config;
+#[cfg(test)]
+mod tests;
 
 pub use config::Config;
