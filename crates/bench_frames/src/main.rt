@@ -24,12 +24,13 @@ fn notice(alloc: Global, size: u32) -> Result<Message, AllocError>
     }))
 }
 
-/// A stream of this many frames.
-fn stream_of(alloc: Global, frames: u32, size: u32) -> Result<Vec<u8>, AllocError> {
-    let message = notice(alloc, size)?;
+/// A stream of this many frames of one message.
+fn stream_of(alloc: Global, frames: u32, message: &Message) -> Result<Vec<u8>, AllocError>
+    requires { AreWritable message.now }
+{
     let mut stream = Vec::new(alloc);
     for _ in 0..frames {
-        write_message(&message, &mut stream)?;
+        write_message(message, &mut stream)?;
     }
     Ok(stream)
 }
@@ -81,9 +82,9 @@ fn both(rt: &HostRuntime, name: &str, stream: &[u8]) -> io::Result<()> {
 }
 
 fn main(rt: HostRuntime) -> io::Result<()> {
-    let small = stream_of(rt.alloc(), 20_000, 235)?;
+    let small = stream_of(rt.alloc(), 20_000, &notice(rt.alloc(), 235)?)?;
     both(&rt, "20,000 messages of about 300 bytes", &small)?;
-    let large = stream_of(rt.alloc(), 1, 8_000_000)?;
+    let large = stream_of(rt.alloc(), 1, &notice(rt.alloc(), 8_000_000)?)?;
     both(&rt, "one message of 8,000,000 bytes", &large)?;
     let header = vec![in rt.alloc(); b'A'; 4000]?;
     both(&rt, "4,000 bytes of a header", &header)
