@@ -1,0 +1,6 @@
+pub mod Answers
+pub mod HostData
+pub mod Polls
+pub mod SnapshotData
+pub mod Versions
+pub mod Codes

@@ -1,0 +1,46 @@
+// What answers a question on a snapshot.
+ghost use Rattle.std.specs.Prelude.{◌≡◌, ◌≤◌, Bool, None, IfOk, OnOk};
+ghost use Rattle.serde_json.specs.Data.{Data};
+ghost use Rattle.analysis_host.specs.Answers.{Finding, Answers, IsPlainOutcome};
+ghost use Rattle.analysis_host.specs.Polls.{HasPolled};
+ghost use Rattle.analysis_host.specs.SnapshotData.{SnapshotData};
+ghost use Rattle.analysis_host.specs.declared.ask.Ask.{Ask};
+ghost use Rattle.analysis_host.specs.declared.ask.RowId.{RowId};
+
+use crate::ask::{Ask, Outcome, RowId};
+use crate::cancel::Cancel;
+use crate::snapshot::GlobalStateSnapshot;
+use plain::Json;
+use std::alloc::AllocError;
+
+/// An analysis. What it reads and answers depends on its type alone: on the snapshot and the question, and never
+/// on the value or on how a snapshot is kept.
+pub trait Analysis: Drop {
+    /// Whether a row's params can be read.
+    ghost decodes: { RowId → Data → Bool };
+
+    /// What a question on a snapshot comes to.
+    ghost answer: { SnapshotData → Ask → Finding };
+
+    /// Whether a row's params can be read.
+    fn decodes(&self, row: RowId, params: &Json) -> bool
+        ensures { result ≡ decodes row params.now };
+
+    /// What the question comes to, unless a poll says that it is out of date.
+    fn query<C: Cancel>(
+        &self,
+        snapshot: &GlobalStateSnapshot,
+        ask: &Ask,
+        cancel: &mut C,
+    ) -> Result<Outcome, AllocError>
+        requires floor { snapshot.now.revision ≤ C.floor cancel.old }
+        requires fresh { C.held cancel.old ≡ None }
+
+        // The answer or the fault of this question; cancelled only with the number that a poll of this call gave.
+        ensures answers { IfOk result (Answers (answer snapshot.now ask.now) (C.held cancel.new)) }
+        ensures plain { IfOk result IsPlainOutcome }
+
+        ensures polled { OnOk result (HasPolled (C.polls cancel.old) (C.polls cancel.new)) }
+        ensures key { C.key cancel.new ≡ C.key cancel.old }
+        ensures floor_stays { C.floor cancel.new ≡ C.floor cancel.old };
+}

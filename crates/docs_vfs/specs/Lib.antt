@@ -1,0 +1,2 @@
+pub mod FileUrls
+pub mod Paths

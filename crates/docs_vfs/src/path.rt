@@ -1,0 +1,187 @@
+ghost use Rattle.std.specs.Prelude.{◌==◌, ◌≡◌, length, true, nat_eq, refl, Some, IfOk, IsUtf8};
+ghost use Rattle.std.specs.Option.{option_copied, option_and_then};
+ghost use Rattle.std.specs.Ordering.{nat_cmp};
+ghost use Rattle.std.specs.Hash as fed;
+ghost use Rattle.std.specs.Cmp.Lexicographic.{pointwise, slice_cmp, nat_list_eq_equiv, nat_list_cmp_total, texts_ties, texts_po, bytes_decides};
+ghost use Rattle.std.specs.Cmp.{partial_equiv_from_equiv};
+ghost use Rattle.std.specs.Cmp.Rules.{hashing};
+ghost use Rattle.std.proofs.Common.{rules};
+ghost use Rattle.docs_vfs.specs.Paths.{is_path, path_from, name_of, extension_of, parent_of, is_within};
+
+use crate::path_text::{begins_with_folder_text, cut_at_last_slash, extension_text, is_path_text};
+use plain::{Copied, Text, Told};
+use std::alloc::{AllocError, Global};
+use std::cmp::Ordering;
+use std::fmt;
+use std::hash::{Hash, Hasher};
+use std::marker::Model;
+
+/// The path of a file: `/`, or segments that each follow a `/`.
+#[derive(Drop)]
+pub struct VfsPath {
+    text: Text,
+}
+
+impl Model for VfsPath {
+    ghost use Rattle.std.specs.Prelude.{◌≡◌, ℕ, List, true};
+    ghost use Rattle.docs_vfs.specs.Paths.{is_path};
+
+    ghost Value = { List ℕ };
+
+    ghost view = { λ p. p.text };
+
+    ghost invariant = { λ p. is_path p.text ≡ true };
+}
+
+impl VfsPath {
+    /// A text that is a path.
+    pub(crate) fn from_text(text: Text) -> VfsPath
+        requires { is_path text ≡ true }
+        ensures { result ≡ text }
+    {
+        VfsPath { text }
+    }
+
+    /// The path with this text, or none where the text is no path.
+    pub fn new(alloc: Global, text: &str) -> Result<Option<VfsPath>, AllocError>
+        ensures { IfOk result (λ path. path ≡ path_from text.now) }
+    {
+        if !is_path_text(text) {
+            return Ok(None);
+        }
+        Ok(Some(VfsPath {
+            text: Text::from_str(alloc, text)?,
+        }))
+    }
+
+    pub fn as_str(&self) -> &str
+        ensures value { result.now ≡ self.now }
+        ensures path { is_path self.now ≡ true }
+        ensures utf8 { IsUtf8 self.now }
+    {
+        self.text.as_str()
+    }
+
+    /// Whether this is `/`.
+    pub fn is_root(&self) -> bool
+        ensures { result ≡ (length self.now == 1) }
+    {
+        self.as_str().len() == 1
+    }
+
+    /// The last segment.
+    pub fn file_name(&self) -> Option<&str>
+        ensures { option_copied result ≡ name_of self.now }
+    {
+        if self.is_root() {
+            return None;
+        }
+        let (_folder, name) = cut_at_last_slash(self.as_str())?;
+        Some(name)
+    }
+
+    /// What follows the last dot of the last segment that isn't its first byte.
+    pub fn extension(&self) -> Option<&str>
+        ensures { option_copied result ≡ option_and_then extension_of (name_of self.now) }
+    {
+        extension_text(self.file_name()?)
+    }
+
+    /// The path without its last segment.
+    pub fn parent(&self, alloc: Global) -> Result<Option<VfsPath>, AllocError>
+        ensures { IfOk result (λ parent. parent ≡ parent_of self.now) }
+    {
+        if self.is_root() {
+            return Ok(None);
+        }
+        match cut_at_last_slash(self.as_str()) {
+            None => Ok(None),
+            Some((folder, _name)) => {
+                if folder.is_empty() {
+                    VfsPath::new(alloc, "/")
+                } else {
+                    VfsPath::new(alloc, folder)
+                }
+            }
+        }
+    }
+
+    /// Whether the base is this path or a folder above it.
+    pub fn starts_with(&self, base: &VfsPath) -> bool
+        ensures { result ≡ is_within base.now self.now }
+    {
+        begins_with_folder_text(self.as_str(), base.as_str())
+    }
+}
+
+impl Clone for VfsPath {
+    ghost is_clone = { λ path copy. copy ≡ path };
+
+    fn clone(&self) -> Result<VfsPath, AllocError> {
+        Ok(VfsPath {
+            text: self.text.clone()?,
+        })
+    }
+}
+
+impl Copied for VfsPath {
+    ghost copies = { λ x y h. h };
+}
+
+impl PartialEq for VfsPath {
+    ghost eq = { pointwise nat_eq };
+
+    ghost laws = { partial_equiv_from_equiv nat_list_eq_equiv };
+
+    fn eq(&self, other: &VfsPath) -> bool {
+        self.as_str() == other.as_str()
+    }
+}
+
+impl Eq for VfsPath {
+    ghost laws = { nat_list_eq_equiv };
+}
+
+impl Told for VfsPath {
+    ghost tells = { bytes_decides };
+}
+
+impl PartialOrd for VfsPath {
+    ghost partial_cmp = { λ x y. Some (slice_cmp nat_cmp x y) };
+
+    ghost laws = { texts_po };
+
+    fn partial_cmp(&self, other: &VfsPath) -> Option<Ordering> {
+        Some(self.cmp(other))
+    }
+}
+
+impl Ord for VfsPath {
+    ghost cmp = { slice_cmp nat_cmp };
+
+    ghost total = { nat_list_cmp_total };
+
+    ghost matches_partial_cmp = { λ x y. refl };
+
+    ghost matches_eq = { texts_ties };
+
+    fn cmp(&self, other: &VfsPath) -> Ordering {
+        self.as_str().cmp(other.as_str())
+    }
+}
+
+impl Hash for VfsPath {
+    ghost hash_input = { fed.str };
+
+    ghost respects_eq = { Prim.search (hashing, rules) };
+
+    fn hash<H: Hasher>(&self, state: &mut H) {
+        self.as_str().hash(state);
+    }
+}
+
+impl fmt::Debug for VfsPath {
+    fn fmt<W: fmt::Write>(&self, f: &mut fmt::Formatter<W>) -> fmt::Result {
+        f.write_str(self.as_str())
+    }
+}

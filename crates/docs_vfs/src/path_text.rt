@@ -1,0 +1,90 @@
+ghost use Rattle.std.specs.Prelude.{◌≡◌, ◌++◌, ◌∷◌, true, false, nat_eq, slice_index, MatchOption};
+ghost use Rattle.std.specs.List.{starts_with, list_any, before_last, after_last};
+ghost use Rattle.std.specs.Option.{option_copied};
+ghost use Rattle.docs_vfs.specs.Paths.{is_slash, is_dot, is_dots, has_nul, is_segment, is_path, extension_of, begins_with_folder};
+
+/// Whether a text is `.` or `..`.
+pub(crate) fn is_dots_text(text: &str) -> bool
+    ensures { result ≡ is_dots text.now }
+{
+    text == "." || text == ".."
+}
+
+/// Whether a text holds a NUL.
+fn has_nul_text(text: &str) -> bool
+    ensures { result ≡ has_nul text.now }
+{
+    text.as_bytes().iter().any(|b| *b == 0)
+}
+
+/// Whether a text may stand between two slashes of a path.
+fn is_segment_text(text: &str) -> bool
+    ensures { result ≡ is_segment text.now }
+{
+    !text.is_empty() && !is_dots_text(text) && !has_nul_text(text)
+}
+
+/// Whether a text is a path.
+pub(crate) fn is_path_text(text: &str) -> bool
+    ensures { result ≡ is_path text.now }
+{
+    match text.strip_prefix('/') {
+        None => false,
+        Some(rest) => rest.is_empty() || rest.split('/').all(|part| is_segment_text(part)),
+    }
+}
+
+/// Whether a text begins with another.
+fn begins_with(text: &str, front: &str) -> bool
+    ensures { result ≡ starts_with nat_eq text.now front.now }
+{
+    text.starts_with(front)
+}
+
+/// Whether a slash stands at a place of a text.
+fn has_slash_at(text: &str, at: usize) -> bool
+    ensures { result ≡ is_slash (slice_index text.now at) }
+{
+    match text.as_bytes().get(at) {
+        Some(b) => *b == b'/',
+        None => false,
+    }
+}
+
+/// Whether a text begins with another, and then comes a slash or the end, or the other is `/`.
+pub(crate) fn begins_with_folder_text(text: &str, base: &str) -> bool
+    ensures { result ≡ begins_with_folder base.now text.now }
+{
+    begins_with(text, base)
+        && (base.len() == 1 || text.len() == base.len() || has_slash_at(text, base.len()))
+}
+
+/// The folder and the name of a path that isn't `/`.
+pub(crate) fn cut_at_last_slash(text: &str) -> Option<(&str, &str)>
+    ensures { MatchOption result (list_any is_slash text.now ≡ false)
+        (λ x. (text.now ≡ x.0.now ++ 47 ∷ x.1.now) × (list_any is_slash x.1.now ≡ false)
+        × (x.0.now ≡ before_last is_slash text.now) × (x.1.now ≡ after_last is_slash text.now)) }
+{
+    text.rsplit_once('/')
+}
+
+/// What stands before and after the last dot.
+fn cut_at_last_dot(text: &str) -> Option<(&str, &str)>
+    ensures { MatchOption result (list_any is_dot text.now ≡ false)
+        (λ x. (list_any is_dot text.now ≡ true) × (x.0.now ≡ before_last is_dot text.now)
+        × (x.1.now ≡ after_last is_dot text.now)) }
+{
+    text.rsplit_once('.')
+}
+
+/// What follows the last dot that isn't the first byte.
+pub(crate) fn extension_text(name: &str) -> Option<&str>
+    ensures { option_copied result ≡ extension_of name.now }
+{
+    let (front, extension) = cut_at_last_dot(name)?;
+    if front.is_empty() {
+        None
+    } else {
+        Some(extension)
+    }
+}

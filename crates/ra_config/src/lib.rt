@@ -1,0 +1,8 @@
+//! The settings of a session.
+#![tactic(auto)]
+
+mod config;
+#[cfg(test)]
+mod tests;
+
+pub use config::Config;

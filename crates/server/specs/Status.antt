@@ -1,0 +1,32 @@
+-- The status that a session ends with, and what is said of it.
+use Rattle.std.specs.Prelude.{ℕ, List, [], codes, ⊤, Result, Ok, Err, ◌==◌, if◌then◌else◌}
+use Rattle.session_model.specs.declared.fault.SessionError.{SessionError}
+use Rattle.session_model.specs.declared.fault.SessionError.TheVariants.{ClientExited, BadFrame, BadMessage, HostFault, WriteFault, Exhausted, NoMemory}
+
+-- the words are none that the program knows
+abbrev pub bad_words : ℕ
+bad_words = 2
+
+abbrev pub status_of : Result ⊤ SessionError → ℕ
+status_of (Ok x) = 0
+status_of (Err ClientExited) = 3
+status_of (Err (BadFrame at)) = 4
+status_of (Err (BadMessage at)) = 5
+status_of (Err HostFault) = 6
+status_of (Err WriteFault) = 7
+status_of (Err (Exhausted counter)) = 8
+status_of (Err NoMemory) = 9
+
+-- what a program says of its status: nothing where all is well
+abbrev pub status_text : ℕ → List ℕ
+status_text status =
+    if status == 0 then []
+    else if status == 2 then codes "bad words"
+    else if status == 3 then codes "client exited without proper shutdown sequence"
+    else if status == 4 then codes "bad frame"
+    else if status == 5 then codes "bad message"
+    else if status == 6 then codes "the host failed"
+    else if status == 7 then codes "the output failed"
+    else if status == 8 then codes "counter exhausted"
+    else if status == 9 then codes "out of memory"
+    else codes "failed"

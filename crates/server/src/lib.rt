@@ -1,0 +1,8 @@
+//! What a program over the session does with its words, and the statuses that it ends with.
+#![tactic(auto)]
+
+mod serving;
+mod status;
+
+pub use serving::serve;
+pub use status::{BAD_WORDS, status_of, status_text};

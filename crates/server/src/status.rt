@@ -1,0 +1,42 @@
+// Statuses of the program.
+ghost use Rattle.std.specs.Prelude.{◌≡◌};
+ghost use Rattle.server.specs.Status.{status_of, status_text};
+
+use session::SessionError;
+
+/// The status where the words are none that the program knows.
+pub const BAD_WORDS: u8 = 2;
+
+/// The status that a session ends with.
+pub fn status_of(outcome: Result<(), SessionError>) -> u8
+    ensures { result ≡ status_of outcome }
+{
+    match outcome {
+        Ok(()) => 0,
+        Err(SessionError::ClientExited) => 3,
+        Err(SessionError::BadFrame { .. }) => 4,
+        Err(SessionError::BadMessage { .. }) => 5,
+        Err(SessionError::HostFault) => 6,
+        Err(SessionError::WriteFault) => 7,
+        Err(SessionError::Exhausted { .. }) => 8,
+        Err(SessionError::NoMemory) => 9,
+    }
+}
+
+/// What the program says of its status on standard error: nothing where all is well.
+pub fn status_text(status: u8) -> &'static str
+    ensures { result.now ≡ status_text status }
+{
+    match status {
+        0 => "",
+        BAD_WORDS => "bad words",
+        3 => "client exited without proper shutdown sequence",
+        4 => "bad frame",
+        5 => "bad message",
+        6 => "the host failed",
+        7 => "the output failed",
+        8 => "counter exhausted",
+        9 => "out of memory",
+        _ => "failed",
+    }
+}

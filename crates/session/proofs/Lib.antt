@@ -1,0 +1,4 @@
+pub mod Advancing
+pub mod Endings
+pub mod Feeding
+pub mod Writable

@@ -1,0 +1,9 @@
+use Rattle.session_model.proofs.Answered.{run-answered}
+use Rattle.session_model.proofs.Causes.{run-caused}
+use Rattle.session.proofs.run.main_loop_from.Goals as goal
+
+pub returns-clause-headline : goal.returns-clause-headline
+returns-clause-headline g c = run-answered _ _ _ _ _ _ _ _ c.run_from.ensures.run
+
+pub returns-clause-end : goal.returns-clause-end
+returns-clause-end g c = run-caused _ _ _ _ _ _ _ _ c.run_from.ensures.run

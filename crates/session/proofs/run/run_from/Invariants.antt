@@ -1,0 +1,22 @@
+use Rattle.std.proofs.Common.{◌-◌, ◌^◌, ◌≤◌, ◌≡◌}
+use Rattle.std.specs.FinMap as map
+use Rattle.session_model.specs.Course.{session_course}
+use Rattle.session_model.specs.Run.{Stretch, meaning_of, told_of, fed_bytes}
+use Rattle.session_model.specs.State.{fresh}
+use Rattle.session.specs.Looping.{left_of}
+use Rattle.session.specs.Reading.{course_from}
+use Rattle.session.proofs.run.run_from.Given as goal
+
+abbrev pub invariant-inputs : goal.invariant-inputs
+invariant-inputs g l = record {
+  so_far : Stretch (meaning_of g.A.Analysis.decodes g.A.Analysis.answer) (fresh l.fn.config) l.state (session_course l.fn.reader.place l.fn.reader.held) (course_from l.reader) (fed_bytes l.fn.reader) (fed_bytes l.reader)
+      (told_of (g.H.Host.given l.fn.host) (g.H.Host.taken l.fn.host) (g.S.Sink.turns l.fn.sink)) (told_of (g.H.Host.given l.host) (g.H.Host.taken l.host) (g.S.Sink.turns l.sink))
+      (g.H.Host.honest l.fn.host) map.empty (g.H.Host.out l.host);
+  handed : g.H.Host.handed l.host ≡ l.state.jobs_given;
+  honest_stays : g.H.Host.honest l.host ≡ g.H.Host.honest l.fn.host;
+  host_later : g.H.Host.faults l.fn.host ≤ g.H.Host.faults l.host;
+  sink_later : g.S.Sink.faults l.fn.sink ≤ g.S.Sink.faults l.sink;
+}
+
+abbrev pub decreases-inputs : goal.decreases-inputs
+decreases-inputs g l = left_of l.state (fed_bytes l.reader)

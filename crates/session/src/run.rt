@@ -1,0 +1,298 @@
+// The loop: an input, its turn, what is written and what is ordered.
+ghost use Rattle.std.specs.Prelude.{◌≡◌, ◌≤◌, ◌<◌, ◌^◌, ◌+◌, ◌++◌, [], ◌∷◌, length, false, OnOk, IfErr, IfOk};
+ghost use Rattle.std.specs.FinMap as map;
+ghost use Rattle.lsp_frame.specs.Frames.{cut_of};
+ghost use Rattle.lsp_frame.specs.declared.frame.Cut.TheVariants.{NeedMore};
+ghost use Rattle.session_port.specs.Record.{Rose, after_ok, added};
+ghost use Rattle.session_model.specs.Headline.{IsAnswered, EndsByCause};
+ghost use Rattle.session_model.specs.Machine.{step};
+ghost use Rattle.session_model.specs.Meets.{Meets};
+ghost use Rattle.session_model.specs.Run.{IsRun, empty_reader, meaning_of, told_of, host_error_of, write_error_of, turn_error_of, fed_bytes};
+ghost use Rattle.session.specs.Looping.{Advances, TurnDone, IsHostError, IsFeedError};
+
+use crate::global_state::GlobalState;
+use crate::reading::{Coming, next_message};
+use crate::turn_out::TurnOut;
+use analysis_host::Analysis;
+use lsp_frame::FrameReader;
+use plain::{Bytes, Items};
+use ra_config::Config;
+use session_model::{Counter, Event, Input, SessionError, TurnError};
+use session_port::{Command, Host, HostError, HostEvent, Sink};
+use std::alloc::Global;
+
+// Whether the run goes on.
+#[derive(Clone, Copy, Debug, PartialEq, Eq)]
+enum Turned {
+    Going,
+    Stopped,
+}
+
+fn host_error(error: HostError) -> SessionError
+    ensures { result ≡ host_error_of error }
+{
+    match error {
+        HostError::Failed => SessionError::HostFault,
+        HostError::NoMemory => SessionError::NoMemory,
+    }
+}
+
+fn write_error(error: HostError) -> SessionError
+    ensures { result ≡ write_error_of error }
+{
+    match error {
+        HostError::Failed => SessionError::WriteFault,
+        HostError::NoMemory => SessionError::NoMemory,
+    }
+}
+
+fn turn_error(error: TurnError) -> SessionError
+    ensures { result ≡ turn_error_of error }
+{
+    match error {
+        TurnError::Exhausted { counter } => SessionError::Exhausted { counter },
+        TurnError::NoMemory => SessionError::NoMemory,
+    }
+}
+
+// The machine's part of a turn.
+fn take_input<A: Analysis>(
+    input: Input,
+    state: &mut GlobalState,
+    analysis: &A,
+    out: &mut TurnOut,
+) -> Result<(), TurnError>
+    ensures { Meets result (step A.decodes input (record { state = state.old; out = out.old })) state.new out.new }
+{
+    match input {
+        Input::Start => state.start(out),
+        Input::Next(event) => state.handle_event(event, analysis, out),
+    }
+}
+
+// The turn of one input.
+fn run_turn<H: Host<A>, S: Sink, A: Analysis>(
+    alloc: Global,
+    input: Input,
+    state: &mut GlobalState,
+    host: &mut H,
+    sink: &mut S,
+    analysis: &A,
+) -> Result<Turned, SessionError>
+    requires handed { H.handed host.old ≡ state.old.jobs_given }
+    ensures turn { TurnDone (meaning_of A.decodes A.answer) input state.old state.new (told_of (H.given host.old) (H.taken host.old) (S.turns sink.old)) (told_of (H.given host.new) (H.taken host.new) (S.turns sink.new)) (H.out host.old) (H.out host.new) result }
+    ensures handed { OnOk result (H.handed host.new ≡ state.new.jobs_given) }
+    ensures honest_stays { H.honest host.new ≡ H.honest host.old }
+    ensures host_later { H.faults host.old ≤ H.faults host.new }
+    ensures host_fault { result ≡ Err SessionError.HostFault → Rose (H.faults host.old) (H.faults host.new) }
+    ensures sink_later { S.faults sink.old ≤ S.faults sink.new }
+    ensures write_fault { result ≡ Err SessionError.WriteFault → Rose (S.faults sink.old) (S.faults sink.new) }
+{
+    let mut out = TurnOut::new(alloc);
+    if let Err(error) = take_input(input, state, analysis, &mut out) {
+        return Err(turn_error(error));
+    }
+    let bytes = out.bytes(alloc)?;
+    if let Err(error) = sink.put_turn(&bytes) {
+        return Err(write_error(error));
+    }
+    match host.order(out.into_commands()) {
+        Ok(()) => Ok(Turned::Going),
+        Err(error) => Err(host_error(error)),
+    }
+}
+
+// The last order.
+fn stop<H: Host<A>, A: Analysis>(alloc: Global, host: &mut H) -> Result<(), SessionError>
+    ensures given { H.given host.new ≡ H.given host.old }
+    ensures taken { H.taken host.new ≡ after_ok result (λ _. added (H.taken host.old) (Command.Stop ∷ [])) (H.taken host.old) }
+    ensures honest_stays { H.honest host.new ≡ H.honest host.old }
+    ensures later { H.faults host.old ≤ H.faults host.new }
+    ensures error { IfErr result (IsHostError (H.faults host.old) (H.faults host.new)) }
+{
+    let mut commands = Items::new(alloc);
+    commands.push(Command::Stop)?;
+    match host.order(commands) {
+        Ok(()) => Ok(()),
+        Err(error) => Err(host_error(error)),
+    }
+}
+
+// Feeds the reader.
+fn feed(reader: &mut FrameReader, bytes: &Bytes) -> Result<(), SessionError>
+    requires sound { reader.old.failed ≡ false }
+    ensures ok { OnOk result (reader.new ≡ record { place = reader.old.place; held = reader.old.held ++ bytes.now; failed = false }) }
+    ensures fits { OnOk result (fed_bytes reader.old + length bytes.now < 2 ^ 64) }
+    ensures err { IfErr result (IsFeedError (fed_bytes reader.old) (length bytes.now)) }
+{
+    let room = u64::MAX - reader.taken();
+    if bytes.len() as u64 > room {
+        return Err(SessionError::Exhausted {
+            counter: Counter::Bytes,
+        });
+    }
+    reader.feed(bytes.as_slice())?;
+    Ok(())
+}
+
+// What the host gives next, where no whole frame is held.
+fn take_event<H: Host<A>, S: Sink, A: Analysis>(
+    alloc: Global,
+    reader: &mut FrameReader,
+    state: &mut GlobalState,
+    host: &mut H,
+    sink: &mut S,
+    analysis: &A,
+) -> Result<Turned, SessionError>
+    requires waits { cut_of reader.old.held ≡ NeedMore }
+    requires sound { reader.old.failed ≡ false }
+    requires handed { H.handed host.old ≡ state.old.jobs_given }
+    ensures turn { Advances (meaning_of A.decodes A.answer) state.old state.new reader.old reader.new (told_of (H.given host.old) (H.taken host.old) (S.turns sink.old)) (told_of (H.given host.new) (H.taken host.new) (S.turns sink.new)) (H.honest host.old) (H.out host.old) (H.out host.new) result }
+    ensures handed { OnOk result (H.handed host.new ≡ state.new.jobs_given) }
+    ensures honest_stays { H.honest host.new ≡ H.honest host.old }
+    ensures host_later { H.faults host.old ≤ H.faults host.new }
+    ensures host_fault { result ≡ Err SessionError.HostFault → Rose (H.faults host.old) (H.faults host.new) }
+    ensures sink_later { S.faults sink.old ≤ S.faults sink.new }
+    ensures write_fault { result ≡ Err SessionError.WriteFault → Rose (S.faults sink.old) (S.faults sink.new) }
+{
+    let event = match host.next() {
+        Ok(event) => event,
+        Err(error) => return Err(host_error(error)),
+    };
+    match event {
+        HostEvent::Ended => Err(SessionError::ClientExited),
+        HostEvent::Tasks(batch) => {
+            let input = Input::Next(Event::Task(batch));
+            run_turn(alloc, input, state, host, sink, analysis)
+        }
+        HostEvent::Bytes(bytes) => {
+            if bytes.len() == 0 {
+                let batch = Items::new(alloc);
+                let input = Input::Next(Event::Task(batch));
+                return run_turn(alloc, input, state, host, sink, analysis);
+            }
+            match feed(reader, &bytes) {
+                Ok(()) => Ok(Turned::Going),
+                Err(error) => Err(error),
+            }
+        }
+    }
+}
+
+// The next input and its turn, or the next event.
+fn advance<H: Host<A>, S: Sink, A: Analysis>(
+    alloc: Global,
+    reader: &mut FrameReader,
+    state: &mut GlobalState,
+    host: &mut H,
+    sink: &mut S,
+    analysis: &A,
+) -> Result<Turned, SessionError>
+    requires handed { H.handed host.old ≡ state.old.jobs_given }
+    ensures turn { Advances (meaning_of A.decodes A.answer) state.old state.new reader.old reader.new (told_of (H.given host.old) (H.taken host.old) (S.turns sink.old)) (told_of (H.given host.new) (H.taken host.new) (S.turns sink.new)) (H.honest host.old) (H.out host.old) (H.out host.new) result }
+    ensures handed { result ≡ Ok Turned.Going → H.handed host.new ≡ state.new.jobs_given }
+    ensures honest_stays { H.honest host.new ≡ H.honest host.old }
+    ensures host_later { H.faults host.old ≤ H.faults host.new }
+    ensures host_fault { result ≡ Err SessionError.HostFault → Rose (H.faults host.old) (H.faults host.new) }
+    ensures sink_later { S.faults sink.old ≤ S.faults sink.new }
+    ensures write_fault { result ≡ Err SessionError.WriteFault → Rose (S.faults sink.old) (S.faults sink.new) }
+{
+    match next_message(reader)? {
+        Coming::Message(message) => {
+            let input = Input::Next(Event::Lsp(message));
+            run_turn(alloc, input, state, host, sink, analysis)
+        }
+        Coming::Exit => match stop(alloc, host) {
+            Ok(()) => Ok(Turned::Stopped),
+            Err(error) => Err(error),
+        },
+        Coming::BadFrame { at } => Err(SessionError::BadFrame { at }),
+        Coming::BadMessage { at } => Err(SessionError::BadMessage { at }),
+        Coming::Waits => take_event(alloc, reader, state, host, sink, analysis),
+    }
+}
+
+// Turns until `exit`, the end of the events or an error.
+fn run_from<H: Host<A>, S: Sink, A: Analysis>(
+    alloc: Global,
+    config: Config,
+    mut reader: FrameReader,
+    host: &mut H,
+    sink: &mut S,
+    analysis: &A,
+) -> Result<(), SessionError>
+    requires idle { H.out host.old ≡ map.empty }
+    requires unused { H.handed host.old ≡ 0 }
+    ensures run { IsRun (meaning_of A.decodes A.answer) config reader (told_of (H.given host.old) (H.taken host.old) (S.turns sink.old)) (told_of (H.given host.new) (H.taken host.new) (S.turns sink.new)) (H.honest host.old) result }
+    ensures host_fault { result ≡ Err SessionError.HostFault → Rose (H.faults host.old) (H.faults host.new) }
+    ensures write_fault { result ≡ Err SessionError.WriteFault → Rose (S.faults sink.old) (S.faults sink.new) }
+{
+    let mut state = GlobalState::new(alloc, config)?;
+    match run_turn(alloc, Input::Start, &mut state, host, sink, analysis) {
+        Ok(_) => {}
+        Err(error) => return Err(error),
+    }
+    'inputs: loop {
+        match advance(alloc, &mut reader, &mut state, host, sink, analysis) {
+            Ok(Turned::Going) => {}
+            Ok(Turned::Stopped) => return Ok(()),
+            Err(error) => return Err(error),
+        }
+    }
+}
+
+/// A whole run, after bytes that a reader holds: turns until `exit`, the end of the events or an error. Messages
+/// that the reader holds whole are handled before the first event.
+pub fn main_loop_from<H: Host<A>, S: Sink, A: Analysis>(
+    alloc: Global,
+    config: Config,
+    reader: FrameReader,
+    host: &mut H,
+    sink: &mut S,
+    analysis: &A,
+) -> Result<(), SessionError>
+    // No job was handed to the host before.
+    requires idle { H.out host.old ≡ map.empty }
+    requires unused { H.handed host.old ≡ 0 }
+
+    // The turns are the session machine's, over the inputs of the bytes held and of the host's events.
+    ensures run { IsRun (meaning_of A.decodes A.answer) config reader (told_of (H.given host.old) (H.taken host.old) (S.turns sink.old)) (told_of (H.given host.new) (H.taken host.new) (S.turns sink.new)) (H.honest host.old) result }
+
+    // What ended the run is what ends the course of the events given.
+    ensures end { EndsByCause reader (H.given host.old) (H.given host.new) result }
+
+    // Each request gets the response of its row and no other; between turns exactly one job holds each pending request.
+    ensures headline { IsAnswered (meaning_of A.decodes A.answer) config reader (told_of (H.given host.old) (H.taken host.old) (S.turns sink.old)) (told_of (H.given host.new) (H.taken host.new) (S.turns sink.new)) (H.honest host.old) result }
+
+    ensures host_fault { result ≡ Err SessionError.HostFault → Rose (H.faults host.old) (H.faults host.new) }
+    ensures write_fault { result ≡ Err SessionError.WriteFault → Rose (S.faults sink.old) (S.faults sink.new) }
+{
+    run_from(alloc, config, reader, host, sink, analysis)
+}
+
+/// A whole run: turns until `exit`, the end of the events or an error.
+pub fn main_loop<H: Host<A>, S: Sink, A: Analysis>(
+    alloc: Global,
+    config: Config,
+    host: &mut H,
+    sink: &mut S,
+    analysis: &A,
+) -> Result<(), SessionError>
+    // No job was handed to the host before.
+    requires idle { H.out host.old ≡ map.empty }
+    requires unused { H.handed host.old ≡ 0 }
+
+    // The turns are the session machine's, over the inputs of the host's events.
+    ensures run { IsRun (meaning_of A.decodes A.answer) config empty_reader (told_of (H.given host.old) (H.taken host.old) (S.turns sink.old)) (told_of (H.given host.new) (H.taken host.new) (S.turns sink.new)) (H.honest host.old) result }
+
+    // What ended the run is what ends the course of the events given.
+    ensures end { EndsByCause empty_reader (H.given host.old) (H.given host.new) result }
+
+    // Each request gets the response of its row and no other; between turns exactly one job holds each pending request.
+    ensures headline { IsAnswered (meaning_of A.decodes A.answer) config empty_reader (told_of (H.given host.old) (H.taken host.old) (S.turns sink.old)) (told_of (H.given host.new) (H.taken host.new) (S.turns sink.new)) (H.honest host.old) result }
+
+    ensures host_fault { result ≡ Err SessionError.HostFault → Rose (H.faults host.old) (H.faults host.new) }
+    ensures write_fault { result ≡ Err SessionError.WriteFault → Rose (S.faults sink.old) (S.faults sink.new) }
+{
+    main_loop_from(alloc, config, FrameReader::new(alloc), host, sink, analysis)
+}

@@ -1,0 +1,91 @@
+-- The machine's runs have the headline.
+use Rattle.std.proofs.Common.{◌≡◌, ℕ, ◌+◌, List, [], ◌∷◌, ◌++◌, length, Bool, refl, sym, ap, ◌∙◌, subst, append-nil, append_assoc, inl, inr}
+use Rattle.std.specs.Prelude.{IsTrue, Result, Ok, Err, ◌⊎◌}
+use Rattle.lsp_frame.specs.Reader.{Reader}
+use Rattle.ra_config.specs.Config.{ConfigData}
+use Rattle.session_port.specs.Jobs.{Jobs}
+use Rattle.session_port.specs.Record.{grown}
+use Rattle.session_port.specs.declared.event.HostEvent.{HostEvent}
+use Rattle.session_port.specs.declared.event.HostEvent.TheVariants.{Bytes}
+use Rattle.session_model.specs.Course.{Course, session_course}
+use Rattle.session_model.specs.Headline.{Place, Answers, IsAnswered, ListsEnd, AreHandedOver, AreHeld, place_after, place_after_all, beginning, reaction_of, row}
+use Rattle.session_model.specs.Run.{Meaning, Turn, Told, Runs, AreHonest, IsRun, Ends, RunsOut, TooManyBytes, out_after, telling}
+use Rattle.session_model.specs.State.{State, fresh}
+use Rattle.session_model.specs.declared.fault.Counter.{Counter}
+use Rattle.session_model.specs.declared.fault.SessionError.{SessionError}
+use Rattle.session_model.specs.declared.fault.SessionError.TheVariants.{ClientExited, BadFrame, BadMessage, HostFault, WriteFault, Exhausted, NoMemory}
+use Rattle.session_model.specs.Invariant.{SoundAt}
+use Rattle.session_model.proofs.Held.{turn-sound, sound-beginning}
+use Rattle.session_model.proofs.Handed.{turn-handed, handed-beginning, after_all-append}
+use Rattle.session_model.specs.Invariant.{place_of}
+use Rattle.session_model.proofs.Rows.{steps-fit}
+
+-- what holds of each turn, after these
+abbrev AllAnswer : Meaning → ConfigData → Bool → List Turn → List Turn → Type 0
+AllAnswer meaning config honest before [] = Unit {0}
+AllAnswer meaning config honest before (turn ∷ turns) = Answers meaning config honest before turn × AllAnswer meaning config honest (before ++ turn ∷ []) turns
+
+at-each : (meaning : Meaning) (config : ConfigData) (honest : Bool) (first before : List Turn) (turn : Turn) (after : List Turn) → AllAnswer meaning config honest first (before ++ turn ∷ after) → Answers meaning config honest (first ++ before) turn
+at-each meaning config honest first [] turn after h = subst (λ (ts : List Turn). Answers meaning config honest ts turn) (sym (append-nil first)) h.0
+at-each meaning config honest first (b ∷ bs) turn after h =
+    subst (λ (ts : List Turn). Answers meaning config honest ts turn) (append_assoc first (b ∷ []) bs) (at-each meaning config honest (first ++ b ∷ []) bs turn after h.1)
+
+-- the state after some turns stands at their place, and their lists are sound
+record Stands (config : ConfigData) (s : State) (before : List Turn) : Type 0 where
+  settings : s.config ≡ config
+  place : place_of s ≡ place_after_all before beginning
+  sound : SoundAt (place_after_all before beginning)
+  handed : AreHandedOver config before (place_after_all before beginning).out
+
+after-one : (before : List Turn) (turn : Turn) → place_after_all (before ++ turn ∷ []) beginning ≡ place_after turn (place_after_all before beginning)
+after-one before turn = after_all-append before (turn ∷ []) beginning
+
+all-answer : (meaning : Meaning) (config : ConfigData) (honest : Bool) (s : State) (before turns : List Turn) (last : State) → Stands config s before
+    → Runs meaning s turns last → (IsTrue honest → AreHonest meaning (place_after_all before beginning).out turns) → AllAnswer meaning config honest before turns
+all-answer meaning config honest s before [] last stands runs fair = tt
+all-answer meaning config honest s before (turn ∷ turns) last stands (mid, steps, runs) fair =
+    let fit = steps-fit meaning s turn mid steps in
+    let here = place_after_all before beginning in
+    let does = subst (λ p. reaction_of turn ≡ row meaning config turn.input p) stands.place (subst (λ c. reaction_of turn ≡ row meaning c turn.input (place_of s)) stands.settings fit.does) in
+    let place : place_of mid ≡ place_after turn here = fit.place ∙ ap (place_after turn) stands.place in
+    let sound : SoundAt (place_after turn here) = turn-sound meaning config turn here does stands.sound in
+    let handed : AreHandedOver config (before ++ turn ∷ []) (place_after turn here).out = turn-handed meaning config before turn does stands.handed in
+    let next : Stands config mid (before ++ turn ∷ []) = record {
+      settings = fit.config ∙ stands.settings;
+      place = place ∙ sym (after-one before turn);
+      sound = subst SoundAt (sym (after-one before turn)) sound;
+      handed = subst (λ (p : Place). AreHandedOver config (before ++ turn ∷ []) p.out) (sym (after-one before turn)) handed;
+    } in
+    (
+      record { does = does; held = subst (λ (p : Place). AreHeld p.pending p.out) (sym (after-one before turn)) sound.held; handed_over = stands.handed; value = λ h. (fair h).0 },
+      all-answer meaning config honest mid (before ++ turn ∷ []) turns last next runs (λ h. subst (λ (p : Place). AreHonest meaning p.out turns) (sym (after-one before turn)) (fair h).1),
+    )
+
+out-events : (meaning : Meaning) (counter : Counter) (state : State) (to : List HostEvent → Course) (used : ℕ) (old new : Told) → (RunsOut meaning counter state to old new ⊎ TooManyBytes counter used old new)
+    → (events : List HostEvent) × (new ≡ record old { given = grown old.given events })
+out-events meaning counter state to used old new (inl h) = (h.events, h.told)
+out-events meaning counter state to used old new (inr h) = (Bytes h.bytes ∷ [], h.told)
+
+lists-end : (T : Type 0) (meaning : Meaning) (state : State) (to : List HostEvent → Course) (used : ℕ) (old new : Told) (result : Result T SessionError) → Ends meaning state to used old new result → ListsEnd old new result
+lists-end T meaning state to used old new (Ok x) h = h.1
+lists-end T meaning state to used old new (Err ClientExited) h = h.1
+lists-end T meaning state to used old new (Err (BadFrame at)) h = h.1
+lists-end T meaning state to used old new (Err (BadMessage at)) h = h.1
+lists-end T meaning state to used old new (Err HostFault) h = h
+lists-end T meaning state to used old new (Err WriteFault) h = h
+lists-end T meaning state to used old new (Err (Exhausted counter)) h = out-events meaning counter state to used old new h
+lists-end T meaning state to used old new (Err NoMemory) h = h
+
+pub run-answered : (T : Type 0) (meaning : Meaning) (config : ConfigData) (reader : Reader) (old new : Told) (honest : Bool) (result : Result T SessionError)
+    → IsRun meaning config reader old new honest result → IsAnswered meaning config reader old new honest result
+run-answered T meaning config reader old new honest result run = record {
+  events = run.stretch.events;
+  turns = run.stretch.turns;
+  later = run.to [];
+  inputs = ap (session_course reader.place reader.held) (sym (append-nil run.stretch.events)) ∙ run.stretch.course [];
+  read = run.stretch.read;
+  lists = subst (λ t. ListsEnd t new result) run.stretch.told (lists-end T meaning run.last run.to run.used_last run.told_last new result run.ends);
+  each = λ before turn after is. at-each meaning config honest [] before turn after
+      (subst (AllAnswer meaning config honest []) is (all-answer meaning config honest (fresh config) [] run.stretch.turns run.last
+      (record { settings = refl; place = refl; sound = sound-beginning; handed = handed-beginning config }) run.stretch.runs run.stretch.honest_turns));
+}

@@ -1,0 +1,15 @@
+pub mod Answered
+pub mod Batches
+pub mod Causes
+pub mod Counted
+pub mod Courses
+pub mod Handed
+pub mod Held
+pub mod Joined
+pub mod Keyed
+pub mod Orders
+pub mod Results
+pub mod Rising
+pub mod Rows
+pub mod Stretches
+pub mod Waiting

@@ -1,0 +1,276 @@
+-- What a session's record says of requests and answers: by the lists of inputs, messages and commands alone.
+use Rattle.std.specs.Prelude.{◌≡◌, ◌<◌, ℕ, ◌+◌, ◌&&◌, ℤ, List, [], ◌∷◌, ◌++◌, codes, length, Bool, true, false, IsTrue, Option, None, Some, Result, Ok, Err, if◌then◌else◌}
+use Rattle.std.specs.FinMap as map
+use Rattle.serde_json.specs.Data.{Data}
+use Rattle.plain.specs.Plain.{is_plain}
+use Rattle.docs_vfs.specs.Paths.{path_cmp}
+use Rattle.docs_vfs.specs.FileUrls.{path_of}
+use Rattle.docs_vfs.specs.declared.file_url.UrlFault.{UrlFault}
+use Rattle.lsp_frame.specs.Reader.{Reader}
+use Rattle.lsp_frame.specs.Pending.{Pending, none_pending, is_pending, id_of, registered, closed}
+use Rattle.lsp_frame.specs.declared.message.RequestId.{RequestId}
+use Rattle.lsp_frame.specs.declared.message.Request.{Request}
+use Rattle.lsp_frame.specs.declared.message.Response.{Response}
+use Rattle.lsp_frame.specs.declared.message.Message.{Message}
+use Rattle.lsp_frame.specs.declared.message.Message.TheVariants.{Request as RequestMessage, Notification as NotificationMessage, Response as ResponseMessage}
+use Rattle.ra_config.specs.Config.{ConfigData}
+use Rattle.analysis_host.specs.SnapshotData.{SnapshotData}
+use Rattle.analysis_host.specs.declared.ask.RowId.{RowId}
+use Rattle.session_port.specs.Jobs.{Jobs, ticket_of, final_of, fitting_job, after_message}
+use Rattle.session_port.specs.Record.{added, grown, spawned}
+use Rattle.session_port.specs.declared.command.Command.{Command}
+use Rattle.session_port.specs.declared.command.Command.TheVariants.{Spawn, Revise, Log, Stop}
+use Rattle.session_port.specs.declared.event.HostEvent.{HostEvent}
+use Rattle.session_port.specs.declared.event.HostEvent.TheVariants.{Ended}
+use Rattle.session_port.specs.declared.event.TaskMsg.{TaskMsg}
+use Rattle.session_port.specs.declared.job.Job.{Job}
+use Rattle.session_port.specs.declared.job.JobKind.TheVariants.{Request as RequestJob}
+use Rattle.session_port.specs.declared.job.JobResult.{JobResult}
+use Rattle.session_model.specs.Course.{Course, Stop as CourseStop, exit, client_gone, bad_frame, bad_message, end_of, session_course}
+use Rattle.session_model.specs.Machine.{already_pending, unknown_request, invalid_params, result_reply}
+use Rattle.session_model.specs.Methods.{row_of, class_of}
+use Rattle.session_model.specs.Opening.{opened_of}
+use Rattle.session_model.specs.Run.{Meaning, Turn, Told, AllRead, BreaksOff, IsHonestInput, out_after, taking, telling}
+use Rattle.session_model.specs.Texts.{same_text}
+use Rattle.session_model.specs.declared.fault.SessionError.{SessionError}
+use Rattle.session_model.specs.declared.fault.SessionError.TheVariants.{ClientExited, BadFrame, BadMessage, HostFault, WriteFault, Exhausted, NoMemory}
+use Rattle.session_model.specs.declared.input.Event.TheVariants.{Lsp, Task}
+use Rattle.session_model.specs.declared.input.Input.{Input}
+use Rattle.session_model.specs.declared.input.Input.TheVariants.{Start, Next}
+use Rattle.session_model.specs.declared.notice.DidOpen.{DidOpen}
+
+-- ---- what the lists say before a turn
+
+-- the documents that are open: the text that each path has, and its version
+pub record Documents : Type 0 where
+  pub texts : map.FinMap path_cmp (List ℕ)
+  pub versions : map.FinMap path_cmp ℤ
+
+pub record Place : Type 0 where
+  -- the number of the next turn, from 1; the start has none
+  pub number : ℕ
+  pub documents : Documents
+  -- the number of the last `Revise`
+  pub revision : ℕ
+  -- the requests that are read and not answered, by the turn in which they were read
+  pub pending : Pending
+  -- the jobs handed over and not ended
+  pub out : Jobs
+  -- how many were handed over
+  pub handed : ℕ
+
+abbrev pub no_documents : Documents
+no_documents = record { texts = map.empty; versions = map.empty }
+
+abbrev pub beginning : Place
+beginning = record { number = 1; documents = no_documents; revision = 0; pending = none_pending; out = map.empty; handed = 0 }
+
+-- what a job works on that is handed over here
+abbrev pub snapshot_at : ConfigData → Place → SnapshotData
+snapshot_at config place = record { world = record { texts = place.documents.texts }; versions = place.documents.versions; config = config; revision = place.revision }
+
+-- ---- what a turn changes of it
+
+abbrev pub number_after : Input → ℕ → ℕ
+number_after Start number = number
+number_after (Next event) number = number + 1
+
+-- a document is opened at a path
+abbrev pub opened_at : Result (List ℕ) UrlFault → DidOpen → Documents → Documents
+opened_at (Err fault) document documents = documents
+opened_at (Ok path) document documents = record { texts = map.insert documents.texts path document.text; versions = map.insert documents.versions path document.version }
+
+abbrev pub with_opened : Option DidOpen → Documents → Documents
+with_opened None documents = documents
+with_opened (Some document) documents = opened_at (path_of document.uri) document documents
+
+abbrev pub documents_after : Input → Documents → Documents
+documents_after Start documents = documents
+documents_after (Next (Lsp (RequestMessage r))) documents = documents
+documents_after (Next (Lsp (NotificationMessage n))) documents = if same_text n.method (codes "textDocument/didOpen") then with_opened (opened_of n.params) documents else documents
+documents_after (Next (Lsp (ResponseMessage r))) documents = documents
+documents_after (Next (Task batch)) documents = documents
+
+abbrev pub revision_after : List Command → ℕ → ℕ
+revision_after [] revision = revision
+revision_after (Revise new ∷ commands) revision = revision_after commands new
+revision_after (Spawn job ∷ commands) revision = revision_after commands revision
+revision_after (Log code text ∷ commands) revision = revision_after commands revision
+revision_after (Stop ∷ commands) revision = revision_after commands revision
+
+-- a response answers the pending request of its id, and closes it
+abbrev pub closed_with : Option RequestId → Pending → Pending
+closed_with None pending = pending
+closed_with (Some id) pending = closed id pending
+
+abbrev pub closed_by : List Message → Pending → Pending
+closed_by [] pending = pending
+closed_by (ResponseMessage response ∷ messages) pending = closed_by messages (closed_with response.id pending)
+closed_by (RequestMessage r ∷ messages) pending = closed_by messages pending
+closed_by (NotificationMessage n ∷ messages) pending = closed_by messages pending
+
+abbrev pub after_request : Bool → ℕ → RequestId → List Message → Pending → Pending
+-- the one response refuses the request, whose id is pending, and closes nothing
+after_request true number id messages pending = pending
+after_request false number id messages pending = closed_by messages (registered number id pending)
+
+abbrev pub pending_after : ℕ → Input → List Message → Pending → Pending
+pending_after number Start messages pending = closed_by messages pending
+pending_after number (Next (Lsp (RequestMessage r))) messages pending = after_request (is_pending r.id pending) number r.id messages pending
+pending_after number (Next (Lsp (NotificationMessage n))) messages pending = closed_by messages pending
+pending_after number (Next (Lsp (ResponseMessage r))) messages pending = closed_by messages pending
+pending_after number (Next (Task batch)) messages pending = closed_by messages pending
+
+abbrev pub place_after : Turn → Place → Place
+place_after turn place = record {
+  number = number_after turn.input place.number;
+  documents = documents_after turn.input place.documents;
+  revision = revision_after turn.commands place.revision;
+  pending = pending_after place.number turn.input turn.messages place.pending;
+  out = out_after turn place.out;
+  handed = place.handed + length (spawned turn.commands);
+}
+
+abbrev pub place_after_all : List Turn → Place → Place
+place_after_all [] place = place
+place_after_all (turn ∷ turns) place = place_after_all turns (place_after turn place)
+
+-- ---- what a turn is to do: the reply table
+
+-- what a turn writes, and the jobs that it hands over
+pub record Reaction : Type 0 where
+  pub messages : List Message
+  pub jobs : List Job
+
+abbrev pub reaction_of : Turn → Reaction
+reaction_of turn = record { messages = turn.messages; jobs = spawned turn.commands }
+
+abbrev pub silent : Reaction
+silent = record { messages = []; jobs = [] }
+
+abbrev pub says : Response → Reaction
+says response = record { messages = ResponseMessage response ∷ []; jobs = [] }
+
+-- one job, on the documents of all earlier inputs
+abbrev pub hands_over : ConfigData → Place → RowId → Data → Reaction
+hands_over config place row params = record {
+  messages = [];
+  jobs = (record { number = place.handed + 1; class = class_of row; kind = RequestJob place.number row params; snapshot = snapshot_at config place }) ∷ [];
+}
+
+-- a request of a row: can its params be read
+abbrev pub params_row : Bool → ConfigData → Place → RowId → Request → Reaction
+params_row true config place row r = hands_over config place row r.params
+params_row false config place row r = says (invalid_params r.id)
+
+abbrev pub method_row : Option RowId → Meaning → ConfigData → Place → Request → Reaction
+method_row None meaning config place r = says (unknown_request r.id)
+method_row (Some row) meaning config place r = params_row (is_plain r.params && meaning.decodes row r.params) config place row r
+
+-- a request: is its id pending
+abbrev pub request_row : Bool → Meaning → ConfigData → Place → Request → Reaction
+request_row true meaning config place r = says (already_pending r.id)
+request_row false meaning config place r = method_row (row_of r.method) meaning config place r
+
+-- a result is the answer to the request of its job, where that one is still pending
+abbrev pub ticket_reply : Option RequestId → JobResult → List Message
+ticket_reply None result = []
+ticket_reply (Some id) result = ResponseMessage (result_reply id result) ∷ []
+
+-- a message of a job, where it fits one
+abbrev pub final_reply : Option Job → TaskMsg → Pending → List Message
+final_reply None message pending = []
+final_reply (Some job) message pending = ticket_reply (id_of (ticket_of job.kind) pending) (final_of message.body)
+
+-- a batch: each message on the lists that the ones before it leave
+abbrev pub batch_replies : List TaskMsg → Pending → Jobs → List Message
+batch_replies [] pending out = []
+batch_replies (message ∷ messages) pending out =
+    let reply = final_reply (fitting_job message out) message pending in
+    reply ++ batch_replies messages (closed_by reply pending) (after_message message out)
+
+-- what a turn does, by its input and what the lists say before it
+abbrev pub row : Meaning → ConfigData → Input → Place → Reaction
+row meaning config Start place = silent
+row meaning config (Next (Lsp (RequestMessage r))) place = request_row (is_pending r.id place.pending) meaning config place r
+row meaning config (Next (Lsp (NotificationMessage n))) place = silent
+row meaning config (Next (Lsp (ResponseMessage r))) place = silent
+row meaning config (Next (Task batch)) place = record { messages = batch_replies batch place.pending place.out; jobs = [] }
+
+-- ---- what holds between turns
+
+-- exactly one job out is for the request with this ticket
+pub record IsHeld (ticket : ℕ) (out : Jobs) : Type 0 where
+  pub number : ℕ
+  pub job : Job
+  pub is_out : map.get out number ≡ Some job
+  pub holds : ticket_of job.kind ≡ ticket
+  pub only : (other : ℕ) (holder : Job) → map.get out other ≡ Some holder → ticket_of holder.kind ≡ ticket → other ≡ number
+
+-- each pending request is held by exactly one job out
+abbrev pub AreHeld : Pending → Jobs → Type 0
+AreHeld pending out = (ticket : ℕ) (id : RequestId) → id_of ticket pending ≡ Some id → IsHeld ticket out
+
+-- a job was handed over by an earlier turn, the one that read its request, on the documents of all inputs before that turn
+pub record WasHandedOver (config : ConfigData) (turns : List Turn) (job : Job) : Type 0 where
+  pub before : List Turn
+  pub turn : Turn
+  pub later : List Turn
+  pub split : turns ≡ before ++ turn ∷ later
+  pub its_turn : (place_after_all before beginning).number ≡ ticket_of job.kind
+  pub snapshot : job.snapshot ≡ snapshot_at config (place_after_all before beginning)
+  pub handed : spawned turn.commands ≡ job ∷ []
+
+abbrev pub AreHandedOver : ConfigData → List Turn → Jobs → Type 0
+AreHandedOver config turns out = (number : ℕ) (job : Job) → map.get out number ≡ Some job → WasHandedOver config turns job
+
+-- ---- the headline
+
+-- what holds of a turn, after those before it
+pub record Answers (meaning : Meaning) (config : ConfigData) (honest : Bool) (before : List Turn) (turn : Turn) : Type 0 where
+  -- it answers by the reply table
+  pub does : let place = place_after_all before beginning in reaction_of turn ≡ row meaning config turn.input place
+  -- after it each pending request is held by exactly one job out
+  pub held : let after = place_after_all (before ++ turn ∷ []) beginning in AreHeld after.pending after.out
+  -- each job out was handed over by the turn that read its request, on the documents of all inputs before that turn
+  pub handed_over : let place = place_after_all before beginning in AreHandedOver config before place.out
+  -- an honest host's results are what the questions of jobs out, on their snapshots, come to
+  pub value : let place = place_after_all before beginning in IsTrue honest → IsHonestInput meaning place.out turn.input
+
+-- how a run's lists end after its turns
+abbrev pub ListsEnd : {T : Type 0} → Told → Told → Result T SessionError → Type 0
+ListsEnd old new (Ok x) = new ≡ record old { taken = added old.taken (Stop ∷ []) }
+ListsEnd old new (Err ClientExited) = new ≡ record old { given = added old.given Ended }
+ListsEnd old new (Err (BadFrame at)) = new ≡ old
+ListsEnd old new (Err (BadMessage at)) = new ≡ old
+ListsEnd old new (Err HostFault) = BreaksOff old new
+ListsEnd old new (Err WriteFault) = BreaksOff old new
+ListsEnd old new (Err (Exhausted counter)) = (events : List HostEvent) × (new ≡ record old { given = grown old.given events })
+ListsEnd old new (Err NoMemory) = BreaksOff old new
+
+-- what was told of the run are these turns and its end, and each turn is as it should be
+pub record IsAnswered {T : Type 0} (meaning : Meaning) (config : ConfigData) (reader : Reader) (old new : Told) (honest : Bool) (result : Result T SessionError) : Type 0 where
+  pub events : List HostEvent
+  pub turns : List Turn
+  -- the inputs are those of the bytes held and of the events given, in order
+  pub later : Course
+  pub inputs : session_course reader.place reader.held events ≡ taking turns later
+  -- each turn's bytes are frames whose bodies read as its messages
+  pub read : AllRead turns
+  pub lists : ListsEnd (telling events turns old) new result
+  pub each : (before : List Turn) (turn : Turn) (after : List Turn) → turns ≡ before ++ turn ∷ after → Answers meaning config honest before turn
+
+-- the end of a run, by what ends the course of its events
+abbrev pub IsEnd : {T : Type 0} → Result T SessionError → Option CourseStop → Type 0
+IsEnd (Ok x) end = end ≡ Some exit
+IsEnd (Err ClientExited) end = end ≡ Some client_gone
+IsEnd (Err (BadFrame at)) end = end ≡ Some (bad_frame at)
+IsEnd (Err (BadMessage at)) end = end ≡ Some (bad_message at)
+IsEnd (Err HostFault) end = Unit {0}
+IsEnd (Err WriteFault) end = Unit {0}
+IsEnd (Err (Exhausted counter)) end = Unit {0}
+IsEnd (Err NoMemory) end = Unit {0}
+
+-- for a host that tells its events: what ended the run is what ends their course
+abbrev pub EndsByCause : {T : Type 0} → Reader → Option (List HostEvent) → Option (List HostEvent) → Result T SessionError → Type 0
+EndsByCause reader old new result = (before events : List HostEvent) → old ≡ Some before → new ≡ Some (before ++ events) → IsEnd result (end_of (session_course reader.place reader.held events))

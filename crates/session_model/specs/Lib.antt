@@ -1,0 +1,12 @@
+pub mod Codes
+pub mod Course
+pub mod Headline
+pub mod Invariant
+pub mod Machine
+pub mod Meets
+pub mod Methods
+pub mod Opening
+pub mod Run
+pub mod State
+pub mod Texts
+pub mod Written

@@ -1,0 +1,54 @@
+// What a session orders of its host.
+use crate::job::Job;
+use plain::{Copied, Items, Text};
+use std::alloc::AllocError;
+
+/// What a log line speaks of.
+#[derive(Clone, Copy, Debug, PartialEq, Eq, PartialOrd, Ord, Hash)]
+pub enum LogCode {
+    /// A notification whose params can't be read. The text is its method.
+    MalformedNotification,
+    /// A notification that nobody handles. The text is its method.
+    UnhandledNotification,
+    /// A request of a method that is not in the table. The text is its method.
+    UnknownRequest,
+    /// A response to no request. The text is its id.
+    UnknownResponse,
+    /// A document that is open already. The text is its path.
+    DuplicateOpen,
+    /// A URL that names no file. The text is the URL.
+    BadPath,
+    /// A message that fits no job out. The text is the job's number.
+    StrangeResult,
+}
+
+/// What a session orders of its host.
+#[derive(Drop)]
+pub enum Command {
+    /// Do this job.
+    Spawn(Job),
+    /// The present revision.
+    Revise(u64),
+    Log(LogCode, Text),
+    /// The session has ended.
+    Stop,
+}
+
+impl Clone for Command {
+    ghost use Rattle.std.specs.Prelude.{◌≡◌};
+
+    ghost is_clone = { λ command copy. copy ≡ command };
+
+    fn clone(&self) -> Result<Command, AllocError> {
+        match self {
+            Command::Spawn(job) => Ok(Command::Spawn(job.clone()?)),
+            Command::Revise(revision) => Ok(Command::Revise(*revision)),
+            Command::Log(code, text) => Ok(Command::Log(*code, text.clone()?)),
+            Command::Stop => Ok(Command::Stop),
+        }
+    }
+}
+
+impl Copied for Command {
+    ghost copies = { λ x y h. h };
+}

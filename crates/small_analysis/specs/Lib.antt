@@ -1,0 +1,4 @@
+pub mod Positions
+pub mod Names
+pub mod Params
+pub mod Small

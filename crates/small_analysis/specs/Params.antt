@@ -1,0 +1,35 @@
+-- The params of a hover (LSP 3.17, HoverParams), as far as they are read.
+use Rattle.std.specs.Prelude.{ℕ, List, codes, Option, Some, None, option_and_then}
+use Rattle.std.specs.Option.{option_map}
+use Rattle.plain.specs.Reading.{as_u32}
+use Rattle.serde_json.specs.Data.{Data}
+use Rattle.serde_json.specs.Find.{get, as_str}
+use Rattle.small_analysis.specs.declared.params.Position.{Position}
+
+-- what hover is asked for
+pub record HoverData : Type 0 where
+  pub uri : List ℕ
+  pub position : Position
+
+-- the text `uri` in `textDocument`
+abbrev pub uri_of : Data → Option (List ℕ)
+uri_of params = option_and_then as_str (option_and_then (get (codes "uri")) (get (codes "textDocument") params))
+
+-- a whole number of u32
+abbrev pub number_at : List ℕ → Data → Option ℕ
+number_at key d = option_and_then as_u32 (get key d)
+
+-- an object with the numbers `line` and `character`
+abbrev pub position_in : Data → Option Position
+position_in d =
+    option_and_then (λ line. option_map (λ character. record { line = line; character = character }) (number_at (codes "character") d))
+    (number_at (codes "line") d)
+
+-- the position in `position`
+abbrev pub position_of : Data → Option Position
+position_of params = option_and_then position_in (get (codes "position") params)
+
+-- a document's URL and a position
+abbrev pub hover_params : Data → Option HoverData
+hover_params params =
+    option_and_then (λ uri. option_map (λ position. record { uri = uri; position = position }) (position_of params)) (uri_of params)

@@ -1,0 +1,82 @@
+// The small analysis.
+ghost use Rattle.std.specs.Prelude.{◌≡◌, None, IfOk, OnOk};
+ghost use Rattle.analysis_host.specs.Answers.{Answers, IsPlainOutcome};
+ghost use Rattle.analysis_host.specs.Polls.{Counts, HasPolled};
+ghost use Rattle.small_analysis.specs.Small.{is_hover, small_decodes, small_answer, stopped_by};
+
+use crate::hover::{hover_of, refusal};
+use crate::params::{position_of, uri_of};
+use analysis_host::{Analysis, Answer, Ask, Cancel, GlobalStateSnapshot, Outcome, RowId};
+use plain::{Json, Text};
+use std::alloc::{AllocError, Global};
+
+const HOVER: RowId = RowId(56);
+
+/// An analysis that answers hover by the name under the position, and every other row by null.
+#[derive(Drop)]
+pub struct SmallAnalysis {
+    alloc: Global,
+}
+
+fn is_hover(row: RowId) -> bool
+    ensures { result ≡ is_hover row }
+{
+    row == HOVER
+}
+
+/// What a question comes to.
+fn answer(alloc: Global, snapshot: &GlobalStateSnapshot, ask: &Ask) -> Result<Outcome, AllocError>
+    ensures answers { IfOk result (Answers (small_answer snapshot.now ask.now) None) }
+    ensures plain { IfOk result IsPlainOutcome }
+{
+    let Ask::Request { row, params } = ask;
+    if !params.is_plain() {
+        return Ok(refusal(Text::from_str(alloc, "invalid params")?));
+    }
+    if is_hover(*row) {
+        hover_of(alloc, snapshot, params)
+    } else {
+        Ok(Outcome::Value(Answer::Json(Json::null())))
+    }
+}
+
+impl SmallAnalysis {
+    pub fn new(alloc: Global) -> SmallAnalysis {
+        SmallAnalysis { alloc }
+    }
+}
+
+impl Analysis for SmallAnalysis {
+    ghost decodes = { small_decodes };
+
+    ghost answer = { small_answer };
+
+    fn decodes(&self, row: RowId, params: &Json) -> bool {
+        !is_hover(row) || (uri_of(params).is_some() && position_of(params).is_some())
+    }
+
+    /// Polls once, before its work.
+    fn query<C: Cancel>(
+        &self,
+        snapshot: &GlobalStateSnapshot,
+        ask: &Ask,
+        cancel: &mut C,
+    ) -> Result<Outcome, AllocError>
+        requires fresh { C.held cancel.old ≡ None }
+
+        // Cancelled exactly where the poll gave a number, with that number.
+        ensures stopped { IfOk result (λ outcome. stopped_by outcome ≡ C.held cancel.new) }
+        ensures answers { IfOk result (Answers (small_answer snapshot.now ask.now) (C.held cancel.new)) }
+        ensures plain { IfOk result IsPlainOutcome }
+
+        ensures once { Counts (C.polls cancel.old) (C.polls cancel.new) }
+        ensures polled { OnOk result (HasPolled (C.polls cancel.old) (C.polls cancel.new)) }
+        ensures key { C.key cancel.new ≡ C.key cancel.old }
+        ensures floor_stays { C.floor cancel.new ≡ C.floor cancel.old }
+    {
+        match cancel.poll() {
+            Some(saw) => Ok(Outcome::Cancelled { saw }),
+            None => answer(self.alloc, snapshot, ask),
+        }
+    }
+}
