@@ -8,6 +8,8 @@ mod cancel;
 mod host;
 mod shared_text;
 mod snapshot;
+#[cfg(test)]
+mod tests;
 mod versions;
 mod world;
 
