@@ -17,8 +17,8 @@ use crate::notices::{is_name, opened_of, row_of};
 use crate::replies;
 use crate::turn_out::TurnOut;
 use analysis_host::{
-    Analysis, AnalysisHost, Change, FileChange, GlobalStateSnapshot, RowId, SnapshotParts, Versions,
-    WorldFault,
+    Analysis, AnalysisHost, Change, FileChange, GlobalStateSnapshot, RowId, SnapshotParts,
+    Versions, WorldFault,
 };
 use docs_vfs::{UrlFault, VfsPath, path_of_url};
 use lsp_frame::{Incoming, Message, Notification, Request, RequestId, Response};
@@ -250,11 +250,7 @@ impl GlobalState {
 impl GlobalState {
     // One change of the world, and so one revision more.
     #[tactic(auto, unfolding(session_model::specs::Machine::world_changed, session_model::specs::Machine::world_by))]
-    fn change_world(
-        &mut self,
-        files: Items<FileChange>,
-        out: &mut TurnOut,
-    ) -> Result<(), TurnError>
+    fn change_world(&mut self, files: Items<FileChange>, out: &mut TurnOut) -> Result<(), TurnError>
         ensures { Meets result (world_changed files (record { state = self.old; out = out.old })) self.new out.new }
     {
         match self.host.apply_change(Change { files }) {
@@ -268,12 +264,7 @@ impl GlobalState {
 
     // The text of a path, where the world has another one.
     #[tactic(auto, unfolding(session_model::specs::Machine::text_set))]
-    fn set_text(
-        &mut self,
-        path: VfsPath,
-        text: Text,
-        out: &mut TurnOut,
-    ) -> Result<(), TurnError>
+    fn set_text(&mut self, path: VfsPath, text: Text, out: &mut TurnOut) -> Result<(), TurnError>
         ensures { Meets result (text_set path text (record { state = self.old; out = out.old })) self.new out.new }
     {
         if self.has_text(&path, &text) {
