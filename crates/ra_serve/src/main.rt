@@ -10,6 +10,7 @@ mod tests;
 
 use command_line::{CommandLine, HELP, VERSION, read_words};
 use logging_host::LoggingHost;
+use plain::{Items, Text};
 use server::{BAD_WORDS, serve, status_text};
 use session_port::InlineHost;
 use small_analysis::SmallAnalysis;
@@ -18,7 +19,6 @@ use standard_output::StandardOutput;
 use std::alloc::AllocError;
 use std::io;
 use std::process::ExitCode;
-use plain::{Items, Text};
 
 /// The status where standard output can't be written.
 const WRITE_FAULT: u8 = 7;
@@ -59,7 +59,7 @@ fn main(rt: HostRuntime) -> ExitCode {
     let text = status_text(status);
     if !text.is_empty() {
         // Where standard error is closed, nobody is left to tell.
-        let _ = eprintln!(rt; "ra_serve: {text}");
+        let _ = eprintln!(rt; "{text}");
     }
     ExitCode::from(status)
 }

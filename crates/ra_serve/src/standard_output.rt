@@ -24,7 +24,10 @@ impl<W: Write + Drop> Sink for StandardOutput<W> {
 
     // `write_all` fails where a write takes nothing of bytes that aren't empty.
     fn put_turn(&mut self, bytes: &[u8]) -> Result<(), HostError> {
-        let written = self.writer.write_all(bytes).and_then(|()| self.writer.flush());
+        let written = self
+            .writer
+            .write_all(bytes)
+            .and_then(|()| self.writer.flush());
         if written.is_err() {
             self.faults = self.faults.saturating_add(1);
             return Err(HostError::Failed);

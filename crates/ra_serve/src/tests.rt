@@ -9,17 +9,27 @@ use plain::{Bytes, Items, Text};
 use ra_config::Config;
 use server::{serve, status_of};
 use session::{SessionError, main_loop};
-use session_port::{Command, Host, HostError, HostEvent, InlineHost, MemorySink, MemorySource, Sink, Source};
+use session_port::{
+    Command, Host, HostError, HostEvent, InlineHost, MemorySink, MemorySource, Sink, Source,
+};
 use small_analysis::SmallAnalysis;
 use std::alloc::{AllocError, Global};
 use std::io::{self, Read, Write};
 use std::test::Fail;
 
-const OPEN: &str = "Content-Length: 151\r\n\r\n{\"jsonrpc\":\"2.0\",\"method\":\"textDocument/didOpen\",\"params\":{\"textDocument\":{\"uri\":\"file:///w/a.rs\",\"languageId\":\"rust\",\"version\":1,\"text\":\"fn a() {}\"}}}";
-const HOVER: &str = "Content-Length: 141\r\n\r\n{\"jsonrpc\":\"2.0\",\"id\":1,\"method\":\"textDocument/hover\",\"params\":{\"textDocument\":{\"uri\":\"file:///w/a.rs\"},\"position\":{\"line\":0,\"character\":3}}}";
+const OPEN: &str =
+    "Content-Length: 151\r\n\r\n{\"jsonrpc\":\"2.0\",\"method\":\"textDocument/didOpen\",\"params\":{\"textDocument\":{\"uri\":\"file:///w/a.rs\",\"languageId\":\"rust\",\"version\":1,\"text\":\"fn a() {}\"}}}";
+
+const HOVER: &str =
+    "Content-Length: 141\r\n\r\n{\"jsonrpc\":\"2.0\",\"id\":1,\"method\":\"textDocument/hover\",\"params\":{\"textDocument\":{\"uri\":\"file:///w/a.rs\"},\"position\":{\"line\":0,\"character\":3}}}";
+
 const EXIT: &str = "Content-Length: 33\r\n\r\n{\"jsonrpc\":\"2.0\",\"method\":\"exit\"}";
-const HOVERED: &str = "Content-Length: 50\r\n\r\n{\"id\":1,\"jsonrpc\":\"2.0\",\"result\":{\"contents\":\"a\"}}";
-const INITIALIZED: &str = "Content-Length: 40\r\n\r\n{\"jsonrpc\":\"2.0\",\"method\":\"initialized\"}";
+
+const HOVERED: &str =
+    "Content-Length: 50\r\n\r\n{\"id\":1,\"jsonrpc\":\"2.0\",\"result\":{\"contents\":\"a\"}}";
+
+const INITIALIZED: &str =
+    "Content-Length: 40\r\n\r\n{\"jsonrpc\":\"2.0\",\"method\":\"initialized\"}";
 
 /// A host over another, which can give one byte at a time, and counts the lines to be logged.
 #[derive(Drop)]
@@ -71,7 +81,11 @@ impl<H: Host<A>, A: Analysis> Host<A> for Watched<H> {
 }
 
 /// What a session over these bytes wrote, each turn in brackets, how many lines it logged, and how it ended.
-fn session(alloc: Global, stream: &str, bytewise: bool) -> Result<(String, u64, Result<(), SessionError>), Fail> {
+fn session(
+    alloc: Global,
+    stream: &str,
+    bytewise: bool,
+) -> Result<(String, u64, Result<(), SessionError>), Fail> {
     let analysis = SmallAnalysis::new(alloc);
     let bytes = Bytes::from_slice(alloc, stream.as_bytes())?;
     let source = MemorySource::new(alloc, bytes, Items::new(alloc));

@@ -1,15 +1,14 @@
 -- The machine's runs have the headline.
-use Rattle.std.proofs.Common.{◌≡◌, ℕ, ◌+◌, List, [], ◌∷◌, ◌++◌, length, Bool, refl, sym, ap, ◌∙◌, subst, append-nil, append_assoc, inl, inr}
+use Rattle.std.proofs.Common.{◌≡◌, ℕ, List, [], ◌∷◌, ◌++◌, Bool, refl, sym, ap, ◌∙◌, subst, append-nil, append_assoc, inl, inr}
 use Rattle.std.specs.Prelude.{IsTrue, Result, Ok, Err, ◌⊎◌}
 use Rattle.lsp_frame.specs.Reader.{Reader}
 use Rattle.ra_config.specs.Config.{ConfigData}
-use Rattle.session_port.specs.Jobs.{Jobs}
 use Rattle.session_port.specs.Record.{grown}
 use Rattle.session_port.specs.declared.event.HostEvent.{HostEvent}
 use Rattle.session_port.specs.declared.event.HostEvent.TheVariants.{Bytes}
 use Rattle.session_model.specs.Course.{Course, session_course}
 use Rattle.session_model.specs.Headline.{Place, Answers, IsAnswered, ListsEnd, AreHandedOver, AreHeld, place_after, place_after_all, beginning, reaction_of, row}
-use Rattle.session_model.specs.Run.{Meaning, Turn, Told, Runs, AreHonest, IsRun, Ends, RunsOut, TooManyBytes, out_after, telling}
+use Rattle.session_model.specs.Run.{Meaning, Turn, Told, Runs, AreHonest, IsRun, Ends, RunsOut, TooManyBytes}
 use Rattle.session_model.specs.State.{State, fresh}
 use Rattle.session_model.specs.declared.fault.Counter.{Counter}
 use Rattle.session_model.specs.declared.fault.SessionError.{SessionError}
@@ -55,8 +54,7 @@ all-answer meaning config honest s before (turn ∷ turns) last stands (mid, ste
       place = place ∙ sym (after-one before turn);
       sound = subst SoundAt (sym (after-one before turn)) sound;
       handed = subst (λ (p : Place). AreHandedOver config (before ++ turn ∷ []) p.out) (sym (after-one before turn)) handed;
-    } in
-    (
+    } in (
       record { does = does; held = subst (λ (p : Place). AreHeld p.pending p.out) (sym (after-one before turn)) sound.held; handed_over = stands.handed; value = λ h. (fair h).0 },
       all-answer meaning config honest mid (before ++ turn ∷ []) turns last next runs (λ h. subst (λ (p : Place). AreHonest meaning p.out turns) (sym (after-one before turn)) (fair h).1),
     )

@@ -1,8 +1,8 @@
 -- A batch of messages is its rows, one after another.
 use Rattle.std.proofs.Common.{◌≡◌, ℕ, List, [], ◌∷◌, ◌++◌, Bool, true, false, refl, sym, ap, ◌∙◌, subst, append-nil, append_assoc}
-use Rattle.std.specs.Prelude.{Option, None, Some, if◌then◌else◌, decimal}
+use Rattle.std.specs.Prelude.{Option, None, Some, if◌then◌else◌}
 use Rattle.std.specs.FinMap as map
-use Rattle.lsp_frame.specs.Pending.{Pending, id_of, closed}
+use Rattle.lsp_frame.specs.Pending.{Pending, id_of}
 use Rattle.lsp_frame.specs.declared.message.Message.{Message}
 use Rattle.lsp_frame.specs.declared.message.Message.TheVariants.{Request as RequestMessage, Notification as NotificationMessage, Response as ResponseMessage}
 use Rattle.lsp_frame.specs.declared.message.RequestId.{RequestId}

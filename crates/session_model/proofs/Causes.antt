@@ -1,14 +1,14 @@
 -- A run ends by its cause.
-use Rattle.std.proofs.Common.{◌≡◌, ℕ, List, [], ◌∷◌, ◌++◌, Bool, refl, sym, ap, ◌∙◌, subst, append-nil}
-use Rattle.std.specs.Prelude.{Option, None, Some, Result, Ok, Err}
+use Rattle.std.proofs.Common.{◌≡◌, List, [], ◌∷◌, ◌++◌, Bool, refl, sym, ap, ◌∙◌, subst, append-nil}
+use Rattle.std.specs.Prelude.{Option, Some, Result, Ok, Err}
 use Rattle.lsp_frame.specs.Reader.{Reader}
 use Rattle.ra_config.specs.Config.{ConfigData}
 use Rattle.session_port.specs.Record.{grown, added}
 use Rattle.session_port.specs.declared.event.HostEvent.{HostEvent}
 use Rattle.session_port.specs.declared.event.HostEvent.TheVariants.{Ended}
-use Rattle.session_model.specs.Course.{Course, Stop, end_of, session_course, takes}
-use Rattle.session_model.specs.Headline.{IsEnd, EndsByCause}
-use Rattle.session_model.specs.Run.{Meaning, Turn, Told, IsRun, Stretch, taking, telling}
+use Rattle.session_model.specs.Course.{Course, Stop, end_of, session_course}
+use Rattle.session_model.specs.Headline.{EndsByCause}
+use Rattle.session_model.specs.Run.{Meaning, Turn, Told, IsRun, taking}
 use Rattle.session_model.specs.declared.fault.SessionError.{SessionError}
 use Rattle.session_model.specs.declared.fault.SessionError.TheVariants.{ClientExited, BadFrame, BadMessage, HostFault, WriteFault, Exhausted, NoMemory}
 use Rattle.session_model.proofs.Stretches.{grown-grown}

@@ -1,10 +1,10 @@
 -- Each turn but the start uses one number of the turns, and there was one to use.
-use Rattle.std.proofs.Common.{◌≡◌, ℕ, ◌+◌, ◌-◌, ◌^◌, ◌<◌, ◌≤◌, Bool, true, false, refl, sym, ap, ◌∙◌, subst, arith}
+use Rattle.std.proofs.Common.{◌≡◌, ℕ, ◌+◌, ◌-◌, ◌^◌, ◌<◌, Bool, true, false, refl, sym, ap, ◌∙◌, arith}
 use Rattle.std.specs.Prelude.{Result, Ok, Err, IfOk, if◌then◌else◌, ltb}
 use Rattle.std.proofs.lemmas.Bool.{ltb-true}
 use Rattle.std.proofs.lemmas.Result.{IfOk-at_ok}
 use Rattle.session_model.specs.Headline.{Place, place_after}
-use Rattle.session_model.specs.Machine.{Working, and_then, next_number, counted, happened, taken_in, revised, step}
+use Rattle.session_model.specs.Machine.{Working, and_then, counted, happened, taken_in, step}
 use Rattle.session_model.specs.Run.{Meaning, Turn, Steps, begun}
 use Rattle.session_model.specs.State.{State}
 use Rattle.session_model.specs.declared.fault.Counter.{Counter}
@@ -12,7 +12,6 @@ use Rattle.session_model.specs.declared.fault.Counter.TheVariants.{Turns}
 use Rattle.session_model.specs.declared.input.Input.{Input}
 use Rattle.session_model.specs.declared.input.Input.TheVariants.{Start, Next}
 use Rattle.session_model.specs.declared.input.Event.{Event}
-use Rattle.session_model.proofs.Results.{IfOk-and_then}
 use Rattle.session_model.specs.Invariant.{place_of}
 use Rattle.session_model.proofs.Rows.{steps-fit}
 

@@ -1,12 +1,11 @@
 -- A row keeps the turn invariant.
-use Rattle.std.proofs.Common.{◌≡◌, ◌≢◌, ℕ, ◌+◌, ◌<◌, ◌≤◌, List, [], ◌∷◌, ◌++◌, length, Bool, true, false, refl, sym, ap, ◌∙◌, subst, arith}
-use Rattle.std.specs.Prelude.{Option, None, Some, ◌&&◌, is_some, if◌then◌else◌, codes}
+use Rattle.std.proofs.Common.{◌≡◌, ◌≢◌, ℕ, ◌+◌, ◌<◌, List, [], ◌∷◌, length, Bool, true, false, refl, sym, ap, ◌∙◌, subst, arith}
+use Rattle.std.specs.Prelude.{Option, None, Some, ◌&&◌, is_some}
 use Rattle.std.specs.FinMap as map
 use Rattle.plain.specs.Plain.{is_plain}
-use Rattle.lsp_frame.specs.Pending.{Pending, InStep, id_of, is_pending, registered, without, closed, none_pending}
+use Rattle.lsp_frame.specs.Pending.{Pending, id_of, is_pending, registered, without, closed, none_pending}
 use Rattle.lsp_frame.specs.declared.message.RequestId.{RequestId}
 use Rattle.lsp_frame.specs.declared.message.Request.{Request}
-use Rattle.lsp_frame.specs.declared.message.Message.{Message}
 use Rattle.lsp_frame.specs.declared.message.Message.TheVariants.{Request as RequestMessage, Notification as NotificationMessage, Response as ResponseMessage}
 use Rattle.ra_config.specs.Config.{ConfigData}
 use Rattle.analysis_host.specs.declared.ask.RowId.{RowId}
@@ -15,7 +14,7 @@ use Rattle.session_port.specs.Record.{with_jobs}
 use Rattle.session_port.specs.declared.event.TaskMsg.{TaskMsg}
 use Rattle.session_port.specs.declared.job.Job.{Job}
 use Rattle.session_port.specs.declared.job.JobResult.{JobResult}
-use Rattle.session_model.specs.Headline.{Place, Reaction, reaction_of, row, request_row, method_row, params_row, beginning, IsHeld, AreHeld, closed_by, closed_with, ticket_reply, final_reply, batch_replies, pending_after, place_after, number_after}
+use Rattle.session_model.specs.Headline.{Place, Reaction, reaction_of, row, request_row, method_row, params_row, beginning, IsHeld, closed_by, closed_with, ticket_reply, final_reply, batch_replies, pending_after, place_after, number_after}
 use Rattle.session_model.specs.Invariant.{Sound, SoundAt}
 use Rattle.session_model.specs.Methods.{row_of}
 use Rattle.session_model.specs.Run.{Meaning, Turn, after_input}

@@ -1,5 +1,5 @@
 -- Bytes may come in any pieces, and what is written is read again.
-use Rattle.std.proofs.Common.{◌≡◌, ℕ, ◌+◌, ◌≤◌, List, [], ◌∷◌, ◌++◌, length, map, refl, sym, ap, ◌∙◌, arith, append-nil, append_assoc}
+use Rattle.std.proofs.Common.{◌≡◌, ℕ, ◌+◌, List, [], ◌∷◌, ◌++◌, length, map, refl, sym, ap, ◌∙◌}
 use Rattle.std.specs.Prelude.{Option, Some}
 use Rattle.lsp_frame.specs.declared.frame.Cut.{Cut}
 use Rattle.lsp_frame.specs.declared.frame.Cut.TheVariants.{NeedMore, Bad, Frame}
@@ -12,7 +12,7 @@ use Rattle.lsp_frame.proofs.Streams.{continues}
 use Rattle.lsp_frame.proofs.Written.{frames_written}
 use Rattle.session_port.specs.declared.event.HostEvent.{HostEvent}
 use Rattle.session_port.specs.declared.event.HostEvent.TheVariants.{Bytes}
-use Rattle.session_model.specs.Course.{Course, stops, waits, bad_frame, message_then, rest_then, frames_then, event_then, course_of}
+use Rattle.session_model.specs.Course.{Course, waits, message_then, rest_then, frames_then, event_then, course_of}
 use Rattle.session_model.specs.Written.{AreRead, AreShort, frames_for, messages_in}
 use Rattle.session_model.proofs.Courses.{course-bad}
 

@@ -1,7 +1,7 @@
 -- What a finite map holds at a key that was set or taken away, and at the others.
-use Rattle.std.proofs.Common.{◌≡◌, ◌≢◌, Bool, true, false, refl, sym, ap, subst, ◌∙◌, Ordering}
-use Rattle.std.specs.Prelude.{Option, None, Some, cond, is_some}
-use Rattle.std.specs.Ordering.{eq_by_cmp, is_eq}
+use Rattle.std.proofs.Common.{◌≡◌, ◌≢◌, Bool, true, false, refl, sym, ap, ◌∙◌, Ordering}
+use Rattle.std.specs.Prelude.{None, Some}
+use Rattle.std.specs.Ordering.{eq_by_cmp}
 use Rattle.std.specs.Cmp.{IsTotalOrder, eq_by_cmp_equiv, Equal-is}
 use Rattle.std.specs.FinMap as map
 use Rattle.std.proofs.lemmas.Bool.{cond-true, cond-false, true≢false}

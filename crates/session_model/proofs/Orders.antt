@@ -1,12 +1,9 @@
 -- The orders by which the session's maps go.
-use Rattle.std.proofs.Common.{◌≡◌, ◌≢◌, ℕ, List, Ordering, sym, ◌∙◌}
-use Rattle.std.specs.Prelude.{Option, None, Some}
 use Rattle.std.specs.Ordering.{nat_cmp}
 use Rattle.std.specs.Cmp.{IsTotalOrder, nat_cmp_total}
-use Rattle.std.specs.Cmp.Lexicographic.{slice_cmp, nat_list_cmp_total}
+use Rattle.std.specs.Cmp.Lexicographic.{nat_list_cmp_total}
 use Rattle.std.specs.FinMap as map
 use Rattle.docs_vfs.specs.Paths.{path_cmp}
-use Rattle.session_model.proofs.Keyed as keyed
 
 abbrev pub by_number_total : IsTotalOrder nat_cmp
 by_number_total = nat_cmp_total

@@ -1,5 +1,5 @@
 -- The jobs that a turn hands over have the numbers after those that were given.
-use Rattle.std.proofs.Common.{◌≡◌, ℕ, ◌+◌, ◌<◌, List, [], ◌∷◌, length, Bool, true, false, refl, sym, ap, ◌∙◌, subst, arith}
+use Rattle.std.proofs.Common.{◌≡◌, ℕ, ◌+◌, List, [], length, Bool, true, false, refl, sym, ap, ◌∙◌, subst, arith}
 use Rattle.std.specs.Prelude.{Option, None, Some, ◌&&◌}
 use Rattle.plain.specs.Plain.{is_plain}
 use Rattle.lsp_frame.specs.Pending.{is_pending}
@@ -9,7 +9,7 @@ use Rattle.ra_config.specs.Config.{ConfigData}
 use Rattle.analysis_host.specs.declared.ask.RowId.{RowId}
 use Rattle.session_port.specs.Record.{AreRising, last_number, spawned}
 use Rattle.session_port.specs.declared.job.Job.{Job}
-use Rattle.session_model.specs.Headline.{Place, Reaction, reaction_of, row, request_row, method_row, params_row}
+use Rattle.session_model.specs.Headline.{Place, Reaction, row, request_row, method_row, params_row}
 use Rattle.session_model.specs.Methods.{row_of}
 use Rattle.session_model.specs.Run.{Meaning, Turn, Steps}
 use Rattle.session_model.specs.State.{State}

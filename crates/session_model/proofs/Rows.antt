@@ -1,5 +1,5 @@
 -- The machine's turns are the rows of the reply table.
-use Rattle.std.proofs.Common.{◌≡◌, ℕ, ◌+◌, ◌-◌, ◌^◌, ◌<◌, ℤ, List, [], ◌∷◌, ◌++◌, length, Bool, true, false, refl, sym, ap, ◌∙◌, subst, arith, append-nil, eqb-true}
+use Rattle.std.proofs.Common.{◌≡◌, ℕ, ◌+◌, ◌-◌, ◌^◌, List, [], ◌∷◌, ◌++◌, length, Bool, true, false, refl, sym, ap, ◌∙◌, arith, eqb-true}
 use Rattle.std.specs.Prelude.{Result, Ok, Err, IfOk, Option, None, Some, ◌==◌, ◌&&◌, is_some, if◌then◌else◌, ltb, codes, nat_eq}
 use Rattle.std.specs.Cmp.Lexicographic.{bytes_decides}
 use Rattle.std.specs.List.{starts_with}
@@ -7,19 +7,17 @@ use Rattle.std.specs.FinMap as map
 use Rattle.std.proofs.lemmas.Result.{IfOk-at_ok}
 use Rattle.serde_json.specs.Data.{Data}
 use Rattle.plain.specs.Plain.{is_plain}
-use Rattle.docs_vfs.specs.Paths.{path_cmp}
 use Rattle.docs_vfs.specs.FileUrls.{path_of}
 use Rattle.docs_vfs.specs.declared.file_url.UrlFault.{UrlFault}
-use Rattle.lsp_frame.specs.Pending.{Pending, is_pending, registered}
+use Rattle.lsp_frame.specs.Pending.{is_pending}
 use Rattle.lsp_frame.specs.declared.message.Request.{Request}
 use Rattle.lsp_frame.specs.declared.message.Notification.{Notification}
 use Rattle.lsp_frame.specs.declared.message.Message.{Message}
 use Rattle.lsp_frame.specs.declared.message.Message.TheVariants.{Request as RequestMessage, Notification as NotificationMessage, Response as ResponseMessage}
-use Rattle.analysis_host.specs.HostData.{HostData, changed}
+use Rattle.analysis_host.specs.HostData.{HostData}
 use Rattle.analysis_host.specs.declared.ask.RowId.{RowId}
-use Rattle.analysis_host.specs.declared.host.FileChange.{FileChange}
 use Rattle.analysis_host.specs.declared.host.WorldFault.TheVariants.{Exhausted}
-use Rattle.session_port.specs.Record.{spawned, with_jobs, after_order}
+use Rattle.session_port.specs.Record.{spawned, with_jobs}
 use Rattle.session_port.specs.Jobs.{after_batch}
 use Rattle.session_port.specs.declared.command.Command.{Command}
 use Rattle.session_port.specs.declared.command.Command.TheVariants.{Spawn, Revise, Log, Stop}
@@ -27,9 +25,9 @@ use Rattle.session_port.specs.declared.command.LogCode.TheVariants.{UnhandledNot
 use Rattle.session_port.specs.declared.event.TaskMsg.{TaskMsg}
 use Rattle.session_port.specs.declared.job.Job.{Job}
 use Rattle.session_port.specs.declared.job.JobKind.TheVariants.{Request as RequestJob}
-use Rattle.session_model.specs.Headline.{Documents, Place, Reaction, reaction_of, row, request_row, method_row, params_row, place_after, number_after, documents_after, with_opened, opened_at as opened_documents, pending_after, after_request, revision_after, closed_by, batch_replies}
+use Rattle.session_model.specs.Headline.{Documents, Place, reaction_of, row, place_after, number_after, documents_after, pending_after, revision_after, closed_by}
 use Rattle.session_model.specs.Invariant.{StepFits, place_of}
-use Rattle.session_model.specs.Machine.{Working, and_then, next_number, counted, dispatched, asked, noted, requested, opened, opened_at, open_noted, version_set, text_set, holds_text, world_changed, world_by, notified, received, unknown, answered, replied, logged, ordered, batched, happened, taken_in, revised, step, already_pending, unknown_request, invalid_params}
+use Rattle.session_model.specs.Machine.{Working, and_then, next_number, counted, dispatched, asked, noted, requested, opened, opened_at, open_noted, version_set, text_set, holds_text, world_changed, world_by, notified, received, unknown, answered, replied, logged, ordered, batched, happened, taken_in, revised, step, already_pending, invalid_params}
 use Rattle.session_model.specs.Methods.{row_of, class_of}
 use Rattle.session_model.specs.Opening.{opened_of}
 use Rattle.session_model.specs.Run.{Meaning, Turn, Steps, begun, after_input, out_after}
@@ -42,10 +40,10 @@ use Rattle.session_model.specs.declared.input.Event.TheVariants.{Lsp, Task}
 use Rattle.session_model.specs.declared.input.Input.{Input}
 use Rattle.session_model.specs.declared.input.Input.TheVariants.{Start, Next}
 use Rattle.session_model.specs.declared.notice.DidOpen.{DidOpen}
-use Rattle.session_model.proofs.Batches.{Settled, batch-settles}
+use Rattle.session_model.proofs.Batches.{batch-settles}
 use Rattle.session_model.proofs.Keyed.{insert-there}
 use Rattle.session_model.proofs.Orders.{by_path_total, by_path_same}
-use Rattle.session_model.proofs.Results.{IfOk-and_then, IfOk-weaker, IfOk-next}
+use Rattle.session_model.proofs.Results.{IfOk-and_then, IfOk-next}
 
 -- what a turn has done, as a turn of a run
 abbrev pub turn_of : Input → Working → Turn

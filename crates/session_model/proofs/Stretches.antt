@@ -1,6 +1,6 @@
 -- Stretches of a run, one after another.
-use Rattle.std.proofs.Common.{◌≡◌, ℕ, ◌+◌, ◌-◌, ◌^◌, ◌<◌, ◌≤◌, List, [], ◌∷◌, ◌++◌, length, map, Bool, true, false, refl, sym, ap, ◌∙◌, subst, arith, append-nil, append_assoc, add-zero}
-use Rattle.std.specs.Prelude.{IsTrue, Option, None, Some, Result, Ok, Err}
+use Rattle.std.proofs.Common.{◌≡◌, ℕ, ◌+◌, List, [], ◌∷◌, ◌++◌, length, map, Bool, refl, sym, ap, ◌∙◌, subst, arith, append-nil, append_assoc, add-zero}
+use Rattle.std.specs.Prelude.{IsTrue, Option, None, Some}
 use Rattle.session_port.specs.Jobs.{Jobs}
 use Rattle.session_port.specs.Record.{grown, added, after_order}
 use Rattle.session_port.specs.declared.event.HostEvent.{HostEvent}
@@ -9,7 +9,6 @@ use Rattle.session_model.specs.Course.{Course, takes, bytes_in}
 use Rattle.session_model.specs.Run.{Meaning, Turn, Told, Runs, Steps, AllRead, AreHonest, IsHonestInput, Stretch, telling, taking, out_after, out_after_all, after_input, bytes_of}
 use Rattle.session_model.specs.State.{State}
 use Rattle.session_model.specs.Written.{AreRead}
-use Rattle.session_model.specs.declared.input.Input.{Input}
 
 pub grown-nil : {X : Type 0} (r : Option (List X)) → grown r [] ≡ r
 grown-nil None = refl

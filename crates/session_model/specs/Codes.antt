@@ -1,6 +1,5 @@
 -- How the logic stores what contracts see of a session.
 use Rattle.std.specs.Prelude.{ℕ, ℤ, List, refl}
-use Rattle.std.specs.Ordering.{nat_cmp}
 use Rattle.std.specs.Coded.{Coded, code_by, coded×, coded_ℕ, coded_list}
 use Rattle.std.specs.FinMap as map
 use Rattle.docs_vfs.specs.Paths.{path_cmp}

@@ -1,5 +1,5 @@
 -- A whole run: the machine's turns, and the lists that the host and the sink keep of it.
-use Rattle.std.specs.Prelude.{◌≡◌, ◌≤◌, ◌<◌, ◌⊎◌, ℕ, ◌+◌, ◌-◌, ◌^◌, List, [], ◌∷◌, ◌++◌, length, map, Bool, false, IsTrue, Option, None, Some, Result, Ok, Err}
+use Rattle.std.specs.Prelude.{◌≡◌, ◌≤◌, ◌⊎◌, ℕ, ◌+◌, ◌^◌, List, [], ◌∷◌, ◌++◌, length, map, Bool, false, IsTrue, Option, Result, Ok, Err}
 use Rattle.std.specs.FinMap as maps
 use Rattle.serde_json.specs.Data.{Data}
 use Rattle.lsp_frame.specs.Reader.{Reader}
@@ -10,15 +10,15 @@ use Rattle.analysis_host.specs.SnapshotData.{SnapshotData}
 use Rattle.analysis_host.specs.declared.ask.Ask.{Ask}
 use Rattle.analysis_host.specs.declared.ask.RowId.{RowId}
 use Rattle.session_port.specs.Jobs.{Jobs, after_batch}
-use Rattle.session_port.specs.Record.{Rose, grown, added, after_order}
+use Rattle.session_port.specs.Record.{grown, added, after_order}
 use Rattle.session_port.specs.Honest.{AreHonest as AreHonestMessages}
 use Rattle.session_port.specs.declared.cause.HostError.{HostError}
 use Rattle.session_port.specs.declared.cause.HostError.TheVariants.{Failed, NoMemory as HostNoMemory}
 use Rattle.session_port.specs.declared.command.Command.{Command}
 use Rattle.session_port.specs.declared.command.Command.TheVariants.{Stop as StopCommand}
 use Rattle.session_port.specs.declared.event.HostEvent.{HostEvent}
-use Rattle.session_port.specs.declared.event.HostEvent.TheVariants.{Bytes, Ended, Tasks}
-use Rattle.session_model.specs.Course.{Course, takes, stops, exit, bad_frame, bad_message, client_gone, course_of, session_course, bytes_in}
+use Rattle.session_port.specs.declared.event.HostEvent.TheVariants.{Bytes, Ended}
+use Rattle.session_model.specs.Course.{Course, takes, stops, exit, bad_frame, bad_message, client_gone, session_course, bytes_in}
 use Rattle.session_model.specs.Machine.{Working, step}
 use Rattle.session_model.specs.State.{State, fresh}
 use Rattle.session_model.specs.Written.{AreRead, frames_for, nothing_done}

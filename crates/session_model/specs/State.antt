@@ -1,5 +1,5 @@
 -- The session's state, as contracts see it.
-use Rattle.std.specs.Prelude.{ℕ, ℤ, List}
+use Rattle.std.specs.Prelude.{ℕ, ℤ}
 use Rattle.std.specs.FinMap as map
 use Rattle.docs_vfs.specs.Paths.{path_cmp}
 use Rattle.ra_config.specs.Config.{ConfigData}

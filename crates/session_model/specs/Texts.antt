@@ -1,5 +1,5 @@
 -- Texts, numbers and ids as they are compared and logged.
-use Rattle.std.specs.Prelude.{ℕ, Bool, nat_eq, List, codes, decimal, Option, None, Some}
+use Rattle.std.specs.Prelude.{ℕ, Bool, nat_eq, List, codes, Option, None, Some}
 use Rattle.std.specs.Fmt.{signed_decimal}
 use Rattle.std.specs.Cmp.Lexicographic.{pointwise}
 use Rattle.lsp_frame.specs.declared.message.RequestId.{RequestId}

@@ -1,5 +1,5 @@
 -- What a turn writes and orders.
-use Rattle.std.specs.Prelude.{◌≡◌, ◌≤◌, ℕ, List, [], ◌∷◌, ◌++◌, length, map, Option, Some}
+use Rattle.std.specs.Prelude.{◌≡◌, ◌≤◌, ℕ, List, [], ◌∷◌, length, map, Option, Some}
 use Rattle.std.specs.List.{flat_map}
 use Rattle.lsp_frame.specs.Frames.{frames_from, bodies_of}
 use Rattle.lsp_frame.specs.Written.{frame_for, body_of, AreWritable}
