@@ -1,5 +1,6 @@
 // Whole sessions in memory.
-ghost use Rattle.std.specs.Prelude.{None};
+ghost use Rattle.std.specs.Prelude.{◌≡◌, None};
+ghost use Rattle.std.specs.FinMap as map;
 
 use crate::standard_input::StandardInput;
 use crate::standard_output::StandardOutput;
@@ -80,6 +81,33 @@ impl<H: Host<A>, A: Analysis> Host<A> for Watched<H> {
     }
 }
 
+// These calls claim nothing here, so that a test stays quick to prove.
+fn run<H: Host<A>, S: Sink, A: Analysis>(
+    alloc: Global,
+    config: Config,
+    host: &mut H,
+    sink: &mut S,
+    analysis: &A,
+) -> Result<(), SessionError>
+    requires idle { H.out host.old ≡ map.empty }
+    requires unused { H.handed host.old ≡ 0 }
+{
+    main_loop(alloc, config, host, sink, analysis)
+}
+
+fn served<H: Host<A>, S: Sink, A: Analysis>(
+    alloc: Global,
+    words: &[Text],
+    host: &mut H,
+    sink: &mut S,
+    analysis: &A,
+) -> u8
+    requires idle { H.out host.old ≡ map.empty }
+    requires unused { H.handed host.old ≡ 0 }
+{
+    serve(alloc, words, host, sink, analysis)
+}
+
 /// What a session over these bytes wrote, each turn in brackets, how many lines it logged, and how it ended.
 fn session(
     alloc: Global,
@@ -99,7 +127,7 @@ fn session(
     let mut sink = MemorySink::new(alloc, Items::new(alloc));
     let root = VfsPath::new(alloc, "/w")?.ok_or("no path")?;
     let config = Config::new(alloc, root, 4)?;
-    let outcome = main_loop(alloc, config, &mut host, &mut sink, &analysis);
+    let outcome = run(alloc, config, &mut host, &mut sink, &analysis);
     Ok((turns_text(alloc, &sink)?, host.logs, outcome))
 }
 
@@ -122,7 +150,7 @@ fn status(alloc: Global, word: &str, stream: &str) -> Result<(u8, usize), Fail> 
     let mut sink = MemorySink::new(alloc, Items::new(alloc));
     let mut words = Items::new(alloc);
     words.push(Text::from_str(alloc, word)?)?;
-    let status = serve(alloc, words.as_slice(), &mut host, &mut sink, &analysis);
+    let status = served(alloc, words.as_slice(), &mut host, &mut sink, &analysis);
     Ok((status, sink.turns().len()))
 }
 

@@ -1,7 +1,8 @@
 -- A session for whose settings there was no memory.
-use Rattle.std.proofs.Common.{Bool, refl}
-use Rattle.std.specs.Prelude.{⊤, Err}
+use Rattle.std.proofs.Common.{◌≡◌, ℕ, Bool, refl}
+use Rattle.std.specs.Prelude.{⊤, Result, Ok, Err}
 use Rattle.session_model.specs.Run.{Meaning, Told, empty_reader, IsRun}
+use Rattle.session_model.specs.declared.fault.SessionError.{SessionError}
 use Rattle.session_model.specs.declared.fault.SessionError.TheVariants.{NoMemory}
 use Rattle.session_model.proofs.Answered.{run-answered}
 use Rattle.session_model.proofs.Causes.{run-caused}
