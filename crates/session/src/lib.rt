@@ -6,8 +6,6 @@ mod notices;
 mod reading;
 mod replies;
 mod run;
-#[cfg(test)]
-mod tests;
 mod turn_out;
 
 pub use global_state::GlobalState;
