@@ -1,5 +1,5 @@
 -- An honest host's results.
-use Rattle.std.specs.Prelude.{◌≡◌, List, [], ◌∷◌, Some}
+use Rattle.std.specs.Prelude.{◌≡◌, ◌<◌, List, [], ◌∷◌, Some}
 use Rattle.std.specs.FinMap as map
 use Rattle.analysis_host.specs.Answers.{Finding}
 use Rattle.analysis_host.specs.SnapshotData.{SnapshotData}
@@ -10,12 +10,13 @@ use Rattle.session_port.specs.declared.event.HostEvent.TheVariants.{Bytes, Ended
 use Rattle.session_port.specs.declared.event.TaskMsg.{TaskMsg}
 use Rattle.session_port.specs.declared.job.Job.{Job}
 use Rattle.session_port.specs.declared.job.JobResult.{JobResult}
-use Rattle.session_port.specs.declared.job.JobResult.TheVariants.{Value, Fault, NoMemory}
+use Rattle.session_port.specs.declared.job.JobResult.TheVariants.{Value, Fault, Cancelled, NoMemory}
 
--- a result that the job may have: what its question on its snapshot comes to, or that memory ran out
+-- a result that the job may have: what its question on its snapshot comes to, that it saw a later revision, or that memory ran out
 abbrev pub IsResultOf : (SnapshotData → Ask → Finding) → Job → JobResult → Type 0
 IsResultOf answer job (Value value) = Value value ≡ result_of (answer job.snapshot (ask_of job.kind))
 IsResultOf answer job (Fault code message) = Fault code message ≡ result_of (answer job.snapshot (ask_of job.kind))
+IsResultOf answer job (Cancelled saw) = job.snapshot.revision < saw
 IsResultOf answer job NoMemory = Unit {0}
 
 -- a message names a job out, and brings a result of that job

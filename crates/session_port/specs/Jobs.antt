@@ -15,7 +15,7 @@ use Rattle.session_port.specs.declared.job.Job.{Job}
 use Rattle.session_port.specs.declared.job.JobKind.{JobKind}
 use Rattle.session_port.specs.declared.job.JobKind.TheVariants.{Request}
 use Rattle.session_port.specs.declared.job.JobResult.{JobResult}
-use Rattle.session_port.specs.declared.job.JobResult.TheVariants.{Value, Fault, NoMemory}
+use Rattle.session_port.specs.declared.job.JobResult.TheVariants.{Value, Fault, Cancelled, NoMemory}
 use Rattle.session_port.specs.declared.job.JobValue.{JobValue}
 use Rattle.session_port.specs.declared.job.JobValue.TheVariants.{Json}
 
@@ -46,6 +46,7 @@ plain_value (Json value) = is_plain value
 abbrev pub plain_result : JobResult → Bool
 plain_result (Value value) = plain_value value
 plain_result (Fault code message) = true
+plain_result (Cancelled saw) = true
 plain_result NoMemory = true
 
 abbrev pub final_of : TaskBody → JobResult

@@ -16,6 +16,8 @@ pub enum LogCode {
     UnknownResponse,
     /// A document that is open already. The text is its path.
     DuplicateOpen,
+    /// A change of a document that is not open. The text is its path.
+    UnexpectedChange,
     /// A URL that names no file. The text is the URL.
     BadPath,
     /// A message that fits no job out. The text is the job's number.

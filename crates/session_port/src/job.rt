@@ -46,6 +46,8 @@ pub enum JobValue {
 pub enum JobResult {
     Value(JobValue),
     Fault { code: Option<i32>, message: Text },
+    /// The job stopped, since it saw this revision, which is above its snapshot's.
+    Cancelled { saw: u64 },
     NoMemory,
 }
 

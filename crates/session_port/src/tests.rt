@@ -104,6 +104,7 @@ fn result_text(body: TaskBody) -> &'static str {
             if value.is_null() { "null" } else { "value" }
         }
         TaskBody::Final(JobResult::Fault { .. }) => "fault",
+        TaskBody::Final(JobResult::Cancelled { .. }) => "cancelled",
         TaskBody::Final(JobResult::NoMemory) => "no memory",
     }
 }
