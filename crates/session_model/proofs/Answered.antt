@@ -1,5 +1,5 @@
 -- The machine's runs have the headline.
-use Rattle.std.proofs.Common.{◌≡◌, ℕ, List, [], ◌∷◌, ◌++◌, Bool, refl, sym, ap, ◌∙◌, subst, append-nil, append_assoc, inl, inr}
+use Rattle.std.proofs.Common.{◌≡◌, ◌≤◌, ℕ, List, [], ◌∷◌, ◌++◌, Bool, refl, sym, ap, ◌∙◌, subst, append-nil, append_assoc, inl, inr}
 use Rattle.std.specs.Prelude.{IsTrue, Result, Ok, Err, ◌⊎◌}
 use Rattle.lsp_frame.specs.Reader.{Reader}
 use Rattle.ra_config.specs.Config.{ConfigData}
@@ -8,15 +8,15 @@ use Rattle.session_port.specs.declared.event.HostEvent.{HostEvent}
 use Rattle.session_port.specs.declared.event.HostEvent.TheVariants.{Bytes}
 use Rattle.session_model.specs.Course.{Course, session_course}
 use Rattle.session_model.specs.Headline.{Place, Answers, IsAnswered, ListsEnd, AreHandedOver, AreHeld, place_after, place_after_all, beginning, reaction_of, row}
-use Rattle.session_model.specs.Run.{Meaning, Turn, Told, Runs, AreHonest, IsRun, Ends, RunsOut, TooManyBytes}
+use Rattle.session_model.specs.Meaning.{Meaning}
+use Rattle.session_model.specs.Run.{Turn, Told, Runs, Steps, AreHonest, IsRun, Ends, RunsOut, TooManyBytes}
 use Rattle.session_model.specs.State.{State, fresh}
 use Rattle.session_model.specs.declared.fault.Counter.{Counter}
 use Rattle.session_model.specs.declared.fault.SessionError.{SessionError}
 use Rattle.session_model.specs.declared.fault.SessionError.TheVariants.{ClientExited, BadFrame, BadMessage, HostFault, WriteFault, Exhausted, NoMemory}
-use Rattle.session_model.specs.Invariant.{SoundAt}
-use Rattle.session_model.proofs.Held.{turn-sound, sound-beginning}
+use Rattle.session_model.specs.Invariant.{SoundAt, Stands, place_of}
+use Rattle.session_model.proofs.Held.{turn-sound, turn-once, sound-beginning}
 use Rattle.session_model.proofs.Handed.{turn-handed, handed-beginning, after_all-append}
-use Rattle.session_model.specs.Invariant.{place_of}
 use Rattle.session_model.proofs.Rows.{steps-fit}
 
 -- what holds of each turn, after these
@@ -29,35 +29,60 @@ at-each meaning config honest first [] turn after h = subst (λ (ts : List Turn)
 at-each meaning config honest first (b ∷ bs) turn after h =
     subst (λ (ts : List Turn). Answers meaning config honest ts turn) (append_assoc first (b ∷ []) bs) (at-each meaning config honest (first ++ b ∷ []) bs turn after h.1)
 
--- the state after some turns stands at their place, and their lists are sound
-record Stands (config : ConfigData) (s : State) (before : List Turn) : Type 0 where
-  settings : s.config ≡ config
-  place : place_of s ≡ place_after_all before beginning
-  sound : SoundAt (place_after_all before beginning)
-  handed : AreHandedOver config before (place_after_all before beginning).out
-
 after-one : (before : List Turn) (turn : Turn) → place_after_all (before ++ turn ∷ []) beginning ≡ place_after turn (place_after_all before beginning)
 after-one before turn = after_all-append before (turn ∷ []) beginning
 
-all-answer : (meaning : Meaning) (config : ConfigData) (honest : Bool) (s : State) (before turns : List Turn) (last : State) → Stands config s before
-    → Runs meaning s turns last → (IsTrue honest → AreHonest meaning (place_after_all before beginning).out turns) → AllAnswer meaning config honest before turns
-all-answer meaning config honest s before [] last stands runs fair = tt
-all-answer meaning config honest s before (turn ∷ turns) last stands (mid, steps, runs) fair =
+-- a turn of a machine that stands: it is its row, and the machine stands after it
+record Turned (meaning : Meaning) (config : ConfigData) (before : List Turn) (turn : Turn) (mid : State) : Type 0 where
+  does : reaction_of turn ≡ row meaning config turn.input (place_after_all before beginning)
+  next : Stands config (before ++ turn ∷ []) mid
+
+turned : (meaning : Meaning) (config : ConfigData) (s : State) (before : List Turn) (turn : Turn) (mid : State) → Stands config before s → Steps meaning s turn mid → Turned meaning config before turn mid
+turned meaning config s before turn mid stands steps =
     let fit = steps-fit meaning s turn mid steps in
     let here = place_after_all before beginning in
     let does = subst (λ p. reaction_of turn ≡ row meaning config turn.input p) stands.place (subst (λ c. reaction_of turn ≡ row meaning c turn.input (place_of s)) stands.settings fit.does) in
     let place : place_of mid ≡ place_after turn here = fit.place ∙ ap (place_after turn) stands.place in
-    let sound : SoundAt (place_after turn here) = turn-sound meaning config turn here does stands.sound in
-    let handed : AreHandedOver config (before ++ turn ∷ []) (place_after turn here).out = turn-handed meaning config before turn does stands.handed in
-    let next : Stands config mid (before ++ turn ∷ []) = record {
-      settings = fit.config ∙ stands.settings;
-      place = place ∙ sym (after-one before turn);
-      sound = subst SoundAt (sym (after-one before turn)) sound;
-      handed = subst (λ (p : Place). AreHandedOver config (before ++ turn ∷ []) p.out) (sym (after-one before turn)) handed;
-    } in (
-      record { does = does; held = subst (λ (p : Place). AreHeld p.pending p.out) (sym (after-one before turn)) sound.held; handed_over = stands.handed; value = λ h. (fair h).0 },
-      all-answer meaning config honest mid (before ++ turn ∷ []) turns last next runs (λ h. subst (λ (p : Place). AreHonest meaning p.out turns) (sym (after-one before turn)) (fair h).1),
+    let rises : here.revision ≤ (place_after turn here).revision = subst (λ (p : Place). p.revision ≤ (place_after turn here).revision) stands.place (subst (λ (p : Place). s.host.revision ≤ p.revision) place fit.later) in
+    let sound : SoundAt (place_after turn here) = turn-sound meaning config turn here does rises stands.sound in
+    let handed : AreHandedOver config (before ++ turn ∷ []) (place_after turn here).out = turn-handed meaning config before turn does stands.sound stands.handed in
+    record {
+      does = does;
+      next = record {
+        settings = fit.config ∙ stands.settings;
+        place = place ∙ sym (after-one before turn);
+        sound = subst SoundAt (sym (after-one before turn)) sound;
+        handed = subst (λ (p : Place). AreHandedOver config (before ++ turn ∷ []) p.out) (sym (after-one before turn)) handed;
+      };
+    }
+
+all-answer : (meaning : Meaning) (config : ConfigData) (honest : Bool) (s : State) (before turns : List Turn) (last : State) → Stands config before s
+    → Runs meaning s turns last → (IsTrue honest → AreHonest meaning (place_after_all before beginning).out turns) → AllAnswer meaning config honest before turns
+all-answer meaning config honest s before [] last stands runs fair = tt
+all-answer meaning config honest s before (turn ∷ turns) last stands (mid, steps, runs) fair =
+    let t = turned meaning config s before turn mid stands steps in (
+      record {
+        does = t.does;
+        once = turn-once meaning config turn (place_after_all before beginning) t.does stands.sound;
+        held = t.next.sound.held;
+        handed_over = stands.handed;
+        value = λ h. (fair h).0;
+      },
+      all-answer meaning config honest mid (before ++ turn ∷ []) turns last t.next runs (λ h. subst (λ (p : Place). AreHonest meaning p.out turns) (sym (after-one before turn)) (fair h).1),
     )
+
+all-stand : (meaning : Meaning) (config : ConfigData) (s : State) (before turns : List Turn) (last : State) → Stands config before s → Runs meaning s turns last → Stands config (before ++ turns) last
+all-stand meaning config s before [] last stands runs = subst (λ (ts : List Turn). Stands config ts last) (sym (append-nil before)) (subst (Stands config before) (sym runs) stands)
+all-stand meaning config s before (turn ∷ turns) last stands (mid, steps, runs) =
+    let t = turned meaning config s before turn mid stands steps in
+    subst (λ (ts : List Turn). Stands config ts last) (append_assoc before (turn ∷ []) turns) (all-stand meaning config mid (before ++ turn ∷ []) turns last t.next runs)
+
+stands-fresh : (config : ConfigData) → Stands config [] (fresh config)
+stands-fresh config = record { settings = refl; place = refl; sound = sound-beginning; handed = handed-beginning config }
+
+-- after each list of turns the machine stands where they say
+pub runs-stand : (meaning : Meaning) (config : ConfigData) (turns : List Turn) (last : State) → Runs meaning (fresh config) turns last → Stands config turns last
+runs-stand meaning config turns last runs = all-stand meaning config (fresh config) [] turns last (stands-fresh config) runs
 
 out-events : (meaning : Meaning) (counter : Counter) (state : State) (to : List HostEvent → Course) (used : ℕ) (old new : Told) → (RunsOut meaning counter state to old new ⊎ TooManyBytes counter used old new)
     → (events : List HostEvent) × (new ≡ record old { given = grown old.given events })
@@ -85,5 +110,5 @@ run-answered T meaning config reader old new honest result run = record {
   lists = subst (λ t. ListsEnd t new result) run.stretch.told (lists-end T meaning run.last run.to run.used_last run.told_last new result run.ends);
   each = λ before turn after is. at-each meaning config honest [] before turn after
       (subst (AllAnswer meaning config honest []) is (all-answer meaning config honest (fresh config) [] run.stretch.turns run.last
-      (record { settings = refl; place = refl; sound = sound-beginning; handed = handed-beginning config }) run.stretch.runs run.stretch.honest_turns));
+      (stands-fresh config) run.stretch.runs run.stretch.honest_turns));
 }

@@ -7,8 +7,9 @@ use Rattle.session_port.specs.Record.{grown, added}
 use Rattle.session_port.specs.declared.event.HostEvent.{HostEvent}
 use Rattle.session_port.specs.declared.event.HostEvent.TheVariants.{Ended}
 use Rattle.session_model.specs.Course.{Course, Stop, end_of, session_course}
-use Rattle.session_model.specs.Headline.{EndsByCause}
-use Rattle.session_model.specs.Run.{Meaning, Turn, Told, IsRun, taking}
+use Rattle.session_model.specs.Headline.{EndsByCause, IsComplete}
+use Rattle.session_model.specs.Meaning.{Meaning}
+use Rattle.session_model.specs.Run.{Turn, Told, IsRun, taking}
 use Rattle.session_model.specs.declared.fault.SessionError.{SessionError}
 use Rattle.session_model.specs.declared.fault.SessionError.TheVariants.{ClientExited, BadFrame, BadMessage, HostFault, WriteFault, Exhausted, NoMemory}
 use Rattle.session_model.proofs.Stretches.{grown-grown}
@@ -63,3 +64,15 @@ run-caused T meaning config reader old new honest (Err HostFault) run = λ befor
 run-caused T meaning config reader old new honest (Err WriteFault) run = λ before events h k. tt
 run-caused T meaning config reader old new honest (Err (Exhausted counter)) run = λ before events h k. tt
 run-caused T meaning config reader old new honest (Err NoMemory) run = λ before events h k. tt
+
+-- a run over a good input ends well
+pub run-complete : (T : Type 0) (reader : Reader) (old new : Option (List HostEvent)) (HostFailed SinkFailed : Type 0) (result : Result T SessionError) → EndsByCause reader old new result
+    → (result ≡ Err HostFault → HostFailed) → (result ≡ Err WriteFault → SinkFailed) → IsComplete reader old new HostFailed SinkFailed result
+run-complete T reader old new HostFailed SinkFailed (Ok x) ends host sink = λ before events is told good calm dry. tt
+run-complete T reader old new HostFailed SinkFailed (Err ClientExited) ends host sink = λ before events is told good calm dry. let e = ends before events is told in absurd cc
+run-complete T reader old new HostFailed SinkFailed (Err (BadFrame at)) ends host sink = λ before events is told good calm dry. let e = ends before events is told in absurd cc
+run-complete T reader old new HostFailed SinkFailed (Err (BadMessage at)) ends host sink = λ before events is told good calm dry. let e = ends before events is told in absurd cc
+run-complete T reader old new HostFailed SinkFailed (Err HostFault) ends host sink = λ before events is told good calm dry. calm (host refl)
+run-complete T reader old new HostFailed SinkFailed (Err WriteFault) ends host sink = λ before events is told good calm dry. dry (sink refl)
+run-complete T reader old new HostFailed SinkFailed (Err (Exhausted counter)) ends host sink = λ before events is told good calm dry. tt
+run-complete T reader old new HostFailed SinkFailed (Err NoMemory) ends host sink = λ before events is told good calm dry. tt

@@ -5,7 +5,8 @@ use Rattle.std.proofs.lemmas.Bool.{ltb-true}
 use Rattle.std.proofs.lemmas.Result.{IfOk-at_ok}
 use Rattle.session_model.specs.Headline.{Place, place_after}
 use Rattle.session_model.specs.Machine.{Working, and_then, counted, happened, taken_in, step}
-use Rattle.session_model.specs.Run.{Meaning, Turn, Steps, begun}
+use Rattle.session_model.specs.Meaning.{Meaning}
+use Rattle.session_model.specs.Run.{Turn, Steps, begun}
 use Rattle.session_model.specs.State.{State}
 use Rattle.session_model.specs.declared.fault.Counter.{Counter}
 use Rattle.session_model.specs.declared.fault.Counter.TheVariants.{Turns}
@@ -36,16 +37,16 @@ counted-below : (w : Working) → IfOk (counted w) (λ _. w.state.turns < 2 ^ 64
 unfolding counted
 counted-below w = room w.state.turns (ltb w.state.turns (2 ^ 64 - 1)) _ refl
 
-step-below : (meaning : Meaning) (event : Event) (w : Working) → IfOk (step meaning.decodes (Next event) w) (λ _. w.state.turns < 2 ^ 64 - 1)
+step-below : (meaning : Meaning) (event : Event) (w : Working) → IfOk (step meaning (Next event) w) (λ _. w.state.turns < 2 ^ 64 - 1)
 unfolding step taken_in
-step-below meaning event w = any-after (w.state.turns < 2 ^ 64 - 1) (and_then (counted w) (λ v. happened meaning.decodes event v)) _ (any-after (w.state.turns < 2 ^ 64 - 1) (counted w) _ (counted-below w))
+step-below meaning event w = any-after (w.state.turns < 2 ^ 64 - 1) (and_then (counted w) (λ v. happened meaning event v)) _ (any-after (w.state.turns < 2 ^ 64 - 1) (counted w) _ (counted-below w))
 
 fewer : (meaning : Meaning) (old new : State) (turn : Turn) (input : Input) → turn.input ≡ input → IsLater input → Steps meaning old turn new → 2 ^ 64 - new.turns < 2 ^ 64 - old.turns
 fewer meaning old new turn Start is later steps = absurd later
 fewer meaning old new turn (Next event) is later steps =
     let place : (place_of new).number ≡ (place_after turn (place_of old)).number = ap (λ (p : Place). p.number) (steps-fit meaning old turn new steps).place in
     let number : new.turns + 1 ≡ old.turns + 1 + 1 = place ∙ rw is refl in
-    let taken : step meaning.decodes (Next event) (begun old) ≡ Ok (record { state = new; out = record { messages = turn.messages; commands = turn.commands } }) = ap (λ i. step meaning.decodes i (begun old)) (sym is) ∙ steps in
+    let taken : step meaning (Next event) (begun old) ≡ Ok (record { state = new; out = record { messages = turn.messages; commands = turn.commands } }) = ap (λ i. step meaning i (begun old)) (sym is) ∙ steps in
     let below : old.turns < 2 ^ 64 - 1 = IfOk-at_ok (λ _. old.turns < 2 ^ 64 - 1) taken (step-below meaning event (begun old)) in
     omega (arith, number, below)
 

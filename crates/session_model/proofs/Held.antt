@@ -1,29 +1,41 @@
--- A row keeps the turn invariant.
-use Rattle.std.proofs.Common.{◌≡◌, ◌≢◌, ℕ, ◌+◌, ◌<◌, List, [], ◌∷◌, length, Bool, true, false, refl, sym, ap, ◌∙◌, subst, arith}
-use Rattle.std.specs.Prelude.{Option, None, Some, ◌&&◌, is_some}
+-- A row keeps the turn invariant, and answers each request once.
+use Rattle.std.proofs.Common.{◌≡◌, ◌≢◌, ℕ, ◌+◌, ◌<◌, ◌≤◌, List, [], ◌∷◌, ◌++◌, length, Bool, true, false, refl, sym, ap, ◌∙◌, subst, arith, append-nil, append_assoc, inl, inr}
+use Rattle.std.specs.Prelude.{Option, None, Some, is_some, codes, if◌then◌else◌}
 use Rattle.std.specs.FinMap as map
-use Rattle.plain.specs.Plain.{is_plain}
-use Rattle.lsp_frame.specs.Pending.{Pending, id_of, is_pending, registered, without, closed, none_pending}
+use Rattle.std.proofs.lemmas.List.{length-append}
+use Rattle.lsp_frame.specs.Pending.{Pending, InStep, id_of, is_pending, registered, without, closed, closed_by as closed_by_ticket, none_pending}
 use Rattle.lsp_frame.specs.declared.message.RequestId.{RequestId}
 use Rattle.lsp_frame.specs.declared.message.Request.{Request}
+use Rattle.lsp_frame.specs.declared.message.Response.{Response}
+use Rattle.lsp_frame.specs.declared.message.Notification.{Notification}
+use Rattle.lsp_frame.specs.declared.message.Message.{Message}
 use Rattle.lsp_frame.specs.declared.message.Message.TheVariants.{Request as RequestMessage, Notification as NotificationMessage, Response as ResponseMessage}
 use Rattle.ra_config.specs.Config.{ConfigData}
+use Rattle.serde_json.specs.Data.{Data}
+use Rattle.lsp_frame.specs.Ids.{id_cmp_total, id_cmp-IsAntisymmetric}
 use Rattle.analysis_host.specs.declared.ask.RowId.{RowId}
 use Rattle.session_port.specs.Jobs.{Jobs, ticket_of, final_of, fitting_job, after_message, after_batch}
 use Rattle.session_port.specs.Record.{with_jobs}
 use Rattle.session_port.specs.declared.event.TaskMsg.{TaskMsg}
 use Rattle.session_port.specs.declared.job.Job.{Job}
+use Rattle.session_port.specs.declared.job.JobKind.TheVariants.{Request as RequestJob}
 use Rattle.session_port.specs.declared.job.JobResult.{JobResult}
-use Rattle.session_model.specs.Headline.{Place, Reaction, reaction_of, row, request_row, method_row, params_row, beginning, IsHeld, closed_by, closed_with, ticket_reply, final_reply, batch_replies, pending_after, place_after, number_after}
+use Rattle.session_model.specs.Cancelling.{cancel_of}
+use Rattle.session_model.specs.Headline.{Place, Reaction, reaction_of, row, silent, says, joined, hands_over, snapshot_at, new_row, notification_row, cancel_row, ticket_row, final_row, message_row, batch_row, place_past, beginning, IsHeld, AreAnswers, AnswersRequest, AnswersOnce, closed_by, closed_with, pending_after, place_after, number_after}
 use Rattle.session_model.specs.Invariant.{Sound, SoundAt}
-use Rattle.session_model.specs.Methods.{row_of}
-use Rattle.session_model.specs.Run.{Meaning, Turn, after_input}
+use Rattle.session_model.specs.Meaning.{Meaning}
+use Rattle.session_model.specs.Methods.{class_of}
+use Rattle.session_model.specs.Replies.{already_pending, canceled_by_client, finished_reply}
+use Rattle.session_model.specs.Run.{Turn, after_input}
+use Rattle.session_model.specs.Texts.{same_text}
 use Rattle.session_model.specs.declared.input.Event.TheVariants.{Lsp, Task}
 use Rattle.session_model.specs.declared.input.Input.{Input}
 use Rattle.session_model.specs.declared.input.Input.TheVariants.{Start, Next}
-use Rattle.session_model.proofs.Batches.{closed_by-append, after_message-none, after_message-some, reply-id}
-use Rattle.session_model.proofs.Keyed.{by_key, get-insert_same, get-insert_other, get-remove_same, get-remove_other}
+use Rattle.session_model.proofs.Appends.{closed_by-append, with_jobs-append}
+use Rattle.session_model.proofs.Fitting.{after_message-none, after_message-some}
+use Rattle.session_model.proofs.Keyed.{by_key, get-insert_same, get-insert_other, get-remove_same, get-remove_other, insert-remove}
 use Rattle.session_model.proofs.Orders.{by_number_total, by_number_same}
+use Rattle.session_model.proofs.Reacting.{Reacts, new-reacts, result-reacts}
 use Rattle.session_model.proofs.Waiting.{in_step-none, in_step-registered, in_step-without, closed-in_step, closed-registered}
 
 some-same : {X : Type 0} (x y : X) → Some x ≡ Some y → x ≡ y
@@ -33,12 +45,24 @@ none-some : {X P : Type 0} (x : X) → None ≡ Some x → P
 none-some x e = absurd cc
 
 -- nothing changed but that a turn went by
-sound-idle : (number : ℕ) (p : Pending) (js : Jobs) (handed : ℕ) → Sound number p js handed → Sound (number + 1) p js (handed + 0)
-sound-idle number p js handed s = record {
+sound-idle : (number : ℕ) (p : Pending) (js : Jobs) (handed revision : ℕ) → Sound number p js handed revision → Sound (number + 1) p js (handed + 0) revision
+sound-idle number p js handed revision s = record {
   in_step = s.in_step;
   tickets = λ t id is. let h = s.tickets t id is in omega arith;
   numbers = λ n job is. let h = s.numbers n job is in omega arith;
   below = λ n job is. let h = s.below n job is in omega arith;
+  revisions = s.revisions;
+  held = s.held;
+}
+
+-- the same for a later turn
+sound-next : (number : ℕ) (p : Pending) (js : Jobs) (handed revision : ℕ) → Sound number p js handed revision → Sound (number + 1) p js handed revision
+sound-next number p js handed revision s = record {
+  in_step = s.in_step;
+  tickets = λ t id is. let h = s.tickets t id is in omega arith;
+  numbers = s.numbers;
+  below = λ n job is. let h = s.below n job is in omega arith;
+  revisions = s.revisions;
   held = s.held;
 }
 
@@ -70,25 +94,27 @@ still-out n m js job there = by_key by_number_total by_number_same m n
     (λ elsewhere. sym (get-remove_other by_number_total by_number_same js n m elsewhere) ∙ there)
 
 -- a job came back whose request does not wait
-sound-off : (number : ℕ) (p : Pending) (js : Jobs) (handed n : ℕ) (found : Job) → map.get js n ≡ Some found → id_of (ticket_of found.kind) p ≡ None
-    → Sound number p js handed → Sound number p (map.remove js n) handed
-sound-off number p js handed n found is none s = record {
+sound-off : (number : ℕ) (p : Pending) (js : Jobs) (handed revision n : ℕ) (found : Job) → map.get js n ≡ Some found → id_of (ticket_of found.kind) p ≡ None
+    → Sound number p js handed revision → Sound number p (map.remove js n) handed revision
+sound-off number p js handed revision n found is none s = record {
   in_step = s.in_step;
   tickets = s.tickets;
   numbers = λ m job there. s.numbers m job (still-out n m js job there);
   below = λ m job there. s.below m job (still-out n m js job there);
+  revisions = λ m job there. s.revisions m job (still-out n m js job there);
   held = λ t id waits. held-without t n found js is (λ same. none-some id (sym none ∙ ap (map.get p.ids) (sym same) ∙ waits)) (s.held t id waits);
 }
 
 -- a job came back, and its request is closed
-sound-without : (number : ℕ) (p : Pending) (js : Jobs) (handed n : ℕ) (found : Job) (id : RequestId) → map.get js n ≡ Some found → id_of (ticket_of found.kind) p ≡ Some id
-    → Sound number p js handed → Sound number (without (ticket_of found.kind) id p) (map.remove js n) handed
+sound-without : (number : ℕ) (p : Pending) (js : Jobs) (handed revision n : ℕ) (found : Job) (id : RequestId) → map.get js n ≡ Some found → id_of (ticket_of found.kind) p ≡ Some id
+    → Sound number p js handed revision → Sound number (without (ticket_of found.kind) id p) (map.remove js n) handed revision
 unfolding without
-sound-without number p js handed n found id is waits s = record {
+sound-without number p js handed revision n found id is waits s = record {
   in_step = in_step-without p t id s.in_step waits;
   tickets = λ u i there. s.tickets u i (still u i there).1;
   numbers = λ m job there. s.numbers m job (still-out n m js job there);
   below = λ m job there. s.below m job (still-out n m js job there);
+  revisions = λ m job there. s.revisions m job (still-out n m js job there);
   held = λ u i there. let k = still u i there in held-without u n found js is k.0 (s.held u i k.1);
 }
   where
@@ -101,10 +127,10 @@ sound-without number p js handed n found id is waits s = record {
         (λ elsewhere. (elsewhere, sym (get-remove_other by_number_total by_number_same p.ids t u elsewhere) ∙ there))
 
 -- a request was read, and its job handed over
-sound-request : (number : ℕ) (p : Pending) (js : Jobs) (handed : ℕ) (id : RequestId) (job : Job) → is_pending id p ≡ false → ticket_of job.kind ≡ number
-    → Sound number p js handed → Sound (number + 1) (registered number id p) (map.insert js (handed + 1) job) (handed + 1)
+sound-request : (number : ℕ) (p : Pending) (js : Jobs) (handed revision : ℕ) (id : RequestId) (job : Job) → is_pending id p ≡ false → ticket_of job.kind ≡ number → job.snapshot.revision ≤ revision
+    → Sound number p js handed revision → Sound (number + 1) (registered number id p) (map.insert js (handed + 1) job) (handed + 1) revision
 unfolding registered
-sound-request number p js handed id job new its s = record {
+sound-request number p js handed revision id job new its no_later s = record {
   in_step = in_step-registered p number id s.in_step none free;
   tickets = λ t i waits. by_key by_number_total by_number_same t number
       (λ same. omega arith)
@@ -115,6 +141,9 @@ sound-request number p js handed id job new its s = record {
   below = λ n j there. by_key by_number_total by_number_same n (handed + 1)
       (λ same. let e : ticket_of j.kind ≡ number = its_ticket n j same there in omega arith)
       (λ other. let h = s.below n j (was n j other there) in omega arith);
+  revisions = λ n j there. by_key by_number_total by_number_same n (handed + 1)
+      (λ same. subst (λ (k : Job). k.snapshot.revision ≤ revision) (it_is n j same there) no_later)
+      (λ other. s.revisions n j (was n j other there));
   held = λ t i waits. by_key by_number_total by_number_same t number
       (λ same. record {
         number = handed + 1;
@@ -136,10 +165,11 @@ sound-request number p js handed id job new its s = record {
     was : (n : ℕ) (j : Job) → n ≢ handed + 1 → map.get (map.insert js (handed + 1) job) n ≡ Some j → map.get js n ≡ Some j
     was n j other there = sym (get-insert_other by_number_total by_number_same js (handed + 1) job n other) ∙ there
 
+    it_is : (n : ℕ) (j : Job) → n ≡ handed + 1 → map.get (map.insert js (handed + 1) job) n ≡ Some j → job ≡ j
+    it_is n j same there = some-same job j (sym (get-insert_same by_number_total by_number_same js (handed + 1) job) ∙ ap (map.get (map.insert js (handed + 1) job)) (sym same) ∙ there)
+
     its_ticket : (n : ℕ) (j : Job) → n ≡ handed + 1 → map.get (map.insert js (handed + 1) job) n ≡ Some j → ticket_of j.kind ≡ number
-    its_ticket n j same there =
-        let e : job ≡ j = some-same job j (sym (get-insert_same by_number_total by_number_same js (handed + 1) job) ∙ ap (map.get (map.insert js (handed + 1) job)) (sym same) ∙ there) in
-        ap (λ (k : Job). ticket_of k.kind) (sym e) ∙ its
+    its_ticket n j same there = ap (λ (k : Job). ticket_of k.kind) (sym (it_is n j same there)) ∙ its
 
     later : (t : ℕ) (i : RequestId) → t ≢ number → IsHeld t js → IsHeld t (map.insert js (handed + 1) job)
     later t i other_ticket h = record {
@@ -152,73 +182,341 @@ sound-request number p js handed id job new its s = record {
           (λ other. h.only n j (was n j other there) is_for);
     }
 
--- one message of a batch
-ticket-sound : (number : ℕ) (p : Pending) (js : Jobs) (handed n : ℕ) (result : JobResult) (found : Job) (o : Option RequestId) → map.get js n ≡ Some found → id_of (ticket_of found.kind) p ≡ o
-    → Sound number p js handed → Sound number (closed_by (ticket_reply o result) p) (map.remove js n) handed
-ticket-sound number p js handed n result found None is none s = sound-off number p js handed n found is none s
-ticket-sound number p js handed n result found (Some id) is waits s =
-    subst (λ q. Sound number q (map.remove js n) handed)
-    (sym (ap (λ o. closed_with o p) (reply-id id result) ∙ closed-in_step p (ticket_of found.kind) id s.in_step waits))
-    (sound-without number p js handed n found id is waits s)
+-- a request is closed, and its job stays out
+sound-shut : (number : ℕ) (p : Pending) (js : Jobs) (handed revision t : ℕ) (id : RequestId) → id_of t p ≡ Some id → Sound number p js handed revision → Sound number (without t id p) js handed revision
+unfolding without
+sound-shut number p js handed revision t id waits s = record {
+  in_step = in_step-without p t id s.in_step waits;
+  tickets = λ u i there. s.tickets u i (still u i there);
+  numbers = s.numbers;
+  below = s.below;
+  revisions = s.revisions;
+  held = λ u i there. s.held u i (still u i there);
+}
+  where
+    still : (u : ℕ) (i : RequestId) → map.get (map.remove p.ids t) u ≡ Some i → map.get p.ids u ≡ Some i
+    still u i there = by_key by_number_total by_number_same u t
+        (λ same. none-some i (sym (get-remove_same by_number_total by_number_same p.ids t) ∙ ap (map.get (map.remove p.ids t)) (sym same) ∙ there))
+        (λ elsewhere. sym (get-remove_other by_number_total by_number_same p.ids t u elsewhere) ∙ there)
 
-final-sound : (number : ℕ) (p : Pending) (js : Jobs) (handed : ℕ) (message : TaskMsg) (o : Option Job) → fitting_job message js ≡ o
-    → Sound number p js handed → Sound number (closed_by (final_reply o message p) p) (after_message message js) handed
-final-sound number p js handed message None is s = rw (after_message-none message js is) s
-final-sound number p js handed message (Some found) is s =
-    let k = after_message-some message js found is in
-    subst (λ out. Sound number (closed_by (final_reply (Some found) message p) p) out handed) (sym k.0)
-    (ticket-sound number p js handed message.job (final_of message.body) found (id_of (ticket_of found.kind) p) k.1 refl s)
+closed-cases : (number : ℕ) (p : Pending) (js : Jobs) (handed revision : ℕ) (id : RequestId) (o : Option ℕ) → map.get p.tickets id ≡ o → Sound number p js handed revision → Sound (number + 1) (closed_by_ticket id o p) js handed revision
+closed-cases number p js handed revision id None is s = sound-next _ _ _ _ _ s
+closed-cases number p js handed revision id (Some t) is s = sound-next _ _ _ _ _ (sound-shut number p js handed revision t id ((s.in_step.both t id).1 is) s)
 
-batch-sound : (number : ℕ) (batch : List TaskMsg) (p : Pending) (js : Jobs) (handed : ℕ) → Sound number p js handed → Sound number (closed_by (batch_replies batch p js) p) (after_batch batch js) handed
-batch-sound number [] p js handed s = s
-batch-sound number (m ∷ ms) p js handed s =
-    let reply = final_reply (fitting_job m js) m p in
-    let a : Sound number (closed_by reply p) (after_message m js) handed = final-sound number p js handed m (fitting_job m js) refl s in
-    let b : Sound number (closed_by (batch_replies ms (closed_by reply p) (after_message m js)) (closed_by reply p)) (after_batch ms (after_message m js)) handed =
-    batch-sound number ms (closed_by reply p) (after_message m js) handed a in
-    subst (λ q. Sound number q (after_batch ms (after_message m js)) handed) (sym (closed_by-append reply (batch_replies ms (closed_by reply p) (after_message m js)) p)) b
-
--- the lists after a turn are sound
-abbrev SoundAfter : Input → Place → Reaction → Type 0
-SoundAfter input place done = Sound (number_after input place.number) (pending_after place.number input done.messages place.pending) (with_jobs done.jobs (after_input input place.out)) (place.handed + length done.jobs)
-
--- a request that was refused does not wait
-refused-sound : (place : Place) (id : RequestId) → is_pending id place.pending ≡ false → SoundAt place → Sound (place.number + 1) (closed id (registered place.number id place.pending)) place.out (place.handed + 0)
-refused-sound place id new s =
-    rw (closed-registered place.pending place.number id (ticket-free place.number place.pending (map.get place.pending.ids place.number) refl s.tickets) (id-free (map.get place.pending.tickets id) new))
-    (sound-idle _ _ _ _ s)
-
-params-sound : (config : ConfigData) (r : Request) (place : Place) (row_id : RowId) (b : Bool) → is_pending r.id place.pending ≡ false → SoundAt place → SoundAfter (Next (Lsp (RequestMessage r))) place (params_row b config place row_id r)
-params-sound config r place row_id true new s = rw new (sound-request place.number place.pending place.out place.handed r.id _ new refl s)
-params-sound config r place row_id false new s = rw new (refused-sound place r.id new s)
-
-method-sound : (meaning : Meaning) (config : ConfigData) (r : Request) (place : Place) (o : Option RowId) → is_pending r.id place.pending ≡ false → SoundAt place → SoundAfter (Next (Lsp (RequestMessage r))) place (method_row o meaning config place r)
-method-sound meaning config r place None new s = rw new (refused-sound place r.id new s)
-method-sound meaning config r place (Some row_id) new s = params-sound config r place row_id (is_plain r.params && meaning.decodes row_id r.params) new s
-
-request-sound : (meaning : Meaning) (config : ConfigData) (r : Request) (place : Place) (b : Bool) → is_pending r.id place.pending ≡ b → SoundAt place → SoundAfter (Next (Lsp (RequestMessage r))) place (request_row b meaning config place r)
-request-sound meaning config r place true h s = rw h (sound-idle _ _ _ _ s)
-request-sound meaning config r place false h s = method-sound meaning config r place (row_of r.method) h s
-
-sound-stays : (number : ℕ) (p : Pending) (js : Jobs) (handed : ℕ) → Sound number p js handed → Sound number p js (handed + 0)
-sound-stays number p js handed s = record {
+sound-stays : (number : ℕ) (p : Pending) (js : Jobs) (handed revision : ℕ) → Sound number p js handed revision → Sound number p js (handed + 0) revision
+sound-stays number p js handed revision s = record {
   in_step = s.in_step;
   tickets = s.tickets;
   numbers = λ n job is. let h = s.numbers n job is in omega arith;
   below = s.below;
+  revisions = s.revisions;
   held = s.held;
 }
 
+-- a request is closed by its id, and its job stays out
+sound-closed : (number : ℕ) (p : Pending) (js : Jobs) (handed revision : ℕ) (id : RequestId) → Sound number p js handed revision → Sound (number + 1) (closed id p) js handed revision
+unfolding closed
+sound-closed number p js handed revision id s = closed-cases number p js handed revision id (map.get p.tickets id) refl s
+
+-- a job came back, and another one is handed over for its request
+sound-again : (number : ℕ) (p : Pending) (js : Jobs) (handed revision n : ℕ) (found job : Job) → map.get js n ≡ Some found → ticket_of job.kind ≡ ticket_of found.kind → job.snapshot.revision ≤ revision
+    → Sound number p js handed revision → Sound number p (map.insert (map.remove js n) (handed + 1) job) (handed + 1) revision
+sound-again number p js handed revision n found job is its no_later s = record {
+  in_step = s.in_step;
+  tickets = s.tickets;
+  numbers = λ m j there. by_key by_number_total by_number_same m (handed + 1)
+      (λ same. omega arith)
+      (λ other. let h = s.numbers m j (was m j other there) in omega arith);
+  below = λ m j there. by_key by_number_total by_number_same m (handed + 1)
+      (λ same. let e : ticket_of j.kind ≡ ticket_of found.kind = its_ticket m j same there in let h = s.below n found is in omega arith)
+      (λ other. s.below m j (was m j other there));
+  revisions = λ m j there. by_key by_number_total by_number_same m (handed + 1)
+      (λ same. subst (λ (k : Job). k.snapshot.revision ≤ revision) (it_is m j same there) no_later)
+      (λ other. s.revisions m j (was m j other there));
+  held = λ t id waits. by_key by_number_total by_number_same t (ticket_of found.kind)
+      (λ same. record {
+        number = handed + 1;
+        job = job;
+        is_out = get-insert_same by_number_total by_number_same (map.remove js n) (handed + 1) job;
+        holds = its ∙ sym same;
+        only = λ m j there is_for. by_key by_number_total by_number_same m (handed + 1) (λ here. here)
+            (λ other. absurd (gone m j other there ((s.held t id waits).only m j (was m j other there) is_for ∙ sym ((s.held t id waits).only n found is (sym same)))));
+      })
+      (λ other_ticket. later t other_ticket (held-without t n found js is other_ticket (s.held t id waits)));
+}
+  where
+    was : (m : ℕ) (j : Job) → m ≢ handed + 1 → map.get (map.insert (map.remove js n) (handed + 1) job) m ≡ Some j → map.get js m ≡ Some j
+    was m j other there = still-out n m js j (sym (get-insert_other by_number_total by_number_same (map.remove js n) (handed + 1) job m other) ∙ there)
+
+    gone : (m : ℕ) (j : Job) → m ≢ handed + 1 → map.get (map.insert (map.remove js n) (handed + 1) job) m ≡ Some j → m ≢ n
+    gone m j other there = λ same. none-some j (sym (get-remove_same by_number_total by_number_same js n) ∙ ap (map.get (map.remove js n)) (sym same) ∙ sym (get-insert_other by_number_total by_number_same (map.remove js n) (handed + 1) job m other) ∙ there)
+
+    it_is : (m : ℕ) (j : Job) → m ≡ handed + 1 → map.get (map.insert (map.remove js n) (handed + 1) job) m ≡ Some j → job ≡ j
+    it_is m j same there = some-same job j (sym (get-insert_same by_number_total by_number_same (map.remove js n) (handed + 1) job) ∙ ap (map.get (map.insert (map.remove js n) (handed + 1) job)) (sym same) ∙ there)
+
+    its_ticket : (m : ℕ) (j : Job) → m ≡ handed + 1 → map.get (map.insert (map.remove js n) (handed + 1) job) m ≡ Some j → ticket_of j.kind ≡ ticket_of found.kind
+    its_ticket m j same there = ap (λ (k : Job). ticket_of k.kind) (sym (it_is m j same there)) ∙ its
+
+    later : (t : ℕ) → t ≢ ticket_of found.kind → IsHeld t (map.remove js n) → IsHeld t (map.insert (map.remove js n) (handed + 1) job)
+    later t other_ticket h = record {
+      number = h.number;
+      job = h.job;
+      is_out = let le = s.numbers h.number h.job (still-out n h.number js h.job h.is_out) in
+          get-insert_other by_number_total by_number_same (map.remove js n) (handed + 1) job h.number (λ same. omega arith) ∙ h.is_out;
+      holds = h.holds;
+      only = λ m j there is_for. by_key by_number_total by_number_same m (handed + 1)
+          (λ same. absurd (other_ticket (sym is_for ∙ its_ticket m j same there)))
+          (λ other. h.only m j (sym (get-insert_other by_number_total by_number_same (map.remove js n) (handed + 1) job m other) ∙ there) is_for);
+    }
+
+-- ---- each response answers one request
+
+pub answers-append : (xs ys : List Message) (p : Pending) → AreAnswers xs p → AreAnswers ys (closed_by xs p) → AreAnswers (xs ++ ys) p
+answers-append [] ys p a b = b
+answers-append (ResponseMessage response ∷ xs) ys p (id, is, waits, rest) b =
+    (id, is, waits, answers-append xs ys (closed id p) rest (subst (λ q. AreAnswers ys (closed_by xs q)) (ap (λ o. closed_with o p) is) b))
+answers-append (RequestMessage r ∷ xs) ys p a b = answers-append xs ys p a b
+answers-append (NotificationMessage n ∷ xs) ys p a b = answers-append xs ys p a b
+
+some-waits : {T : Type 0} (o : Option T) (t : T) → o ≡ Some t → is_some o ≡ true
+some-waits None t is = absurd cc
+some-waits (Some x) t is = refl
+
+-- a ticket's request waits under its id
+waits-by-id : (p : Pending) (ticket : ℕ) (id : RequestId) → InStep p → id_of ticket p ≡ Some id → is_pending id p ≡ true
+waits-by-id p ticket id step is = some-waits (map.get p.tickets id) ticket ((step.both ticket id).0 is)
+
+-- ---- batches
+
+abbrev AreAbove : ℕ → List Job → Type 0
+AreAbove first [] = Unit {0}
+AreAbove first (job ∷ jobs) = (first < job.number) × AreAbove first jobs
+
+above-append : (first : ℕ) (xs ys : List Job) → AreAbove first xs → AreAbove first ys → AreAbove first (xs ++ ys)
+above-append first [] ys a b = b
+above-append first (x ∷ xs) ys a b = (a.0, above-append first xs ys a.1 b)
+
+-- jobs of later numbers leave an earlier one as it is
+with-later : (first n : ℕ) (js : List Job) (out : Jobs) → n ≤ first → AreAbove first js → map.get (with_jobs js out) n ≡ map.get out n
+with-later first n [] out early late = refl
+with-later first n (j ∷ js) out early late =
+    with-later first n js (map.insert out j.number j) early late.1 ∙ get-insert_other by_number_total by_number_same out j.number j n (λ same. let h = late.0 in omega arith)
+
+-- and don't mind whether it is taken off before or after
+without-later : (first n : ℕ) (js : List Job) (out : Jobs) → n ≤ first → AreAbove first js → with_jobs js (map.remove out n) ≡ map.remove (with_jobs js out) n
+without-later first n [] out early late = refl
+without-later first n (j ∷ js) out early late =
+    ap (with_jobs js) (insert-remove by_number_total by_number_same out j.number j n (λ same. let h = late.0 in omega arith)) ∙ without-later first n js (map.insert out j.number j) early late.1
+
+-- within a batch: the lists are sound with the jobs that it hands over; those of earlier turns have numbers up to the first, these have later ones
+record Batching (first : ℕ) (place : Place) (js : List Job) : Type 0 where
+  sound : Sound place.number place.pending (with_jobs js place.out) place.handed place.revision
+  early : (n : ℕ) (job : Job) → map.get place.out n ≡ Some job → n ≤ first
+  late : AreAbove first js
+  given : first ≤ place.handed
+
+abbrev Going : ℕ → Place → List Job → TaskMsg → Reaction → Type 0
+Going first place js message done = Batching first (place_past message done place) (js ++ done.jobs) × AreAnswers done.messages place.pending
+
+-- a message that fits no job
+going-none : (first : ℕ) (place : Place) (js : List Job) (message : TaskMsg) → fitting_job message place.out ≡ None → Batching first place js → Going first place js message silent
+going-none first place js message none b = (record {
+  sound = subst (λ xs. Sound place.number place.pending (with_jobs xs (after_message message place.out)) (place.handed + 0) place.revision) (sym (append-nil js))
+      (subst (λ out. Sound place.number place.pending (with_jobs js out) (place.handed + 0) place.revision) (sym same) (sound-stays _ _ _ _ _ b.sound));
+  early = λ n job there. b.early n job (ap (λ out. map.get out n) (sym same) ∙ there);
+  late = subst (AreAbove first) (sym (append-nil js)) b.late;
+  given = let g = b.given in omega arith;
+}, tt)
+  where
+    same : after_message message place.out ≡ place.out
+    same = after_message-none message place.out none
+
+-- the parts of a message that fits a job
+record Took (first : ℕ) (place : Place) (js : List Job) (message : TaskMsg) (found : Job) : Type 0 where
+  before : Batching first place js
+  gone : after_message message place.out ≡ map.remove place.out message.job
+  is_out : map.get place.out message.job ≡ Some found
+  is_there : map.get (with_jobs js place.out) message.job ≡ Some found
+  left : with_jobs js (after_message message place.out) ≡ map.remove (with_jobs js place.out) message.job
+
+took : (first : ℕ) (place : Place) (js : List Job) (message : TaskMsg) (found : Job) → fitting_job message place.out ≡ Some found → Batching first place js → Took first place js message found
+took first place js message found is b =
+    let k = after_message-some message place.out found is in
+    let early : message.job ≤ first = b.early message.job found k.1 in
+    record {
+      before = b;
+      gone = k.0;
+      is_out = k.1;
+      is_there = with-later first message.job js place.out early b.late ∙ k.1;
+      left = ap (with_jobs js) k.0 ∙ without-later first message.job js place.out early b.late;
+    }
+
+-- what is out after a message was out before it
+early-on : (first : ℕ) (place : Place) (js : List Job) (message : TaskMsg) (found : Job) → Took first place js message found → (n : ℕ) (job : Job) → map.get (after_message message place.out) n ≡ Some job → n ≤ first
+early-on first place js message found t n job there = t.before.early n job (still-out message.job n place.out job (ap (λ out. map.get out n) (sym t.gone) ∙ there))
+
+-- a result of a job whose request doesn't wait
+going-off : (first : ℕ) (place : Place) (js : List Job) (message : TaskMsg) (found : Job) → id_of (ticket_of found.kind) place.pending ≡ None → Took first place js message found → Going first place js message silent
+going-off first place js message found none t = (record {
+  sound = subst (λ xs. Sound place.number place.pending (with_jobs xs (after_message message place.out)) (place.handed + 0) place.revision) (sym (append-nil js))
+      (subst (λ out. Sound place.number place.pending out (place.handed + 0) place.revision) (sym t.left)
+      (sound-stays _ _ _ _ _ (sound-off place.number place.pending (with_jobs js place.out) place.handed place.revision message.job found t.is_there none t.before.sound)));
+  early = early-on first place js message found t;
+  late = subst (AreAbove first) (sym (append-nil js)) t.before.late;
+  given = let g = t.before.given in omega arith;
+}, tt)
+
+-- its request is answered
+going-said : (first : ℕ) (place : Place) (js : List Job) (message : TaskMsg) (found : Job) (id : RequestId) (response : Response) → id_of (ticket_of found.kind) place.pending ≡ Some id → response.id ≡ Some id
+    → Took first place js message found → Going first place js message (says response)
+going-said first place js message found id response waits is t = (record {
+  sound = subst (λ xs. Sound place.number (closed_with response.id place.pending) (with_jobs xs (after_message message place.out)) (place.handed + 0) place.revision) (sym (append-nil js))
+      (subst (λ q. Sound place.number q (with_jobs js (after_message message place.out)) (place.handed + 0) place.revision)
+      (sym (ap (λ o. closed_with o place.pending) is ∙ closed-in_step place.pending (ticket_of found.kind) id t.before.sound.in_step waits))
+      (subst (λ out. Sound place.number (without (ticket_of found.kind) id place.pending) out (place.handed + 0) place.revision) (sym t.left)
+      (sound-stays _ _ _ _ _ (sound-without place.number place.pending (with_jobs js place.out) place.handed place.revision message.job found id t.is_there waits t.before.sound))));
+  early = early-on first place js message found t;
+  late = subst (AreAbove first) (sym (append-nil js)) t.before.late;
+  given = let g = t.before.given in omega arith;
+}, (id, is, waits-by-id place.pending (ticket_of found.kind) id t.before.sound.in_step waits, tt))
+
+-- the job that is handed over for a ticket
+abbrev job_for : ConfigData → Place → ℕ → RowId → Data → Job
+job_for config place ticket row_id params = record { number = place.handed + 1; class = class_of row_id; kind = RequestJob ticket row_id params; snapshot = snapshot_at config place }
+
+-- a job is handed over for it
+going-again : (first : ℕ) (config : ConfigData) (place : Place) (js : List Job) (message : TaskMsg) (found : Job) (row_id : RowId) (params : Data) → Took first place js message found
+    → Going first place js message (hands_over config place (ticket_of found.kind) row_id params)
+going-again first config place js message found row_id params t = (record {
+  sound = subst (λ out. Sound place.number place.pending out (place.handed + 1) place.revision) (sym (with_jobs-append js (job_for config place (ticket_of found.kind) row_id params ∷ []) (after_message message place.out) ∙ ap (λ out. map.insert out (place.handed + 1) (job_for config place (ticket_of found.kind) row_id params)) t.left))
+      (sound-again place.number place.pending (with_jobs js place.out) place.handed place.revision message.job found (job_for config place (ticket_of found.kind) row_id params) t.is_there refl (omega arith) t.before.sound);
+  early = early-on first place js message found t;
+  late = above-append first js _ t.before.late (let g = t.before.given in omega arith, tt);
+  given = let g = t.before.given in omega arith;
+}, tt)
+
+going-reacts : (first : ℕ) (config : ConfigData) (place : Place) (js : List Job) (message : TaskMsg) (found : Job) (id : RequestId) (done : Reaction) → id_of (ticket_of found.kind) place.pending ≡ Some id
+    → Reacts config place (ticket_of found.kind) id done → Took first place js message found → Going first place js message done
+going-reacts first config place js message found id done waits (inl (response, is, says_it)) t = subst (Going first place js message) (sym says_it) (going-said first place js message found id response waits is t)
+going-reacts first config place js message found id done waits (inr (row_id, params, hands)) t = subst (Going first place js message) (sym hands) (going-again first config place js message found row_id params t)
+
+going-ticket : (meaning : Meaning) (first : ℕ) (config : ConfigData) (place : Place) (js : List Job) (message : TaskMsg) (found : Job) (o : Option RequestId) (result : JobResult) → id_of (ticket_of found.kind) place.pending ≡ o
+    → Took first place js message found → Going first place js message (ticket_row meaning config place o found result)
+going-ticket meaning first config place js message found None result none t = going-off first place js message found none t
+going-ticket meaning first config place js message found (Some id) result waits t =
+    going-reacts first config place js message found id _ waits (result-reacts meaning config place id found result (finished_reply id result) refl) t
+
+going-message : (meaning : Meaning) (first : ℕ) (config : ConfigData) (place : Place) (js : List Job) (message : TaskMsg) (o : Option Job) → fitting_job message place.out ≡ o
+    → Batching first place js → Going first place js message (final_row meaning config place o message)
+going-message meaning first config place js message None is b = going-none first place js message is b
+going-message meaning first config place js message (Some found) is b =
+    going-ticket meaning first config place js message found (id_of (ticket_of found.kind) place.pending) (final_of message.body) refl (took first place js message found is b)
+
+abbrev BatchDone : Place → List Job → List TaskMsg → Reaction → Type 0
+BatchDone place js batch done =
+    Sound place.number (closed_by done.messages place.pending) (with_jobs (js ++ done.jobs) (after_batch batch place.out)) (place.handed + length done.jobs) place.revision × AreAnswers done.messages place.pending
+
+batch-joined : (place : Place) (js : List Job) (m : TaskMsg) (ms : List TaskMsg) (done rest : Reaction) → AreAnswers done.messages place.pending → BatchDone (place_past m done place) (js ++ done.jobs) ms rest → BatchDone place js (m ∷ ms) (joined done rest)
+batch-joined place js m ms done rest first (sound, answers) = (
+  subst (λ p. Sound place.number p (with_jobs (js ++ (done.jobs ++ rest.jobs)) (after_batch ms (after_message m place.out))) (place.handed + length (done.jobs ++ rest.jobs)) place.revision)
+      (sym (closed_by-append done.messages rest.messages place.pending))
+      (subst (λ h. Sound place.number (closed_by rest.messages (closed_by done.messages place.pending)) (with_jobs (js ++ (done.jobs ++ rest.jobs)) (after_batch ms (after_message m place.out))) h place.revision) count
+      (subst (λ xs. Sound place.number (closed_by rest.messages (closed_by done.messages place.pending)) (with_jobs xs (after_batch ms (after_message m place.out))) (place.handed + length done.jobs + length rest.jobs) place.revision)
+      (append_assoc js done.jobs rest.jobs) sound)),
+  answers-append done.messages rest.messages place.pending first answers,
+)
+  where
+    count : place.handed + length done.jobs + length rest.jobs ≡ place.handed + length (done.jobs ++ rest.jobs)
+    count = omega (arith, length-append done.jobs rest.jobs)
+
+batch-sound : (meaning : Meaning) (first : ℕ) (config : ConfigData) (batch : List TaskMsg) (place : Place) (js : List Job) → Batching first place js → BatchDone place js batch (batch_row meaning config batch place)
+batch-sound meaning first config [] place js b = (
+  subst (λ xs. Sound place.number place.pending (with_jobs xs place.out) (place.handed + 0) place.revision) (sym (append-nil js)) (sound-stays _ _ _ _ _ b.sound),
+  tt,
+)
+batch-sound meaning first config (m ∷ ms) place js b =
+    let done = message_row meaning config place m in
+    let going : Going first place js m done = going-message meaning first config place js m (fitting_job m place.out) refl b in
+    batch-joined place js m ms done (batch_row meaning config ms (place_past m done place)) going.1
+    (batch-sound meaning first config ms (place_past m done place) (js ++ done.jobs) going.0)
+
+-- ---- turns
+
+-- the lists after a turn are sound, and each response answers one request
+abbrev SoundAfter : Input → Place → Reaction → Type 0
+SoundAfter input place done =
+    Sound (number_after input place.number) (pending_after place.number input done.messages place.pending) (with_jobs done.jobs (after_input input place.out)) (place.handed + length done.jobs) place.revision
+    × AnswersOnce place.number input done.messages place.pending
+
+abbrev request_input : Request → Input
+request_input r = Next (Lsp (RequestMessage r))
+
+-- a request that was answered at once does not wait
+said-sound : (place : Place) (id : RequestId) → is_pending id place.pending ≡ false → SoundAt place → Sound (place.number + 1) (closed id (registered place.number id place.pending)) place.out (place.handed + 0) place.revision
+said-sound place id new s =
+    rw (closed-registered place.pending place.number id (ticket-free place.number place.pending (map.get place.pending.ids place.number) refl s.tickets) (id-free (map.get place.pending.tickets id) new))
+    (sound-idle _ _ _ _ _ s)
+
+registered-waits : (p : Pending) (ticket : ℕ) (id : RequestId) → is_pending id (registered ticket id p) ≡ true
+unfolding registered
+registered-waits p ticket id = some-waits _ ticket (get-insert_same id_cmp_total id_cmp-IsAntisymmetric p.tickets id ticket)
+
+new-sound : (config : ConfigData) (r : Request) (place : Place) (done : Reaction) → is_pending r.id place.pending ≡ false → Reacts config place place.number r.id done → SoundAt place → SoundAfter (request_input r) place done
+new-sound config r place done new (inl (response, is, says_it)) s =
+    subst (SoundAfter (request_input r) place) (sym says_it) (rw (new, is) (said-sound place r.id new s, (r.id, refl, registered-waits place.pending place.number r.id, tt)))
+new-sound config r place done new (inr (row_id, params, hands)) s =
+    subst (SoundAfter (request_input r) place) (sym hands) (rw new (sound-request place.number place.pending place.out place.handed place.revision r.id (job_for config place place.number row_id params) new refl (omega arith) s, tt))
+
+request-sound : (meaning : Meaning) (config : ConfigData) (r : Request) (place : Place) (b : Bool) → is_pending r.id place.pending ≡ b → SoundAt place
+    → SoundAfter (request_input r) place (if b then says (already_pending r.id) else new_row meaning config place r)
+request-sound meaning config r place true h s = rw h (sound-idle _ _ _ _ _ s, refl)
+request-sound meaning config r place false h s = new-sound config r place (new_row meaning config place r) h (new-reacts meaning config place r) s
+
+waits-sound : (n : Notification) (id : RequestId) (place : Place) (b : Bool) → is_pending id place.pending ≡ b → SoundAt place → SoundAfter (Next (Lsp (NotificationMessage n))) place (if b then says (canceled_by_client id) else silent)
+waits-sound n id place true waits s = (sound-stays _ _ _ _ _ (sound-closed place.number place.pending place.out place.handed place.revision id s), (id, refl, waits, tt))
+waits-sound n id place false waits s = (sound-idle _ _ _ _ _ s, tt)
+
+cancel-sound : (n : Notification) (o : Option RequestId) (place : Place) → SoundAt place → SoundAfter (Next (Lsp (NotificationMessage n))) place (cancel_row o place)
+cancel-sound n None place s = (sound-idle _ _ _ _ _ s, tt)
+cancel-sound n (Some id) place s = waits-sound n id place (is_pending id place.pending) refl s
+
+notification-sound : (n : Notification) (place : Place) (b : Bool) → SoundAt place → SoundAfter (Next (Lsp (NotificationMessage n))) place (if b then cancel_row (cancel_of n.params) place else silent)
+notification-sound n place true s = cancel-sound n (cancel_of n.params) place s
+notification-sound n place false s = (sound-idle _ _ _ _ _ s, tt)
+
+batch-after : (meaning : Meaning) (config : ConfigData) (batch : List TaskMsg) (place : Place) → SoundAt place → SoundAfter (Next (Task batch)) place (batch_row meaning config batch place)
+batch-after meaning config batch place s =
+    let done = batch-sound meaning place.handed config batch place [] (record { sound = s; early = s.numbers; late = tt; given = omega arith }) in
+    (sound-next _ _ _ _ _ done.0, done.1)
+
 row-sound : (meaning : Meaning) (config : ConfigData) (input : Input) (place : Place) → SoundAt place → SoundAfter input place (row meaning config input place)
-row-sound meaning config Start place s = sound-stays _ _ _ _ s
+row-sound meaning config Start place s = (sound-stays _ _ _ _ _ s, tt)
 row-sound meaning config (Next (Lsp (RequestMessage r))) place s = request-sound meaning config r place (is_pending r.id place.pending) refl s
-row-sound meaning config (Next (Lsp (NotificationMessage n))) place s = sound-idle _ _ _ _ s
-row-sound meaning config (Next (Lsp (ResponseMessage r))) place s = sound-idle _ _ _ _ s
-row-sound meaning config (Next (Task batch)) place s = sound-idle _ _ _ _ (batch-sound place.number batch place.pending place.out place.handed s)
+row-sound meaning config (Next (Lsp (NotificationMessage n))) place s = notification-sound n place (same_text n.method (codes "$/cancelRequest")) s
+row-sound meaning config (Next (Lsp (ResponseMessage r))) place s = (sound-idle _ _ _ _ _ s, tt)
+row-sound meaning config (Next (Task batch)) place s = batch-after meaning config batch place s
+
+turn-after : (meaning : Meaning) (config : ConfigData) (turn : Turn) (place : Place) → reaction_of turn ≡ row meaning config turn.input place → SoundAt place → SoundAfter turn.input place (reaction_of turn)
+turn-after meaning config turn place does s = subst (SoundAfter turn.input place) (sym does) (row-sound meaning config turn.input place s)
+
+sound-later : (number : ℕ) (p : Pending) (js : Jobs) (handed revision later : ℕ) → revision ≤ later → Sound number p js handed revision → Sound number p js handed later
+sound-later number p js handed revision later rises s = record {
+  in_step = s.in_step;
+  tickets = s.tickets;
+  numbers = s.numbers;
+  below = s.below;
+  revisions = λ n job is. let h = s.revisions n job is in omega (arith, rises);
+  held = s.held;
+}
 
 -- a turn that is its row keeps the lists sound
-pub turn-sound : (meaning : Meaning) (config : ConfigData) (turn : Turn) (place : Place) → reaction_of turn ≡ row meaning config turn.input place → SoundAt place → SoundAt (place_after turn place)
-turn-sound meaning config turn place does s = subst (λ done. SoundAfter turn.input place done) (sym does) (row-sound meaning config turn.input place s)
+pub turn-sound : (meaning : Meaning) (config : ConfigData) (turn : Turn) (place : Place) → reaction_of turn ≡ row meaning config turn.input place → place.revision ≤ (place_after turn place).revision
+    → SoundAt place → SoundAt (place_after turn place)
+turn-sound meaning config turn place does rises s = sound-later _ _ _ _ _ _ rises (turn-after meaning config turn place does s).0
+
+-- and each response that it writes answers one request
+pub turn-once : (meaning : Meaning) (config : ConfigData) (turn : Turn) (place : Place) → reaction_of turn ≡ row meaning config turn.input place → SoundAt place → AnswersOnce place.number turn.input turn.messages place.pending
+turn-once meaning config turn place does s = (turn-after meaning config turn place does s).1
 
 -- at the beginning nothing waits and no job is out
 pub sound-beginning : SoundAt beginning
@@ -228,5 +526,6 @@ sound-beginning = record {
   tickets = λ t id is. none-some id (sym (map.get-empty _ t) ∙ is);
   numbers = λ n job is. none-some job (sym (map.get-empty _ n) ∙ is);
   below = λ n job is. none-some job (sym (map.get-empty _ n) ∙ is);
+  revisions = λ n job is. none-some job (sym (map.get-empty _ n) ∙ is);
   held = λ t id is. none-some id (sym (map.get-empty _ t) ∙ is);
 }

@@ -57,3 +57,11 @@ module _ {K : Type 0} {R : K → K → Ordering} (total : IsTotalOrder R) (same 
   remove-absent m k none = map.same_map total same _ _ (λ q. by_key q k
       (λ e. rw e (get-remove_same m k ∙ sym none))
       (λ other. get-remove_other m k q other))
+
+  -- to set one key and to take away another, in either order
+  pub insert-remove : {X : Type 0} (m : map.FinMap R X) (k : K) (x : X) (n : K) → k ≢ n → map.insert (map.remove m n) k x ≡ map.remove (map.insert m k x) n
+  insert-remove m k x n apart_keys = map.same_map total same _ _ (λ q. by_key q k
+      (λ e. rw e (get-insert_same (map.remove m n) k x ∙ sym (get-remove_other (map.insert m k x) n k apart_keys ∙ get-insert_same m k x)))
+      (λ other. get-insert_other (map.remove m n) k x q other ∙ by_key q n
+      (λ e. rw e (get-remove_same m n ∙ sym (get-remove_same (map.insert m k x) n)))
+      (λ elsewhere. get-remove_other m n q elsewhere ∙ sym (get-remove_other (map.insert m k x) n q elsewhere ∙ get-insert_other m k x q other))))

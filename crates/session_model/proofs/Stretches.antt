@@ -6,7 +6,8 @@ use Rattle.session_port.specs.Record.{grown, added, after_order}
 use Rattle.session_port.specs.declared.event.HostEvent.{HostEvent}
 use Rattle.session_port.specs.declared.event.HostEvent.TheVariants.{Bytes, Ended, Tasks}
 use Rattle.session_model.specs.Course.{Course, takes, bytes_in}
-use Rattle.session_model.specs.Run.{Meaning, Turn, Told, Runs, Steps, AllRead, AreHonest, IsHonestInput, Stretch, telling, taking, out_after, out_after_all, after_input, bytes_of}
+use Rattle.session_model.specs.Meaning.{Meaning}
+use Rattle.session_model.specs.Run.{Turn, Told, Runs, Steps, AllRead, AreHonest, IsHonestInput, Stretch, telling, taking, out_after, out_after_all, after_input, bytes_of}
 use Rattle.session_model.specs.State.{State}
 use Rattle.session_model.specs.Written.{AreRead}
 

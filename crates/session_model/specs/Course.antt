@@ -77,9 +77,3 @@ abbrev pub end_of : Course → Option Stop
 end_of (takes input later) = end_of later
 end_of (stops stop) = Some stop
 end_of waits = None
-
--- its inputs
-abbrev pub inputs_of : Course → List Input
-inputs_of (takes input later) = input ∷ inputs_of later
-inputs_of (stops stop) = []
-inputs_of waits = []

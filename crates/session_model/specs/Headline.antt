@@ -1,8 +1,9 @@
 -- What a session's record says of requests and answers: by the lists of inputs, messages and commands alone.
-use Rattle.std.specs.Prelude.{◌≡◌, ℕ, ◌+◌, ◌&&◌, ℤ, List, [], ◌∷◌, ◌++◌, codes, length, Bool, true, false, IsTrue, Option, None, Some, Result, Ok, Err, if◌then◌else◌}
+use Rattle.std.specs.Prelude.{◌≡◌, ◌≤◌, ℕ, ◌+◌, ◌&&◌, ℤ, List, [], ◌∷◌, ◌++◌, codes, length, Contains, Bool, true, false, not, ltb, IsTrue, Option, None, Some, is_some, Result, Ok, Err, if◌then◌else◌}
 use Rattle.std.specs.FinMap as map
-use Rattle.serde_json.specs.Data.{Data}
+use Rattle.serde_json.specs.Data.{Data, null}
 use Rattle.plain.specs.Plain.{is_plain}
+use Rattle.plain.specs.Reading.{is_null}
 use Rattle.docs_vfs.specs.Paths.{path_cmp}
 use Rattle.docs_vfs.specs.FileUrls.{path_of}
 use Rattle.docs_vfs.specs.declared.file_url.UrlFault.{UrlFault}
@@ -10,11 +11,13 @@ use Rattle.lsp_frame.specs.Reader.{Reader}
 use Rattle.lsp_frame.specs.Pending.{Pending, none_pending, is_pending, id_of, registered, closed}
 use Rattle.lsp_frame.specs.declared.message.RequestId.{RequestId}
 use Rattle.lsp_frame.specs.declared.message.Request.{Request}
+use Rattle.lsp_frame.specs.declared.message.Notification.{Notification}
 use Rattle.lsp_frame.specs.declared.message.Response.{Response}
 use Rattle.lsp_frame.specs.declared.message.Message.{Message}
 use Rattle.lsp_frame.specs.declared.message.Message.TheVariants.{Request as RequestMessage, Notification as NotificationMessage, Response as ResponseMessage}
 use Rattle.ra_config.specs.Config.{ConfigData}
 use Rattle.analysis_host.specs.SnapshotData.{SnapshotData}
+use Rattle.analysis_host.specs.declared.ask.Ask.TheVariants.{Request as RequestAsk}
 use Rattle.analysis_host.specs.declared.ask.RowId.{RowId}
 use Rattle.session_port.specs.Jobs.{Jobs, ticket_of, final_of, fitting_job, after_message}
 use Rattle.session_port.specs.Record.{added, grown, spawned}
@@ -24,19 +27,24 @@ use Rattle.session_port.specs.declared.event.HostEvent.{HostEvent}
 use Rattle.session_port.specs.declared.event.HostEvent.TheVariants.{Ended}
 use Rattle.session_port.specs.declared.event.TaskMsg.{TaskMsg}
 use Rattle.session_port.specs.declared.job.Job.{Job}
+use Rattle.session_port.specs.declared.job.JobKind.{JobKind}
 use Rattle.session_port.specs.declared.job.JobKind.TheVariants.{Request as RequestJob}
 use Rattle.session_port.specs.declared.job.JobResult.{JobResult}
 use Rattle.session_model.specs.Course.{Course, Stop as CourseStop, exit, client_gone, bad_frame, bad_message, end_of, session_course}
-use Rattle.session_model.specs.Machine.{already_pending, unknown_request, invalid_params, result_reply}
-use Rattle.session_model.specs.Methods.{row_of, class_of}
+use Rattle.session_model.specs.Cancelling.{cancel_of, is_unit}
+use Rattle.session_model.specs.Changing.{changed_of, last_text}
+use Rattle.session_model.specs.Meaning.{Meaning}
+use Rattle.session_model.specs.Methods.{row_of, class_of, is_on_loop, retries}
 use Rattle.session_model.specs.Opening.{opened_of}
-use Rattle.session_model.specs.Run.{Meaning, Turn, Told, AllRead, BreaksOff, IsHonestInput, out_after, taking, telling}
+use Rattle.session_model.specs.Replies.{response_with, already_pending, shut_already, unknown_request, invalid_params, canceled_by_client, content_modified, finding_reply, finished_reply}
+use Rattle.session_model.specs.Run.{Turn, Told, AllRead, BreaksOff, BreaksOffUnwritten, IsHonestInput, out_after, taking, telling}
 use Rattle.session_model.specs.Texts.{same_text}
 use Rattle.session_model.specs.declared.fault.SessionError.{SessionError}
 use Rattle.session_model.specs.declared.fault.SessionError.TheVariants.{ClientExited, BadFrame, BadMessage, HostFault, WriteFault, Exhausted, NoMemory}
 use Rattle.session_model.specs.declared.input.Event.TheVariants.{Lsp, Task}
 use Rattle.session_model.specs.declared.input.Input.{Input}
 use Rattle.session_model.specs.declared.input.Input.TheVariants.{Start, Next}
+use Rattle.session_model.specs.declared.notice.DidChange.{DidChange}
 use Rattle.session_model.specs.declared.notice.DidOpen.{DidOpen}
 
 -- ---- what the lists say before a turn
@@ -58,12 +66,14 @@ pub record Place : Type 0 where
   pub out : Jobs
   -- how many were handed over
   pub handed : ℕ
+  -- a request `shutdown` was answered with null
+  pub shutdown : Bool
 
 abbrev pub no_documents : Documents
 no_documents = record { texts = map.empty; versions = map.empty }
 
 abbrev pub beginning : Place
-beginning = record { number = 1; documents = no_documents; revision = 0; pending = none_pending; out = map.empty; handed = 0 }
+beginning = record { number = 1; documents = no_documents; revision = 0; pending = none_pending; out = map.empty; handed = 0; shutdown = false }
 
 -- what a job works on that is handed over here
 abbrev pub snapshot_at : ConfigData → Place → SnapshotData
@@ -84,10 +94,30 @@ abbrev pub with_opened : Option DidOpen → Documents → Documents
 with_opened None documents = documents
 with_opened (Some document) documents = opened_at (path_of document.uri) document documents
 
+-- the text of a path
+abbrev pub with_text : List ℕ → Option (List ℕ) → map.FinMap path_cmp (List ℕ) → map.FinMap path_cmp (List ℕ)
+with_text path None texts = texts
+with_text path (Some text) texts = map.insert texts path text
+
+-- a document is changed at a path, where it is open
+abbrev pub changed_at : Result (List ℕ) UrlFault → DidChange → Documents → Documents
+changed_at (Err fault) change documents = documents
+changed_at (Ok path) change documents =
+    if is_some (map.get documents.versions path)
+    then record { texts = with_text path (last_text change.texts None) documents.texts; versions = map.insert documents.versions path change.version }
+    else documents
+
+abbrev pub with_changed : Option DidChange → Documents → Documents
+with_changed None documents = documents
+with_changed (Some change) documents = changed_at (path_of change.uri) change documents
+
 abbrev pub documents_after : Input → Documents → Documents
 documents_after Start documents = documents
 documents_after (Next (Lsp (RequestMessage r))) documents = documents
-documents_after (Next (Lsp (NotificationMessage n))) documents = if same_text n.method (codes "textDocument/didOpen") then with_opened (opened_of n.params) documents else documents
+documents_after (Next (Lsp (NotificationMessage n))) documents =
+    if same_text n.method (codes "textDocument/didOpen") then with_opened (opened_of n.params) documents
+    else if same_text n.method (codes "textDocument/didChange") then with_changed (changed_of n.params) documents
+    else documents
 documents_after (Next (Lsp (ResponseMessage r))) documents = documents
 documents_after (Next (Task batch)) documents = documents
 
@@ -121,6 +151,23 @@ pending_after number (Next (Lsp (NotificationMessage n))) messages pending = clo
 pending_after number (Next (Lsp (ResponseMessage r))) messages pending = closed_by messages pending
 pending_after number (Next (Task batch)) messages pending = closed_by messages pending
 
+abbrev pub is_null_result : Option Data → Bool
+is_null_result None = false
+is_null_result (Some value) = is_null value
+
+abbrev pub answers_null : List Message → Bool
+answers_null [] = false
+answers_null (ResponseMessage response ∷ messages) = is_null_result response.result
+answers_null (RequestMessage r ∷ messages) = answers_null messages
+answers_null (NotificationMessage n ∷ messages) = answers_null messages
+
+abbrev pub shutdown_after : Input → List Message → Bool → Bool
+shutdown_after Start messages shutdown = shutdown
+shutdown_after (Next (Lsp (RequestMessage r))) messages shutdown = if same_text r.method (codes "shutdown") && answers_null messages then true else shutdown
+shutdown_after (Next (Lsp (NotificationMessage n))) messages shutdown = shutdown
+shutdown_after (Next (Lsp (ResponseMessage r))) messages shutdown = shutdown
+shutdown_after (Next (Task batch)) messages shutdown = shutdown
+
 abbrev pub place_after : Turn → Place → Place
 place_after turn place = record {
   number = number_after turn.input place.number;
@@ -129,6 +176,7 @@ place_after turn place = record {
   pending = pending_after place.number turn.input turn.messages place.pending;
   out = out_after turn place.out;
   handed = place.handed + length (spawned turn.commands);
+  shutdown = shutdown_after turn.input turn.messages place.shutdown;
 }
 
 abbrev pub place_after_all : List Turn → Place → Place
@@ -151,51 +199,99 @@ silent = record { messages = []; jobs = [] }
 abbrev pub says : Response → Reaction
 says response = record { messages = ResponseMessage response ∷ []; jobs = [] }
 
--- one job, on the documents of all earlier inputs
-abbrev pub hands_over : ConfigData → Place → RowId → Data → Reaction
-hands_over config place row params = record {
+abbrev pub joined : Reaction → Reaction → Reaction
+joined a b = record { messages = a.messages ++ b.messages; jobs = a.jobs ++ b.jobs }
+
+-- one job for the request with this ticket, on the documents of all earlier inputs
+abbrev pub hands_over : ConfigData → Place → ℕ → RowId → Data → Reaction
+hands_over config place ticket row params = record {
   messages = [];
-  jobs = (record { number = place.handed + 1; class = class_of row; kind = RequestJob place.number row params; snapshot = snapshot_at config place }) ∷ [];
+  jobs = (record { number = place.handed + 1; class = class_of row; kind = RequestJob ticket row params; snapshot = snapshot_at config place }) ∷ [];
 }
 
--- a request of a row: can its params be read
-abbrev pub params_row : Bool → ConfigData → Place → RowId → Request → Reaction
-params_row true config place row r = hands_over config place row r.params
-params_row false config place row r = says (invalid_params r.id)
+-- a row whose params can be read: the answer on the documents of all earlier inputs at once, or a job
+abbrev pub granted_row : Meaning → ConfigData → Place → ℕ → RequestId → RowId → Data → Reaction
+granted_row meaning config place ticket id row params =
+    if is_on_loop row then says (finding_reply id (meaning.answer (snapshot_at config place) (RequestAsk row params)))
+    else hands_over config place ticket row params
 
-abbrev pub method_row : Option RowId → Meaning → ConfigData → Place → Request → Reaction
-method_row None meaning config place r = says (unknown_request r.id)
-method_row (Some row) meaning config place r = params_row (is_plain r.params && meaning.decodes row r.params) config place row r
+abbrev pub class_row : Meaning → ConfigData → Place → ℕ → RequestId → RowId → Data → Reaction
+class_row meaning config place ticket id row params =
+    if is_plain params && meaning.decodes row params then granted_row meaning config place ticket id row params
+    else says (invalid_params id)
 
--- a request: is its id pending
-abbrev pub request_row : Bool → Meaning → ConfigData → Place → Request → Reaction
-request_row true meaning config place r = says (already_pending r.id)
-request_row false meaning config place r = method_row (row_of r.method) meaning config place r
+abbrev pub method_row : Meaning → ConfigData → Place → Option RowId → Request → Reaction
+method_row meaning config place None r = says (unknown_request r.id)
+method_row meaning config place (Some row) r = class_row meaning config place place.number r.id row r.params
 
--- a result is the answer to the request of its job, where that one is still pending
-abbrev pub ticket_reply : Option RequestId → JobResult → List Message
-ticket_reply None result = []
-ticket_reply (Some id) result = ResponseMessage (result_reply id result) ∷ []
+abbrev pub shutdown_row : RequestId → Data → Reaction
+shutdown_row id params = if is_unit params then says (response_with id null) else says (invalid_params id)
+
+-- a request whose id isn't pending
+abbrev pub new_row : Meaning → ConfigData → Place → Request → Reaction
+new_row meaning config place r =
+    if same_text r.method (codes "shutdown") then shutdown_row r.id r.params
+    else if place.shutdown then says (shut_already r.id)
+    else method_row meaning config place (row_of r.method) r
+
+abbrev pub request_row : Meaning → ConfigData → Place → Request → Reaction
+request_row meaning config place r = if is_pending r.id place.pending then says (already_pending r.id) else new_row meaning config place r
+
+-- a notification: one that cancels a pending request answers it
+abbrev pub cancel_row : Option RequestId → Place → Reaction
+cancel_row None place = silent
+cancel_row (Some id) place = if is_pending id place.pending then says (canceled_by_client id) else silent
+
+abbrev pub notification_row : Notification → Place → Reaction
+notification_row n place = if same_text n.method (codes "$/cancelRequest") then cancel_row (cancel_of n.params) place else silent
+
+-- a job that stopped, of a request that is pending: where the revision is above the job's snapshot's and the row isn't to be tried again, the request is
+-- refused; else it is taken as one that is read here, under its ticket
+abbrev pub stopped_row : Meaning → ConfigData → Place → RequestId → ℕ → JobKind → Reaction
+stopped_row meaning config place id revision (RequestJob ticket row params) =
+    if ltb revision place.revision && not (retries row) then says (content_modified id)
+    else if place.shutdown then says (shut_already id)
+    else class_row meaning config place ticket id row params
+
+-- a result, of a request that is pending
+abbrev pub result_row : Meaning → ConfigData → Place → Option Response → RequestId → Job → Reaction
+result_row meaning config place (Some response) id job = says response
+result_row meaning config place None id job = stopped_row meaning config place id job.snapshot.revision job.kind
+
+abbrev pub ticket_row : Meaning → ConfigData → Place → Option RequestId → Job → JobResult → Reaction
+ticket_row meaning config place None job result = silent
+ticket_row meaning config place (Some id) job result = result_row meaning config place (finished_reply id result) id job
 
 -- a message of a job, where it fits one
-abbrev pub final_reply : Option Job → TaskMsg → Pending → List Message
-final_reply None message pending = []
-final_reply (Some job) message pending = ticket_reply (id_of (ticket_of job.kind) pending) (final_of message.body)
+abbrev pub final_row : Meaning → ConfigData → Place → Option Job → TaskMsg → Reaction
+final_row meaning config place None message = silent
+final_row meaning config place (Some job) message = ticket_row meaning config place (id_of (ticket_of job.kind) place.pending) job (final_of message.body)
+
+abbrev pub message_row : Meaning → ConfigData → Place → TaskMsg → Reaction
+message_row meaning config place message = final_row meaning config place (fitting_job message place.out) message
+
+-- what a message leaves for the next one of its batch: the jobs that it hands over are counted, and are out from the end of the turn on
+abbrev pub place_past : TaskMsg → Reaction → Place → Place
+place_past message done place = record place {
+  pending = closed_by done.messages place.pending;
+  out = after_message message place.out;
+  handed = place.handed + length done.jobs;
+}
 
 -- a batch: each message on the lists that the ones before it leave
-abbrev pub batch_replies : List TaskMsg → Pending → Jobs → List Message
-batch_replies [] pending out = []
-batch_replies (message ∷ messages) pending out =
-    let reply = final_reply (fitting_job message out) message pending in
-    reply ++ batch_replies messages (closed_by reply pending) (after_message message out)
+abbrev pub batch_row : Meaning → ConfigData → List TaskMsg → Place → Reaction
+batch_row meaning config [] place = silent
+batch_row meaning config (message ∷ messages) place =
+    let done = message_row meaning config place message in
+    joined done (batch_row meaning config messages (place_past message done place))
 
 -- what a turn does, by its input and what the lists say before it
 abbrev pub row : Meaning → ConfigData → Input → Place → Reaction
 row meaning config Start place = silent
-row meaning config (Next (Lsp (RequestMessage r))) place = request_row (is_pending r.id place.pending) meaning config place r
-row meaning config (Next (Lsp (NotificationMessage n))) place = silent
+row meaning config (Next (Lsp (RequestMessage r))) place = request_row meaning config place r
+row meaning config (Next (Lsp (NotificationMessage n))) place = notification_row n place
 row meaning config (Next (Lsp (ResponseMessage r))) place = silent
-row meaning config (Next (Task batch)) place = record { messages = batch_replies batch place.pending place.out; jobs = [] }
+row meaning config (Next (Task batch)) place = batch_row meaning config batch place
 
 -- ---- what holds between turns
 
@@ -211,15 +307,36 @@ pub record IsHeld (ticket : ℕ) (out : Jobs) : Type 0 where
 abbrev pub AreHeld : Pending → Jobs → Type 0
 AreHeld pending out = (ticket : ℕ) (id : RequestId) → id_of ticket pending ≡ Some id → IsHeld ticket out
 
--- a job was handed over by an earlier turn, the one that read its request, on the documents of all inputs before that turn
+-- each response answers the pending request of its id, and closes it
+abbrev pub AreAnswers : List Message → Pending → Type 0
+AreAnswers [] pending = Unit {0}
+AreAnswers (ResponseMessage response ∷ messages) pending =
+    (id : RequestId) × (response.id ≡ Some id) × (is_pending id pending ≡ true) × AreAnswers messages (closed id pending)
+AreAnswers (RequestMessage r ∷ messages) pending = AreAnswers messages pending
+AreAnswers (NotificationMessage n ∷ messages) pending = AreAnswers messages pending
+
+-- a request whose id is pending already is refused at once, and nothing else is written
+abbrev pub AnswersRequest : Bool → ℕ → RequestId → List Message → Pending → Type 0
+AnswersRequest true number id messages pending = messages ≡ ResponseMessage (already_pending id) ∷ []
+AnswersRequest false number id messages pending = AreAnswers messages (registered number id pending)
+
+-- each response that a turn writes answers one request that was read and has no answer yet
+abbrev pub AnswersOnce : ℕ → Input → List Message → Pending → Type 0
+AnswersOnce number Start messages pending = AreAnswers messages pending
+AnswersOnce number (Next (Lsp (RequestMessage r))) messages pending = AnswersRequest (is_pending r.id pending) number r.id messages pending
+AnswersOnce number (Next (Lsp (NotificationMessage n))) messages pending = AreAnswers messages pending
+AnswersOnce number (Next (Lsp (ResponseMessage r))) messages pending = AreAnswers messages pending
+AnswersOnce number (Next (Task batch)) messages pending = AreAnswers messages pending
+
+-- a job was handed over by an earlier turn, the one that read its request or a later one, on the documents of all inputs before that turn
 pub record WasHandedOver (config : ConfigData) (turns : List Turn) (job : Job) : Type 0 where
   pub before : List Turn
   pub turn : Turn
   pub later : List Turn
   pub split : turns ≡ before ++ turn ∷ later
-  pub its_turn : (place_after_all before beginning).number ≡ ticket_of job.kind
+  pub not_before : ticket_of job.kind ≤ (place_after_all before beginning).number
   pub snapshot : job.snapshot ≡ snapshot_at config (place_after_all before beginning)
-  pub handed : spawned turn.commands ≡ job ∷ []
+  pub handed : Contains (spawned turn.commands) job
 
 abbrev pub AreHandedOver : ConfigData → List Turn → Jobs → Type 0
 AreHandedOver config turns out = (number : ℕ) (job : Job) → map.get out number ≡ Some job → WasHandedOver config turns job
@@ -230,9 +347,11 @@ AreHandedOver config turns out = (number : ℕ) (job : Job) → map.get out numb
 pub record Answers (meaning : Meaning) (config : ConfigData) (honest : Bool) (before : List Turn) (turn : Turn) : Type 0 where
   -- it answers by the reply table
   pub does : let place = place_after_all before beginning in reaction_of turn ≡ row meaning config turn.input place
+  -- each response answers one request that was read and has no answer yet
+  pub once : let place = place_after_all before beginning in AnswersOnce place.number turn.input turn.messages place.pending
   -- after it each pending request is held by exactly one job out
   pub held : let after = place_after_all (before ++ turn ∷ []) beginning in AreHeld after.pending after.out
-  -- each job out was handed over by the turn that read its request, on the documents of all inputs before that turn
+  -- each job out was handed over by the turn that read its request, or a later one, on the documents of all inputs before that turn
   pub handed_over : let place = place_after_all before beginning in AreHandedOver config before place.out
   -- an honest host's results are what the questions of jobs out, on their snapshots, come to
   pub value : let place = place_after_all before beginning in IsTrue honest → IsHonestInput meaning place.out turn.input
@@ -244,7 +363,7 @@ ListsEnd old new (Err ClientExited) = new ≡ record old { given = added old.giv
 ListsEnd old new (Err (BadFrame at)) = new ≡ old
 ListsEnd old new (Err (BadMessage at)) = new ≡ old
 ListsEnd old new (Err HostFault) = BreaksOff old new
-ListsEnd old new (Err WriteFault) = BreaksOff old new
+ListsEnd old new (Err WriteFault) = BreaksOffUnwritten old new
 ListsEnd old new (Err (Exhausted counter)) = (events : List HostEvent) × (new ≡ record old { given = grown old.given events })
 ListsEnd old new (Err NoMemory) = BreaksOff old new
 
@@ -274,3 +393,21 @@ IsEnd (Err NoMemory) end = Unit {0}
 -- for a host that tells its events: what ended the run is what ends their course
 abbrev pub EndsByCause : {T : Type 0} → Reader → Option (List HostEvent) → Option (List HostEvent) → Result T SessionError → Type 0
 EndsByCause reader old new result = (before events : List HostEvent) → old ≡ Some before → new ≡ Some (before ++ events) → IsEnd result (end_of (session_course reader.place reader.held events))
+
+-- an end that a good input allows: `exit`, or that memory or the numbers of a counter ran out
+abbrev pub IsGoodEnd : {T : Type 0} → Result T SessionError → Type 0
+IsGoodEnd (Ok x) = Unit {0}
+IsGoodEnd (Err ClientExited) = ⊥
+IsGoodEnd (Err (BadFrame at)) = ⊥
+IsGoodEnd (Err (BadMessage at)) = ⊥
+IsGoodEnd (Err HostFault) = ⊥
+IsGoodEnd (Err WriteFault) = ⊥
+IsGoodEnd (Err (Exhausted counter)) = Unit {0}
+IsGoodEnd (Err NoMemory) = Unit {0}
+
+-- for a host that tells its events: where these hold an `exit` before all else that stops a session, and neither the host nor the sink has
+-- failed, the run ends well
+abbrev pub IsComplete : {T : Type 0} → Reader → Option (List HostEvent) → Option (List HostEvent) → Type 0 → Type 0 → Result T SessionError → Type 0
+IsComplete reader old new HostFailed SinkFailed result =
+    (before events : List HostEvent) → old ≡ Some before → new ≡ Some (before ++ events) → end_of (session_course reader.place reader.held events) ≡ Some exit
+    → (HostFailed → ⊥) → (SinkFailed → ⊥) → IsGoodEnd result

@@ -1,11 +1,15 @@
+pub mod Cancelling
+pub mod Changing
 pub mod Codes
 pub mod Course
 pub mod Headline
 pub mod Invariant
 pub mod Machine
+pub mod Meaning
 pub mod Meets
 pub mod Methods
 pub mod Opening
+pub mod Replies
 pub mod Run
 pub mod State
 pub mod Texts

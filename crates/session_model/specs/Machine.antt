@@ -1,9 +1,8 @@
 -- The session machine: one turn, as a composition of small parts.
-use Rattle.std.specs.Prelude.{ℕ, ◌+◌, ◌-◌, ◌^◌, ◌==◌, ◌&&◌, ℤ, negsuc, Bool, false, nat_eq, List, [], ◌∷◌, ◌++◌, codes, decimal, Option, None, Some, is_some, Result, Ok, Err, if◌then◌else◌, ltb}
-use Rattle.std.specs.Ordering.{int_eq}
+use Rattle.std.specs.Prelude.{ℕ, ◌+◌, ◌-◌, ◌^◌, ◌==◌, ◌&&◌, ℤ, Bool, true, false, not, nat_eq, List, [], ◌∷◌, ◌++◌, codes, decimal, drop, length, Option, None, Some, is_some, Result, Ok, Err, if◌then◌else◌, ltb}
 use Rattle.std.specs.List.{starts_with}
 use Rattle.std.specs.FinMap as map
-use Rattle.serde_json.specs.Data.{Data}
+use Rattle.serde_json.specs.Data.{Data, null}
 use Rattle.plain.specs.Plain.{is_plain}
 use Rattle.lsp_frame.specs.Pending.{is_pending, id_of, registered, closed as closed_id}
 use Rattle.lsp_frame.specs.declared.message.RequestId.{RequestId}
@@ -14,24 +13,28 @@ use Rattle.lsp_frame.specs.declared.message.Message.{Message}
 use Rattle.lsp_frame.specs.declared.message.Message.TheVariants.{Request as RequestMessage, Notification as NotificationMessage, Response as ResponseMessage}
 use Rattle.docs_vfs.specs.FileUrls.{path_of}
 use Rattle.docs_vfs.specs.declared.file_url.UrlFault.{UrlFault}
-use Rattle.analysis_host.specs.HostData.{HostData, changed}
+use Rattle.analysis_host.specs.HostData.{HostData, changed as changed_world}
+use Rattle.analysis_host.specs.declared.ask.Ask.TheVariants.{Request as RequestAsk}
 use Rattle.analysis_host.specs.declared.ask.RowId.{RowId}
 use Rattle.analysis_host.specs.declared.host.FileChange.{FileChange}
 use Rattle.analysis_host.specs.declared.host.WorldFault.{WorldFault}
 use Rattle.session_port.specs.Jobs.{ticket_of, final_of, fitting_job}
+use Rattle.session_port.specs.Record.{after_order}
 use Rattle.session_port.specs.declared.command.Command.{Command}
 use Rattle.session_port.specs.declared.command.Command.TheVariants.{Spawn, Revise, Log}
 use Rattle.session_port.specs.declared.command.LogCode.{LogCode}
-use Rattle.session_port.specs.declared.command.LogCode.TheVariants.{MalformedNotification, UnhandledNotification, UnknownRequest, UnknownResponse, DuplicateOpen, BadPath, StrangeResult}
+use Rattle.session_port.specs.declared.command.LogCode.TheVariants.{MalformedNotification, UnhandledNotification, UnknownRequest, UnknownResponse, DuplicateOpen, UnexpectedChange, BadPath, StrangeResult}
 use Rattle.session_port.specs.declared.event.TaskMsg.{TaskMsg}
 use Rattle.session_port.specs.declared.job.Job.{Job}
+use Rattle.session_port.specs.declared.job.JobKind.{JobKind}
 use Rattle.session_port.specs.declared.job.JobKind.TheVariants.{Request as RequestJob}
 use Rattle.session_port.specs.declared.job.JobResult.{JobResult}
-use Rattle.session_port.specs.declared.job.JobResult.TheVariants.{Value, Fault, NoMemory}
-use Rattle.session_port.specs.declared.job.JobValue.{JobValue}
-use Rattle.session_port.specs.declared.job.JobValue.TheVariants.{Json}
-use Rattle.session_model.specs.Methods.{row_of, class_of}
+use Rattle.session_model.specs.Cancelling.{cancel_of, is_unit}
+use Rattle.session_model.specs.Changing.{changed_of, last_text}
+use Rattle.session_model.specs.Meaning.{Meaning}
+use Rattle.session_model.specs.Methods.{row_of, class_of, is_on_loop, retries}
 use Rattle.session_model.specs.Opening.{opened_of}
+use Rattle.session_model.specs.Replies.{response_with, already_pending, shut_already, unknown_request, invalid_params, canceled_by_client, content_modified, finding_reply, finished_reply}
 use Rattle.session_model.specs.State.{State, snapshot_of}
 use Rattle.session_model.specs.Texts.{same_text, id_text}
 use Rattle.session_model.specs.Written.{Written}
@@ -41,6 +44,7 @@ use Rattle.session_model.specs.declared.input.Event.{Event}
 use Rattle.session_model.specs.declared.input.Event.TheVariants.{Lsp, Task}
 use Rattle.session_model.specs.declared.input.Input.{Input}
 use Rattle.session_model.specs.declared.input.Input.TheVariants.{Start, Next}
+use Rattle.session_model.specs.declared.notice.DidChange.{DidChange}
 use Rattle.session_model.specs.declared.notice.DidOpen.{DidOpen}
 
 -- the state within a turn, and what the turn has done so far
@@ -57,35 +61,6 @@ abbrev pub next_number : ℕ → Counter → Result ℕ Counter
 next_number used counter = if ltb used (2 ^ 64 - 1) then Ok (used + 1) else Err counter
 
 -- ---- what is written and ordered
-
-abbrev pub response_with : RequestId → Data → Response
-response_with id value = record { id = Some id; result = Some value; error = None }
-
-abbrev pub refusal : RequestId → ℤ → List ℕ → Response
-refusal id code message = record { id = Some id; result = None; error = Some (record { code = code; message = message; extra = None }) }
-
-abbrev pub already_pending : RequestId → Response
-already_pending id = refusal id (negsuc 32599) (codes "Request id is already pending.")
-
-abbrev pub unknown_request : RequestId → Response
-unknown_request id = refusal id (negsuc 32600) (codes "unknown request")
-
-abbrev pub invalid_params : RequestId → Response
-invalid_params id = refusal id (negsuc 32601) (codes "invalid params")
-
--- a fault's own code, but for the one that says that memory ran out
-abbrev pub fault_code : Option ℤ → ℤ
-fault_code None = negsuc 32602
-fault_code (Some code) = if int_eq code (negsuc 30999) then negsuc 32602 else code
-
-abbrev pub value_reply : RequestId → JobValue → Response
-value_reply id (Json value) = response_with id value
-
--- what a finished job's request is answered
-abbrev pub result_reply : RequestId → JobResult → Response
-result_reply id (Value value) = value_reply id value
-result_reply id (Fault code message) = refusal id (fault_code code) message
-result_reply id NoMemory = refusal id (negsuc 30999) (codes "out of memory")
 
 unfoldable pub replied : Response → Working → Working
 replied response w = record w { out = record w.out { messages = w.out.messages ++ ResponseMessage response ∷ [] } }
@@ -106,26 +81,48 @@ answered id response w = replied response (record w { state = record w.state { p
 unfoldable pub noted : RequestId → Working → Working
 noted id w = record w { state = record w.state { pending = registered w.state.turns id w.state.pending } }
 
--- a job on the present snapshot is handed over
+-- a job on the present snapshot is handed over; it is out from the end of the turn on
 unfoldable pub dispatched : ℕ → RowId → Data → Working → Result Working Counter
 dispatched ticket row params w = and_then (next_number w.state.jobs_given Jobs) (λ n.
     let job : Job = record { number = n; class = class_of row; kind = RequestJob ticket row params; snapshot = snapshot_of w.state } in
-    Ok (ordered (Spawn job) (record w { state = record w.state { jobs_given = n; jobs = map.insert w.state.jobs n job } })))
+    Ok (ordered (Spawn job) (record w { state = record w.state { jobs_given = n } })))
+
+-- a request that can be read: it is answered at once on the present snapshot, or by a job
+unfoldable pub granted : Meaning → ℕ → RequestId → RowId → Data → Working → Result Working Counter
+granted meaning ticket id row params w =
+    if is_on_loop row then Ok (answered id (finding_reply id (meaning.answer (snapshot_of w.state) (RequestAsk row params))) w)
+    else dispatched ticket row params w
+
+-- a request of a row
+unfoldable pub classed : Meaning → ℕ → RequestId → RowId → Data → Working → Result Working Counter
+classed meaning ticket id row params w =
+    if is_plain params && meaning.decodes row params then granted meaning ticket id row params w
+    else Ok (answered id (invalid_params id) w)
 
 unfoldable pub unknown : RequestId → List ℕ → Working → Working
 unknown id method w = logged UnknownRequest method (answered id (unknown_request id) w)
 
--- a request of a row: a job, where its params can be read
-unfoldable pub asked : Option RowId → (RowId → Data → Bool) → Request → Working → Result Working Counter
-asked None decodes r w = Ok (unknown r.id r.method w)
-asked (Some row) decodes r w =
-    if is_plain r.params && decodes row r.params then dispatched w.state.turns row r.params w
-    else Ok (answered r.id (invalid_params r.id) w)
+unfoldable pub asked : Meaning → Option RowId → Request → Working → Result Working Counter
+asked meaning None r w = Ok (unknown r.id r.method w)
+asked meaning (Some row) r w = classed meaning w.state.turns r.id row r.params w
 
-unfoldable pub requested : (RowId → Data → Bool) → Request → Working → Result Working Counter
-requested decodes r w =
+-- the request `shutdown`: from now on no other request is taken
+unfoldable pub shut_down : RequestId → Data → Working → Working
+shut_down id params w =
+    if is_unit params then answered id (response_with id null) (record w { state = record w.state { shutdown = true } })
+    else answered id (invalid_params id) w
+
+-- a request that waits now
+unfoldable pub admitted : Meaning → Request → Working → Result Working Counter
+admitted meaning r w =
+    if same_text r.method (codes "shutdown") then Ok (shut_down r.id r.params w)
+    else if w.state.shutdown then Ok (answered r.id (shut_already r.id) w)
+    else asked meaning (row_of r.method) r w
+
+unfoldable pub requested : Meaning → Request → Working → Result Working Counter
+requested meaning r w =
     if is_pending r.id w.state.pending then Ok (replied (already_pending r.id) w)
-    else asked (row_of r.method) decodes r (noted r.id w)
+    else admitted meaning r (noted r.id w)
 
 -- ---- notifications
 
@@ -135,7 +132,7 @@ world_by (Err fault) w = Err Revisions
 
 -- one change of the world, and so one revision more
 unfoldable pub world_changed : List FileChange → Working → Result Working Counter
-world_changed files w = world_by (changed files w.state.host) w
+world_changed files w = world_by (changed_world files w.state.host) w
 
 abbrev pub holds_text : Option (List ℕ) → List ℕ → Bool
 holds_text None text = false
@@ -150,9 +147,12 @@ text_set path text w =
 unfoldable pub version_set : List ℕ → ℤ → Working → Working
 version_set path version w = record w { state = record w.state { versions = map.insert w.state.versions path version } }
 
+abbrev pub is_open : List ℕ → Working → Bool
+is_open path w = is_some (map.get w.state.versions path)
+
 -- a document that is open already is logged, and replaced all the same
 unfoldable pub open_noted : List ℕ → Working → Working
-open_noted path w = if is_some (map.get w.state.versions path) then logged DuplicateOpen path w else w
+open_noted path w = if is_open path w then logged DuplicateOpen path w else w
 
 unfoldable pub opened_at : Result (List ℕ) UrlFault → DidOpen → Working → Result Working Counter
 opened_at (Err fault) document w = Ok (logged BadPath document.uri w)
@@ -162,38 +162,76 @@ unfoldable pub opened : Option DidOpen → List ℕ → Working → Result Worki
 opened None method w = Ok (logged MalformedNotification method w)
 opened (Some document) method w = opened_at (path_of document.uri) document w
 
+unfoldable pub text_by : List ℕ → Option (List ℕ) → Working → Result Working Counter
+text_by path None w = Ok w
+text_by path (Some text) w = text_set path text w
+
+-- the version is set where the document is open, also where no text is left
+unfoldable pub changed_at : Result (List ℕ) UrlFault → DidChange → Working → Result Working Counter
+changed_at (Err fault) change w = Ok (logged BadPath change.uri w)
+changed_at (Ok path) change w =
+    if is_open path w then text_by path (last_text change.texts None) (version_set path change.version w)
+    else Ok (logged UnexpectedChange path w)
+
+unfoldable pub changed : Option DidChange → List ℕ → Working → Result Working Counter
+changed None method w = Ok (logged MalformedNotification method w)
+changed (Some change) method w = changed_at (path_of change.uri) change w
+
+-- the request of an id is cancelled, where it is pending; its job stays out
+unfoldable pub cancelled : Option RequestId → List ℕ → Working → Working
+cancelled None method w = logged MalformedNotification method w
+cancelled (Some id) method w = if is_pending id w.state.pending then answered id (canceled_by_client id) w else w
+
 unfoldable pub notified : Notification → Working → Result Working Counter
 notified n w =
     if same_text n.method (codes "textDocument/didOpen") then opened (opened_of n.params) n.method w
+    else if same_text n.method (codes "textDocument/didChange") then changed (changed_of n.params) n.method w
+    else if same_text n.method (codes "$/cancelRequest") then Ok (cancelled (cancel_of n.params) n.method w)
     else if starts_with nat_eq n.method (codes "$/") then Ok w
     else Ok (logged UnhandledNotification n.method w)
 
-unfoldable pub received : (RowId → Data → Bool) → Message → Working → Result Working Counter
-received decodes (RequestMessage r) w = requested decodes r w
-received decodes (NotificationMessage n) w = notified n w
-received decodes (ResponseMessage r) w = Ok (logged UnknownResponse (id_text r.id) w)
+unfoldable pub received : Meaning → Message → Working → Result Working Counter
+received meaning (RequestMessage r) w = requested meaning r w
+received meaning (NotificationMessage n) w = notified n w
+received meaning (ResponseMessage r) w = Ok (logged UnknownResponse (id_text r.id) w)
 
 -- ---- results
 
--- a finished job's result, where its request is still pending
-unfoldable pub delivered : Option RequestId → JobResult → Working → Working
-delivered None result w = w
-delivered (Some id) result w = answered id (result_reply id result) w
+-- a request whose job stopped, as one that is read now, under the ticket that it has
+unfoldable pub retried : Meaning → ℕ → RequestId → RowId → Data → Working → Result Working Counter
+retried meaning ticket id row params w =
+    if w.state.shutdown then Ok (answered id (shut_already id) w)
+    else classed meaning ticket id row params w
+
+-- where the revision is above that of the job's snapshot, a row that isn't to be tried again is refused
+unfoldable pub stopped : Meaning → RequestId → ℕ → JobKind → Working → Result Working Counter
+stopped meaning id revision (RequestJob ticket row params) w =
+    if ltb revision w.state.host.revision && not (retries row) then Ok (answered id (content_modified id) w)
+    else retried meaning ticket id row params w
+
+unfoldable pub settled : Meaning → Option Response → RequestId → Job → Working → Result Working Counter
+settled meaning (Some response) id job w = Ok (answered id response w)
+settled meaning None id job w = stopped meaning id job.snapshot.revision job.kind w
+
+-- a job's result, where its request is still pending
+unfoldable pub delivered : Meaning → Option RequestId → Job → JobResult → Working → Result Working Counter
+delivered meaning None job result w = Ok w
+delivered meaning (Some id) job result w = settled meaning (finished_reply id result) id job w
 
 -- a job that has ended is off the list, and its request gets the result; a message that fits no job is logged
-unfoldable pub ended : Option Job → TaskMsg → Working → Working
-ended None message w = logged StrangeResult (decimal message.job) w
-ended (Some job) message w =
-    delivered (id_of (ticket_of job.kind) w.state.pending) (final_of message.body)
+unfoldable pub ended : Meaning → Option Job → TaskMsg → Working → Result Working Counter
+ended meaning None message w = Ok (logged StrangeResult (decimal message.job) w)
+ended meaning (Some job) message w =
+    delivered meaning (id_of (ticket_of job.kind) w.state.pending) job (final_of message.body)
     (record w { state = record w.state { jobs = map.remove w.state.jobs message.job } })
 
-abbrev pub taken : TaskMsg → Working → Working
-taken message w = ended (fitting_job message w.state.jobs) message w
+abbrev pub taken : Meaning → TaskMsg → Working → Result Working Counter
+taken meaning message w = ended meaning (fitting_job message w.state.jobs) message w
 
 -- a batch of messages, one after another
-abbrev pub batched : List TaskMsg → Working → Working
-batched [] w = w
-batched (message ∷ messages) w = batched messages (taken message w)
+abbrev pub batched : Meaning → List TaskMsg → Working → Result Working Counter
+batched meaning [] w = Ok w
+batched meaning (message ∷ messages) w = and_then (taken meaning message w) (batched meaning messages)
 
 -- ---- the turn
 
@@ -201,19 +239,23 @@ batched (message ∷ messages) w = batched messages (taken message w)
 unfoldable pub counted : Working → Result Working Counter
 counted w = and_then (next_number w.state.turns Turns) (λ n. Ok (record w { state = record w.state { turns = n } }))
 
-unfoldable pub happened : (RowId → Data → Bool) → Event → Working → Result Working Counter
-happened decodes (Lsp message) w = received decodes message w
-happened decodes (Task batch) w = Ok (batched batch w)
+unfoldable pub happened : Meaning → Event → Working → Result Working Counter
+happened meaning (Lsp message) w = received meaning message w
+happened meaning (Task batch) w = batched meaning batch w
 
 -- the part of a turn that depends on its input: the start uses no number of the turns
-unfoldable pub taken_in : (RowId → Data → Bool) → Input → Working → Result Working Counter
-taken_in decodes Start w = Ok w
-taken_in decodes (Next event) w = and_then (counted w) (λ w. happened decodes event w)
+unfoldable pub taken_in : Meaning → Input → Working → Result Working Counter
+taken_in meaning Start w = Ok w
+taken_in meaning (Next event) w = and_then (counted w) (λ w. happened meaning event w)
+
+-- the jobs that were handed over after so many commands are out
+unfoldable pub kept : ℕ → Working → Working
+kept before w = record w { state = record w.state { jobs = after_order (drop before w.out.commands) w.state.jobs } }
 
 -- the host is told of a revision that rose in this turn
 unfoldable pub revised : ℕ → Working → Working
 revised before w = if w.state.host.revision == before then w else ordered (Revise w.state.host.revision) w
 
 -- one turn
-unfoldable pub step : (RowId → Data → Bool) → Input → Working → Result Working Counter
-step decodes input w = and_then (taken_in decodes input w) (λ v. Ok (revised w.state.host.revision v))
+unfoldable pub step : Meaning → Input → Working → Result Working Counter
+step meaning input w = and_then (taken_in meaning input w) (λ v. Ok (revised w.state.host.revision (kept (length w.out.commands) v)))

@@ -1,14 +1,9 @@
 -- A whole run: the machine's turns, and the lists that the host and the sink keep of it.
 use Rattle.std.specs.Prelude.{◌≡◌, ◌≤◌, ◌⊎◌, ℕ, ◌+◌, ◌^◌, List, [], ◌∷◌, ◌++◌, length, map, Bool, false, IsTrue, Option, Result, Ok, Err}
 use Rattle.std.specs.FinMap as maps
-use Rattle.serde_json.specs.Data.{Data}
 use Rattle.lsp_frame.specs.Reader.{Reader}
 use Rattle.lsp_frame.specs.declared.message.Message.{Message}
 use Rattle.ra_config.specs.Config.{ConfigData}
-use Rattle.analysis_host.specs.Answers.{Finding}
-use Rattle.analysis_host.specs.SnapshotData.{SnapshotData}
-use Rattle.analysis_host.specs.declared.ask.Ask.{Ask}
-use Rattle.analysis_host.specs.declared.ask.RowId.{RowId}
 use Rattle.session_port.specs.Jobs.{Jobs, after_batch}
 use Rattle.session_port.specs.Record.{grown, added, after_order}
 use Rattle.session_port.specs.Honest.{AreHonest as AreHonestMessages}
@@ -20,6 +15,7 @@ use Rattle.session_port.specs.declared.event.HostEvent.{HostEvent}
 use Rattle.session_port.specs.declared.event.HostEvent.TheVariants.{Bytes, Ended}
 use Rattle.session_model.specs.Course.{Course, takes, stops, exit, bad_frame, bad_message, client_gone, session_course, bytes_in}
 use Rattle.session_model.specs.Machine.{Working, step}
+use Rattle.session_model.specs.Meaning.{Meaning}
 use Rattle.session_model.specs.State.{State, fresh}
 use Rattle.session_model.specs.Written.{AreRead, frames_for, nothing_done}
 use Rattle.session_model.specs.declared.fault.Counter.{Counter}
@@ -31,14 +27,6 @@ use Rattle.session_model.specs.declared.fault.TurnError.TheVariants.{Exhausted a
 use Rattle.session_model.specs.declared.input.Event.TheVariants.{Lsp, Task}
 use Rattle.session_model.specs.declared.input.Input.{Input}
 use Rattle.session_model.specs.declared.input.Input.TheVariants.{Start, Next}
-
--- what an analysis reads and answers
-pub record Meaning : Type 0 where
-  pub decodes : RowId → Data → Bool
-  pub answer : SnapshotData → Ask → Finding
-
-abbrev pub meaning_of : (RowId → Data → Bool) → (SnapshotData → Ask → Finding) → Meaning
-meaning_of decodes answer = record { decodes = decodes; answer = answer }
 
 -- one turn: what it took in, and what it wrote and ordered
 pub record Turn : Type 0 where
@@ -54,7 +42,7 @@ begun state = record { state = state; out = nothing_done }
 
 -- the machine takes this turn
 abbrev pub Steps : Meaning → State → Turn → State → Type 0
-Steps meaning old turn new = step meaning.decodes turn.input (begun old) ≡ Ok (record { state = new; out = record { messages = turn.messages; commands = turn.commands } })
+Steps meaning old turn new = step meaning turn.input (begun old) ≡ Ok (record { state = new; out = record { messages = turn.messages; commands = turn.commands } })
 
 -- the machine takes these turns, one after another
 abbrev pub Runs : Meaning → State → List Turn → State → Type 0
@@ -132,6 +120,12 @@ pub record BreaksOff (old new : Told) : Type 0 where
   pub one_written : length written ≤ 1
   pub told : new ≡ record { given = grown old.given events; taken = old.taken; turns = grown old.turns written }
 
+-- a run broken off before its turn was written: at most one event more
+pub record BreaksOffUnwritten (old new : Told) : Type 0 where
+  pub events : List HostEvent
+  pub one_event : length events ≤ 1
+  pub told : new ≡ record old { given = grown old.given events }
+
 -- the next input needs one more of a counter than there are
 pub record RunsOut (meaning : Meaning) (counter : Counter) (state : State) (to : List HostEvent → Course) (old new : Told) : Type 0 where
   pub events : List HostEvent
@@ -139,7 +133,7 @@ pub record RunsOut (meaning : Meaning) (counter : Counter) (state : State) (to :
   pub input : Input
   pub later : List HostEvent → Course
   pub course : (more : List HostEvent) → to (events ++ more) ≡ takes input (later more)
-  pub needed : step meaning.decodes input (begun state) ≡ Err counter
+  pub needed : step meaning input (begun state) ≡ Err counter
   pub told : new ≡ record old { given = grown old.given events }
 
 -- the next event brings more bytes than can be counted
@@ -155,7 +149,7 @@ EndsBy meaning state to used old new ClientExited = ((more : List HostEvent) →
 EndsBy meaning state to used old new (BadFrame at) = ((more : List HostEvent) → to more ≡ stops (bad_frame at)) × (new ≡ old)
 EndsBy meaning state to used old new (BadMessage at) = ((more : List HostEvent) → to more ≡ stops (bad_message at)) × (new ≡ old)
 EndsBy meaning state to used old new HostFault = BreaksOff old new
-EndsBy meaning state to used old new WriteFault = BreaksOff old new
+EndsBy meaning state to used old new WriteFault = BreaksOffUnwritten old new
 EndsBy meaning state to used old new (Exhausted counter) = RunsOut meaning counter state to old new ⊎ TooManyBytes counter used old new
 EndsBy meaning state to used old new NoMemory = BreaksOff old new
 

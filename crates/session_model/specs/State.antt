@@ -1,5 +1,5 @@
 -- The session's state, as contracts see it.
-use Rattle.std.specs.Prelude.{ℕ, ℤ}
+use Rattle.std.specs.Prelude.{ℕ, ℤ, Bool, false}
 use Rattle.std.specs.FinMap as map
 use Rattle.docs_vfs.specs.Paths.{path_cmp}
 use Rattle.ra_config.specs.Config.{ConfigData}
@@ -22,6 +22,8 @@ pub record State : Type 0 where
   pub pending : Pending
   -- the jobs that were handed over and have not ended
   pub jobs : Jobs
+  -- `shutdown` was requested
+  pub shutdown : Bool
 
 -- the snapshot of the present
 abbrev pub snapshot_of : State → SnapshotData
@@ -29,4 +31,4 @@ snapshot_of state = record { world = state.host.world; versions = state.versions
 
 -- the state before any turn
 abbrev pub fresh : ConfigData → State
-fresh config = record { config = config; host = new_host; versions = map.empty; turns = 0; jobs_given = 0; pending = none_pending; jobs = map.empty }
+fresh config = record { config = config; host = new_host; versions = map.empty; turns = 0; jobs_given = 0; pending = none_pending; jobs = map.empty; shutdown = false }

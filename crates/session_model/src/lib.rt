@@ -9,5 +9,7 @@ mod notice;
 
 pub use fault::{Counter, SessionError, TurnError};
 pub use input::{Event, Input};
-pub use laws::{any_pieces, rows_keep_the_invariant, steps_are_rows, turns_are_read};
-pub use notice::DidOpen;
+pub use laws::{
+    any_pieces, rows_keep_the_invariant, runs_keep_the_invariant, steps_are_rows, turns_are_read,
+};
+pub use notice::{DidChange, DidOpen};

@@ -1,0 +1,16 @@
+-- What an analysis reads and answers.
+use Rattle.std.specs.Prelude.{Bool}
+use Rattle.serde_json.specs.Data.{Data}
+use Rattle.analysis_host.specs.Answers.{Finding}
+use Rattle.analysis_host.specs.SnapshotData.{SnapshotData}
+use Rattle.analysis_host.specs.declared.ask.Ask.{Ask}
+use Rattle.analysis_host.specs.declared.ask.RowId.{RowId}
+
+pub record Meaning : Type 0 where
+  -- can these params of a row be read
+  pub decodes : RowId → Data → Bool
+  -- what a question on a snapshot comes to
+  pub answer : SnapshotData → Ask → Finding
+
+abbrev pub meaning_of : (RowId → Data → Bool) → (SnapshotData → Ask → Finding) → Meaning
+meaning_of decodes answer = record { decodes = decodes; answer = answer }

@@ -1,0 +1,65 @@
+-- The responses of a session (JSON-RPC 2.0, "Error object"; LSP 3.17, "ErrorCodes").
+use Rattle.std.specs.Prelude.{ℕ, ℤ, negsuc, List, codes, Option, None, Some, if◌then◌else◌}
+use Rattle.std.specs.Ordering.{int_eq}
+use Rattle.serde_json.specs.Data.{Data}
+use Rattle.lsp_frame.specs.declared.message.RequestId.{RequestId}
+use Rattle.lsp_frame.specs.declared.message.Response.{Response}
+use Rattle.analysis_host.specs.Answers.{Finding, answer, fault}
+use Rattle.session_port.specs.Jobs.{value_of}
+use Rattle.session_port.specs.declared.job.JobResult.{JobResult}
+use Rattle.session_port.specs.declared.job.JobResult.TheVariants.{Value, Fault, Cancelled, NoMemory}
+use Rattle.session_port.specs.declared.job.JobValue.{JobValue}
+use Rattle.session_port.specs.declared.job.JobValue.TheVariants.{Json}
+
+abbrev pub response_with : RequestId → Data → Response
+response_with id value = record { id = Some id; result = Some value; error = None }
+
+abbrev pub refusal : RequestId → ℤ → List ℕ → Response
+refusal id code message = record { id = Some id; result = None; error = Some (record { code = code; message = message; extra = None }) }
+
+-- -32600
+abbrev pub already_pending : RequestId → Response
+already_pending id = refusal id (negsuc 32599) (codes "Request id is already pending.")
+
+-- -32600
+abbrev pub shut_already : RequestId → Response
+shut_already id = refusal id (negsuc 32599) (codes "Shutdown already requested.")
+
+-- -32601
+abbrev pub unknown_request : RequestId → Response
+unknown_request id = refusal id (negsuc 32600) (codes "unknown request")
+
+-- -32602
+abbrev pub invalid_params : RequestId → Response
+invalid_params id = refusal id (negsuc 32601) (codes "invalid params")
+
+-- -32800
+abbrev pub canceled_by_client : RequestId → Response
+canceled_by_client id = refusal id (negsuc 32799) (codes "canceled by client")
+
+-- -32801
+abbrev pub content_modified : RequestId → Response
+content_modified id = refusal id (negsuc 32800) (codes "content modified")
+
+-- a fault's own code, but for -31000, which says that memory ran out; else -32603
+abbrev pub fault_code : Option ℤ → ℤ
+fault_code None = negsuc 32602
+fault_code (Some code) = if int_eq code (negsuc 30999) then negsuc 32602 else code
+
+abbrev pub fault_reply : RequestId → Option ℤ → List ℕ → Response
+fault_reply id code message = refusal id (fault_code code) message
+
+abbrev pub value_reply : RequestId → JobValue → Response
+value_reply id (Json value) = response_with id value
+
+-- what a question comes to
+abbrev pub finding_reply : RequestId → Finding → Response
+finding_reply id (answer value) = value_reply id (value_of value)
+finding_reply id (fault code message) = fault_reply id code message
+
+-- what the request of a finished job is answered; a job that stopped has not finished
+abbrev pub finished_reply : RequestId → JobResult → Option Response
+finished_reply id (Value value) = Some (value_reply id value)
+finished_reply id (Fault code message) = Some (fault_reply id code message)
+finished_reply id (Cancelled saw) = None
+finished_reply id NoMemory = Some (refusal id (negsuc 30999) (codes "out of memory"))
