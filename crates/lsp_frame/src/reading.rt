@@ -39,7 +39,7 @@ fn call_from(method: Text, id: Option<Json>, members: Members) -> Option<Message
     let params = params_from(members);
     match id {
         Some(id) if !id.is_null() => {
-            let id = id_from(id)?;
+            let id = RequestId::from_json(id)?;
             Some(Message::Request(Request { id, method, params }))
         }
         _ => Some(Message::Notification(Notification { method, params })),
@@ -64,22 +64,25 @@ fn response_from(id: Json, mut members: Members) -> Option<Message>
     Some(Message::Response(Response { id, result, error }))
 }
 
+impl RequestId {
+    /// The id that a value is: a whole number of 32 bits, or a text. It takes no memory.
+    pub fn from_json(json: Json) -> Option<RequestId>
+        ensures { result ≡ id_of json }
+    {
+        match json.as_i32() {
+            Some(number) => Some(RequestId::Number(number)),
+            None => Some(RequestId::Text(json.into_text()?)),
+        }
+    }
+}
+
 fn optional_id_from(json: Json) -> Option<Option<RequestId>>
     ensures { result ≡ optional_id json }
 {
     if json.is_null() {
         return Some(None);
     }
-    Some(Some(id_from(json)?))
-}
-
-fn id_from(json: Json) -> Option<RequestId>
-    ensures { result ≡ id_of json }
-{
-    match json.as_i32() {
-        Some(number) => Some(RequestId::Number(number)),
-        None => Some(RequestId::Text(json.into_text()?)),
-    }
+    Some(Some(RequestId::from_json(json)?))
 }
 
 fn error_from(json: Option<Json>) -> Option<Option<ResponseError>>

@@ -9,7 +9,8 @@ use Rattle.session_port.specs.Record.{grown, added}
 use Rattle.session_port.specs.declared.event.HostEvent.{HostEvent}
 use Rattle.session_port.specs.declared.event.HostEvent.TheVariants.{Bytes, Ended, Tasks}
 use Rattle.session_model.specs.Course.{Course, takes, session_course, bytes_in}
-use Rattle.session_model.specs.Run.{Meaning, Told, Stretch, IsRun, Ends, EndsBy, IsHonestInput, after_input, fed_bytes}
+use Rattle.session_model.specs.Meaning.{Meaning}
+use Rattle.session_model.specs.Run.{Told, Stretch, IsRun, Ends, EndsBy, IsHonestInput, after_input, fed_bytes}
 use Rattle.session_model.specs.State.{State, fresh}
 use Rattle.session_model.specs.declared.fault.SessionError.{SessionError}
 use Rattle.session_model.specs.declared.fault.SessionError.TheVariants.{NoMemory}

@@ -8,7 +8,8 @@ use Rattle.session_port.specs.declared.cause.HostError.TheVariants.{Failed, NoMe
 use Rattle.session_port.specs.declared.event.HostEvent.{HostEvent}
 use Rattle.session_port.specs.declared.event.HostEvent.TheVariants.{Bytes, Ended, Tasks}
 use Rattle.session_model.specs.Course.{Course, takes}
-use Rattle.session_model.specs.Run.{Meaning, Told, EndsBy, BreaksOff, RunsOut, TooManyBytes, host_error_of}
+use Rattle.session_model.specs.Meaning.{Meaning}
+use Rattle.session_model.specs.Run.{Told, EndsBy, BreaksOff, RunsOut, TooManyBytes, host_error_of}
 use Rattle.session_model.specs.State.{State}
 use Rattle.session_model.specs.declared.fault.Counter.{Counter}
 use Rattle.session_model.specs.declared.fault.SessionError.{SessionError}
@@ -51,7 +52,7 @@ ends-turn meaning input events a b to later used old mid new out out_now ClientE
 ends-turn meaning input events a b to later used old mid new out out_now (BadFrame at) course one given h = absurd h
 ends-turn meaning input events a b to later used old mid new out out_now (BadMessage at) course one given h = absurd h
 ends-turn meaning input events a b to later used old mid new out out_now HostFault course one given h = breaks_after events old mid new one given h
-ends-turn meaning input events a b to later used old mid new out out_now WriteFault course one given h = breaks_after events old mid new one given h
+ends-turn meaning input events a b to later used old mid new out out_now WriteFault course one given h = record { events = events; one_event = one; told = h ∙ given }
 ends-turn meaning input events a b to later used old mid new out out_now NoMemory course one given h = breaks_after events old mid new one given h
 ends-turn meaning input events a b to later used old mid new out out_now (Exhausted counter) course one given h = inl (record {
   events = events;

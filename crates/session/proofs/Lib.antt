@@ -2,3 +2,4 @@ pub mod Advancing
 pub mod Endings
 pub mod Feeding
 pub mod Writable
+pub mod Units

@@ -9,7 +9,7 @@ use Rattle.lsp_frame.specs.Written.{IsWritable, AreWritable, value_depth}
 use Rattle.lsp_frame.specs.declared.message.Message.{Message}
 use Rattle.lsp_frame.specs.declared.message.Message.TheVariants.{Response as ResponseMessage}
 use Rattle.lsp_frame.specs.declared.message.RequestId.{RequestId}
-use Rattle.session_model.specs.Machine.{response_with, refusal}
+use Rattle.session_model.specs.Replies.{response_with, refusal}
 use Rattle.session_model.specs.Written.{AllWritable}
 
 not_true : (b : Bool) → not b ≡ true → b ≡ false

@@ -5,7 +5,8 @@ use Rattle.session_port.specs.Jobs.{Jobs}
 use Rattle.session_port.specs.Record.{Rose, grown, added, after_order}
 use Rattle.session_port.specs.declared.event.HostEvent.{HostEvent}
 use Rattle.session_model.specs.Machine.{step}
-use Rattle.session_model.specs.Run.{Meaning, Turn, Told, Steps, Stretch, EndsWell, EndsBy, begun, bytes_of, fed_bytes}
+use Rattle.session_model.specs.Meaning.{Meaning}
+use Rattle.session_model.specs.Run.{Turn, Told, Steps, Stretch, EndsWell, EndsBy, begun, bytes_of, fed_bytes}
 use Rattle.session_model.specs.State.{State}
 use Rattle.session_model.specs.Written.{AreRead}
 use Rattle.session_model.specs.declared.fault.Counter.{Counter}
@@ -35,12 +36,12 @@ pub record BreaksOffTurn (old new : Told) : Type 0 where
 abbrev pub TurnDone : Meaning → Input → State → State → Told → Told → Jobs → Jobs → Result Turned SessionError → Type 0
 TurnDone meaning input before now old new out out_now (Ok Stopped) = ⊥
 TurnDone meaning input before now old new out out_now (Ok Going) = Done meaning input before now old new out out_now
-TurnDone meaning input before now old new out out_now (Err (Exhausted counter)) = (new ≡ old) × (step meaning.decodes input (begun before) ≡ Err counter)
+TurnDone meaning input before now old new out out_now (Err (Exhausted counter)) = (new ≡ old) × (step meaning input (begun before) ≡ Err counter)
 TurnDone meaning input before now old new out out_now (Err ClientExited) = ⊥
 TurnDone meaning input before now old new out out_now (Err (BadFrame at)) = ⊥
 TurnDone meaning input before now old new out out_now (Err (BadMessage at)) = ⊥
 TurnDone meaning input before now old new out out_now (Err HostFault) = BreaksOffTurn old new
-TurnDone meaning input before now old new out out_now (Err WriteFault) = BreaksOffTurn old new
+TurnDone meaning input before now old new out out_now (Err WriteFault) = new ≡ old
 TurnDone meaning input before now old new out out_now (Err NoMemory) = BreaksOffTurn old new
 
 -- what a loop that counts turns and bytes has left

@@ -2,6 +2,7 @@
 #![tactic(auto)]
 
 mod global_state;
+mod methods;
 mod notices;
 mod reading;
 mod replies;

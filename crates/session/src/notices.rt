@@ -1,34 +1,18 @@
-// What a client tells, and the rows of the method table.
-ghost use Rattle.std.specs.Prelude.{◌≡◌, IfOk};
-ghost use Rattle.session_model.specs.Methods.{row_of};
+// What a client tells.
+ghost use Rattle.std.specs.Prelude.{◌≡◌, None, IfOk};
+ghost use Rattle.serde_json.specs.View.{view, items_view, members_view};
+ghost use Rattle.session_model.specs.Cancelling.{cancel_of, is_unit, no_items_in, no_members_in};
+ghost use Rattle.session_model.specs.Changing.{changed_of, members_change, whole_text, texts_in, last_text};
 ghost use Rattle.session_model.specs.Opening.{opened_of, opened_in, text_within};
-ghost use Rattle.session_model.specs.Texts.{same_text};
 
-use analysis_host::RowId;
-use plain::{Json, Text};
-use session_model::DidOpen;
+use lsp_frame::RequestId;
+use plain::{Items, Json, Members, Text};
+use serde_json::{Map, Value};
+use session_model::{DidChange, DidOpen};
+use std::alloc::{AllocError, Global};
 
 /// The most bytes that a text of a world has.
 const TEXT_LIMIT: usize = 4_294_967_295;
-
-const HOVER: u8 = 56;
-
-pub fn is_name(text: &Text, name: &str) -> bool
-    ensures { result ≡ same_text text.now name.now }
-{
-    text.as_str() == name
-}
-
-/// The row of a method, if it is in the table.
-pub fn row_of(method: &Text) -> Option<RowId>
-    ensures { result ≡ row_of method.now }
-{
-    if is_name(method, "textDocument/hover") {
-        Some(RowId(HOVER))
-    } else {
-        None
-    }
-}
 
 fn within(text: Text) -> Option<Text>
     ensures { result ≡ text_within text }
@@ -58,4 +42,118 @@ fn document_of(params: Json) -> Option<DidOpen>
     let version = members.take("version")?.as_i32()?;
     let text = within(members.take("text")?.into_text()?)?;
     Some(DidOpen { uri, version, text })
+}
+
+// The whole text that a change brings.
+fn whole_text(change: Json) -> Option<Text>
+    ensures { result ≡ whole_text change }
+{
+    let mut members = change.into_members()?;
+    match members.take("range") {
+        Some(range) if !range.is_null() => None,
+        _ => members.take("text")?.into_text(),
+    }
+}
+
+// The whole texts of changes, or none where one of them has none.
+fn texts_in(alloc: Global, changes: Vec<Value>) -> Result<Option<Items<Text>>, AllocError>
+    ensures { IfOk result (λ texts. texts ≡ texts_in (items_view changes.items)) }
+{
+    let mut texts = Items::new(alloc);
+    for change in changes {
+        match whole_text(Json::new(change)) {
+            Some(text) => texts.push(text)?,
+            None => return Ok(None),
+        }
+    }
+    Ok(Some(texts))
+}
+
+fn change_in(alloc: Global, mut params: Members) -> Result<Option<DidChange>, AllocError>
+    ensures { IfOk result (λ change. change ≡ members_change params) }
+{
+    let (Some(document), Some(changes)) = (params.take("textDocument"), params.take("contentChanges"))
+    else {
+        return Ok(None);
+    };
+    let Some(mut document) = document.into_members() else {
+        return Ok(None);
+    };
+    let (Some(uri), Some(version)) = (document.take("uri"), document.take("version")) else {
+        return Ok(None);
+    };
+    let (Some(uri), Some(version)) = (uri.into_text(), version.as_i32()) else {
+        return Ok(None);
+    };
+    let Value::Array(changes) = changes.into_value() else {
+        return Ok(None);
+    };
+    match texts_in(alloc, changes)? {
+        Some(texts) => Ok(Some(DidChange {
+            uri,
+            version,
+            texts,
+        })),
+        None => Ok(None),
+    }
+}
+
+/// The changes of a document that the params tell, or none where they are malformed.
+pub fn changed_of(alloc: Global, params: Json) -> Result<Option<DidChange>, AllocError>
+    ensures { IfOk result (λ change. change ≡ changed_of params) }
+{
+    if !params.is_plain() {
+        return Ok(None);
+    }
+    match params.into_members() {
+        Some(members) => change_in(alloc, members),
+        None => Ok(None),
+    }
+}
+
+/// The text that whole texts leave, one after another: the last one that a world can hold.
+pub fn last_text(texts: Items<Text>) -> Option<Text>
+    ensures { result ≡ last_text texts None }
+{
+    let mut found = None;
+    for text in texts.into_vec() {
+        if text.len() <= TEXT_LIMIT {
+            found = Some(text);
+        }
+    }
+    found
+}
+
+/// The id of the request that the params cancel, or none where they are malformed.
+pub fn cancel_of(params: Json) -> Option<RequestId>
+    ensures { result ≡ cancel_of params }
+{
+    if !params.is_plain() {
+        return None;
+    }
+    RequestId::from_json(params.into_members()?.take("id")?)
+}
+
+fn has_no_items(items: &Vec<Value>) -> bool
+    ensures { result ≡ no_items_in (items_view items.now.items) }
+{
+    items.is_empty()
+}
+
+fn has_no_members(members: &Map<String, Value>) -> bool
+    ensures { result ≡ no_members_in (members_view members.now.entries) }
+{
+    members.is_empty()
+}
+
+/// Whether params are null, `{}` or `[]`.
+pub fn is_unit(params: &Json) -> bool
+    ensures { result ≡ is_unit params.now }
+{
+    match params.as_value() {
+        Value::Null => true,
+        Value::Array(items) => has_no_items(items),
+        Value::Object(members) => has_no_members(members),
+        _ => false,
+    }
 }

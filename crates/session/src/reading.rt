@@ -3,7 +3,7 @@ ghost use Rattle.std.specs.Prelude.{◌≡◌, IfOk};
 ghost use Rattle.session.specs.Reading.{IsNext};
 ghost use Rattle.session_model.specs.Course.{is_exit};
 
-use crate::notices::is_name;
+use crate::methods::is_name;
 use lsp_frame::{FrameFault, FrameReader, Message};
 use std::alloc::AllocError;
 

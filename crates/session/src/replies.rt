@@ -1,10 +1,10 @@
 // The responses that a session gives.
-ghost use Rattle.std.specs.Prelude.{◌≡◌, true, IfOk};
+ghost use Rattle.std.specs.Prelude.{◌≡◌, true, IfOk, IfSome};
 ghost use Rattle.lsp_frame.specs.Written.{AreWritable};
 ghost use Rattle.lsp_frame.specs.declared.message.Message.TheVariants.{Response as ResponseMessage};
 ghost use Rattle.plain.specs.Plain.{is_plain};
 ghost use Rattle.session_port.specs.Jobs.{plain_result};
-ghost use Rattle.session_model.specs.Machine.{response_with, refusal, already_pending, unknown_request, invalid_params, fault_code, result_reply};
+ghost use Rattle.session_model.specs.Replies.{response_with, refusal, already_pending, shut_already, unknown_request, invalid_params, canceled_by_client, content_modified, fault_code, fault_reply, finished_reply};
 ghost use Rattle.session_model.specs.Texts.{id_text};
 
 use lsp_frame::{RequestId, Response, ResponseError};
@@ -49,6 +49,15 @@ pub fn already_pending(alloc: Global, id: RequestId) -> Result<Response, AllocEr
     Ok(refusal(id, -32600, message))
 }
 
+/// The refusal of a request after a shutdown.
+pub fn shut_already(alloc: Global, id: RequestId) -> Result<Response, AllocError>
+    ensures value { IfOk result (λ response. response ≡ shut_already id) }
+    ensures writable { IfOk result (λ response. AreWritable (ResponseMessage response)) }
+{
+    let message = Text::from_str(alloc, "Shutdown already requested.")?;
+    Ok(refusal(id, -32600, message))
+}
+
 /// The refusal of a request of a method that is not in the table.
 pub fn unknown_request(alloc: Global, id: RequestId) -> Result<Response, AllocError>
     ensures value { IfOk result (λ response. response ≡ unknown_request id) }
@@ -67,6 +76,24 @@ pub fn invalid_params(alloc: Global, id: RequestId) -> Result<Response, AllocErr
     Ok(refusal(id, -32602, message))
 }
 
+/// The answer to a request that the client cancelled.
+pub fn canceled_by_client(alloc: Global, id: RequestId) -> Result<Response, AllocError>
+    ensures value { IfOk result (λ response. response ≡ canceled_by_client id) }
+    ensures writable { IfOk result (λ response. AreWritable (ResponseMessage response)) }
+{
+    let message = Text::from_str(alloc, "canceled by client")?;
+    Ok(refusal(id, -32800, message))
+}
+
+/// The answer to a request whose documents changed while it was worked on.
+pub fn content_modified(alloc: Global, id: RequestId) -> Result<Response, AllocError>
+    ensures value { IfOk result (λ response. response ≡ content_modified id) }
+    ensures writable { IfOk result (λ response. AreWritable (ResponseMessage response)) }
+{
+    let message = Text::from_str(alloc, "content modified")?;
+    Ok(refusal(id, -32801, message))
+}
+
 // A fault's own code, but for the one that says that memory ran out.
 fn fault_code(code: Option<i32>) -> i32
     ensures { result ≡ fault_code code }
@@ -77,22 +104,31 @@ fn fault_code(code: Option<i32>) -> i32
     }
 }
 
-/// What a finished job's request is answered.
-pub fn result_reply(
+/// What the request of a fault is answered.
+pub fn fault_reply(id: RequestId, code: Option<i32>, message: Text) -> Response
+    ensures value { result ≡ fault_reply id code message }
+    ensures writable { AreWritable (ResponseMessage result) }
+{
+    refusal(id, fault_code(code), message)
+}
+
+/// What the request of a finished job is answered. A job that stopped has not finished.
+pub fn finished_reply(
     alloc: Global,
     id: RequestId,
     outcome: JobResult,
-) -> Result<Response, AllocError>
+) -> Result<Option<Response>, AllocError>
     requires { plain_result outcome ≡ true }
-    ensures value { IfOk result (λ response. response ≡ result_reply id outcome) }
-    ensures writable { IfOk result (λ response. AreWritable (ResponseMessage response)) }
+    ensures value { IfOk result (λ response. response ≡ finished_reply id outcome) }
+    ensures writable { IfOk result (λ response. IfSome response (λ r. AreWritable (ResponseMessage r))) }
 {
     match outcome {
-        JobResult::Value(JobValue::Json(value)) => Ok(response_with(id, value)),
-        JobResult::Fault { code, message } => Ok(refusal(id, fault_code(code), message)),
+        JobResult::Value(JobValue::Json(value)) => Ok(Some(response_with(id, value))),
+        JobResult::Fault { code, message } => Ok(Some(fault_reply(id, code, message))),
+        JobResult::Cancelled { .. } => Ok(None),
         JobResult::NoMemory => {
             let message = Text::from_str(alloc, "out of memory")?;
-            Ok(refusal(id, -31000, message))
+            Ok(Some(refusal(id, -31000, message)))
         }
     }
 }

@@ -4,10 +4,11 @@ ghost use Rattle.std.specs.FinMap as map;
 ghost use Rattle.lsp_frame.specs.Frames.{cut_of};
 ghost use Rattle.lsp_frame.specs.declared.frame.Cut.TheVariants.{NeedMore};
 ghost use Rattle.session_port.specs.Record.{Rose, after_ok, added};
-ghost use Rattle.session_model.specs.Headline.{IsAnswered, EndsByCause};
+ghost use Rattle.session_model.specs.Headline.{IsAnswered, EndsByCause, IsComplete};
+ghost use Rattle.session_model.specs.Meaning.{meaning_of};
 ghost use Rattle.session_model.specs.Machine.{step};
 ghost use Rattle.session_model.specs.Meets.{Meets};
-ghost use Rattle.session_model.specs.Run.{IsRun, empty_reader, meaning_of, told_of, host_error_of, write_error_of, turn_error_of, fed_bytes};
+ghost use Rattle.session_model.specs.Run.{IsRun, empty_reader, told_of, host_error_of, write_error_of, turn_error_of, fed_bytes};
 ghost use Rattle.session.specs.Looping.{Advances, TurnDone, IsHostError, IsFeedError};
 
 use crate::global_state::GlobalState;
@@ -62,7 +63,7 @@ fn take_input<A: Analysis>(
     analysis: &A,
     out: &mut TurnOut,
 ) -> Result<(), TurnError>
-    ensures { Meets result (step A.decodes input (record { state = state.old; out = out.old })) state.new out.new }
+    ensures { Meets result (step (meaning_of A.decodes A.answer) input (record { state = state.old; out = out.old })) state.new out.new }
 {
     match input {
         Input::Start => state.start(out),
@@ -261,6 +262,9 @@ pub fn main_loop_from<H: Host<A>, S: Sink, A: Analysis>(
     // What ended the run is what ends the course of the events given.
     ensures end { EndsByCause reader (H.given host.old) (H.given host.new) result }
 
+    // Over a good input up to `exit` it ends well, unless memory or the numbers of a counter run out.
+    ensures complete { IsComplete reader (H.given host.old) (H.given host.new) (Rose (H.faults host.old) (H.faults host.new)) (Rose (S.faults sink.old) (S.faults sink.new)) result }
+
     // Each request gets the response of its row and no other; between turns exactly one job holds each pending request.
     ensures headline { IsAnswered (meaning_of A.decodes A.answer) config reader (told_of (H.given host.old) (H.taken host.old) (S.turns sink.old)) (told_of (H.given host.new) (H.taken host.new) (S.turns sink.new)) (H.honest host.old) result }
 
@@ -287,6 +291,9 @@ pub fn main_loop<H: Host<A>, S: Sink, A: Analysis>(
 
     // What ended the run is what ends the course of the events given.
     ensures end { EndsByCause empty_reader (H.given host.old) (H.given host.new) result }
+
+    // Over a good input up to `exit` it ends well, unless memory or the numbers of a counter run out.
+    ensures complete { IsComplete empty_reader (H.given host.old) (H.given host.new) (Rose (H.faults host.old) (H.faults host.new)) (Rose (S.faults sink.old) (S.faults sink.new)) result }
 
     // Each request gets the response of its row and no other; between turns exactly one job holds each pending request.
     ensures headline { IsAnswered (meaning_of A.decodes A.answer) config empty_reader (told_of (H.given host.old) (H.taken host.old) (S.turns sink.old)) (told_of (H.given host.new) (H.taken host.new) (S.turns sink.new)) (H.honest host.old) result }

@@ -67,6 +67,13 @@ impl TurnOut {
         self.messages.as_slice()
     }
 
+    /// The commands of the turn.
+    pub fn commands(&self) -> &[Command]
+        ensures { result.now ≡ self.now.commands }
+    {
+        self.commands.as_slice()
+    }
+
     /// The frames of the messages.
     pub fn bytes(&self, alloc: Global) -> Result<Vec<u8>, AllocError>
         ensures value { IfOk result (λ bytes. bytes.items ≡ frames_for self.now.messages) }

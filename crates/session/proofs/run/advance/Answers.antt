@@ -1,7 +1,8 @@
 use Rattle.std.proofs.Common.{rules, arith, refl, [], ◌∷◌, ◌≡◌, length, sym, ◌∙◌}
 use Rattle.std.proofs.lemmas.Grind.{common_steps}
 use Rattle.std.proofs.lemmas.Result.{err_from_is_err_and}
-use Rattle.session_model.specs.Run.{told_of, meaning_of, fed_bytes}
+use Rattle.session_model.specs.Meaning.{meaning_of}
+use Rattle.session_model.specs.Run.{told_of, fed_bytes}
 use Rattle.session_model.specs.declared.input.Event.TheVariants.{Lsp}
 use Rattle.session_model.specs.declared.input.Input.TheVariants.{Next}
 use Rattle.session_model.proofs.Stretches.{given-none}

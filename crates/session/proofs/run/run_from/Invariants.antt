@@ -1,7 +1,8 @@
 use Rattle.std.proofs.Common.{◌-◌, ◌^◌, ◌≤◌, ◌≡◌}
 use Rattle.std.specs.FinMap as map
 use Rattle.session_model.specs.Course.{session_course}
-use Rattle.session_model.specs.Run.{Stretch, meaning_of, told_of, fed_bytes}
+use Rattle.session_model.specs.Meaning.{meaning_of}
+use Rattle.session_model.specs.Run.{Stretch, told_of, fed_bytes}
 use Rattle.session_model.specs.State.{fresh}
 use Rattle.session.specs.Looping.{left_of}
 use Rattle.session.specs.Reading.{course_from}

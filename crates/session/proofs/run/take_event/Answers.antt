@@ -1,7 +1,8 @@
 use Rattle.std.proofs.Common.{rules, arith, refl, [], ◌∷◌, ◌≡◌, ◌<◌, length, sym}
 use Rattle.std.proofs.lemmas.Grind.{common_steps}
 use Rattle.session_port.specs.declared.event.HostEvent.TheVariants.{Bytes, Tasks, Ended}
-use Rattle.session_model.specs.Run.{told_of, meaning_of, fed_bytes}
+use Rattle.session_model.specs.Meaning.{meaning_of}
+use Rattle.session_model.specs.Run.{told_of, fed_bytes}
 use Rattle.session_model.specs.declared.input.Event.TheVariants.{Task}
 use Rattle.session_model.specs.declared.input.Input.TheVariants.{Next}
 use Rattle.session_model.proofs.Courses.{course-event, course-fed, course-empty}
