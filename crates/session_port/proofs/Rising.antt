@@ -16,6 +16,7 @@ use Rattle.session_port.specs.Honest.{IsHonestMessage, AreHonest}
 use Rattle.session_port.specs.Jobs.{Jobs, after_message, after_batch}
 use Rattle.session_port.specs.Record.{AreRising, last_number, with_jobs}
 use Rattle.session_port.specs.Results.{Finishes}
+use Rattle.session_port.specs.Runs.{AreUncancelled}
 use Rattle.session_port.specs.declared.event.TaskMsg.{TaskMsg}
 use Rattle.session_port.specs.declared.job.Job.{Job}
 
@@ -159,11 +160,18 @@ module _ (answer : SnapshotData → Ask → Finding) where
   finish_push (first ∷ jobs) [] job message finish last = absurd finish
   finish_push (first ∷ jobs) (done ∷ batch) job message finish last = (finish.0, finish_push jobs batch job message finish.1 last)
 
+  all_uncancelled : (jobs : List Job) (batch : List TaskMsg) → AllZip (Finishes answer) jobs batch → AreUncancelled batch
+  all_uncancelled [] [] finish = tt
+  all_uncancelled [] (message ∷ batch) finish = absurd finish
+  all_uncancelled (job ∷ jobs) [] finish = absurd finish
+  all_uncancelled (job ∷ jobs) (message ∷ batch) finish = (finish.0.uncancelled, all_uncancelled jobs batch finish.1)
+
   -- what a batch of all the results is
   pub record AreAllResults (out : Jobs) (batch : List TaskMsg) : Type 0 where
     pub honest : AreHonest answer out batch
     pub all : after_batch batch out ≡ map.empty
     pub numbers : map (λ message. message.job) batch ≡ map.keys out
+    pub uncancelled : AreUncancelled batch
 
   pub all_results : (jobs : List Job) (out : Jobs) (done batch : List TaskMsg) → with_jobs jobs map.empty ≡ out → batch ≡ done → AreRising 0 jobs
       → AllZip (Finishes answer) jobs done → AreAllResults out batch
@@ -172,6 +180,7 @@ module _ (answer : SnapshotData → Ask → Finding) where
         honest = are_honest 0 jobs done rising finish;
         all = all_finished 0 jobs done rising finish;
         numbers = by_number jobs done rising finish;
+        uncancelled = all_uncancelled jobs done finish;
       } in
       let at_out : AreAllResults out done = subst (λ o. AreAllResults o done) is whole in
       subst (λ messages. AreAllResults out messages) (sym same) at_out

@@ -8,6 +8,7 @@ use Rattle.session_port.specs.Framed.{FramedData, EndsPiece}
 use Rattle.session_port.specs.Honest.{AreHonest}
 use Rattle.session_port.specs.Inline.{IsDry}
 use Rattle.session_port.specs.Jobs.{Jobs, after_batch}
+use Rattle.session_port.specs.Runs.{AreUncancelled}
 use Rattle.session_port.specs.Results.{JobsData}
 use Rattle.session_port.specs.declared.event.HostEvent.{HostEvent}
 use Rattle.session_port.specs.declared.event.HostEvent.TheVariants.{Bytes, Ended, Tasks}
@@ -27,12 +28,13 @@ pub record ComesAsEnd (out : Jobs) (source : FramedData) : Type 0 where
   pub none : source.held ≡ []
   pub dry : IsDry source.left
 
--- some job is out, and these are the results of all that are
+-- some job is out, and these are the results of all that are, and nothing stopped any
 pub record ComesAsResults (answer : SnapshotData → Ask → Finding) (out : Jobs) (batch : List TaskMsg) : Type 0 where
   pub busy : out ≢ map.empty
   pub honest : AreHonest answer out batch
   pub all : after_batch batch out ≡ map.empty
   pub numbers : map (λ message. message.job) batch ≡ map.keys out
+  pub uncancelled : AreUncancelled batch
 
 abbrev pub Comes : (SnapshotData → Ask → Finding) → Jobs → FramedData → HostEvent → Type 0
 Comes answer out source (Bytes piece) = ComesAsBytes out source piece

@@ -6,6 +6,7 @@ use Rattle.lsp_frame.specs.declared.frame.Cut.{Cut}
 use Rattle.lsp_frame.specs.declared.frame.Cut.TheVariants.{NeedMore, Bad, Frame}
 use Rattle.session_port.specs.Jobs.{Jobs}
 use Rattle.session_port.specs.Record.{before_piece}
+use Rattle.session_port.specs.Runs.{AreUncancelled}
 use Rattle.session_port.specs.declared.command.Command.{Command}
 use Rattle.session_port.specs.declared.event.HostEvent.{HostEvent}
 use Rattle.session_port.specs.declared.event.HostEvent.TheVariants.{Bytes, Ended, Tasks}
@@ -60,10 +61,11 @@ pub record GivesBytes (old new : InlineData) (piece : List ℕ) : Type 0 where
   pub parted : old.waiting ≡ before_piece piece new.waiting
   pub next : IsNextPiece piece old.waiting
 
--- where jobs are out, one batch has the results of all of them, by number
+-- where jobs are out, one batch has the results of all of them, by number, and nothing stopped any
 pub record GivesResults (old new : InlineData) (batch : List TaskMsg) : Type 0 where
   pub busy : old.out ≢ map.empty
   pub numbers : map (λ message. message.job) batch ≡ map.keys old.out
+  pub uncancelled : AreUncancelled batch
   pub idle : new.out ≡ map.empty
   pub waiting : new.waiting ≡ old.waiting
 

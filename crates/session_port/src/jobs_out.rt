@@ -6,11 +6,12 @@ ghost use Rattle.session_port.specs.Honest.{AreHonest};
 ghost use Rattle.session_port.specs.Jobs.{after_batch};
 ghost use Rattle.session_port.specs.Record.{AreRising, after_order, last_number, spawned};
 ghost use Rattle.session_port.specs.Results.{Finishes};
+ghost use Rattle.session_port.specs.Runs.{AreUncancelled};
 
 use crate::command::Command;
 use crate::event::{TaskBody, TaskMsg};
 use crate::job::Job;
-use crate::run_job::result_of;
+use crate::runs::result_of;
 use analysis_host::Analysis;
 use plain::Items;
 use std::alloc::{AllocError, Global};
@@ -121,6 +122,7 @@ impl JobsOut {
         ensures all { IfOk result (λ batch. after_batch batch self.now.out ≡ map.empty) }
         ensures numbers { IfOk result (λ batch.
             map (λ message. message.job) batch ≡ map.keys self.now.out) }
+        ensures uncancelled { IfOk result AreUncancelled }
     {
         Ok(Items::from_vec(results_of(alloc, &self.jobs, analysis)?))
     }

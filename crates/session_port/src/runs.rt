@@ -1,0 +1,65 @@
+// What a job comes to.
+ghost use Rattle.std.specs.Prelude.{◌≡◌, ◌≤◌, ◌<◌, true, None, Some, IfOk};
+ghost use Rattle.analysis_host.specs.Polls.{HasPolled};
+ghost use Rattle.session_port.specs.Jobs.{plain_result};
+ghost use Rattle.session_port.specs.Honest.{IsResultOf};
+ghost use Rattle.session_port.specs.Runs.{IfCancelled, IsUncancelled, UnlessNoMemory};
+
+use crate::job::{Job, JobResult, JobValue};
+use analysis_host::{Analysis, Answer, Cancel, Never, Outcome};
+use std::alloc::AllocError;
+
+/// Runs a job: its result on its snapshot, unless a poll says that it is out of date.
+pub fn run_job<A: Analysis, C: Cancel>(job: &Job, analysis: &A, cancel: &mut C) -> JobResult
+    requires floor { job.now.snapshot.revision ≤ C.floor cancel.old }
+    requires fresh { C.held cancel.old ≡ None }
+
+    // The value or the fault of its question; cancelled only with the number that a poll of this call gave.
+    ensures is { IsResultOf A.answer job.now result }
+    ensures held { IfCancelled result (λ saw. C.held cancel.new ≡ Some saw) }
+    ensures above { IfCancelled result (λ saw. C.floor cancel.old < saw) }
+    ensures plain { plain_result result ≡ true }
+
+    ensures polled { UnlessNoMemory result (HasPolled (C.polls cancel.old) (C.polls cancel.new)) }
+    ensures key { C.key cancel.new ≡ C.key cancel.old }
+    ensures floor_stays { C.floor cancel.new ≡ C.floor cancel.old }
+{
+    match query(job, analysis, cancel) {
+        Ok(result) => result,
+        Err(AllocError) => JobResult::NoMemory,
+    }
+}
+
+/// The result of a job that nothing cancels.
+pub(crate) fn result_of<A: Analysis>(job: &Job, analysis: &A) -> JobResult
+    ensures is { IsResultOf A.answer job.now result }
+    ensures uncancelled { IsUncancelled result }
+    ensures plain { plain_result result ≡ true }
+{
+    // A revision fits 64 bits.
+    let _revision = job.snapshot.revision();
+    run_job(job, analysis, &mut Never::new())
+}
+
+fn query<A: Analysis, C: Cancel>(
+    job: &Job,
+    analysis: &A,
+    cancel: &mut C,
+) -> Result<JobResult, AllocError>
+    requires floor { job.now.snapshot.revision ≤ C.floor cancel.old }
+    requires fresh { C.held cancel.old ≡ None }
+    ensures is { IfOk result (IsResultOf A.answer job.now) }
+    ensures held { IfOk result (λ r. IfCancelled r (λ saw. C.held cancel.new ≡ Some saw)) }
+    ensures above { IfOk result (λ r. IfCancelled r (λ saw. C.floor cancel.old < saw)) }
+    ensures plain { IfOk result (λ r. plain_result r ≡ true) }
+    ensures polled { IfOk result (λ _. HasPolled (C.polls cancel.old) (C.polls cancel.new)) }
+    ensures key { C.key cancel.new ≡ C.key cancel.old }
+    ensures floor_stays { C.floor cancel.new ≡ C.floor cancel.old }
+{
+    let ask = job.kind.ask()?;
+    match analysis.query(&job.snapshot, &ask, cancel)? {
+        Outcome::Value(Answer::Json(value)) => Ok(JobResult::Value(JobValue::Json(value))),
+        Outcome::Fault { code, message } => Ok(JobResult::Fault { code, message }),
+        Outcome::Cancelled { saw } => Ok(JobResult::Cancelled { saw }),
+    }
+}
