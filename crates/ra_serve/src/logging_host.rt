@@ -28,6 +28,7 @@ fn words_of(code: LogCode) -> &'static str {
         LogCode::UnknownRequest => "request of an unknown method",
         LogCode::UnknownResponse => "response to no request",
         LogCode::DuplicateOpen => "document opened twice",
+        LogCode::UnexpectedChange => "change of a document that is not open",
         LogCode::BadPath => "URL of no file",
         LogCode::StrangeResult => "result that fits no job",
     }

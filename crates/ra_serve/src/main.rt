@@ -3,6 +3,8 @@
 
 mod command_line;
 mod logging_host;
+#[cfg(test)]
+mod scripts;
 mod standard_input;
 mod standard_output;
 #[cfg(test)]

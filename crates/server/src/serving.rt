@@ -2,7 +2,8 @@
 ghost use Rattle.std.specs.Prelude.{◌≡◌, IfOk, true, false, ◌↔◌};
 ghost use Rattle.std.specs.FinMap as map;
 ghost use Rattle.session_port.specs.Record.{Rose};
-ghost use Rattle.session_model.specs.Run.{meaning_of, told_of};
+ghost use Rattle.session_model.specs.Meaning.{meaning_of};
+ghost use Rattle.session_model.specs.Run.{told_of};
 ghost use Rattle.server.specs.Serving.{is_session, session_config, Serves, RanSession};
 ghost use Rattle.server.specs.Status.{status_of, bad_words};
 
@@ -46,7 +47,7 @@ fn run_session<H: Host<A>, S: Sink, A: Analysis>(
 ) -> Result<(), SessionError>
     requires idle { H.out host.old ≡ map.empty }
     requires unused { H.handed host.old ≡ 0 }
-    ensures run { RanSession (meaning_of A.decodes A.answer) (told_of (H.given host.old) (H.taken host.old) (S.turns sink.old)) (told_of (H.given host.new) (H.taken host.new) (S.turns sink.new)) (H.honest host.old) (status_of result) }
+    ensures run { RanSession (meaning_of A.decodes A.answer) (told_of (H.given host.old) (H.taken host.old) (S.turns sink.old)) (told_of (H.given host.new) (H.taken host.new) (S.turns sink.new)) (H.honest host.old) (Rose (H.faults host.old) (H.faults host.new)) (Rose (S.faults sink.old) (S.faults sink.new)) (status_of result) }
     ensures host_fault { result ≡ Err SessionError.HostFault → Rose (H.faults host.old) (H.faults host.new) }
     ensures write_fault { result ≡ Err SessionError.WriteFault → Rose (S.faults sink.old) (S.faults sink.new) }
 {
@@ -68,7 +69,7 @@ pub fn serve<H: Host<A>, S: Sink, A: Analysis>(
     requires unused { H.handed host.old ≡ 0 }
 
     // One session, with all that is promised of a session; or the words are none that are known, and nothing is read or written.
-    ensures serves { Serves (is_session words.now) (meaning_of A.decodes A.answer) (told_of (H.given host.old) (H.taken host.old) (S.turns sink.old)) (told_of (H.given host.new) (H.taken host.new) (S.turns sink.new)) (H.honest host.old) result }
+    ensures serves { Serves (is_session words.now) (meaning_of A.decodes A.answer) (told_of (H.given host.old) (H.taken host.old) (S.turns sink.old)) (told_of (H.given host.new) (H.taken host.new) (S.turns sink.new)) (H.honest host.old) (Rose (H.faults host.old) (H.faults host.new)) (Rose (S.faults sink.old) (S.faults sink.new)) result }
 
     // The status 2 comes exactly where the words are none that are known.
     ensures words { (result ≡ bad_words) ↔ (is_session words.now ≡ false) }
