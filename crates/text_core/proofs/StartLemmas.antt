@@ -1,14 +1,19 @@
 -- The list of line starts holds where each line begins.
 use Rattle.std.proofs.Common.{◌≡◌, ℕ, zero, suc, ◌+◌, ◌-◌, ◌<◌, ◌≤◌, Bool, true, false, cond, List, [], ◌∷◌, length, take, drop, map, ◌++◌, get_or, Option, Some, None, refl, ap, sym, ◌∙◌, arith, inl, inr, ⊎_elim}
-use Rattle.std.specs.Prelude.{slice_get, slice_index, All}
+use Rattle.std.specs.Prelude.{count_by, slice_get, slice_index, All}
 use Rattle.std.specs.Option.{option_map}
 use Rattle.std.proofs.lemmas.Bool.{cases_Bool, cond-true, cond-false}
 use Rattle.std.proofs.lemmas.List.{at_drop_more, drop_all}
+use Rattle.std.proofs.lemmas.List.Recursion.{is_count_by}
+use Rattle.std.proofs.lemmas.Option.{slice_get_cases}
 use Rattle.std.proofs.lemmas.List.Elements.{All-nil, All-cons, All-same}
 use Rattle.memchr.specs.Find.{places, places_from, is_byte}
-use Rattle.text_core.specs.Positions.{ends_line, line_start}
+use Rattle.text_core.specs.Positions.{ends_line, line_start, line_end, line_span}
 use Rattle.text_core.specs.Starts.{line_starts}
 use Rattle.text_core.proofs.LineLemmas.{further, further-zero}
+
+none_some : {A : Type 0} (x : A) → None ≡ Some x → ⊥
+none_some x p = cc
 
 -- the places after each LF, by a walk over the text
 abbrev marks : ℕ → List ℕ → List ℕ
@@ -66,15 +71,61 @@ places_within text i (suc n) h =
 pub line_places_within : (text : List ℕ) → All (λ k. k < length text) (places (is_byte 10) text)
 line_places_within text = places_within text 0 (length text - 0) (omega arith)
 
+lf_count : List ℕ → ℕ
+lf_count [] = 0
+lf_count (b ∷ rest) = cond (ends_line b) (1 + lf_count rest) (lf_count rest)
+
+length_marks : (text : List ℕ) (at : ℕ) → length (marks at text) ≡ lf_count text
+unfolding lf_count
+length_marks [] at = refl
+length_marks (b ∷ rest) at = ⊎_elim
+    (λ t. ap length (cond-true _ _ _ t) ∙ omega (arith, length_marks rest (at + 1)) ∙ sym (cond-true _ _ _ t))
+    (λ f. ap length (cond-false _ _ _ f) ∙ length_marks rest (at + 1) ∙ sym (cond-false _ _ _ f))
+    (cases_Bool (ends_line b))
+
+lf_count_by : (text : List ℕ) → lf_count text ≡ count_by ends_line text
+unfolding lf_count
+lf_count_by text = is_count_by lf_count ends_line refl (λ x xs. refl) text
+
+-- as many lines as LF, and one
+pub length-line_starts : (text : List ℕ) → length (line_starts text) ≡ count_by ends_line text + 1
+unfolding line_starts
+length-line_starts text =
+    let all : length text - 0 ≡ length text = omega arith in
+    let places = ap (λ n. length (map (λ n. n + 1) (places_from (is_byte 10) text 0 n))) all ∙ ap length (marks_places text 0 (length text) (omega arith)) in
+    let count : length (map (λ n. n + 1) (places_from (is_byte 10) text 0 (length text - 0))) ≡ count_by ends_line text = places ∙ length_marks text 0 ∙ lf_count_by text in
+    omega (arith, count)
+
+-- a right list knows all lines
+pub starts-know : (starts text : List ℕ) → starts ≡ line_starts text → (line : ℕ) → slice_get starts line ≡ line_start line text
+starts-know starts text h line = ap (λ l. slice_get l line) h ∙ get_starts text line
+
+-- a line begins exactly where as many LF stand before it
+pub line-past : (line : ℕ) (text : List ℕ) → line_span line text ≡ None → count_by ends_line text < line
+line-past line text h = ⊎_elim
+    (λ here.
+    let some : line_span line text ≡ Some (here.0, line_end line text) = ap (option_map (λ n. (n, line_end line text))) (sym (get_starts text line) ∙ here.2) in
+    absurd (none_some _ (sym h ∙ some)))
+    (λ past. omega (arith, past.0, length-line_starts text))
+    (slice_get_cases (line_starts text) line).1
+
+pub line-within : (line : ℕ) (text : List ℕ) (start stop : ℕ) → line_span line text ≡ Some (start, stop) → line ≤ count_by ends_line text
+line-within line text start stop h = ⊎_elim
+    (λ here. omega (arith, here.1, length-line_starts text))
+    (λ past.
+    let none : line_span line text ≡ None = ap (option_map (λ n. (n, line_end line text))) (sym (get_starts text line) ∙ past.1) in
+    absurd (none_some _ (sym none ∙ h)))
+    (slice_get_cases (line_starts text) line).1
+
 -- the start of the first line, and of the lines after the places of LF
 pub starts_are : (text : List ℕ) → 0 ∷ map (λ n. n + 1) (places (is_byte 10) text) ≡ line_starts text
 unfolding line_starts
 starts_are text = refl
 
-some_inj : (x y : ℕ) → Some x ≡ Some y → x ≡ y
+pub some_inj : (x y : ℕ) → Some x ≡ Some y → x ≡ y
 some_inj x y p = cc
 
-further_some : (i : ℕ) (o : Option ℕ) (k : ℕ) → further i o ≡ Some k → (j : ℕ) × (o ≡ Some j) × (i + j ≡ k)
+pub further_some : (i : ℕ) (o : Option ℕ) (k : ℕ) → further i o ≡ Some k → (j : ℕ) × (o ≡ Some j) × (i + j ≡ k)
 further_some i None k h = cc
 further_some i (Some j) k h = (j, refl, some_inj _ _ h)
 

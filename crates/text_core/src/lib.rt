@@ -2,8 +2,14 @@
 //! changes, line endings, and the test that edits don't overlap.
 #![tactic(auto)]
 
+mod line_endings;
 mod offsets;
 mod position;
 mod starts;
+mod steps;
+mod text_index;
 
+pub use line_endings::LineEndings;
 pub use position::{OffsetFault, Position, PositionEncoding, Range, WideEncoding};
+pub use steps::Steps;
+pub use text_index::{LineIndex, TextIndex, offset, text_range};
