@@ -1,3 +1,4 @@
+pub mod KeptLemmas
 pub mod LineLemmas
 pub mod PlaceLemmas
 pub mod StartLemmas

@@ -1,2 +1,5 @@
 pub mod Positions
 pub mod Starts
+pub mod Changes
+pub mod Rebuilds
+pub mod Kept

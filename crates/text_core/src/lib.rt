@@ -2,6 +2,8 @@
 //! changes, line endings, and the test that edits don't overlap.
 #![tactic(auto)]
 
+mod change;
+mod draft;
 mod line_endings;
 mod offsets;
 mod position;
@@ -9,6 +11,7 @@ mod starts;
 mod steps;
 mod text_index;
 
+pub use change::{ContentChange, TextEdit};
 pub use line_endings::LineEndings;
 pub use position::{OffsetFault, Position, PositionEncoding, Range, WideEncoding};
 pub use steps::Steps;
