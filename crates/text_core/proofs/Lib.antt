@@ -1,3 +1,4 @@
+pub mod FoldLemmas
 pub mod KeptLemmas
 pub mod LineLemmas
 pub mod PlaceLemmas

@@ -3,3 +3,4 @@ pub mod Starts
 pub mod Changes
 pub mod Rebuilds
 pub mod Kept
+pub mod Whole

@@ -4,6 +4,7 @@
 
 mod change;
 mod draft;
+mod editing;
 mod line_endings;
 mod offsets;
 mod position;
@@ -12,6 +13,7 @@ mod steps;
 mod text_index;
 
 pub use change::{ContentChange, TextEdit};
+pub use editing::{apply_document_changes, apply_with_limit};
 pub use line_endings::LineEndings;
 pub use position::{OffsetFault, Position, PositionEncoding, Range, WideEncoding};
 pub use steps::Steps;
