@@ -1,5 +1,6 @@
 pub mod FoldLemmas
 pub mod KeptLemmas
+pub mod LineEndLemmas
 pub mod LineLemmas
 pub mod PlaceLemmas
 pub mod StartLemmas

@@ -15,7 +15,7 @@ use Rattle.text_core.specs.Positions.{ends_line, line_start, line_end, line_span
 use Rattle.text_core.proofs.LineLemmas.{further}
 use Rattle.text_core.proofs.StartLemmas.{further_some, some_inj, line_start-within, line_start-next}
 
-option_cases : (o : Option ℕ) → ((n : ℕ) × (o ≡ Some n)) ⊎ (o ≡ None)
+pub option_cases : (o : Option ℕ) → ((n : ℕ) × (o ≡ Some n)) ⊎ (o ≡ None)
 option_cases None = inr refl
 option_cases (Some n) = inl (n, refl)
 

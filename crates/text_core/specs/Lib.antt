@@ -4,3 +4,4 @@ pub mod Changes
 pub mod Rebuilds
 pub mod Kept
 pub mod Whole
+pub mod LineEnds
