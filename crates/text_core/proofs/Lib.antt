@@ -1,3 +1,5 @@
+pub mod EditLemmas
+pub mod EveryTwo
 pub mod FoldLemmas
 pub mod KeptLemmas
 pub mod LineEndLemmas

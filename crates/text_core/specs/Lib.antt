@@ -5,3 +5,4 @@ pub mod Rebuilds
 pub mod Kept
 pub mod Whole
 pub mod LineEnds
+pub mod Edits

@@ -15,3 +15,15 @@ pub struct ContentChange {
     pub range: Option<Range>,
     pub text: Text,
 }
+
+/// What a completion puts into the text.
+#[derive(Clone, Copy, Debug, PartialEq, Eq)]
+pub enum CompletionEdit {
+    None,
+    Edit(Range),
+    /// One range where the text is inserted, and one where it replaces what stands there.
+    InsertAndReplace {
+        insert: Range,
+        replace: Range,
+    },
+}

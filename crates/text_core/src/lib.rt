@@ -3,6 +3,7 @@
 #![tactic(auto)]
 
 mod change;
+mod disjoint;
 mod draft;
 mod editing;
 mod line_endings;
@@ -12,7 +13,8 @@ mod starts;
 mod steps;
 mod text_index;
 
-pub use change::{ContentChange, TextEdit};
+pub use change::{CompletionEdit, ContentChange, TextEdit};
+pub use disjoint::all_edits_are_disjoint;
 pub use editing::{apply_document_changes, apply_with_limit};
 pub use line_endings::LineEndings;
 pub use position::{OffsetFault, Position, PositionEncoding, Range, WideEncoding};
