@@ -6,3 +6,4 @@ pub mod Kept
 pub mod Whole
 pub mod LineEnds
 pub mod Edits
+pub mod Hashed

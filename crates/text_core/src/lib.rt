@@ -3,6 +3,8 @@
 #![tactic(auto)]
 
 mod change;
+mod completion;
+mod completion_hash;
 mod disjoint;
 mod draft;
 mod editing;
@@ -14,6 +16,10 @@ mod steps;
 mod text_index;
 
 pub use change::{CompletionEdit, ContentChange, TextEdit};
+pub use completion::{
+    HashedItem, PostfixMatch, RefMode, Relevance, ReturnType, TypeMatch,
+};
+pub use completion_hash::completion_item_hash;
 pub use disjoint::all_edits_are_disjoint;
 pub use editing::{apply_document_changes, apply_with_limit};
 pub use line_endings::LineEndings;
