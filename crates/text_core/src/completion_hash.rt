@@ -1,7 +1,8 @@
 // The hash of a completion item.
-ghost use Rattle.std.specs.Prelude.{◌≡◌, ◌++◌, [], ◌∷◌, ℕ, List, length};
+ghost use Rattle.std.specs.Prelude.{◌≡◌, ◌++◌, [], ◌∷◌, ℕ, Bool, List, length};
 ghost use Rattle.sha1.specs.Sha1.{sha1, Holds};
-ghost use Rattle.text_core.specs.Hashed.{flag, text_bytes, optional, type_match, postfix_match, return_type, ref_mode, trait_bytes, function_bytes, ref_bytes, truth_bytes, relevance_bytes, texts_bytes, head_bytes, name_bytes, item_bytes};
+ghost use Rattle.text_core.specs.Hashed.{flag, text_bytes, optional, type_match, postfix_match, return_type, ref_mode, trait_bytes, function_bytes, ref_bytes, truth_bytes, relevance_bytes, texts_bytes, head_bytes, name_bytes, item_bytes, IsShort};
+ghost use Rattle.text_core.specs.declared.completion.HashedItem.{HashedItem};
 
 use crate::completion::{HashedItem, PostfixMatch, RefMode, Relevance, ReturnType, TypeMatch};
 use plain::{Items, Text};
@@ -181,3 +182,9 @@ pub fn completion_item_hash(item: &HashedItem, is_ref_completion: bool) -> [u8; 
     feed_texts(&mut hasher, &item.import_to_add);
     hasher.finalize()
 }
+
+/// Items whose bytes are equal are equal, and so are their flags.
+pub fn equal_bytes_are_equal_items()
+    ensures { (a b : HashedItem) (r s : Bool) → IsShort a → IsShort b
+        → item_bytes r a ≡ item_bytes s b → (a ≡ b) × (r ≡ s) }
+{}
