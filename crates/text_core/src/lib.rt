@@ -13,6 +13,8 @@ mod offsets;
 mod position;
 mod starts;
 mod steps;
+#[cfg(test)]
+mod tests;
 mod text_index;
 
 pub use change::{CompletionEdit, ContentChange, TextEdit};
