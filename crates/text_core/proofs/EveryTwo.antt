@@ -144,6 +144,7 @@ apart-permutation xs ys same pairs = pairs_from ys (IsPermutation-keeps xs Both 
 -- the chain test of ranges that aren't reversed says whether they stand apart by twos
 pub chain_tells : (ranges : List Range) (answer : Bool) → ChainTells ranges answer → All IsForward ranges → (answer ≡ true → AllPairs AreApart ranges) × (AllPairs AreApart ranges → answer ≡ true)
 chain_tells ranges answer tells forward =
-    let ahead = All-permutation IsForward ranges tells.sorted tells.same forward in
-    (λ yes_answer. apart-permutation tells.sorted ranges (IsPermutation-sym ranges tells.sorted tells.same) (chain_apart tells.sorted ahead (sym tells.chain ∙ yes_answer)),
-    λ apart. tells.chain ∙ apart_chain tells.sorted tells.rises ahead (apart-permutation ranges tells.sorted tells.same apart))
+    let ahead = All-permutation IsForward ranges tells.sorted tells.same forward in (
+      λ yes_answer. apart-permutation tells.sorted ranges (IsPermutation-sym ranges tells.sorted tells.same) (chain_apart tells.sorted ahead (sym tells.chain ∙ yes_answer)),
+      λ apart. tells.chain ∙ apart_chain tells.sorted tells.rises ahead (apart-permutation ranges tells.sorted tells.same apart),
+    )

@@ -82,6 +82,6 @@ kept_edit e limit text starts new least range from to kept before places within 
     record {
       fits = fits;
       knows = λ line low.
-      kept-knows limit text starts least range kept before line (omega arith)
-      ∙ sym (edit_keeps text new line range.start.line from to begins.0 low begins.1 begins.2 within);
+          kept-knows limit text starts least range kept before line (omega arith)
+          ∙ sym (edit_keeps text new line range.start.line from to begins.0 low begins.1 begins.2 within);
     }

@@ -145,8 +145,8 @@ at_cr xs from gap first =
       within = within;
       cr = grind (arith, nat_tests, sym (get_or-drop from xs gap 0), first.1);
       skips =
-        crlf_skip (drop from xs) gap (omega (arith, first.0.high)) (λ j lt. not_cr _ (first.0.before j (omega arith) lt))
-        ∙ ap (λ l. further gap (crlf_place l)) (drop-drop gap from xs);
+          crlf_skip (drop from xs) gap (omega (arith, first.0.high)) (λ j lt. not_cr _ (first.0.before j (omega arith) lt))
+          ∙ ap (λ l. further gap (crlf_place l)) (drop-drop gap from xs);
     }
 
 pub no_cr : (xs : List ℕ) → IsFirstByte (is_byte 13) xs None → crlf_place xs ≡ None
@@ -171,9 +171,10 @@ place_on xs from gap so_far first other =
     let pass : crlf_place (drop (from + gap) xs) ≡ further 1 rest = ⊎_elim
     (λ end. crlf_end xs (from + gap) cr.within end)
     (λ no. crlf_other xs (from + gap) no.0 no.1)
-    other in
-    (omega (arith, cr.within),
-    so_far ∙ ap (further from) (cr.skips ∙ ap (further gap) pass) ∙ further_sum from gap (further 1 rest) ∙ further_sum (from + gap) 1 rest)
+    other in (
+      omega (arith, cr.within),
+      so_far ∙ ap (further from) (cr.skips ∙ ap (further gap) pass) ∙ further_sum from gap (further 1 rest) ∙ further_sum (from + gap) 1 rest,
+    )
 
 -- a step that moves the bytes before a CR LF down
 pub moved_on : (old bytes new : List ℕ) (read write gap : ℕ) → drop read bytes ≡ drop read old → crlf_place (drop read bytes) ≡ Some gap

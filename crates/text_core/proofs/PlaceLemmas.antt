@@ -129,12 +129,12 @@ place-split e text line column start stop past utf8 span h =
     length-take (stop - start) (drop start text) ∙ omega (arith, length-drop start text, parts.1, bounds.0, bounds.1) in
     elim (cases_lt (start + past) stop) [
       | inl before ↦ (
-          omega (arith, whole.0, parts.1, bounds.0, bounds.1),
-          λ within low.
-          let here : get_or (slice_range text start stop) past 0 ≡ slice_index text (start + past) =
-          get_or-take (stop - start) (drop start text) past 0 (omega arith) ∙ get_or-drop start text past 0 in
-          first_byte (slice_index text (start + past)) (ap is_inside (sym here) ∙ whole.1 (omega arith)) low,
-        )
+        omega (arith, whole.0, parts.1, bounds.0, bounds.1),
+        λ within low.
+            let here : get_or (slice_range text start stop) past 0 ≡ slice_index text (start + past) =
+            get_or-take (stop - start) (drop start text) past 0 (omega arith) ∙ get_or-drop start text past 0 in
+            first_byte (slice_index text (start + past)) (ap is_inside (sym here) ∙ whole.1 (omega arith)) low,
+      )
       | inr end ↦
           let place : line_end line text ≡ start + past = omega (arith, whole.0, parts.1, bounds.0, bounds.1) in
           subst (IsCharBoundary text) place (line_end-split line text utf8)

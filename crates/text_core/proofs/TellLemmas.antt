@@ -25,9 +25,9 @@ record Tells (xs ys : List ℕ) (P : Type 0) : Type 0 where
 tells_both : {P Q : Type 0} (xs xs' ys ys' : List ℕ) → Tells xs ys P → Tells xs' ys' Q → Tells (xs ++ xs') (ys ++ ys') (P × Q)
 tells_both xs xs' ys ys' first second = record {
   at = λ u v same.
-  let here = first.at (xs' ++ u) (ys' ++ v) (sym (append_assoc xs xs' u) ∙ same ∙ append_assoc ys ys' v) in
-  let rest = second.at u v here.1 in
-  ((here.0, rest.0), rest.1);
+      let here = first.at (xs' ++ u) (ys' ++ v) (sym (append_assoc xs xs' u) ∙ same ∙ append_assoc ys ys' v) in
+      let rest = second.at u v here.1 in
+      ((here.0, rest.0), rest.1);
 }
 
 tells_same : (xs ys : List ℕ) → length xs ≡ length ys → Tells xs ys (xs ≡ ys)
@@ -75,9 +75,9 @@ place_tells m n hm hn =
 text_tells : (s t : List ℕ) → IsShortText s → IsShortText t → Tells (text_bytes s) (text_bytes t) (s ≡ t)
 text_tells s t hs ht = record {
   at = λ u v same.
-  let count = (count_tells (length s) (length t) hs ht).at (s ++ u) (t ++ v)
-  (sym (append_assoc (to_le_bytes w64 (length s)) s u) ∙ same ∙ append_assoc (to_le_bytes w64 (length t)) t v) in
-  (tells_same s t count.0).at u v count.1;
+      let count = (count_tells (length s) (length t) hs ht).at (s ++ u) (t ++ v)
+      (sym (append_assoc (to_le_bytes w64 (length s)) s u) ∙ same ∙ append_assoc (to_le_bytes w64 (length t)) t v) in
+      (tells_same s t count.0).at u v count.1;
 }
 
 zero≢one : ◌≡◌ {A = ℕ} 0 1 → ⊥
@@ -203,9 +203,9 @@ texts_tell : (ss ts : List (List ℕ)) → length ss < 2 ^ 64 → length ts < 2 
     → Tells (texts_bytes ss) (texts_bytes ts) (ss ≡ ts)
 texts_tell ss ts cs ct hs ht = record {
   at = λ u v same.
-  let count = (count_tells (length ss) (length ts) cs ct).at (concat (map text_bytes ss) ++ u) (concat (map text_bytes ts) ++ v)
-  (sym (append_assoc (to_le_bytes w64 (length ss)) (concat (map text_bytes ss)) u) ∙ same ∙ append_assoc (to_le_bytes w64 (length ts)) (concat (map text_bytes ts)) v) in
-  (list_tells ss ts count.0 hs ht).at u v count.1;
+      let count = (count_tells (length ss) (length ts) cs ct).at (concat (map text_bytes ss) ++ u) (concat (map text_bytes ts) ++ v)
+      (sym (append_assoc (to_le_bytes w64 (length ss)) (concat (map text_bytes ss)) u) ∙ same ∙ append_assoc (to_le_bytes w64 (length ts)) (concat (map text_bytes ts)) v) in
+      (list_tells ss ts count.0 hs ht).at u v count.1;
 }
 
 head_tells : (r s : Bool) (a b : HashedItem) → Tells (head_bytes r a) (head_bytes s b)
@@ -238,18 +238,20 @@ same_item a b r s ha hb same =
     (optional_tells ref_bytes (λ t. t.1 < 2 ^ 32) ref_tells a.ref_match b.ref_match ha.place hb.place) in
     let all = tells_both _ (texts_bytes a.import_to_add) _ (texts_bytes b.import_to_add) to_ref
     (texts_tell a.import_to_add b.import_to_add ha.count hb.count ha.imports hb.imports) in
-    let facts = (all.at [] [] (ap (λ l. l ++ []) same)).0 in
-    (λ i. record {
-      is_snippet = facts.0.0.0.0.0.0.1 i;
-      deprecated = facts.0.0.0.0.0.1 i;
-      trigger_call_info = facts.0.0.0.0.1 i;
-      label = facts.0.0.0.1.0.0.0.0.0 i;
-      detail_left = facts.0.0.0.1.0.0.0.0.1 i;
-      detail_right = facts.0.0.0.1.0.0.0.1 i;
-      kind_tag = facts.0.0.0.1.0.0.1 i;
-      lookup = facts.0.0.0.1.0.1 i;
-      detail = facts.0.0.0.1.1 i;
-      relevance = facts.0.0.1 i;
-      ref_match = facts.0.1 i;
-      import_to_add = facts.1 i;
-    }, facts.0.0.0.0.0.0.0)
+    let facts = (all.at [] [] (ap (λ l. l ++ []) same)).0 in (
+      λ i. record {
+        is_snippet = facts.0.0.0.0.0.0.1 i;
+        deprecated = facts.0.0.0.0.0.1 i;
+        trigger_call_info = facts.0.0.0.0.1 i;
+        label = facts.0.0.0.1.0.0.0.0.0 i;
+        detail_left = facts.0.0.0.1.0.0.0.0.1 i;
+        detail_right = facts.0.0.0.1.0.0.0.1 i;
+        kind_tag = facts.0.0.0.1.0.0.1 i;
+        lookup = facts.0.0.0.1.0.1 i;
+        detail = facts.0.0.0.1.1 i;
+        relevance = facts.0.0.1 i;
+        ref_match = facts.0.1 i;
+        import_to_add = facts.1 i;
+      },
+      facts.0.0.0.0.0.0.0,
+    )

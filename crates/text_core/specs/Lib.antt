@@ -7,3 +7,4 @@ pub mod Whole
 pub mod LineEnds
 pub mod Edits
 pub mod Hashed
+pub mod Examples

@@ -22,8 +22,5 @@ pub enum CompletionEdit {
     None,
     Edit(Range),
     /// One range where the text is inserted, and one where it replaces what stands there.
-    InsertAndReplace {
-        insert: Range,
-        replace: Range,
-    },
+    InsertAndReplace { insert: Range, replace: Range },
 }

@@ -11,6 +11,8 @@ mod editing;
 mod line_endings;
 mod offsets;
 mod position;
+#[cfg(test)]
+mod slow;
 mod starts;
 mod steps;
 #[cfg(test)]
@@ -18,9 +20,7 @@ mod tests;
 mod text_index;
 
 pub use change::{CompletionEdit, ContentChange, TextEdit};
-pub use completion::{
-    HashedItem, PostfixMatch, RefMode, Relevance, ReturnType, TypeMatch,
-};
+pub use completion::{HashedItem, PostfixMatch, RefMode, Relevance, ReturnType, TypeMatch};
 pub use completion_hash::{completion_item_hash, equal_bytes_are_equal_items};
 pub use disjoint::all_edits_are_disjoint;
 pub use editing::{apply_document_changes, apply_with_limit};

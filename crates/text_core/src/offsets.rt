@@ -44,7 +44,11 @@ fn past_units(encoding: PositionEncoding, line: &[u8], column: u32) -> Option<us
     for (i, byte) in line.iter().enumerate() {
         let units = units(encoding, *byte);
         if left < units {
-            return if left == 0 && !is_inside(*byte) { Some(i) } else { None };
+            return if left == 0 && !is_inside(*byte) {
+                Some(i)
+            } else {
+                None
+            };
         }
         left -= units;
     }

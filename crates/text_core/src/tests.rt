@@ -1,8 +1,12 @@
+ghost use Rattle.std.specs.Prelude.{◌≡◌, ◌<◌, [], ◌∷◌};
+ghost use Rattle.text_core.specs.Rebuilds.{rebuilds};
+ghost use Rattle.text_core.specs.Examples.{utf16, three_lines, at_line, with_reversed};
+
 use crate::{
     CompletionEdit, ContentChange, HashedItem, LineEndings, LineIndex, OffsetFault, Position,
-    PositionEncoding, Range, Relevance, Steps, TextEdit, TextIndex, WideEncoding,
-    all_edits_are_disjoint, apply_document_changes, apply_with_limit, completion_item_hash, offset,
-    text_range,
+    PositionEncoding, PostfixMatch, Range, RefMode, Relevance, ReturnType, Steps, TextEdit,
+    TextIndex, TypeMatch, WideEncoding, all_edits_are_disjoint, apply_document_changes,
+    apply_with_limit, completion_item_hash, offset, slow, text_range,
 };
 use plain::{Items, Text};
 use std::alloc::{AllocError, Global};
@@ -58,71 +62,83 @@ fn edited(
     if text.len() > u32::MAX as usize {
         return Err(Fail::from("too long"));
     }
-    Ok(apply_document_changes(
-        alloc,
-        encoding,
-        text,
-        edits(alloc, list)?,
-    )?)
+    Ok(apply_document_changes(alloc, encoding, text, edits(alloc, list)?)?)
+}
+
+/// Whether a text has this normal form and these endings.
+fn normalizes(alloc: Global, src: &str, text: &str, endings: LineEndings) -> Result<bool, Fail> {
+    let (found, kind) = LineEndings::normalize(Text::from_str(alloc, src)?);
+    Ok(found.is(text) && kind == endings)
 }
 
 #[test]
-fn normalized(rt: HostRuntime) -> Result<(), Fail> {
-    for (src, text, endings) in [
-        ("a\nb\nc\n\n\n\n", "a\nb\nc\n\n\n\n", LineEndings::Unix),
-        ("a\r\nb\r\nc\r\n\n\r\n\n", "a\nb\nc\n\n\n\n", LineEndings::Dos),
-        ("\r\r\n", "\r\n", LineEndings::Dos),
-        (
-            "\r\na\r\n\r\nb\r\nc\r\n\r\n\r\n\r\n",
-            "\na\n\nb\nc\n\n\n\n",
-            LineEndings::Dos,
-        ),
-        ("abc", "abc", LineEndings::Unix),
-        ("", "", LineEndings::Unix),
-        ("a\rb\r", "a\rb\r", LineEndings::Unix),
-        ("é\r\n😀\r\n", "é\n😀\n", LineEndings::Dos),
-    ] {
-        let (found, kind) = LineEndings::normalize(Text::from_str(rt.alloc(), src)?);
-        assert_eq!(rt; found.as_str(), text, "of {src:?}");
-        assert_eq!(rt; kind, endings, "of {src:?}");
+fn unix_texts(rt: HostRuntime) -> Result<(), Fail> {
+    for text in ["a\nb\nc\n\n\n\n", "abc", "", "a\rb\r"] {
+        assert!(rt;
+            normalizes(rt.alloc(), text, text, LineEndings::Unix)?,
+            "{text:?}"
+        );
     }
     Ok(())
 }
 
 #[test]
-fn edits_of_a_text(rt: HostRuntime) -> Result<(), Fail> {
-    let alloc = rt.alloc();
-    for (text, list, after) in [
-        (
-            "a\nb",
-            &[(range(0, 1, 1, 0), "\nțc"), (range(0, 1, 1, 1), "d")][..],
-            "adcb",
-        ),
-        (
-            "a\nb\nc\n",
-            &[
-                (range(1, 0, 1, 0), "xyz\n"),
-                (range(3, 0, 0, 0), "?"),
-                (range(2, 0, 2, 1), "B"),
-            ][..],
-            "a\nxyz\nB\nc\n",
-        ),
-        ("😀b", &[(range(0, 1, 0, 1), "x")][..], "😀b"),
-        ("😀b", &[(range(0, 2, 0, 2), "x")][..], "😀xb"),
-        ("ab\ncd", &[(range(0, 99, 0, 99), "X")][..], "ab\nXcd"),
-        ("ab", &[(range(1, 0, 1, 0), "X")][..], "ab"),
-        ("❤️", &[(range(0, 0, 0, 0), "a")][..], "a❤️"),
-        (
-            "a\nb",
-            &[(range(0, 1, 1, 0), "ț\nc"), (range(0, 2, 0, 2), "c")][..],
-            "ațc\ncb",
-        ),
-        ("ab", &[(range(1, 0, 0, 9), "c")][..], "ab"),
-        ("a\nb", &[(range(1, 0, 0, 9), "c")][..], "a\ncb"),
+fn dos_texts(rt: HostRuntime) -> Result<(), Fail> {
+    for (src, text) in [
+        ("a\r\nb\r\nc\r\n\n\r\n\n", "a\nb\nc\n\n\n\n"),
+        ("\r\r\n", "\r\n"),
+        ("\r\na\r\n\r\nb\r\nc\r\n\r\n\r\n\r\n", "\na\n\nb\nc\n\n\n\n"),
+        ("é\r\n😀\r\n", "é\n😀\n"),
     ] {
-        let found = edited(alloc, UTF16, text, list)?;
-        assert_eq!(rt; found.as_str(), after, "of {text:?}");
+        assert!(rt;
+            normalizes(rt.alloc(), src, text, LineEndings::Dos)?,
+            "{src:?}"
+        );
     }
+    Ok(())
+}
+
+/// Whether a text becomes another by edits.
+fn becomes(alloc: Global, text: &str, list: &[(Range, &str)], after: &str) -> Result<bool, Fail> {
+    Ok(edited(alloc, UTF16, text, list)?.is(after))
+}
+
+#[test]
+fn one_edit(rt: HostRuntime) -> Result<(), Fail> {
+    for (text, range, new, after) in [
+        ("😀b", range(0, 1, 0, 1), "x", "😀b"),
+        ("😀b", range(0, 2, 0, 2), "x", "😀xb"),
+        ("ab\ncd", range(0, 99, 0, 99), "X", "ab\nXcd"),
+        ("ab", range(1, 0, 1, 0), "X", "ab"),
+        ("❤️", range(0, 0, 0, 0), "a", "a❤️"),
+        ("ab", range(1, 0, 0, 9), "c", "ab"),
+        ("a\nb", range(1, 0, 0, 9), "c", "a\ncb"),
+    ] {
+        assert!(rt;
+            becomes(rt.alloc(), text, &[(range, new)], after)?,
+            "{text:?} {range:?}"
+        );
+    }
+    Ok(())
+}
+
+#[test]
+fn two_edits(rt: HostRuntime) -> Result<(), Fail> {
+    let first = [(range(0, 1, 1, 0), "\nțc"), (range(0, 1, 1, 1), "d")];
+    assert!(rt; becomes(rt.alloc(), "a\nb", &first, "adcb")?);
+    let second = [(range(0, 1, 1, 0), "ț\nc"), (range(0, 2, 0, 2), "c")];
+    assert!(rt; becomes(rt.alloc(), "a\nb", &second, "ațc\ncb")?);
+    Ok(())
+}
+
+#[test]
+fn an_edit_that_is_reversed_by_lines(rt: HostRuntime) -> Result<(), Fail> {
+    let list = [
+        (range(1, 0, 1, 0), "xyz\n"),
+        (range(3, 0, 0, 0), "?"),
+        (range(2, 0, 2, 1), "B"),
+    ];
+    assert!(rt; becomes(rt.alloc(), "a\nb\nc\n", &list, "a\nxyz\nB\nc\n")?);
     Ok(())
 }
 
@@ -133,74 +149,125 @@ fn kept_index(rt: HostRuntime) -> Result<(), Fail> {
     let second = (range(1, 0, 1, 0), "y");
     let third = (range(2, 0, 2, 0), "z");
     let past = (range(9, 0, 9, 0), "x");
-    for (list, after) in [
-        (&[third, second, first][..], "xa\nyb\nzc"),
-        (&[first, second, third][..], "xa\nyb\nzc"),
-        (&[first, first][..], "xxa\nb\nc"),
-        (&[past, past][..], "a\nb\nc"),
-    ] {
-        assert_eq!(rt; edited(alloc, UTF16, "a\nb\nc", list)?.as_str(), after);
-    }
+    assert!(rt; becomes(alloc, "a\nb\nc", &[third, second, first], "xa\nyb\nzc")?);
+    assert!(rt; becomes(alloc, "a\nb\nc", &[first, second, third], "xa\nyb\nzc")?);
+    assert!(rt; becomes(alloc, "a\nb\nc", &[first, first], "xxa\nb\nc")?);
+    assert!(rt; becomes(alloc, "a\nb\nc", &[past, past], "a\nb\nc")?);
+    Ok(())
+}
+
+/// What the counts of rebuilds come to, which take no bytes at run time.
+fn rebuilds_by_example()
+    ensures backward { rebuilds utf16 100 three_lines (at_line 2 ∷ at_line 1 ∷ at_line 0 ∷ []) ≡ 0 }
+    ensures forward { rebuilds utf16 100 three_lines (at_line 0 ∷ at_line 1 ∷ at_line 2 ∷ []) ≡ 2 }
+    ensures twice { rebuilds utf16 100 three_lines (at_line 0 ∷ at_line 0 ∷ []) ≡ 1 }
+    ensures past { rebuilds utf16 100 three_lines (at_line 9 ∷ at_line 9 ∷ []) ≡ 0 }
+    ensures reversed { rebuilds utf16 100 (97 ∷ 10 ∷ 98 ∷ 10 ∷ 99 ∷ 10 ∷ []) with_reversed ≡ 1 }
+{}
+
+#[test]
+fn counts_of_rebuilds() {
+    rebuilds_by_example();
+}
+
+#[test]
+fn a_whole_text(rt: HostRuntime) -> Result<(), Fail> {
+    let alloc = rt.alloc();
+    let mut changes = Items::new(alloc);
+    changes.push(edit(alloc, range(0, 0, 0, 0), "gone")?)?;
+    changes.push(whole(alloc, "the")?)?;
+    let text = apply_document_changes(alloc, UTF16, "old", changes)?;
+    assert!(rt; text.is("the"));
     Ok(())
 }
 
 #[test]
 fn one_text_after_another(rt: HostRuntime) -> Result<(), Fail> {
     let alloc = rt.alloc();
-    let mut text = edited(alloc, UTF16, "", &[])?;
-    assert_eq!(rt; text.as_str(), "");
-    let mut changes = Items::new(alloc);
-    changes.push(edit(alloc, range(0, 0, 0, 0), "gone")?)?;
-    changes.push(whole(alloc, "the")?)?;
-    text = apply_document_changes(alloc, UTF16, "old", changes)?;
-    assert_eq!(rt; text.as_str(), "the");
-    for (list, after) in [
-        (&[(range(0, 3, 0, 3), " quick")][..], "the quick"),
-        (
-            &[(range(0, 0, 0, 4), ""), (range(0, 5, 0, 5), " foxes")][..],
-            "quick foxes",
-        ),
-        (
-            &[(range(0, 11, 0, 11), "\ndream")][..],
+    assert!(rt; becomes(alloc, "", &[], "")?);
+    let quick = [(range(0, 3, 0, 3), " quick")];
+    assert!(rt; becomes(alloc, "the", &quick, "the quick")?);
+    let foxes = [(range(0, 0, 0, 4), ""), (range(0, 5, 0, 5), " foxes")];
+    assert!(rt; becomes(alloc, "the quick", &foxes, "quick foxes")?);
+    let dream = [(range(0, 11, 0, 11), "\ndream")];
+    assert!(rt; becomes(alloc, "quick foxes", &dream, "quick foxes\ndream")?);
+    let have = [(range(1, 0, 1, 0), "have ")];
+    assert!(rt;
+        becomes(
+            alloc,
             "quick foxes\ndream",
-        ),
-        (
-            &[(range(1, 0, 1, 0), "have ")][..],
-            "quick foxes\nhave dream",
-        ),
-        (
-            &[
-                (range(0, 0, 0, 0), "the "),
-                (range(1, 4, 1, 4), " quiet"),
-                (range(1, 16, 1, 16), "s\n"),
-            ][..],
-            "the quick foxes\nhave quiet dreams\n",
-        ),
-        (
-            &[(range(0, 15, 0, 15), "\n"), (range(2, 17, 2, 17), "\n")][..],
-            "the quick foxes\n\nhave quiet dreams\n\n",
-        ),
-        (
-            &[
-                (range(1, 0, 1, 0), "DREAM"),
-                (range(2, 0, 2, 0), "they "),
-                (range(3, 0, 3, 0), "DON'T THEY?"),
-            ][..],
-            "the quick foxes\nDREAM\nthey have quiet dreams\nDON'T THEY?\n",
-        ),
-        (
-            &[(range(0, 10, 1, 5), ""), (range(2, 0, 2, 12), "")][..],
-            "the quick \nthey have quiet dreams\n",
-        ),
-    ] {
-        text = edited(alloc, UTF16, text.as_str(), list)?;
-        assert_eq!(rt; text.as_str(), after);
-    }
+            &have,
+            "quick foxes\nhave dream"
+        )?
+    );
+    Ok(())
+}
+
+#[test]
+fn three_edits(rt: HostRuntime) -> Result<(), Fail> {
+    let list = [
+        (range(0, 0, 0, 0), "the "),
+        (range(1, 4, 1, 4), " quiet"),
+        (range(1, 16, 1, 16), "s\n"),
+    ];
+    let before = "quick foxes\nhave dream";
+    assert!(rt;
+        becomes(
+            rt.alloc(),
+            before,
+            &list,
+            "the quick foxes\nhave quiet dreams\n"
+        )?
+    );
+    Ok(())
+}
+
+#[test]
+fn new_lines(rt: HostRuntime) -> Result<(), Fail> {
+    let list = [(range(0, 15, 0, 15), "\n"), (range(2, 17, 2, 17), "\n")];
+    let before = "the quick foxes\nhave quiet dreams\n";
+    assert!(rt;
+        becomes(
+            rt.alloc(),
+            before,
+            &list,
+            "the quick foxes\n\nhave quiet dreams\n\n"
+        )?
+    );
+    Ok(())
+}
+
+#[test]
+fn text_on_new_lines(rt: HostRuntime) -> Result<(), Fail> {
+    let list = [
+        (range(1, 0, 1, 0), "DREAM"),
+        (range(2, 0, 2, 0), "they "),
+        (range(3, 0, 3, 0), "DON'T THEY?"),
+    ];
+    let before = "the quick foxes\n\nhave quiet dreams\n\n";
+    let after = "the quick foxes\nDREAM\nthey have quiet dreams\nDON'T THEY?\n";
+    assert!(rt; becomes(rt.alloc(), before, &list, after)?);
+    Ok(())
+}
+
+#[test]
+fn removed_text(rt: HostRuntime) -> Result<(), Fail> {
+    let list = [(range(0, 10, 1, 5), ""), (range(2, 0, 2, 12), "")];
+    let before = "the quick foxes\nDREAM\nthey have quiet dreams\nDON'T THEY?\n";
+    assert!(rt;
+        becomes(
+            rt.alloc(),
+            before,
+            &list,
+            "the quick \nthey have quiet dreams\n"
+        )?
+    );
     Ok(())
 }
 
 fn limited<L: Ledger>(
     alloc: Global,
+    encoding: PositionEncoding,
     text: Text,
     changes: Items<ContentChange>,
     limit: u32,
@@ -214,14 +281,7 @@ fn limited<L: Ledger>(
         return Err(Fail::from("too long"));
     }
     let mut steps = Steps::<L>::new(blank);
-    Ok(apply_with_limit(
-        alloc,
-        UTF16,
-        text.as_str(),
-        changes,
-        limit,
-        &mut steps,
-    )?)
+    Ok(apply_with_limit(alloc, encoding, text.as_str(), changes, limit, &mut steps)?)
 }
 
 #[test]
@@ -232,7 +292,7 @@ fn within_a_limit(rt: HostRuntime) -> Result<(), Fail> {
         &[(range(0, 0, 0, 0), "XY"), (range(0, 0, 0, 0), "X")],
     )?;
     let text = Text::from_str(alloc, "ab")?;
-    let after = limited::<Brand>(alloc, text, list, 3, Blank::new(1))?;
+    let after = limited::<Brand>(alloc, UTF16, text, list, 3, Blank::new(1))?;
     assert_eq!(rt; after.as_str(), "Xab");
     Ok(())
 }
@@ -246,7 +306,7 @@ fn dropped_by_a_limit(rt: HostRuntime) -> Result<(), Fail> {
     changes.push(edit(alloc, range(0, 0, 0, 2), "five!")?)?;
     changes.push(edit(alloc, range(0, 2, 0, 2), "e")?)?;
     let text = Text::from_str(alloc, "ab")?;
-    let after = limited::<Brand>(alloc, text, changes, 3, Blank::new(1))?;
+    let after = limited::<Brand>(alloc, UTF16, text, changes, 3, Blank::new(1))?;
     assert_eq!(rt; after.as_str(), "cde");
     Ok(())
 }
@@ -278,29 +338,39 @@ fn lines(rt: HostRuntime) -> Result<(), Fail> {
 }
 
 #[test]
-fn offsets(rt: HostRuntime) -> Result<(), Fail> {
-    let narrow = index_of(rt.alloc(), UTF8, "é😀\nb")?;
-    let wide = index_of(rt.alloc(), UTF16, "é😀\nb")?;
-    for (position, bytes, units) in [
-        (at(0, 0), Ok(0), Ok(0)),
-        (at(0, 1), Err(OffsetFault::InsideCharacter), Ok(2)),
-        (at(0, 2), Ok(2), Err(OffsetFault::InsideCharacter)),
-        (at(0, 3), Err(OffsetFault::InsideCharacter), Ok(6)),
-        (at(0, 4), Err(OffsetFault::InsideCharacter), Ok(7)),
-        (at(0, 6), Ok(6), Ok(7)),
-        (at(0, 7), Ok(7), Ok(7)),
-        (at(0, u32::MAX), Ok(7), Ok(7)),
-        (at(1, 1), Ok(8), Ok(8)),
-        (at(1, 2), Ok(8), Ok(8)),
-        (at(2, 0), Err(OffsetFault::LinePastEnd), Err(OffsetFault::LinePastEnd)),
-        (
-            at(u32::MAX, 0),
-            Err(OffsetFault::LinePastEnd),
-            Err(OffsetFault::LinePastEnd),
-        ),
+fn offsets_in_bytes(rt: HostRuntime) -> Result<(), Fail> {
+    let index = index_of(rt.alloc(), UTF8, "é😀\nb")?;
+    for (line, character, place) in [
+        (0, 0, Ok(0)),
+        (0, 1, Err(OffsetFault::InsideCharacter)),
+        (0, 2, Ok(2)),
+        (0, 3, Err(OffsetFault::InsideCharacter)),
+        (0, 6, Ok(6)),
+        (0, u32::MAX, Ok(7)),
+        (1, 1, Ok(8)),
+        (2, 0, Err(OffsetFault::LinePastEnd)),
+        (u32::MAX, 0, Err(OffsetFault::LinePastEnd)),
     ] {
-        assert_eq!(rt; offset(&narrow, position), bytes, "at {position:?}");
-        assert_eq!(rt; offset(&wide, position), units, "at {position:?}");
+        assert_eq!(rt; offset(&index, at(line, character)), place);
+    }
+    Ok(())
+}
+
+#[test]
+fn offsets_in_code_units(rt: HostRuntime) -> Result<(), Fail> {
+    let index = index_of(rt.alloc(), UTF16, "é😀\nb")?;
+    for (line, character, place) in [
+        (0, 0, Ok(0)),
+        (0, 1, Ok(2)),
+        (0, 2, Err(OffsetFault::InsideCharacter)),
+        (0, 3, Ok(6)),
+        (0, 4, Ok(7)),
+        (0, u32::MAX, Ok(7)),
+        (1, 1, Ok(8)),
+        (1, 2, Ok(8)),
+        (2, 0, Err(OffsetFault::LinePastEnd)),
+    ] {
+        assert_eq!(rt; offset(&index, at(line, character)), place);
     }
     Ok(())
 }
@@ -316,7 +386,7 @@ fn ranges(rt: HostRuntime) -> Result<(), Fail> {
         (range(7, 0, 0, 1), Err(OffsetFault::LinePastEnd)),
         (range(1, 1, 0, 1), Err(OffsetFault::InsideCharacter)),
     ] {
-        assert_eq!(rt; text_range(&index, range), found, "of {range:?}");
+        assert_eq!(rt; text_range(&index, range), found);
     }
     Ok(())
 }
@@ -424,9 +494,123 @@ fn keyword(alloc: Global) -> Result<HashedItem, AllocError> {
 
 #[test]
 fn hash_of_a_keyword(rt: HostRuntime) -> Result<(), Fail> {
-    let bytes = b"\0\0\0\0\x02\0\0\0\0\0\0\0ab\0\0\x02\0\0\0\0\0\0\0kw\x02\0\0\0\0\0\0\0ab\0\0\0\0\0\0\0\0\0\0\0\0\0\0\0\0\0\0\0";
+    let bytes =
+        b"\0\0\0\0\x02\0\0\0\0\0\0\0ab\0\0\x02\0\0\0\0\0\0\0kw\x02\0\0\0\0\0\0\0ab\0\0\0\0\0\0\0\0\0\0\0\0\0\0\0\0\0\0\0";
     assert_eq!(rt; bytes.len(), 55);
     let hash = completion_item_hash(&keyword(rt.alloc())?, false);
     assert!(rt; hash == sha1::Sha1::digest(bytes));
+    Ok(())
+}
+
+#[test]
+fn hash_of_a_method(rt: HostRuntime) -> Result<(), Fail> {
+    let alloc = rt.alloc();
+    let mut imports = Items::new(alloc);
+    imports.push(Text::from_str(alloc, "a::b")?)?;
+    imports.push(Text::new(alloc))?;
+    let item = HashedItem {
+        is_snippet: true,
+        deprecated: false,
+        trigger_call_info: true,
+        label: Text::from_str(alloc, "push")?,
+        detail_left: Some(Text::from_str(alloc, "(..)")?),
+        detail_right: None,
+        kind_tag: Text::from_str(alloc, "me")?,
+        lookup: Text::from_str(alloc, "push")?,
+        detail: Some(Text::from_str(alloc, "größer")?),
+        relevance: Relevance {
+            exact_name_match: true,
+            is_local: false,
+            is_name_already_imported: true,
+            requires_import: false,
+            is_private_editable: true,
+            type_match: Some(TypeMatch::Exact),
+            trait_: Some((false, true)),
+            postfix_match: Some(PostfixMatch::NonExact),
+            function: Some((true, false, ReturnType::Builder)),
+        },
+        ref_match: Some((RefMode::Dereference, 70000)),
+        import_to_add: imports,
+    };
+    let hash = completion_item_hash(&item, true);
+    assert!(rt;
+        hash == [
+            0xb0, 0x1c, 0x99, 0xe6, 0xcf, 0x7a, 0x61, 0xed, 0xfe, 0x10, 0xa7, 0xa6, 0xa4, 0x1b,
+            0xf4, 0x76, 0xaa, 0xa9, 0xc7, 0x02,
+        ]
+    );
+    Ok(())
+}
+
+/// The next number of a row that looks random.
+fn draw(seed: &mut u64) -> u32 {
+    *seed = seed
+        .wrapping_mul(6364136223846793005)
+        .wrapping_add(1442695040888963407);
+    (*seed >> 33) as u32
+}
+
+fn drawn_text(alloc: Global, seed: &mut u64) -> Result<Text, AllocError> {
+    let mut text = Text::new(alloc);
+    for _ in 0..draw(seed) % 8 {
+        let piece = match draw(seed) % 5 {
+            0 => "\n",
+            1 => "é",
+            2 => "😀",
+            3 => "b",
+            _ => "a",
+        };
+        text.push_str(piece)?;
+    }
+    Ok(text)
+}
+
+fn drawn_position(seed: &mut u64) -> Position {
+    let line = draw(seed) % 4;
+    let character = draw(seed) % 5;
+    at(line, character)
+}
+
+fn drawn_change(alloc: Global, seed: &mut u64) -> Result<ContentChange, AllocError> {
+    let range = if draw(seed) % 16 == 0 {
+        None
+    } else {
+        let start = drawn_position(seed);
+        let end = drawn_position(seed);
+        Some(Range { start, end })
+    };
+    Ok(ContentChange {
+        range,
+        text: drawn_text(alloc, seed)?,
+    })
+}
+
+fn drawn_changes(alloc: Global, seed: &mut u64) -> Result<Items<ContentChange>, AllocError> {
+    let mut changes = Items::new(alloc);
+    for _ in 0..draw(seed) % 8 {
+        changes.push(drawn_change(alloc, seed)?)?;
+    }
+    Ok(changes)
+}
+
+/// The same edits by the plain program and by the crate's.
+fn both(alloc: Global, encoding: PositionEncoding, seed: &mut u64) -> Result<(Text, Text), Fail> {
+    let mut text = Text::from_str(alloc, "a\nb\n")?;
+    text.push_str(drawn_text(alloc, seed)?.as_str())?;
+    let changes = drawn_changes(alloc, seed)?;
+    let plain = slow::apply(alloc, encoding, text.as_str(), changes.as_slice(), 40)?;
+    let kept = limited::<Brand>(alloc, encoding, text, changes, 40, Blank::new(1))?;
+    Ok((plain, kept))
+}
+
+#[test]
+fn as_the_plain_program(rt: HostRuntime) -> Result<(), Fail> {
+    let mut seed = 1;
+    for round in 0..500 {
+        for encoding in [UTF8, UTF16] {
+            let (plain, kept) = both(rt.alloc(), encoding, &mut seed)?;
+            assert!(rt; kept == plain, "in round {round}");
+        }
+    }
     Ok(())
 }

@@ -74,22 +74,14 @@ impl TextIndex {
         self.starts.len() as u64
     }
 
-    fn place_of(
-        &self,
-        encoding: PositionEncoding,
-        position: Position,
-    ) -> Result<u32, OffsetFault>
+    fn place_of(&self, encoding: PositionEncoding, position: Position) -> Result<u32, OffsetFault>
         ensures { result ≡ place_of encoding self.now position }
     {
         let place = offsets::place_of(encoding, self.text.as_str(), &self.starts, position)?;
         Ok(place as u32)
     }
 
-    fn range_of(
-        &self,
-        encoding: PositionEncoding,
-        range: Range,
-    ) -> Result<(u32, u32), OffsetFault>
+    fn range_of(&self, encoding: PositionEncoding, range: Range) -> Result<(u32, u32), OffsetFault>
         ensures { result ≡ range_of encoding self.now range }
     {
         let (start, end) = offsets::range_of(encoding, self.text.as_str(), &self.starts, range)?;

@@ -8,9 +8,10 @@ pub loop-i-preserved : goal.loop-i-preserved
 loop-i-preserved c =
     let xs = c.args.ranges.now in
     let step = chain_step xs c.loop-i.i no_range c.loop-i.invariant.0 c.loop-i-test.true in
-    let here : c.loop-i.i + 1 - 1 ≡ c.loop-i.i = omega arith in
-    (omega arith,
-    c.loop-i.invariant.1 ∙ step ∙ ap (λ b. b && is_chain (drop c.loop-i.i xs)) (sym c.if-not-is_at_most.ensures) ∙ ap (λ n. is_chain (drop n xs)) (sym here))
+    let here : c.loop-i.i + 1 - 1 ≡ c.loop-i.i = omega arith in (
+      omega arith,
+      c.loop-i.invariant.1 ∙ step ∙ ap (λ b. b && is_chain (drop c.loop-i.i xs)) (sym c.if-not-is_at_most.ensures) ∙ ap (λ n. is_chain (drop n xs)) (sym here),
+    )
 
 pub returns-then-not-is_at_most : goal.returns-then-not-is_at_most
 returns-then-not-is_at_most c =

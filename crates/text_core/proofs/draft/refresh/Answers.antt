@@ -7,5 +7,5 @@ pub returns-in_ok-find_starts-clause-kept : goal.returns-in_ok-find_starts-claus
 returns-in_ok-find_starts-clause-kept g c = record {
   fits = c.requires.fits;
   knows = λ line _. starts-know c.find_starts.new.starts.items (string_bytes c.args.draft.now.text)
-  (c.in_ok-find_starts.ensures ∙ ap line_starts c.as_bytes.ensures.value) line;
+      (c.in_ok-find_starts.ensures ∙ ap line_starts c.as_bytes.ensures.value) line;
 }

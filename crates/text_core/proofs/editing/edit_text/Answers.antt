@@ -28,7 +28,7 @@ pub take_changes-requires-clause-kept : goal.take_changes-requires-clause-kept
 take_changes-requires-clause-kept g c = record {
   fits = omega (arith, ap length c.into_string.ensures, c.requires.fits);
   knows = λ line _. starts-know c.find_starts.new.starts.items (string_bytes c.into_string.result)
-  (c.in_ok-find_starts.ensures ∙ ap line_starts (c.as_bytes.ensures.value ∙ c.as_str.ensures.value ∙ sym c.into_string.ensures)) line;
+      (c.in_ok-find_starts.ensures ∙ ap line_starts (c.as_bytes.ensures.value ∙ c.as_str.ensures.value ∙ sym c.into_string.ensures)) line;
 }
 
 pub returns-in_err-take_changes-clause-most : goal.returns-in_err-take_changes-clause-most
