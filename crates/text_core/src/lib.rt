@@ -5,6 +5,7 @@
 mod change;
 mod completion;
 mod completion_hash;
+mod copies;
 mod disjoint;
 mod draft;
 mod editing;
