@@ -1,15 +1,14 @@
 -- Chains of ranges.
-use Rattle.std.proofs.Common.{◌≡◌, ℕ, zero, suc, ◌+◌, ◌-◌, ◌<◌, ◌≤◌, Bool, true, false, ◌&&◌, ◌==◌, List, [], ◌∷◌, length, drop, get_or, refl, ap, sym, subst, ◌∙◌, arith, inl, inr, ⊎_elim, is_lt, nat_cmp}
+use Rattle.std.proofs.Common.{◌≡◌, ℕ, zero, suc, ◌+◌, ◌-◌, ◌<◌, ◌≤◌, true, false, ◌&&◌, List, [], ◌∷◌, length, drop, get_or, refl, ap, sym, ◌∙◌, arith, inl, inr, is_lt, nat_cmp}
 use Rattle.std.specs.Prelude.{◌⊎◌}
 use Rattle.std.specs.declared.cmp.Ordering.{Ordering}
 use Rattle.std.specs.declared.cmp.Ordering.TheVariants.{Less, Equal, Greater}
 use Rattle.std.specs.Ordering.{ordering_then}
-use Rattle.std.proofs.lemmas.Bool.{cases_Bool, cases_lt, cond-true, cond-false, lt-ltb, le-ltb, eq-eqb, false≢true}
+use Rattle.std.proofs.lemmas.Bool.{cases_lt, cond-true, cond-false, lt-ltb, le-ltb, eq-eqb, false≢true}
 use Rattle.std.proofs.lemmas.Bool.Decides.{nat_tests}
-use Rattle.std.proofs.lemmas.List.{at_drop_more, length-drop, drop_more}
-use Rattle.text_core.specs.declared.position.Position.{Position}
+use Rattle.std.proofs.lemmas.List.{length-drop, drop_more}
 use Rattle.text_core.specs.declared.position.Range.{Range}
-use Rattle.text_core.specs.Edits.{at_most, in_order, ends_before, is_chain, comes_first, is_sorted, IsForward, AreApart}
+use Rattle.text_core.specs.Edits.{at_most, in_order, ends_before, is_chain, is_sorted}
 
 abbrev pub no_range : Range
 no_range = record { start = record { line = 0; character = 0 }; end = record { line = 0; character = 0 } }

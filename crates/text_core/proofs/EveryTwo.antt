@@ -1,6 +1,6 @@
 -- Ranges that stand apart by twos.
-use Rattle.std.proofs.Common.{◌≡◌, ◌≢◌, ℕ, zero, suc, ◌+◌, ◌-◌, ◌<◌, ◌≤◌, Bool, true, false, cond, ◌&&◌, ◌==◌, List, [], ◌∷◌, length, get_or, set, refl, ap, sym, subst, ◌∙◌, arith, inl, inr, ⊎_elim}
-use Rattle.std.specs.Prelude.{◌⊎◌, All}
+use Rattle.std.proofs.Common.{◌≡◌, ◌≢◌, ℕ, suc, ◌<◌, Bool, true, false, cond, ◌&&◌, ◌==◌, List, [], ◌∷◌, length, get_or, set, refl, ap, sym, subst, ◌∙◌, arith, inl, inr, ⊎_elim}
+use Rattle.std.specs.Prelude.{All}
 use Rattle.std.specs.List.{AllPairs, swap}
 use Rattle.std.specs.List.Sorted.{IsPermutation}
 use Rattle.std.proofs.lemmas.Bool.{cases_Bool, cases_lt, cases_eq, cond-true, cond-false, eq-eqb, ne_eqb, false≢true}
@@ -9,10 +9,10 @@ use Rattle.std.proofs.lemmas.List.{length-set, get_or-set_same, get_or-set_other
 use Rattle.std.proofs.lemmas.List.Edits.{swap_is, length-swap}
 use Rattle.std.proofs.lemmas.List.Elements.{All-nil, All-cons, All-head, All-tail, All-weaker}
 use Rattle.std.proofs.lemmas.List.Kept.{AllPairs-cons}
-use Rattle.std.proofs.lemmas.List.Sorted.{IsPermutation-keeps, IsPermutation-sym, All-permutation, length_permutation}
+use Rattle.std.proofs.lemmas.List.Sorted.{IsPermutation-keeps, IsPermutation-sym, All-permutation}
 use Rattle.text_core.specs.declared.position.Position.{Position}
 use Rattle.text_core.specs.declared.position.Range.{Range}
-use Rattle.text_core.specs.Edits.{is_at, at_most, in_order, ends_before, is_chain, comes_first, is_sorted, IsForward, AreApart, ChainTells}
+use Rattle.text_core.specs.Edits.{is_at, at_most, in_order, is_chain, is_sorted, IsForward, AreApart, ChainTells}
 
 at_most-trans : (a b c : Position) → at_most a b ≡ true → at_most b c ≡ true → at_most a c ≡ true
 at_most-trans a b c h g = grind (arith, nat_tests)

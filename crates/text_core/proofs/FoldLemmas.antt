@@ -1,11 +1,9 @@
 -- Rebuilds and texts over lists of changes.
-use Rattle.std.proofs.Common.{◌≡◌, ℕ, zero, suc, ◌+◌, ◌-◌, ◌<◌, ◌≤◌, Bool, true, false, ◌&&◌, List, [], ◌∷◌, ◌++◌, length, take, drop, get_or, set, Option, Some, None, Result, Ok, Err, refl, ap, sym, subst, ◌∙◌, arith, max, min, inl, inr, ⊎_elim}
-use Rattle.std.specs.Prelude.{slice_get, nat_le, is_none, All}
+use Rattle.std.proofs.Common.{◌≡◌, ℕ, zero, suc, ◌+◌, ◌-◌, ◌<◌, ◌≤◌, Bool, true, false, ◌&&◌, List, [], ◌∷◌, length, take, drop, get_or, set, Option, Some, None, refl, ap, sym, subst, ◌∙◌, arith, ⊎_elim}
+use Rattle.std.specs.Prelude.{slice_get, is_none}
 use Rattle.std.specs.Option.{unwrap_or}
-use Rattle.std.specs.List.{fold, filter}
+use Rattle.std.specs.List.{fold}
 use Rattle.std.proofs.lemmas.Bool.{cases_Bool, cond-true, cond-false, false≢true}
-use Rattle.std.proofs.lemmas.Grind.{common_steps}
-use Rattle.std.proofs.lemmas.List.Sums.{fold-append}
 use Rattle.std.proofs.lemmas.List.Elements.{All-head, All-tail, All-drop}
 use Rattle.std.proofs.lemmas.List.{drop_more, take_rest, drop-set-lt, length-drop}
 use Rattle.std.proofs.lemmas.Bool.Decides.{nat_tests}
@@ -13,7 +11,7 @@ use Rattle.text_core.specs.declared.position.PositionEncoding.{PositionEncoding}
 use Rattle.text_core.specs.declared.position.Range.{Range}
 use Rattle.text_core.specs.declared.change.ContentChange.{ContentChange}
 use Rattle.text_core.specs.Changes.{fits, edited, changed, changed_at, admitted, document}
-use Rattle.text_core.specs.Rebuilds.{Progress, begun, is_past, refreshed, lowered, after_edit, with_edit, progress_at, progressed, rebuilds}
+use Rattle.text_core.specs.Rebuilds.{Progress, begun, is_past, refreshed, after_edit, with_edit, progress_at, progressed, rebuilds}
 use Rattle.text_core.specs.Whole.{is_whole, HaveRanges, StandsLast, Begins, taken}
 
 -- the same with more rebuilds before

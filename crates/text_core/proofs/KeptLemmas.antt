@@ -1,6 +1,6 @@
 -- An index that is kept over an edit.
-use Rattle.std.proofs.Common.{◌≡◌, ℕ, zero, suc, ◌+◌, ◌-◌, ◌<◌, ◌≤◌, Bool, true, false, List, ◌++◌, length, take, drop, Option, Some, None, Result, Ok, Err, refl, ap, sym, subst, ◌∙◌, arith, max, min, append_assoc, inl, inr, ⊎_elim}
-use Rattle.std.specs.Prelude.{slice_get, slice_range, nat_le}
+use Rattle.std.proofs.Common.{◌≡◌, ℕ, zero, suc, ◌+◌, ◌-◌, ◌≤◌, false, List, ◌++◌, length, take, drop, Option, Some, None, Result, Ok, Err, refl, ap, sym, ◌∙◌, arith, max, append_assoc, inl, inr}
+use Rattle.std.specs.Prelude.{slice_range}
 use Rattle.std.specs.List.{replace_range}
 use Rattle.std.proofs.lemmas.Bool.Decides.{nat_tests}
 use Rattle.std.proofs.lemmas.Bool.{cases_lt, cond-true, cond-false, lt-ltb, le-ltb}
@@ -10,7 +10,7 @@ use Rattle.text_core.specs.declared.position.Range.{Range}
 use Rattle.text_core.specs.declared.position.OffsetFault.{OffsetFault}
 use Rattle.text_core.specs.declared.position.OffsetFault.TheVariants.{Reversed}
 use Rattle.text_core.specs.Positions.{line_start, line_end, past_units, after, in_line, place_of, from_to, range_of}
-use Rattle.text_core.specs.Rebuilds.{is_past, lowered}
+use Rattle.text_core.specs.Rebuilds.{is_past}
 use Rattle.text_core.specs.Starts.{KnowsLines}
 use Rattle.text_core.specs.Kept.{IsKnown, IsKept}
 use Rattle.text_core.proofs.StartLemmas.{line_start-before, line_start-next, line_start-kept}

@@ -1,18 +1,14 @@
 -- What a place of a position is: in its line, and between whole characters.
-use Rattle.std.proofs.Common.{◌≡◌, ℕ, zero, suc, ◌+◌, ◌-◌, ◌<◌, ◌≤◌, Bool, true, false, not, ◌&&◌, ◌==◌, List, [], ◌∷◌, length, take, drop, get_or, Option, Some, None, Result, Ok, Err, refl, ap, sym, subst, ◌∙◌, arith, inl, inr, ⊎_elim, add-one}
+use Rattle.std.proofs.Common.{◌≡◌, ℕ, zero, suc, ◌+◌, ◌-◌, ◌<◌, ◌≤◌, Bool, true, false, not, ◌&&◌, ◌==◌, List, [], ◌∷◌, length, drop, get_or, Option, Some, None, refl, ap, sym, subst, ◌∙◌, arith, inl, inr, ⊎_elim, add-one}
 use Rattle.std.specs.Prelude.{◌⊎◌, nat_le, slice_range, slice_index}
 use Rattle.std.specs.Option.{option_map, unwrap_or}
 use Rattle.std.specs.Str.{IsUtf8, IsCharBoundary}
 use Rattle.std.proofs.lemmas.Bool.{cases_Bool, cases_lt, cond-true, cond-false}
 use Rattle.std.proofs.lemmas.Bool.Decides.{nat_tests}
-use Rattle.std.proofs.lemmas.Grind.{common_steps}
 use Rattle.std.proofs.lemmas.List.{get_or-take, get_or-drop, length-take, length-drop}
 use Rattle.std.proofs.lemmas.Str.{IsCharBoundary-after_ascii, IsCharBoundary-end}
 use Rattle.text_core.specs.declared.position.PositionEncoding.{PositionEncoding}
-use Rattle.text_core.specs.declared.position.Position.{Position}
-use Rattle.text_core.specs.declared.position.OffsetFault.{OffsetFault}
-use Rattle.text_core.specs.Positions.{ends_line, line_start, line_end, line_span, is_inside, units, past_units, after, in_line, place_of}
-use Rattle.text_core.proofs.LineLemmas.{further}
+use Rattle.text_core.specs.Positions.{ends_line, line_start, line_end, line_span, is_inside, units, past_units}
 use Rattle.text_core.proofs.StartLemmas.{further_some, some_inj, line_start-within, line_start-next}
 
 pub option_cases : (o : Option ℕ) → ((n : ℕ) × (o ≡ Some n)) ⊎ (o ≡ None)

@@ -1,5 +1,5 @@
 -- A text after a list of changes: each is made on the whole text that the changes before it leave.
-use Rattle.std.specs.Prelude.{ℕ, ◌≤◌, nat_le, Bool, List, length, if◌then◌else◌, Option, Some, None, Result, Ok, Err}
+use Rattle.std.specs.Prelude.{ℕ, nat_le, Bool, List, length, if◌then◌else◌, Option, Some, None, Result, Ok, Err}
 use Rattle.std.specs.Option.{unwrap_or}
 use Rattle.std.specs.List.{fold, filter, replace_range}
 use Rattle.text_core.specs.declared.position.PositionEncoding.{PositionEncoding}

@@ -1,6 +1,5 @@
 -- Whether edits stand apart.
-use Rattle.std.specs.Prelude.{◌≡◌, ◌+◌, ℕ, ◌&&◌, ◌||◌, ◌==◌, not, nat_lt, nat_le, Bool, true, false, List, [], ◌∷◌, ◌++◌, map, if◌then◌else◌, All, ◌⊎◌}
-use Rattle.std.specs.List.{AllPairs}
+use Rattle.std.specs.Prelude.{◌≡◌, ◌&&◌, ◌||◌, ◌==◌, nat_lt, nat_le, Bool, true, false, List, [], ◌∷◌, ◌++◌, map, if◌then◌else◌, ◌⊎◌}
 use Rattle.std.specs.List.Sorted.{IsPermutation}
 use Rattle.text_core.specs.declared.position.Position.{Position}
 use Rattle.text_core.specs.declared.position.Range.{Range}

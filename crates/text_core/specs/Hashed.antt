@@ -1,5 +1,5 @@
 -- The bytes that stand for a completion item.
-use Rattle.std.specs.Prelude.{◌≡◌, ◌<◌, ◌^◌, ℕ, Bool, true, false, List, [], ◌∷◌, ◌++◌, length, map, if◌then◌else◌, Option, Some, None, All, IfSome}
+use Rattle.std.specs.Prelude.{◌<◌, ◌^◌, ℕ, Bool, List, [], ◌∷◌, ◌++◌, length, map, if◌then◌else◌, Option, Some, None, All, IfSome}
 use Rattle.std.specs.List.{concat}
 use Rattle.std.specs.Int.{to_le_bytes, w32, w64}
 use Rattle.text_core.specs.declared.completion.TypeMatch.{TypeMatch}

@@ -1,4 +1,4 @@
-use Rattle.std.proofs.Common.{◌++◌, ap, subst}
+use Rattle.std.proofs.Common.{subst}
 use Rattle.text_core.specs.Hashed.{text_bytes, optional}
 use Rattle.text_core.proofs.HashLemmas.{Feeds, feeds_then}
 use Rattle.text_core.proofs.completion_hash.feed_names.Goals as goal

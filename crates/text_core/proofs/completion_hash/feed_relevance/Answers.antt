@@ -1,4 +1,4 @@
-use Rattle.std.proofs.Common.{◌++◌, ◌∷◌, [], subst}
+use Rattle.std.proofs.Common.{◌∷◌, [], subst}
 use Rattle.text_core.specs.Hashed.{truth_bytes, type_match, postfix_match, optional, trait_bytes, function_bytes}
 use Rattle.text_core.proofs.HashLemmas.{Feeds, feeds_then}
 use Rattle.text_core.proofs.completion_hash.feed_relevance.Goals as goal

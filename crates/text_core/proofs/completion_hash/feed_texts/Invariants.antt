@@ -1,4 +1,4 @@
-use Rattle.std.proofs.Common.{◌≡◌, ◌++◌, ℕ, List, length, map, take}
+use Rattle.std.proofs.Common.{◌++◌, ℕ, List, length, map, take}
 use Rattle.std.specs.List.{concat}
 use Rattle.std.specs.Int.{to_le_bytes, w64}
 use Rattle.sha1.specs.Sha1.{Holds}

@@ -1,4 +1,3 @@
-use Rattle.std.proofs.Common.{◌++◌}
 use Rattle.text_core.specs.Hashed.{flag}
 use Rattle.text_core.proofs.HashLemmas.{feeds_then}
 use Rattle.text_core.proofs.completion_hash.feed_truths.Goals as goal

@@ -1,6 +1,5 @@
-use Rattle.std.proofs.Common.{◌≡◌, ◌++◌, List, map, ap, sym, subst, ◌∙◌, true}
+use Rattle.std.proofs.Common.{◌≡◌, ◌++◌, map, ap, subst, ◌∙◌}
 use Rattle.std.specs.List.Sorted.{IsPermutation}
-use Rattle.text_core.specs.declared.position.Range.{Range}
 use Rattle.text_core.specs.declared.change.TextEdit.{TextEdit}
 use Rattle.text_core.specs.Edits.{own_range, ranges_of, is_chain, ChainTells}
 use Rattle.text_core.proofs.EveryTwo.{chain_tells}

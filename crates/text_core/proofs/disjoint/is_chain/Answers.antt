@@ -1,6 +1,5 @@
-use Rattle.std.proofs.Common.{◌≡◌, ◌≤◌, ◌+◌, ◌-◌, sym, ◌∙◌, ap, arith, drop, true, false, get_or, ◌&&◌}
-use Rattle.text_core.specs.declared.position.Range.{Range}
-use Rattle.text_core.specs.Edits.{is_chain, at_most}
+use Rattle.std.proofs.Common.{◌≡◌, ◌+◌, ◌-◌, sym, ◌∙◌, ap, arith, drop, ◌&&◌}
+use Rattle.text_core.specs.Edits.{is_chain}
 use Rattle.text_core.proofs.EditLemmas.{chain_step, chain_last, no_range}
 use Rattle.text_core.proofs.disjoint.is_chain.Goals as goal
 

@@ -1,4 +1,4 @@
-use Rattle.std.proofs.Common.{◌≡◌, ◌+◌, List, get_or, rules, arith}
+use Rattle.std.proofs.Common.{◌+◌, List, get_or, rules, arith}
 use Rattle.std.proofs.lemmas.Fn.{always_returns_same}
 use Rattle.text_core.specs.declared.position.Range.{Range}
 use Rattle.text_core.proofs.EditLemmas.{order_of, sorted_from}

@@ -1,4 +1,4 @@
-use Rattle.std.proofs.Common.{◌≡◌, ◌∙◌, ap, string_bytes}
+use Rattle.std.proofs.Common.{◌∙◌, ap, string_bytes}
 use Rattle.text_core.specs.Starts.{line_starts}
 use Rattle.text_core.proofs.StartLemmas.{starts-know}
 use Rattle.text_core.proofs.draft.refresh.Goals as goal

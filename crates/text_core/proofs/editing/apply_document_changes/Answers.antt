@@ -1,6 +1,5 @@
-use Rattle.std.proofs.Common.{◌≡◌, ap, sym, subst, ◌∙◌, drop}
+use Rattle.std.proofs.Common.{◌≡◌, sym, subst}
 use Rattle.std.specs.Prelude.{IfOk}
-use Rattle.text_core.specs.Whole.{Begins}
 use Rattle.text_core.proofs.FoldLemmas.{begins_document, begins_same}
 use Rattle.text_core.proofs.editing.apply_document_changes.Goals as goal
 

@@ -1,6 +1,5 @@
-use Rattle.std.proofs.Common.{◌≡◌, ◌+◌, ap, sym, subst, ◌∙◌, drop, arith}
+use Rattle.std.proofs.Common.{◌≡◌, ◌+◌, sym, subst, arith}
 use Rattle.std.specs.Prelude.{IfOk, OnOk}
-use Rattle.text_core.specs.Whole.{Begins}
 use Rattle.text_core.proofs.FoldLemmas.{begins_document, begins_rebuilds, begins_most, begins_same}
 use Rattle.text_core.proofs.editing.apply_with_limit.Goals as goal
 

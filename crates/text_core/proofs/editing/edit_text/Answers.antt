@@ -1,7 +1,6 @@
-use Rattle.std.proofs.Common.{◌≡◌, ◌≤◌, ◌+◌, ℕ, List, length, None, ap, ◌∙◌, sym, arith, false, string_bytes}
+use Rattle.std.proofs.Common.{◌≡◌, ◌+◌, ℕ, List, length, None, ap, ◌∙◌, sym, arith, string_bytes}
 use Rattle.std.specs.List.{fold}
 use Rattle.text_core.specs.Rebuilds.{Progress, begun}
-use Rattle.text_core.specs.Kept.{progress}
 use Rattle.text_core.specs.Starts.{line_starts}
 use Rattle.text_core.specs.Whole.{taken}
 use Rattle.text_core.specs.declared.position.PositionEncoding.{PositionEncoding}

@@ -1,4 +1,4 @@
-use Rattle.std.proofs.Common.{◌≡◌, ◌≤◌, length, drop}
+use Rattle.std.proofs.Common.{◌≤◌, length, drop}
 use Rattle.text_core.specs.Whole.{HaveRanges}
 use Rattle.text_core.proofs.editing.last_whole.Given as goal
 

@@ -1,8 +1,6 @@
-use Rattle.std.proofs.Common.{◌≡◌, ◌≤◌, ◌+◌, drop, ap, ◌∙◌, sym, arith, false, get_or}
-use Rattle.std.specs.List.{fold}
+use Rattle.std.proofs.Common.{ap, sym, arith}
 use Rattle.text_core.specs.Rebuilds.{Progress}
 use Rattle.text_core.specs.Kept.{progress}
-use Rattle.text_core.specs.Whole.{is_whole, HaveRanges, taken}
 use Rattle.text_core.proofs.FoldLemmas.{fold_more}
 use Rattle.text_core.proofs.editing.take_changes.Goals as goal
 

@@ -1,4 +1,4 @@
-use Rattle.std.proofs.Common.{◌≡◌, ◌≤◌, length, drop}
+use Rattle.std.proofs.Common.{◌≡◌, drop}
 use Rattle.std.specs.List.{fold}
 use Rattle.text_core.specs.Kept.{IsKeptIn, progress}
 use Rattle.text_core.specs.Whole.{taken}

@@ -1,9 +1,9 @@
-use Rattle.std.proofs.Common.{◌≡◌, ◌≤◌, ◌+◌, ◌-◌, ◌<◌, ◌++◌, length, drop, take, Some, None, ap, sym, subst, ◌∙◌, arith}
+use Rattle.std.proofs.Common.{◌≡◌, ◌+◌, ◌-◌, ◌<◌, length, drop, Some, None, ap, sym, ◌∙◌, arith}
 use Rattle.std.specs.Prelude.{is_some}
 use Rattle.std.proofs.lemmas.Grind.{common_steps}
-use Rattle.std.proofs.lemmas.List.{take_rest, drop-drop, length-drop}
-use Rattle.text_core.specs.LineEnds.{crlf_place, normalized}
-use Rattle.text_core.proofs.LineEndLemmas.{Found, crlf_found, moved_on, moved_all, moved_none, rest_on, seen_on, crlf_none}
+use Rattle.std.proofs.lemmas.List.{take_rest, length-drop}
+use Rattle.text_core.specs.LineEnds.{crlf_place}
+use Rattle.text_core.proofs.LineEndLemmas.{crlf_found, moved_on, moved_all, moved_none, rest_on, seen_on, crlf_none}
 use Rattle.text_core.proofs.line_endings.close_gaps.Goals as goal
 
 pub loop-gap-preserved : goal.loop-gap-preserved

@@ -1,4 +1,4 @@
-use Rattle.std.proofs.Common.{◌≡◌, ◌≤◌, Some, sym, ◌∙◌, arith}
+use Rattle.std.proofs.Common.{◌≡◌, Some, sym, ◌∙◌, arith}
 use Rattle.text_core.specs.Positions.{line_start}
 use Rattle.text_core.proofs.PlaceLemmas.{line_end-bounds}
 use Rattle.text_core.proofs.offsets.line_span.Goals as goal

@@ -1,4 +1,4 @@
-use Rattle.std.proofs.Common.{◌≡◌, ◌≤◌, Some, sym, ◌∙◌, arith}
+use Rattle.std.proofs.Common.{sym}
 use Rattle.text_core.proofs.PlaceLemmas.{place-split}
 use Rattle.text_core.proofs.offsets.place_of.Goals as goal
 

@@ -1,7 +1,6 @@
-use Rattle.std.proofs.Common.{◌≡◌, ◌<◌, ◌≤◌, refl, sym, subst, ◌∙◌, arith, None, Some}
-use Rattle.std.specs.Prelude.{count_by}
+use Rattle.std.proofs.Common.{◌≡◌, refl, sym, arith, None, Some}
 use Rattle.std.proofs.lemmas.Bool.{false≢true}
-use Rattle.text_core.specs.Positions.{ends_line, line_span}
+use Rattle.text_core.specs.Positions.{line_span}
 use Rattle.text_core.proofs.StartLemmas.{starts-know, line-past, line-within}
 use Rattle.text_core.proofs.text_index.TextIndex.line.Goals as goal
 

@@ -1,4 +1,3 @@
-use Rattle.std.proofs.Common.{◌≡◌, sym, ◌∙◌}
 use Rattle.text_core.proofs.StartLemmas.{starts-know}
 use Rattle.text_core.proofs.text_index.TextIndex.place_of.Goals as goal
 
