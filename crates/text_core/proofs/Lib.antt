@@ -1,0 +1,10 @@
+pub mod EditLemmas
+pub mod EveryTwo
+pub mod FoldLemmas
+pub mod HashLemmas
+pub mod KeptLemmas
+pub mod LineEndLemmas
+pub mod LineLemmas
+pub mod PlaceLemmas
+pub mod StartLemmas
+pub mod TellLemmas

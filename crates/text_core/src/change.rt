@@ -1,0 +1,26 @@
+// Changes of texts.
+use crate::position::Range;
+use plain::Text;
+
+/// A text to put in the place of a range.
+#[derive(Clone, Debug, Drop)]
+pub struct TextEdit {
+    pub range: Range,
+    pub new_text: Text,
+}
+
+/// A new text for a range of a document, or for all of it.
+#[derive(Clone, Debug, Drop)]
+pub struct ContentChange {
+    pub range: Option<Range>,
+    pub text: Text,
+}
+
+/// What a completion puts into the text.
+#[derive(Clone, Copy, Debug, PartialEq, Eq)]
+pub enum CompletionEdit {
+    None,
+    Edit(Range),
+    /// One range where the text is inserted, and one where it replaces what stands there.
+    InsertAndReplace { insert: Range, replace: Range },
+}

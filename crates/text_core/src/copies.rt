@@ -1,0 +1,44 @@
+// The types of this crate as elements of lists: their clones are equal values, and `==` says whether two are equal.
+ghost use Rattle.std.specs.Prelude.{◌≡◌};
+ghost use Rattle.std.proofs.Common.{rules};
+
+use crate::change::{CompletionEdit, ContentChange, TextEdit};
+use crate::line_endings::LineEndings;
+use crate::position::{OffsetFault, Position, PositionEncoding, Range, WideEncoding};
+use plain::Copied;
+
+impl Copied for WideEncoding {
+    ghost copies = { λ x y h. Prim.search rules };
+}
+
+impl Copied for PositionEncoding {
+    ghost copies = { λ x y h. Prim.search rules };
+}
+
+impl Copied for Position {
+    ghost copies = { λ x y h. Prim.search rules };
+}
+
+impl Copied for Range {
+    ghost copies = { λ x y h. Prim.search rules };
+}
+
+impl Copied for OffsetFault {
+    ghost copies = { λ x y h. Prim.search rules };
+}
+
+impl Copied for LineEndings {
+    ghost copies = { λ x y h. Prim.search rules };
+}
+
+impl Copied for TextEdit {
+    ghost copies = { λ x y h. Prim.search rules };
+}
+
+impl Copied for ContentChange {
+    ghost copies = { λ x y h. Prim.search rules };
+}
+
+impl Copied for CompletionEdit {
+    ghost copies = { λ x y h. Prim.search rules };
+}

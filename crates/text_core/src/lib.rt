@@ -1,0 +1,31 @@
+//! Positions, lines and edits of texts as the Language Server Protocol has them: columns in UTF-8 or UTF-16 units, lists of
+//! changes, line endings, and the test that edits don't overlap.
+#![tactic(auto)]
+
+mod change;
+mod completion;
+mod completion_hash;
+mod copies;
+mod disjoint;
+mod draft;
+mod editing;
+mod line_endings;
+mod offsets;
+mod position;
+#[cfg(test)]
+mod slow;
+mod starts;
+mod steps;
+#[cfg(test)]
+mod tests;
+mod text_index;
+
+pub use change::{CompletionEdit, ContentChange, TextEdit};
+pub use completion::{HashedItem, PostfixMatch, RefMode, Relevance, ReturnType, TypeMatch};
+pub use completion_hash::{completion_item_hash, equal_bytes_are_equal_items};
+pub use disjoint::all_edits_are_disjoint;
+pub use editing::{apply_document_changes, apply_with_limit};
+pub use line_endings::LineEndings;
+pub use position::{OffsetFault, Position, PositionEncoding, Range, WideEncoding};
+pub use steps::Steps;
+pub use text_index::{LineIndex, TextIndex, offset, text_range};
