@@ -1,11 +1,11 @@
 -- The brackets that match stand opener before closer, are of one kind, and are each other's partners.
-use Rattle.std.proofs.Common.{◌≡◌, ◌≢◌, ℕ, zero, suc, ◌+◌, ◌<◌, ◌≤◌, inl, inr, Bool, true, false, cond, List, [], ◌∷◌, length, refl, ap, sym, subst, ◌∙◌, arith, eq-eqb}
+use Rattle.std.proofs.Common.{◌≡◌, ◌≢◌, ℕ, zero, suc, ◌+◌, ◌<◌, ◌≤◌, inl, inr, Bool, true, false, cond, List, [], ◌∷◌, refl, ap, sym, subst, ◌∙◌, arith, eq-eqb}
 use Rattle.std.specs.Prelude.{Option, Some, None, ◌==◌}
 use Rattle.std.specs.Cmp.{nat_cmp_total, unsigned_tied}
 use Rattle.std.specs.FinMap as map
-use Rattle.std.specs.Ordering.{nat_cmp, eq_by_cmp}
+use Rattle.std.specs.Ordering.{nat_cmp}
 use Rattle.std.proofs.lemmas.Bool.{cond-true, cond-false, eqb-true, ne_eqb}
-use Rattle.small_analysis.specs.Brackets.{Brackets, no_brackets, brackets_before, closed, closes, is_opener, located, with_byte, IsPair, AreMatched, IsMatching}
+use Rattle.small_analysis.specs.Brackets.{Brackets, brackets_before, closed, closes, is_opener, located, with_byte, IsPair, AreMatched, IsMatching}
 use Rattle.small_analysis.specs.declared.brackets.Bracket.{Bracket}
 
 abbrev Partners : Type 0
@@ -49,7 +49,7 @@ module _ (partners : Partners) (top here : Bracket) (apart : top.place ≢ here.
       map.get-insert nat_cmp_total (map.insert partners top.place here) here.place top place
       ∙ ap (λ b. cond b (Some top) (map.get (map.insert partners top.place here) place)) (unsigned_tied place here.place)
       ∙ ap (λ found. cond (place == here.place) (Some top) found)
-        (map.get-insert nat_cmp_total partners top.place here place ∙ ap (λ b. cond b (Some here) (map.get partners place)) (unsigned_tied place top.place))
+      (map.get-insert nat_cmp_total partners top.place here place ∙ ap (λ b. cond b (Some here) (map.get partners place)) (unsigned_tied place top.place))
 
   at_here : map.get with_pair here.place ≡ Some top
   at_here = look here.place ∙ cond-true _ _ _ (eq-eqb here.place here.place refl)
@@ -150,7 +150,7 @@ module _ (text : List ℕ) (n : ℕ) (top : Bracket) (below : List Bracket) (par
   paired_sound : IsSound text (suc n) (record { openers = below; partners = paired })
   paired_sound = record {
     openers = open_further text top.place (suc n) paired below (omega (arith, sound.openers.0))
-      (open_still text top.place partners paired below (λ place under. still place (λ e. absurd (omega (arith, e, under, sound.openers.0))) (λ e. absurd (omega (arith, e, under)))) sound.openers.1.1.1);
+        (open_still text top.place partners paired below (λ place under. still place (λ e. absurd (omega (arith, e, under, sound.openers.0))) (λ e. absurd (omega (arith, e, under)))) sound.openers.1.1.1);
     bound = bound;
     matching = matching;
   }

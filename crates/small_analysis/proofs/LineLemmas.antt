@@ -1,11 +1,11 @@
 -- Where lines begin, and positions that move on byte by byte.
-use Rattle.std.proofs.Common.{◌≡◌, ◌≢◌, ℕ, zero, suc, ◌+◌, ◌-◌, ◌*◌, ◌<◌, ◌≤◌, inl, inr, Bool, true, false, not, cond, List, [], ◌∷◌, ◌++◌, length, take, drop, reverse, get_or, nat_lt, Option, Some, None, refl, ap, sym, subst, ◌∙◌, arith}
+use Rattle.std.proofs.Common.{◌≡◌, ◌≢◌, ℕ, zero, suc, ◌+◌, ◌-◌, ◌<◌, ◌≤◌, inl, inr, Bool, true, false, not, cond, List, [], ◌∷◌, ◌++◌, length, take, drop, get_or, nat_lt, Option, Some, None, refl, ap, sym, subst, ◌∙◌, arith}
 use Rattle.std.specs.Option.{option_map}
 use Rattle.std.specs.List.{after_last, count_by, slice_get, suffix_len, prefix_len, sum_by}
-use Rattle.std.specs.Str.{IsUtf8, encode_utf8_all}
-use Rattle.std.proofs.lemmas.Bool.{cases_lt, cond-true, cond-false, lt-ltb, le-ltb, eq-eqb, ne_eqb}
-use Rattle.std.proofs.lemmas.List.{at_drop_more, drop_all, drop-append-le, get_or_append_left, length-append, length-reverse, length-take, reverse-append, take_all, take_more}
-use Rattle.std.proofs.lemmas.List.Sums.{count_by-le-length, count_by_more_no, count_by_more_yes, prefix_len-le-length, sum_by-append, sum_by-take-drop, sum_by-take-le, sum_by_push}
+use Rattle.std.specs.Str.{IsUtf8}
+use Rattle.std.proofs.lemmas.Bool.{cases_lt, cond-true, cond-false, lt-ltb, le-ltb}
+use Rattle.std.proofs.lemmas.List.{drop_all, drop-append-le, get_or_append_left, length-append, length-take, reverse-append, take_more}
+use Rattle.std.proofs.lemmas.List.Sums.{count_by-le-length, count_by_more_no, count_by_more_yes, sum_by-append, sum_by-take-drop, sum_by-take-le, sum_by_push}
 use Rattle.std.proofs.lemmas.Option.{slice_get_past, slice_get-get_or}
 use Rattle.std.proofs.lemmas.Str.{length-encode, len_utf8_bounds}
 use Rattle.std.proofs.Math.Seq.{get_or-append_seam}
@@ -13,7 +13,6 @@ use lib.Utf8.{encode, encodes}
 use Rattle.small_analysis.proofs.Laws.{units_of_character}
 use Rattle.small_analysis.proofs.OffsetLemmas.{further, further-further, line_start_lf, line_start_other, line_start_end}
 use Rattle.small_analysis.specs.Positions.{ends_line, units, line_start, position_at, past_byte, AreLineStarts}
-use Rattle.small_analysis.specs.declared.params.Position.{Position}
 
 -- the lines that begin in the first bytes are listed, and the others begin after as many LF more
 abbrev pub IsTable : List ℕ → List ℕ → ℕ → Type 0
@@ -104,9 +103,6 @@ line_start_within (suc line) (b ∷ rest) start is = by_line (λ n h. line_start
 last_more : (p : ℕ → Bool) (xs : List ℕ) (b : ℕ) → after_last p (xs ++ b ∷ []) ≡ cond (p b) [] (after_last p xs ++ b ∷ [])
 last_more p xs b = by_byte (p b) refl
   where
-    q : ℕ → Bool
-    q x = not (p x)
-
     tail : suffix_len (λ x. not (p x)) (xs ++ b ∷ []) ≡ cond (not (p b)) (1 + suffix_len (λ x. not (p x)) xs) 0
     tail = ap (prefix_len (λ x. not (p x))) (reverse-append xs (b ∷ []))
 
@@ -126,15 +122,12 @@ last_more p xs b = by_byte (p b) refl
 pub position_more : (text : List ℕ) (i : ℕ) → i < length text → position_at text (i + 1) ≡ past_byte (get_or text i 0) (position_at text i)
 position_more text i here = by_byte (ends_line (get_or text i 0)) refl
   where
-    b : ℕ
-    b = get_or text i 0
-
     rest : after_last ends_line (take (i + 1) text) ≡ cond (ends_line (get_or text i 0)) [] (after_last ends_line (take i text) ++ get_or text i 0 ∷ [])
     rest = ap (after_last ends_line) (take_more text i 0 here) ∙ last_more ends_line (take i text) (get_or text i 0)
 
     by_byte : (ends : Bool) → ends_line (get_or text i 0) ≡ ends
         → position_at text (i + 1) ≡ cond ends (record { line = count_by ends_line (take i text) + 1; character = 0 })
-          (record { line = count_by ends_line (take i text); character = sum_by units (after_last ends_line (take i text)) + units (get_or text i 0) })
+        (record { line = count_by ends_line (take i text); character = sum_by units (after_last ends_line (take i text)) + units (get_or text i 0) })
     by_byte true is =
         let line : count_by ends_line (take (i + 1) text) ≡ count_by ends_line (take i text) + 1 = count_by_more_yes ends_line text i 0 here is in
         let character : sum_by units (after_last ends_line (take (i + 1) text)) ≡ 0 =
@@ -154,8 +147,6 @@ line_bound text i here = omega (arith, count_by-le-length ends_line (take i text
 -- with the next byte's units a column is within those of the text
 pub column_bound : (text : List ℕ) (i : ℕ) → i < length text → (position_at text i).character + units (get_or text i 0) ≤ sum_by units text
 column_bound text i here =
-    let front : List ℕ = take i text in
-    let at : ℕ = length front - suffix_len (λ x. not (ends_line x)) front in
     let more : sum_by units (take (i + 1) text) ≡ sum_by units (take i text) + units (get_or text i 0) =
     ap (sum_by units) (take_more text i 0 here) ∙ sum_by_push units (take i text) (get_or text i 0) in
     omega (arith, more, sum_by-take-le units text (i + 1), sum_by-take-drop units (take i text) (length (take i text) - suffix_len (λ x. not (ends_line x)) (take i text)))

@@ -1,5 +1,5 @@
 -- The params of a hover (LSP 3.17, HoverParams) and of matchingBrace, as far as they are read.
-use Rattle.std.specs.Prelude.{ℕ, List, [], ◌∷◌, codes, Option, Some, None, option_and_then}
+use Rattle.std.specs.Prelude.{ℕ, List, [], ◌∷◌, codes, Option, Some, option_and_then}
 use Rattle.std.specs.Option.{option_map}
 use Rattle.plain.specs.Reading.{as_u32}
 use Rattle.serde_json.specs.Data.{Data, Items, no_items, item}

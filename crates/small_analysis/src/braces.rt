@@ -1,5 +1,5 @@
 // What matchingBrace answers.
-ghost use Rattle.std.specs.Prelude.{◌≡◌, ◌≤◌, ◌<◌, ◌^◌, length, map, sum_by, true, None, IfOk};
+ghost use Rattle.std.specs.Prelude.{◌≡◌, ◌<◌, map, true, None, IfOk};
 ghost use Rattle.serde_json.specs.Data.{array};
 ghost use Rattle.serde_json.specs.View.{items_view, view};
 ghost use Rattle.plain.specs.Plain.{is_plain};
@@ -19,12 +19,7 @@ use serde_json::Value;
 use std::alloc::{AllocError, Global};
 
 /// Where the bracket stands that matches the one near a place, else the position itself.
-fn matched(
-    text: &[u8],
-    partners: &ByNumber<Bracket>,
-    position: Position,
-    place: usize,
-) -> Position
+fn matched(text: &[u8], partners: &ByNumber<Bracket>, position: Position, place: usize) -> Position
     requires { partners.now ≡ partners_of text.now }
     ensures { result ≡ matched text.now position place }
 {

@@ -1,6 +1,5 @@
 // The brackets of a text that match.
-ghost use Rattle.std.specs.Prelude.{◌≡◌, ◌≤◌, ◌<◌, ◌^◌, length, slice_get, sum_by, IfOk, option_copied};
-ghost use Rattle.std.specs.FinMap as map;
+ghost use Rattle.std.specs.Prelude.{◌≡◌, ◌<◌, ◌^◌, slice_get, sum_by, IfOk};
 ghost use Rattle.small_analysis.specs.Brackets.{closes, is_bracket, is_bracket_at, is_opener, bracket_near, partners_of, with_byte, IsMatching};
 ghost use Rattle.small_analysis.specs.Positions.{units};
 

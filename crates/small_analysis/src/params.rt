@@ -2,7 +2,6 @@
 ghost use Rattle.std.specs.Prelude.{◌≡◌, IfOk, is_some, option_copied};
 ghost use Rattle.std.specs.Option.{option_map};
 ghost use Rattle.serde_json.specs.View.{items_view, view};
-ghost use Rattle.plain.specs.Reading.{as_u32};
 ghost use Rattle.small_analysis.specs.Params.{list_of, uri_of, number_at, position_in, position_of, positions_in, positions_of};
 
 use plain::{Items, Json};

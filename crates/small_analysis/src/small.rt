@@ -54,6 +54,7 @@ fn answer(alloc: Global, snapshot: &GlobalStateSnapshot, ask: &Ask) -> Result<Ou
 }
 
 impl SmallAnalysis {
+    /// Each one answers alike.
     pub fn new(alloc: Global) -> SmallAnalysis {
         SmallAnalysis { alloc }
     }

@@ -15,14 +15,14 @@ loop-place-preserved c =
     let now : Brackets = record { openers = c.loop-place.openers.items; partners = c.loop-place.partners } in
     record {
       brackets =
-      c.in_ok-take_byte.ensures
-      ∙ ap (λ p. with_byte (record { place = c.loop-place.place; byte = get_or c.args.text.now c.loop-place.place 0; position = p }) now) c.loop-place.invariant.position
-      ∙ ap (with_byte (located c.args.text.now c.loop-place.place)) c.loop-place.invariant.brackets
-      ∙ sym (brackets_more c.args.text.now c.loop-place.place);
+          c.in_ok-take_byte.ensures
+          ∙ ap (λ p. with_byte (record { place = c.loop-place.place; byte = get_or c.args.text.now c.loop-place.place 0; position = p }) now) c.loop-place.invariant.position
+          ∙ ap (with_byte (located c.args.text.now c.loop-place.place)) c.loop-place.invariant.brackets
+          ∙ sym (brackets_more c.args.text.now c.loop-place.place);
       position =
-      c.past_byte-position.ensures
-      ∙ ap (past_byte (get_or c.args.text.now c.loop-place.place 0)) c.loop-place.invariant.position
-      ∙ sym (position_more c.args.text.now c.loop-place.place c.loop-place-test.true);
+          c.past_byte-position.ensures
+          ∙ ap (past_byte (get_or c.args.text.now c.loop-place.place 0)) c.loop-place.invariant.position
+          ∙ sym (position_more c.args.text.now c.loop-place.place c.loop-place-test.true);
     }
 
 pub returns-clause-matching : goal.returns-clause-matching

@@ -12,14 +12,14 @@ loop-i-preserved c =
           record {
             some = omega (arith, ap length items, length-append c.loop-i.starts.items ((c.loop-i.i + 1) ∷ []));
             table = subst (λ starts. IsTable c.args.text.now starts (c.loop-i.i + 1)) (sym items)
-              (table_lf c.args.text.now c.loop-i.starts.items c.loop-i.i c.loop-i.invariant.some c.loop-i-test.true c.loop-i.invariant.table w.if-byte-eq10.true);
+                (table_lf c.args.text.now c.loop-i.starts.items c.loop-i.i c.loop-i.invariant.some c.loop-i-test.true c.loop-i.invariant.table w.if-byte-eq10.true);
           }
       | else-byte-eq10 w ↦
           let items : c.if-byte-eq10.starts.items ≡ c.loop-i.starts.items = ap (λ v. v.items) w.starts-is in
           record {
             some = omega (arith, ap length items, c.loop-i.invariant.some);
             table = subst (λ starts. IsTable c.args.text.now starts (c.loop-i.i + 1)) (sym items)
-              (table_other c.args.text.now c.loop-i.starts.items c.loop-i.i c.loop-i.invariant.some c.loop-i-test.true c.loop-i.invariant.table w.if-byte-eq10.false);
+                (table_other c.args.text.now c.loop-i.starts.items c.loop-i.i c.loop-i.invariant.some c.loop-i-test.true c.loop-i.invariant.table w.if-byte-eq10.false);
           }
     ]
 

@@ -1,7 +1,4 @@
-use Rattle.std.proofs.Common.{ap, sym, ◌∙◌}
-use Rattle.std.specs.Prelude.{option_and_then}
-use Rattle.std.specs.Option.{option_map}
-use Rattle.small_analysis.specs.Positions.{past_units, line_at}
+use Rattle.std.proofs.Common.{sym, ◌∙◌}
 use Rattle.small_analysis.proofs.LineLemmas.{line_start_within}
 use Rattle.small_analysis.proofs.offsets.place_by.Goals as goal
 
