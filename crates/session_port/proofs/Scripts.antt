@@ -1,6 +1,6 @@
 -- What a script gives is honest, and how its results are made one by one.
-use Rattle.std.proofs.Common.{◌≡◌, ℕ, Bool, true, false, cond, List, [], ◌∷◌, ◌++◌, refl, sym, ap, subst, ◌∙◌, append_assoc}
-use Rattle.std.specs.Prelude.{Option, None, Some, is_some, not, nat_lt}
+use Rattle.std.proofs.Common.{◌≡◌, ℕ, Bool, true, false, cond, List, [], ◌∷◌, ◌++◌, refl, sym, ap, subst, ◌∙◌}
+use Rattle.std.specs.Prelude.{Option, None, Some, is_some, not}
 use Rattle.std.specs.FinMap as map
 use Rattle.std.specs.List.{AllZip}
 use Rattle.std.specs.Option.{option_map, option_to_list, unwrap_or}
@@ -10,7 +10,7 @@ use Rattle.std.proofs.lemmas.Bool.{eqb-true, ltb-true}
 use Rattle.analysis_host.specs.Answers.{Finding}
 use Rattle.analysis_host.specs.SnapshotData.{SnapshotData}
 use Rattle.analysis_host.specs.declared.ask.Ask.{Ask}
-use Rattle.session_port.specs.Honest.{IsHonestMessage, AreHonest, IsHonest}
+use Rattle.session_port.specs.Honest.{AreHonest, IsHonest}
 use Rattle.session_port.specs.Jobs.{Jobs, after_message}
 use Rattle.session_port.specs.Script.{Gift, event, results, named, left_out, can_see, stopped, gift_of, next_gift, FinishesAt, IsGift}
 use Rattle.session_port.specs.declared.event.HostEvent.{HostEvent}
@@ -63,18 +63,6 @@ module _ (answer : SnapshotData → Ask → Finding) where
 
   pub continues_start : (numbers : List ℕ) (out left : Jobs) → left ≡ out → Continues numbers out [] numbers left
   continues_start numbers out left is rest zip = subst (λ o. AllZip (FinishesAt answer) (named numbers o) rest) is zip
-
-  pub continues_none : (numbers : List ℕ) (out left : Jobs) (batch : List TaskMsg) (number : ℕ) (others : List ℕ) → Continues numbers out batch (number ∷ others) left
-      → map.get left number ≡ None → Continues numbers out batch others (map.remove left number)
-  continues_none numbers out left batch number others so none rest zip =
-      let front : Option Job → Type 0 = λ found. AllZip (FinishesAt answer) (option_to_list (option_map (λ job. (number, job)) found) ++ named others (map.remove left number)) rest in
-      so rest (subst front (sym none) zip)
-
-  pub continues_some : (numbers : List ℕ) (out left : Jobs) (batch : List TaskMsg) (number : ℕ) (others : List ℕ) (job : Job) (message : TaskMsg) → Continues numbers out batch (number ∷ others) left
-      → map.get left number ≡ Some job → FinishesAt answer (number, job) message → Continues numbers out (batch ++ message ∷ []) others (map.remove left number)
-  continues_some numbers out left batch number others job message so some finishes rest zip =
-      let front : Option Job → Type 0 = λ found. AllZip (FinishesAt answer) (option_to_list (option_map (λ job. (number, job)) found) ++ named others (map.remove left number)) (message ∷ rest) in
-      subst (λ all. AllZip (FinishesAt answer) (named numbers out) all) (sym (append_assoc batch (message ∷ []) rest)) (so (message ∷ rest) (subst front (sym some) (finishes, zip)))
 
   -- results of jobs that are out are honest
   honest_named : (numbers : List ℕ) (out : Jobs) (batch : List TaskMsg) → AllZip (FinishesAt answer) (named numbers out) batch → AreHonest answer out batch

@@ -1,9 +1,8 @@
 -- A run is of word bytes, and so it stands between whole characters.
-use Rattle.std.proofs.Common.{◌≡◌, ℕ, zero, suc, inl, inr, ◌+◌, ◌-◌, ◌<◌, ◌≤◌, true, List, length, take, drop, reverse, get_or, refl, ap, sym, ◌∙◌, subst, arith}
-use Rattle.std.specs.List.{prefix_len, suffix_len}
+use Rattle.std.proofs.Common.{◌≡◌, ℕ, zero, suc, inl, inr, ◌+◌, ◌-◌, ◌<◌, ◌≤◌, true, List, length, take, drop, reverse, get_or, ap, sym, ◌∙◌, subst, arith}
+use Rattle.std.specs.List.{suffix_len}
 use Rattle.std.specs.Str.{IsUtf8, IsCharBoundary}
 use Rattle.std.proofs.lemmas.Bool.Decides.{nat_tests}
-use Rattle.std.proofs.lemmas.Grind.{common_steps}
 use Rattle.std.proofs.lemmas.List.Sums.{prefix_len_passes, prefix_len-le-length}
 use Rattle.std.proofs.lemmas.List.{length-take, length-drop, get_or-take, get_or-drop, get_or-reverse}
 use Rattle.std.proofs.lemmas.Bool.{cases_lt, false≢true}

@@ -1,4 +1,5 @@
 pub mod Positions
 pub mod Names
+pub mod Brackets
 pub mod Params
 pub mod Small

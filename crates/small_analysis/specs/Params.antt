@@ -1,15 +1,20 @@
--- The params of a hover (LSP 3.17, HoverParams), as far as they are read.
-use Rattle.std.specs.Prelude.{ℕ, List, codes, Option, Some, None, option_and_then}
+-- The params of a hover (LSP 3.17, HoverParams) and of matchingBrace, as far as they are read.
+use Rattle.std.specs.Prelude.{ℕ, List, [], ◌∷◌, codes, Option, Some, option_and_then}
 use Rattle.std.specs.Option.{option_map}
 use Rattle.plain.specs.Reading.{as_u32}
-use Rattle.serde_json.specs.Data.{Data}
-use Rattle.serde_json.specs.Find.{get, as_str}
+use Rattle.serde_json.specs.Data.{Data, Items, no_items, item}
+use Rattle.serde_json.specs.Find.{get, as_array, as_str}
 use Rattle.small_analysis.specs.declared.params.Position.{Position}
 
 -- what hover is asked for
 pub record HoverData : Type 0 where
   pub uri : List ℕ
   pub position : Position
+
+-- what matchingBrace is asked for
+pub record BraceData : Type 0 where
+  pub uri : List ℕ
+  pub positions : List Position
 
 -- the text `uri` in `textDocument`
 abbrev pub uri_of : Data → Option (List ℕ)
@@ -29,7 +34,25 @@ position_in d =
 abbrev pub position_of : Data → Option Position
 position_of params = option_and_then position_in (get (codes "position") params)
 
+-- the positions that items are, where each is one
+abbrev pub positions_in : Items → Option (List Position)
+positions_in no_items = Some []
+positions_in (item d ds) = option_and_then (λ position. option_map (λ positions. position ∷ positions) (positions_in ds)) (position_in d)
+
+-- the list in `positions`
+abbrev pub list_of : Data → Option Items
+list_of params = option_and_then as_array (get (codes "positions") params)
+
+-- the positions in `positions`
+abbrev pub positions_of : Data → Option (List Position)
+positions_of params = option_and_then positions_in (list_of params)
+
 -- a document's URL and a position
 abbrev pub hover_params : Data → Option HoverData
 hover_params params =
     option_and_then (λ uri. option_map (λ position. record { uri = uri; position = position }) (position_of params)) (uri_of params)
+
+-- a document's URL and positions
+abbrev pub brace_params : Data → Option BraceData
+brace_params params =
+    option_and_then (λ uri. option_map (λ positions. record { uri = uri; positions = positions }) (positions_of params)) (uri_of params)

@@ -1,6 +1,9 @@
-//! A small analysis: it finds the name under a position, and nothing more.
+//! A small analysis: it finds the name under a position and the brackets that match, and nothing more.
 #![tactic(auto)]
 
+mod braces;
+mod brackets;
+mod found;
 mod hover;
 mod names;
 mod offsets;

@@ -1,17 +1,18 @@
-// The params of a hover.
-ghost use Rattle.std.specs.Prelude.{◌≡◌, option_copied};
-ghost use Rattle.serde_json.specs.View.{view};
-ghost use Rattle.plain.specs.Reading.{as_u32};
-ghost use Rattle.small_analysis.specs.Params.{uri_of, number_at, position_in, position_of};
+// The params of a hover and of matchingBrace.
+ghost use Rattle.std.specs.Prelude.{◌≡◌, IfOk, is_some, option_copied};
+ghost use Rattle.std.specs.Option.{option_map};
+ghost use Rattle.serde_json.specs.View.{items_view, view};
+ghost use Rattle.small_analysis.specs.Params.{list_of, uri_of, number_at, position_in, position_of, positions_in, positions_of};
 
-use plain::Json;
+use plain::{Items, Json};
 use serde_json::Value;
+use std::alloc::{AllocError, Global};
 
 /// A line, and a column in UTF-16 code units.
-#[derive(Clone, Copy)]
+#[derive(Clone, Copy, Drop)]
 pub(crate) struct Position {
-    pub(crate) line: u32,
-    pub(crate) character: u32,
+    pub(crate) line: u64,
+    pub(crate) character: u64,
 }
 
 /// The URL of the params' document.
@@ -35,8 +36,8 @@ fn number_at(value: &Value, key: &str) -> Option<u32>
 fn position_in(value: &Value) -> Option<Position>
     ensures { result ≡ position_in (view value.now) }
 {
-    let line = number_at(value, "line")?;
-    let character = number_at(value, "character")?;
+    let line = u64::from(number_at(value, "line")?);
+    let character = u64::from(number_at(value, "character")?);
     Some(Position { line, character })
 }
 
@@ -45,4 +46,50 @@ pub(crate) fn position_of(params: &Json) -> Option<Position>
     ensures { result ≡ position_of params.now }
 {
     position_in(params.as_value().get("position")?)
+}
+
+/// The list of the params that is to hold positions.
+pub(crate) fn list_of(params: &Json) -> Option<&Vec<Value>>
+    ensures { option_map (λ list. items_view list.now.items) result ≡ list_of params.now }
+{
+    params.as_value().get("positions")?.as_array()
+}
+
+/// Whether each item is a position.
+fn are_positions(list: &[Value]) -> bool
+    ensures { result ≡ is_some (positions_in (items_view list.now)) }
+{
+    for item in list {
+        if position_in(item).is_none() {
+            return false;
+        }
+    }
+    true
+}
+
+/// Whether the params have a list of positions.
+pub(crate) fn has_positions(params: &Json) -> bool
+    ensures { result ≡ is_some (positions_of params.now) }
+{
+    match list_of(params) {
+        Some(list) => are_positions(list),
+        None => false,
+    }
+}
+
+/// The positions that the items are, where each is one.
+pub(crate) fn positions_in(
+    alloc: Global,
+    list: &[Value],
+) -> Result<Option<Items<Position>>, AllocError>
+    ensures { IfOk result (λ positions. positions ≡ positions_in (items_view list.now)) }
+{
+    let mut positions = Items::new(alloc);
+    for item in list {
+        let Some(position) = position_in(item) else {
+            return Ok(None);
+        };
+        positions.push(position)?;
+    }
+    Ok(Some(positions))
 }

@@ -2,17 +2,22 @@
 ghost use Rattle.std.specs.Prelude.{◌≡◌, None, IfOk, OnOk};
 ghost use Rattle.analysis_host.specs.Answers.{Answers, IsPlainOutcome};
 ghost use Rattle.analysis_host.specs.Polls.{Counts, HasPolled};
-ghost use Rattle.small_analysis.specs.Small.{is_hover, small_decodes, small_answer, stopped_by};
+ghost use Rattle.small_analysis.specs.Small.{is_hover, is_matching_brace, small_decodes, small_answer, stopped_by};
 
-use crate::hover::{hover_of, refusal};
-use crate::params::{position_of, uri_of};
+use crate::braces::braces_of;
+use crate::found::refusal;
+use crate::hover::hover_of;
+use crate::params::{has_positions, position_of, uri_of};
 use analysis_host::{Analysis, Answer, Ask, Cancel, GlobalStateSnapshot, Outcome, RowId};
 use plain::{Json, Text};
 use std::alloc::{AllocError, Global};
 
 const HOVER: RowId = RowId(56);
 
-/// An analysis that answers hover by the name under the position, and every other row by null.
+const MATCHING_BRACE: RowId = RowId(8);
+
+/// An analysis that answers hover by the name under the position, matchingBrace by the brackets that match, and every
+/// other row by null.
 #[derive(Drop)]
 pub struct SmallAnalysis {
     alloc: Global,
@@ -22,6 +27,12 @@ fn is_hover(row: RowId) -> bool
     ensures { result ≡ is_hover row }
 {
     row == HOVER
+}
+
+fn is_matching_brace(row: RowId) -> bool
+    ensures { result ≡ is_matching_brace row }
+{
+    row == MATCHING_BRACE
 }
 
 /// What a question comes to.
@@ -35,12 +46,15 @@ fn answer(alloc: Global, snapshot: &GlobalStateSnapshot, ask: &Ask) -> Result<Ou
     }
     if is_hover(*row) {
         hover_of(alloc, snapshot, params)
+    } else if is_matching_brace(*row) {
+        braces_of(alloc, snapshot, params)
     } else {
         Ok(Outcome::Value(Answer::Json(Json::null())))
     }
 }
 
 impl SmallAnalysis {
+    /// Each one answers alike.
     pub fn new(alloc: Global) -> SmallAnalysis {
         SmallAnalysis { alloc }
     }
@@ -52,7 +66,13 @@ impl Analysis for SmallAnalysis {
     ghost answer = { small_answer };
 
     fn decodes(&self, row: RowId, params: &Json) -> bool {
-        !is_hover(row) || (uri_of(params).is_some() && position_of(params).is_some())
+        if is_hover(row) {
+            uri_of(params).is_some() && position_of(params).is_some()
+        } else if is_matching_brace(row) {
+            uri_of(params).is_some() && has_positions(params)
+        } else {
+            true
+        }
     }
 
     /// Polls once, before its work.

@@ -12,6 +12,10 @@ use std::test::Fail;
 
 const HOVER: RowId = RowId(56);
 
+const MATCHING_BRACE: RowId = RowId(8);
+
+const COMPLETION: RowId = RowId(12);
+
 fn path(alloc: Global, text: &str) -> Result<VfsPath, Fail> {
     Ok(VfsPath::new(alloc, text)?.ok_or("no path")?)
 }
@@ -143,9 +147,90 @@ fn faults(rt: HostRuntime) -> Result<(), Fail> {
     Ok(())
 }
 
+/// What matchingBrace answers at one position of a text.
+fn brace(alloc: Global, text: &str, line: u32, column: u32) -> Result<String, Fail> {
+    let positions = format!(in alloc; "[{{\"line\":{line},\"character\":{column}}}]")?;
+    braces(alloc, "file:///w/a.rs", text, positions.as_str())
+}
+
+/// What matchingBrace answers at positions of a text, in the file of a URL.
+fn braces(alloc: Global, uri: &str, text: &str, positions: &str) -> Result<String, Fail> {
+    let params = format!(in alloc;
+        "{{\"textDocument\":{{\"uri\":\"{uri}\"}},\"positions\":{positions}}}"
+    )?;
+    answer(alloc, MATCHING_BRACE, text, params.as_str())
+}
+
+#[test]
+fn brackets_that_match(rt: HostRuntime) -> Result<(), Fail> {
+    for (text, line, column, to_line, to_column) in [
+        ("fn a() {}", 0, 7, 0, 8),
+        // The one before, where none is there.
+        ("f(a[1]{x})", 0, 10, 0, 1),
+        ("f(a[1]{x})", 0, 4, 0, 5),
+        ("f(a[1]{x})", 0, 6, 0, 8),
+        ("f(a[1]{x})", 0, 99, 0, 1),
+        // None, and one that is unmatched.
+        ("f(a[1]{x})", 0, 0, 0, 0),
+        ("ab", 0, 99, 0, 99),
+        ("()]", 0, 2, 0, 2),
+        ("()]", 0, 1, 0, 0),
+        ("([)]", 0, 0, 0, 0),
+        ("([)]", 0, 1, 0, 3),
+        ("([)]", 0, 2, 0, 2),
+        ("([)])", 0, 0, 0, 4),
+        // Over lines, and over characters of one and two code units.
+        ("a{\n é😀}\n", 0, 1, 1, 4),
+        ("a{\n é😀}\n", 1, 4, 0, 1),
+        ("a{\n é😀}\n", 1, 5, 0, 1),
+        ("{\n\n}", 2, 0, 0, 0),
+        ("", 0, 0, 0, 0),
+    ] {
+        let expected = format!(in rt.alloc();
+            "[{{\"character\":{to_column},\"line\":{to_line}}}]"
+        )?;
+        let found = brace(rt.alloc(), text, line, column)?;
+        assert_eq!(rt;
+            found.as_str(),
+            expected.as_str(),
+            "at {line}:{column} of {text:?}"
+        );
+    }
+    Ok(())
+}
+
+#[test]
+fn positions_of_brackets(rt: HostRuntime) -> Result<(), Fail> {
+    let here = "file:///w/a.rs";
+    let one = "{\"line\":0,\"character\":0}";
+    for (uri, positions, value) in [
+        (here, "[]", "[]"),
+        (
+            here,
+            "[{\"line\":0,\"character\":1},{\"character\":0,\"line\":0}]",
+            "[{\"character\":0,\"line\":0},{\"character\":1,\"line\":0}]",
+        ),
+        (
+            here,
+            "[{\"line\":0,\"character\":0},{\"line\":1,\"character\":0}]",
+            "Invalid offset",
+        ),
+        (here, one, "invalid params"),
+        (here, "[{\"line\":9,\"character\":0},7]", "invalid params"),
+        (here, "[{\"line\":0,\"character\":-1}]", "invalid params"),
+        ("file:///w/b.rs", "[]", "file not found: /w/b.rs"),
+        ("x", "[{\"line\":9,\"character\":0}]", "url is not a file"),
+    ] {
+        let found = braces(rt.alloc(), uri, "()", positions)?;
+        assert_eq!(rt; found.as_str(), value, "on {positions} of {uri}");
+    }
+    Ok(())
+}
+
 #[test]
 fn other_rows(rt: HostRuntime) -> Result<(), Fail> {
     assert_eq!(rt; answer(rt.alloc(), RowId(55), "a", "[]")?.as_str(), "null");
+    assert_eq!(rt; answer(rt.alloc(), COMPLETION, "a", "{}")?.as_str(), "null");
     assert_eq!(rt;
         answer(rt.alloc(), RowId(55), "a", "0.5")?.as_str(),
         "invalid params"
@@ -153,6 +238,7 @@ fn other_rows(rt: HostRuntime) -> Result<(), Fail> {
     let analysis = SmallAnalysis::new(rt.alloc());
     assert!(rt; analysis.decodes(RowId(55), &Json::null()));
     assert!(rt; !analysis.decodes(HOVER, &Json::null()));
+    assert!(rt; !analysis.decodes(MATCHING_BRACE, &Json::null()));
     Ok(())
 }
 

@@ -1,5 +1,5 @@
 -- A run that is a name stands between whole characters.
-use Rattle.std.proofs.Common.{◌≡◌, true, sym, subst, arith}
+use Rattle.std.proofs.Common.{◌≡◌, true, subst, arith}
 use Rattle.std.proofs.lemmas.Grind.{common_steps}
 use Rattle.std.specs.Str.{IsCharBoundary}
 use Rattle.small_analysis.specs.Names.{is_name, run_at, run_start, run_end}

@@ -1,0 +1,84 @@
+-- Brackets of a text, and which of them match: `()`, `[]` and `{}`, by a stack over the whole text.
+use Rattle.std.specs.Prelude.{◌≡◌, ◌<◌, ◌⊎◌, ℕ, zero, suc, ◌==◌, ◌&&◌, ◌||◌, Bool, true, List, [], ◌∷◌, length, slice_index, if◌then◌else◌, Option, Some, None, option_and_then}
+use Rattle.std.specs.FinMap as map
+use Rattle.std.specs.Ordering.{nat_cmp}
+use Rattle.small_analysis.specs.Positions.{position_at}
+use Rattle.small_analysis.specs.declared.brackets.Bracket.{Bracket}
+
+-- `(`, `[` or `{`
+abbrev pub is_opener : ℕ → Bool
+is_opener b = b == 40 || b == 91 || b == 123
+
+-- an opener, or `)`, `]` or `}`
+abbrev pub is_bracket : ℕ → Bool
+is_bracket b = is_opener b || b == 41 || b == 93 || b == 125
+
+-- a closer of the opener's kind
+abbrev pub closes : ℕ → ℕ → Bool
+closes opener b = opener == 40 && b == 41 || opener == 91 && b == 93 || opener == 123 && b == 125
+
+-- the openers that are open, the innermost first, and the partner of each bracket that is matched, by its place
+pub record Brackets : Type 0 where
+  pub openers : List Bracket
+  pub partners : map.FinMap nat_cmp Bracket
+
+abbrev pub no_brackets : Brackets
+no_brackets = record { openers = []; partners = map.empty }
+
+-- a closer of the innermost opener matches it; any other byte changes nothing
+abbrev pub closed : Bracket → Brackets → List Bracket → Brackets
+closed here brackets [] = brackets
+closed here brackets (top ∷ below) =
+    if closes top.byte here.byte
+    then record { openers = below; partners = map.insert (map.insert brackets.partners top.place here) here.place top }
+    else brackets
+
+-- one byte more
+abbrev pub with_byte : Bracket → Brackets → Brackets
+with_byte here brackets =
+    if is_opener here.byte then record { openers = here ∷ brackets.openers; partners = brackets.partners }
+    else closed here brackets brackets.openers
+
+-- the byte at a place, with its position
+abbrev pub located : List ℕ → ℕ → Bracket
+located text place = record { place = place; byte = slice_index text place; position = position_at text place }
+
+-- the brackets among the first bytes of a text
+abbrev pub brackets_before : List ℕ → ℕ → Brackets
+brackets_before text zero = no_brackets
+brackets_before text (suc n) = with_byte (located text n) (brackets_before text n)
+
+-- the partner of each bracket of a text that is matched
+abbrev pub partners_of : List ℕ → map.FinMap nat_cmp Bracket
+partners_of text = (brackets_before text (length text)).partners
+
+-- an opener and a closer of its kind after it
+pub record IsPair (opener closer : Bracket) : Type 0 where
+  pub order : opener.place < closer.place
+  pub kind : closes opener.byte closer.byte ≡ true
+
+-- a place and its partner: a bracket of the text, whose partner is the one at the place
+pub record AreMatched (text : List ℕ) (partners : map.FinMap nat_cmp Bracket) (place : ℕ) (partner : Bracket) : Type 0 where
+  pub there : partner ≡ located text partner.place
+  pub back : map.get partners partner.place ≡ Some (located text place)
+  pub pair : IsPair (located text place) partner ⊎ IsPair partner (located text place)
+
+abbrev pub IsMatching : List ℕ → map.FinMap nat_cmp Bracket → Type 0
+IsMatching text partners = (place : ℕ) (partner : Bracket) → map.get partners place ≡ Some partner → AreMatched text partners place partner
+
+-- a bracket stands at a place
+abbrev pub is_bracket_at : List ℕ → ℕ → Bool
+is_bracket_at text place = is_bracket (slice_index text place)
+
+-- the place right before, where a bracket is there
+abbrev pub bracket_before : List ℕ → ℕ → Option ℕ
+bracket_before text zero = None
+bracket_before text (suc place) = if is_bracket_at text place then Some place else None
+
+-- the place itself where a bracket is there, else the one right before it
+abbrev pub bracket_near : List ℕ → ℕ → Option ℕ
+bracket_near text place = if is_bracket_at text place then Some place else bracket_before text place
+
+-- the bracket that matches the one near a place
+abbrev pub partner_near : List ℕ → ℕ → Option Bracket
+partner_near text place = option_and_then (map.get (partners_of text)) (bracket_near text place)

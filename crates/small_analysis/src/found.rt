@@ -1,0 +1,49 @@
+// The text that a request speaks of, and why there is none.
+ghost use Rattle.std.specs.Prelude.{◌≡◌, ◌++◌, codes, None, Ok, Err, IfOk, MatchResult};
+ghost use Rattle.analysis_host.specs.Answers.{Answers, IsPlainOutcome};
+ghost use Rattle.small_analysis.specs.Small.{refusal, text_of};
+
+use analysis_host::{GlobalStateSnapshot, Outcome};
+use docs_vfs::{UrlFault, VfsPath, path_of_url};
+use plain::Text;
+use std::alloc::{AllocError, Global};
+
+/// A fault without code.
+pub(crate) fn refusal(message: Text) -> Outcome
+    ensures answers { Answers (refusal message) None result }
+    ensures plain { IsPlainOutcome result }
+{
+    Outcome::Fault {
+        code: None,
+        message,
+    }
+}
+
+/// That a file is not there.
+fn not_found(alloc: Global, path: &VfsPath) -> Result<Text, AllocError>
+    ensures { IfOk result (λ message. message ≡ codes "file not found: " ++ path.now) }
+{
+    let mut message = Text::from_str(alloc, "file not found: ")?;
+    message.push_str(path.as_str())?;
+    Ok(message)
+}
+
+/// The text of the file that a URL names, or the message that there is none.
+pub(crate) fn text_of<'a>(
+    alloc: Global,
+    snapshot: &'a GlobalStateSnapshot,
+    uri: &str,
+) -> Result<Result<&'a str, Text>, AllocError>
+    ensures { IfOk result (λ found. MatchResult found
+        (λ text. text_of snapshot.now uri.now ≡ Ok text.now)
+        (λ message. text_of snapshot.now uri.now ≡ Err message)) }
+{
+    match path_of_url(alloc, uri) {
+        Ok(path) => match snapshot.file_text(&path) {
+            Some(text) => Ok(Ok(text)),
+            None => Ok(Err(not_found(alloc, &path)?)),
+        },
+        Err(UrlFault::NotFile) => Ok(Err(Text::from_str(alloc, "url is not a file")?)),
+        Err(UrlFault::NoMemory) => Err(AllocError),
+    }
+}
