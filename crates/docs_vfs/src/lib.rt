@@ -1,4 +1,4 @@
-//! Paths of files, the file URLs that name them, and maps that are kept by path.
+//! Paths of files, the file URLs that name them, and the tables that are kept by path.
 #![tactic(auto)]
 
 mod by_path;
@@ -9,5 +9,5 @@ mod path_text;
 mod tests;
 
 pub use by_path::ByPath;
-pub use file_url::{UrlFault, path_of_url, url_is_scheme_and_path, url_names_its_path};
+pub use file_url::{UrlFault, path_of_url, url_names_its_path, url_of_path};
 pub use path::VfsPath;
