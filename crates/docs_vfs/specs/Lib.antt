@@ -1,2 +1,4 @@
+pub mod Documents
 pub mod FileUrls
+pub mod Files
 pub mod Paths

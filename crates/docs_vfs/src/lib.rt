@@ -2,12 +2,20 @@
 #![tactic(auto)]
 
 mod by_path;
+mod file_kinds;
+mod file_table;
 mod file_url;
+mod mem_docs;
 mod path;
 mod path_text;
+mod shared_bytes;
 #[cfg(test)]
 mod tests;
 
 pub use by_path::ByPath;
+pub use file_kinds::{ChangeKind, ChangedFile, FileExcluded, FileId, TableFault};
+pub use file_table::FileTable;
 pub use file_url::{UrlFault, path_of_url, url_names_its_path, url_of_path};
+pub use mem_docs::{DocumentData, MemDocs};
 pub use path::VfsPath;
+pub use shared_bytes::SharedBytes;
