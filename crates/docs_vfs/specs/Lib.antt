@@ -2,3 +2,4 @@ pub mod Documents
 pub mod FileUrls
 pub mod Files
 pub mod Paths
+pub mod Roots

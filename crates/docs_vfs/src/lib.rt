@@ -9,6 +9,7 @@ mod mem_docs;
 mod path;
 mod path_text;
 mod shared_bytes;
+mod source_roots;
 #[cfg(test)]
 mod tests;
 
@@ -19,3 +20,4 @@ pub use file_url::{UrlFault, path_of_url, url_names_its_path, url_of_path};
 pub use mem_docs::{DocumentData, MemDocs};
 pub use path::VfsPath;
 pub use shared_bytes::SharedBytes;
+pub use source_roots::{Root, SourceRoots};
