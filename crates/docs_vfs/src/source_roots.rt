@@ -1,4 +1,4 @@
-ghost use Rattle.std.specs.Prelude.{◌≡◌, ◌==◌, ◌++◌, ◌≤◌, length, take, map, option_to_list, OnOk, IfOk};
+ghost use Rattle.std.specs.Prelude.{◌≡◌, ◌==◌, ◌++◌, ◌≤◌, ◌<◌, length, take, map, option_to_list, OnOk, IfOk, IfSome};
 ghost use Rattle.std.specs.List.{list_any, position, enumerate_from, filter_map};
 ghost use Rattle.docs_vfs.specs.Paths.{is_within};
 ghost use Rattle.docs_vfs.specs.Roots.{most_roots, greatest, first_greatest, include_length, root_length, root_of, is_below, proper_length, parent_length, parent_of, parent_pair, parent_map, is_local_at};
@@ -149,20 +149,57 @@ fn longest_parent(at: usize, child: &Root, roots: &[Root]) -> usize
 
 /// The first root with such an include of this length.
 fn first_parent(at: usize, child: &Root, roots: &[Root], longest: usize) -> Option<usize>
-    ensures { result ≡ position (λ root. parent_length at child.now root == longest) (enumerate_from 0 roots.now) }
+    ensures bound { IfSome result (λ place. place < length roots.now) }
+    ensures first { result ≡ position (λ root. parent_length at child.now root == longest) (enumerate_from 0 roots.now) }
 {
     roots.iter().enumerate().position(|(place, root)| parent_length(at, child, place, root) == longest)
 }
 
 /// The parent of a root.
 fn parent_of(at: usize, child: &Root, roots: &[Root]) -> Option<usize>
-    ensures { result ≡ parent_of roots.now at child.now }
+    ensures bound { IfSome result (λ place. place < length roots.now) }
+    ensures first { result ≡ parent_of roots.now at child.now }
 {
     let longest = longest_parent(at, child, roots);
     if longest == 0 {
         return None;
     }
     first_parent(at, child, roots, longest)
+}
+
+/// Adds a local root with its parent, where it has one.
+fn push_parent(
+    list: &mut Items<(u32, u32)>,
+    at: usize,
+    root: &Root,
+    roots: &[Root],
+) -> Result<(), AllocError>
+    requires count { length roots.now ≤ most_roots }
+    requires place { at < length roots.now }
+    ensures { OnOk result (list.new ≡ list.old ++ option_to_list (parent_pair roots.now (at, root.now))) }
+{
+    if !root.is_local {
+        return Ok(());
+    }
+    match parent_of(at, root, roots) {
+        None => Ok(()),
+        Some(parent) => {
+            list.push((at as u32, parent as u32))?;
+            Ok(())
+        }
+    }
+}
+
+/// Each local root that has a parent, with its parent.
+fn parent_pairs(alloc: Global, roots: &[Root]) -> Result<Items<(u32, u32)>, AllocError>
+    requires { length roots.now ≤ most_roots }
+    ensures { IfOk result (λ list. list ≡ parent_map roots.now) }
+{
+    let mut list = Items::new(alloc);
+    for (at, root) in roots.iter().enumerate() {
+        push_parent(&mut list, at, root, roots)?;
+    }
+    Ok(list)
 }
 
 impl SourceRoots {
@@ -195,5 +232,12 @@ impl SourceRoots {
             Some(root) => root.is_local,
             None => false,
         }
+    }
+    /// Each local root that has a parent, with its parent: the local root with the longest include that is a
+    /// proper prefix of one of its includes.
+    pub fn parent_map(&self, alloc: Global) -> Result<Items<(u32, u32)>, AllocError>
+        ensures { IfOk result (λ list. list ≡ parent_map self.now) }
+    {
+        parent_pairs(alloc, self.roots.as_slice())
     }
 }
