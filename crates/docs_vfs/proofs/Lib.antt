@@ -1,8 +1,12 @@
+pub mod ChangeLaws
 pub mod CutLemmas
+pub mod KeptLaws
 pub mod LastLemmas
+pub mod NumberLaws
 pub mod ParseFile
 pub mod PartLemmas
 pub mod PathLemmas
+pub mod PutLemmas
 pub mod RoundTrip
 pub mod SegmentLemmas
 pub mod WithinLemmas

@@ -1,4 +1,5 @@
 pub mod Documents
+pub mod FileLaws
 pub mod FileUrls
 pub mod Files
 pub mod Paths

@@ -3,6 +3,7 @@
 
 mod by_path;
 mod file_kinds;
+mod file_laws;
 mod file_table;
 mod file_url;
 mod mem_docs;
@@ -15,6 +16,7 @@ mod tests;
 
 pub use by_path::ByPath;
 pub use file_kinds::{ChangeKind, ChangedFile, FileExcluded, FileId, TableFault};
+pub use file_laws::{calls_change_one_path, changes_are_the_difference, numbers_are_kept};
 pub use file_table::FileTable;
 pub use file_url::{UrlFault, path_of_url, url_names_its_path, url_of_path};
 pub use mem_docs::{DocumentData, MemDocs};
