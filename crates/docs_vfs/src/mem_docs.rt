@@ -1,12 +1,17 @@
-ghost use Rattle.std.specs.Prelude.{◌≡◌, MatchResult, OnOk, OnErr, IfOk, is_some, not, option_copied, Option, Ok, Err, true, false};
+ghost use Rattle.std.specs.Prelude.{◌≡◌, OnOk, OnErr, IfOk, is_some, not, option_copied, true, false, List, ℕ};
+ghost use Rattle.std.specs.Option.{option_copied_mut};
+ghost use Rattle.std.specs.Borrow.{sem};
+ghost use Rattle.std.specs.Map.Iter.{ShowsInOrder, deref};
+ghost use Rattle.docs_vfs.specs.Lent.{lends_document};
 ghost use Rattle.std.specs.Result.{is_ok};
 ghost use Rattle.std.specs.FinMap as map;
 ghost use Rattle.docs_vfs.specs.Documents.{Documents};
 
 use crate::by_path::ByPath;
 use crate::path::VfsPath;
-use plain::Text;
+use plain::{Copied, Text};
 use std::alloc::{AllocError, Global};
+use std::collections::btree_map::Keys;
 use std::marker::Model;
 
 /// The version and the text of an open document.
@@ -15,6 +20,24 @@ pub struct DocumentData {
     pub version: i32,
     pub text: Text,
 }
+
+impl Clone for DocumentData {
+    ghost is_clone = { λ document copy. copy ≡ document };
+
+    fn clone(&self) -> Result<DocumentData, AllocError> {
+        Ok(DocumentData {
+            version: self.version,
+            text: self.text.clone()?,
+        })
+    }
+}
+
+impl Copied for DocumentData {
+    ghost copies = { λ x y h. h };
+}
+
+/// The paths of open documents, in order.
+pub type Paths<'a> = Keys<'a, VfsPath, DocumentData>;
 
 /// The open documents.
 #[derive(Drop)]
@@ -57,6 +80,22 @@ impl MemDocs {
         self.docs.get(path)
     }
 
+    /// The document at a path, to be changed in its place.
+    pub fn get_mut(&mut self, path: &VfsPath) -> Option<&mut DocumentData>
+        ensures* writes_back { sem 𝓛 (lends_document self.entry path.now result) }
+        ensures value { option_copied_mut result ≡ map.get self.old.docs path.now }
+    {
+        self.docs.get_mut(path)
+    }
+
+    /// The paths in order.
+    pub fn iter(&self) -> Paths<'_>
+        ensures rest { result ≡ map.keys self.now.docs }
+        ensures runs { ShowsInOrder (deref {X = List ℕ}) }
+    {
+        self.docs.keys()
+    }
+
     /// Puts a document at a path. The inner error says that one was there, which is replaced.
     pub fn insert(&mut self, path: VfsPath, doc: DocumentData) -> Result<Result<(), ()>, AllocError>
         ensures new { IfOk result (λ new. is_ok new ≡ not (is_some (map.get self.old.docs path))) }
@@ -94,4 +133,19 @@ impl MemDocs {
         self.changed = false;
         changed
     }
+}
+
+impl Clone for MemDocs {
+    ghost is_clone = { λ docs copy. copy ≡ docs };
+
+    fn clone(&self) -> Result<MemDocs, AllocError> {
+        Ok(MemDocs {
+            docs: self.docs.clone()?,
+            changed: self.changed,
+        })
+    }
+}
+
+impl Copied for MemDocs {
+    ghost copies = { λ x y h. h };
 }
