@@ -4,4 +4,5 @@ pub mod FileUrls
 pub mod Files
 pub mod Lent
 pub mod Paths
+pub mod RootLaws
 pub mod Roots

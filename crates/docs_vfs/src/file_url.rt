@@ -1,10 +1,12 @@
-ghost use Rattle.std.specs.Prelude.{◌≡◌, ◌≤◌, ◌<◌, All, false, length, Ok, IfOk, string_bytes};
+ghost use Rattle.std.specs.Prelude.{ℕ, ◌≡◌, ◌≤◌, ◌<◌, All, false, length, Ok, IfOk, string_bytes};
 ghost use Rattle.std.specs.Prelude.{◌⊎◌, IfErr, OnOk, ◌++◌, ◌∷◌, [], not, ◌&&◌, true};
 ghost use Rattle.std.specs.List.{list_any, list_all};
 ghost use Rattle.percent_encoding.specs.Percent.{percent_decode};
+ghost use Rattle.percent_encoding.specs.AsciiSet.{should_percent_encode};
+ghost use Rattle.docs_vfs.specs.declared.file_url.TheConstants.{ESCAPED};
 ghost use Rattle.docs_vfs.specs.Paths.{is_slash, is_path};
 ghost use Rattle.std.specs.Str.{is_utf8};
-ghost use Rattle.docs_vfs.specs.FileUrls.{max_url, url_of, path_of, path_of_parts, path_of_segments, url_segments, decoded_segments, is_text_segment, joined, begins_with_drive, Answers, LacksText};
+ghost use Rattle.docs_vfs.specs.FileUrls.{is_escaped, max_url, url_of, path_of, path_of_parts, path_of_segments, url_segments, decoded_segments, is_text_segment, joined, begins_with_drive, Answers, LacksText};
 ghost use Rattle.docs_vfs.specs.declared.file_url.UrlFault.TheVariants.{NoMemory, NotFile};
 ghost use Rattle.url.specs.Parser.{IsOutOfRoom};
 
@@ -179,3 +181,8 @@ pub fn url_names_its_path(path: &VfsPath)
     let text = path.as_str();
     are_bytes(text);
 }
+
+/// The bytes that the URL of a path escapes.
+pub fn url_escapes_are_listed()
+    ensures law { (b : ℕ) → should_percent_encode ESCAPED b ≡ is_escaped b }
+{}
