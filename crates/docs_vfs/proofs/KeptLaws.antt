@@ -44,7 +44,7 @@ set_changes t u path contents changed is =
       told = (λ yes_change. absurd (true≢false (sym yes_change ∙ no_change)), λ apart. absurd (apart (ap (λ v. contents_at v path) same)));
       unchanged = λ _. same;
     })
-    (λ (is_change, put, apart). 
+    (λ (is_change, put, apart).
     let plain = or_left_false (is_marked (kept_at t path)) (same_contents (contents_at t path) contents) apart in
     let now : contents_at u path ≡ contents = ap contents_of (put_keeps t path (kept_of contents) u put path ∙ cond-true _ _ _ (itself path)) ∙ contents_kept contents in
     record {

@@ -79,10 +79,10 @@ touched_after t path kept u put numbered grows q was is =
 put_old : (t : Files) (path : List ℕ) (kept : Kept) (u : Files) (put : Put t path kept u) → IsNumbered t → number_at t path ≡ Some put.file → u.paths ≡ t.paths → KeepsNumbers t path u
 put_old t path kept u put numbered old paths =
     let same : (q : List ℕ) → number_at u q ≡ number_at t q = λ q.
-        number_after t path kept u put q ∙ ⊎_elim
-        (λ is. cond-true _ _ _ is ∙ sym old ∙ ap (number_at t) (sym (one_path q path is)))
-        (λ other. cond-false _ _ _ other)
-        (cases_Bool (bytes_eq q path)) in
+    number_after t path kept u put q ∙ ⊎_elim
+    (λ is. cond-true _ _ _ is ∙ sym old ∙ ap (number_at t) (sym (one_path q path is)))
+    (λ other. cond-false _ _ _ other)
+    (cases_Bool (bytes_eq q path)) in
     let place : (f : FileId) → path_at u f ≡ path_at t f = λ f i. place_in (put.first i) (paths i) f.0 in
     let grows : Grows t u = record { kept = λ q f is. same q ∙ is } in
     record {
@@ -103,15 +103,15 @@ put_new : (t : Files) (path : List ℕ) (kept : Kept) (u : Files) (put : Put t p
 put_new t path kept u put numbered none is_next paths =
     let place : (f : FileId) → path_at u f ≡ place_in t.first (t.paths ++ path ∷ []) f.0 = λ f i. place_in (put.first i) (paths i) f.0 in
     let keep : (q : List ℕ) (f : FileId) → number_at t q ≡ Some f → number_at u q ≡ Some f = λ q f is.
-        number_after t path kept u put q ∙ ⊎_elim
-        (λ same. absurd (none-some f (sym none ∙ ap (number_at t) (sym (one_path q path same)) ∙ is)))
-        (λ other. cond-false _ _ _ other ∙ is)
-        (cases_Bool (bytes_eq q path)) in
+    number_after t path kept u put q ∙ ⊎_elim
+    (λ same. absurd (none-some f (sym none ∙ ap (number_at t) (sym (one_path q path same)) ∙ is)))
+    (λ other. cond-false _ _ _ other ∙ is)
+    (cases_Bool (bytes_eq q path)) in
     let grows : Grows t u = record { kept = keep } in
     let file_is : put.file.0 ≡ t.first + length t.paths = ap (λ (f : FileId). f.0) is_next in
     let last_path : path_at u put.file ≡ Some path =
-        place put.file ∙ place_at t.first put.file.0 (t.paths ++ path ∷ []) path (omega (arith, file_is))
-        (ap (slice_get (t.paths ++ path ∷ [])) (ap (λ n. n - t.first) file_is ∙ next_place t.first (length t.paths)) ∙ pushed_last t.paths path) in
+    place put.file ∙ place_at t.first put.file.0 (t.paths ++ path ∷ []) path (omega (arith, file_is))
+    (ap (slice_get (t.paths ++ path ∷ [])) (ap (λ n. n - t.first) file_is ∙ next_place t.first (length t.paths)) ∙ pushed_last t.paths path) in
     record {
       numbered = record {
         path_of = λ q f is. (

@@ -116,8 +116,8 @@ taken_elsewhere : (t : Files) (path : List ℕ) (kept : Kept) (u : Files) → Pu
 taken_elsewhere t path kept u put q other =
     let was : FileWas = record { file = put.file; contents = contents_at t path } in
     let rows =
-        ap (λ (m : map.FinMap path_cmp FileWas). map.get m q) put.before ∙ before_after t path was q
-        ∙ ap (cond (is_some (map.get t.before path)) (map.get t.before q)) (cond-false _ _ _ other) ∙ same_cond (is_some (map.get t.before path)) (map.get t.before q) in
+    ap (λ (m : map.FinMap path_cmp FileWas). map.get m q) put.before ∙ before_after t path was q
+    ∙ ap (cond (is_some (map.get t.before path)) (map.get t.before q)) (cond-false _ _ _ other) ∙ same_cond (is_some (map.get t.before path)) (map.get t.before q) in
     let kept_same = put_keeps t path kept u put q ∙ cond-false _ _ _ other in
     λ i. taken (rows i) (contents_of (kept_same i))
 

@@ -19,7 +19,9 @@ pub use by_path::ByPath;
 pub use file_kinds::{ChangeKind, ChangedFile, FileExcluded, FileId, TableFault};
 pub use file_laws::{calls_change_one_path, changes_are_the_difference, numbers_are_kept};
 pub use file_table::FileTable;
-pub use file_url::{UrlFault, path_of_url, url_escapes_are_listed, url_names_its_path, url_of_path};
+pub use file_url::{
+    UrlFault, path_of_url, url_escapes_are_listed, url_names_its_path, url_of_path,
+};
 pub use mem_docs::{DocumentData, MemDocs, Paths};
 pub use path::VfsPath;
 pub use root_laws::the_longest_root_is_chosen;

@@ -59,7 +59,10 @@ fn is_excluded(path: &VfsPath, root: &Root) -> bool
 fn longest_include(path: &VfsPath, includes: &[VfsPath]) -> usize
     ensures { result ≡ greatest (include_length path.now) includes.now }
 {
-    includes.iter().fold(0, |longest, include| longest.max(include_length(path, include)))
+    includes.iter().fold(
+        0,
+        |longest, include| longest.max(include_length(path, include)),
+    )
 }
 
 /// The same of a root's includes, unless an exclude of the root is a prefix of the path.
@@ -76,14 +79,18 @@ fn root_length(path: &VfsPath, root: &Root) -> usize
 fn longest_root(path: &VfsPath, roots: &[Root]) -> usize
     ensures { result ≡ greatest (root_length path.now) roots.now }
 {
-    roots.iter().fold(0, |longest, root| longest.max(root_length(path, root)))
+    roots
+        .iter()
+        .fold(0, |longest, root| longest.max(root_length(path, root)))
 }
 
 /// The first root whose longest include has this length.
 fn first_root(path: &VfsPath, roots: &[Root], longest: usize) -> Option<usize>
     ensures { result ≡ position (λ root. root_length path.now root == longest) roots.now }
 {
-    roots.iter().position(|root| root_length(path, root) == longest)
+    roots
+        .iter()
+        .position(|root| root_length(path, root) == longest)
 }
 
 /// The root with the longest include.
@@ -126,7 +133,10 @@ fn proper_length(child: &Root, include: &VfsPath) -> usize
 fn longest_proper(child: &Root, includes: &[VfsPath]) -> usize
     ensures { result ≡ greatest (proper_length child.now) includes.now }
 {
-    includes.iter().fold(0, |longest, include| longest.max(proper_length(child, include)))
+    includes.iter().fold(
+        0,
+        |longest, include| longest.max(proper_length(child, include)),
+    )
 }
 
 /// The same of a root's includes, where it is local and isn't the child.
@@ -144,7 +154,10 @@ fn parent_length(at: usize, child: &Root, place: usize, root: &Root) -> usize
 fn longest_parent(at: usize, child: &Root, roots: &[Root]) -> usize
     ensures { result ≡ greatest (parent_length at child.now) (enumerate_from 0 roots.now) }
 {
-    roots.iter().enumerate().fold(0, |longest, (place, root)| longest.max(parent_length(at, child, place, root)))
+    roots.iter().enumerate().fold(
+        0,
+        |longest, (place, root)| longest.max(parent_length(at, child, place, root)),
+    )
 }
 
 /// The first root with such an include of this length.
@@ -152,7 +165,8 @@ fn first_parent(at: usize, child: &Root, roots: &[Root], longest: usize) -> Opti
     ensures bound { IfSome result (λ place. place < length roots.now) }
     ensures first { result ≡ position (λ root. parent_length at child.now root == longest) (enumerate_from 0 roots.now) }
 {
-    roots.iter().enumerate().position(|(place, root)| parent_length(at, child, place, root) == longest)
+    roots.iter().enumerate().position(|(place, root)| parent_length(at, child, place, root)
+        == longest)
 }
 
 /// The parent of a root.

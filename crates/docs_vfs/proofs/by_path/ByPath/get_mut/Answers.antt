@@ -18,9 +18,9 @@ returns g c = (
   (
     refl,
     λ w. where_some c.get_mut.result _ _ c.get_mut.ensures.value (λ some.
-    view-update nat_list_cmp_total (map.slice_cmp-IsAntisymmetric map.nat_cmp-IsAntisymmetric) (c.get_mut.follows.lender w).entries c.self.inside.rows.entries _ c.args.path.now (Some w)
-    (map.get-insert nat_list_cmp_total _ c.args.path.now w) ((c.get_mut.follows.holds w).3 some).0
-    ∙ ap (λ m. map.insert m c.args.path.now w) c.self.view_is),
+        view-update nat_list_cmp_total (map.slice_cmp-IsAntisymmetric map.nat_cmp-IsAntisymmetric) (c.get_mut.follows.lender w).entries c.self.inside.rows.entries _ c.args.path.now (Some w)
+        (map.get-insert nat_list_cmp_total _ c.args.path.now w) ((c.get_mut.follows.holds w).3 some).0
+        ∙ ap (λ m. map.insert m c.args.path.now w) c.self.view_is),
     ap (λ (m : BTreeMap _ _). map.from_entries {R = path_cmp} m.entries) c.get_mut.follows.holds-at-none ∙ c.self.view_is,
   ),
   record { writes_back = tt; value = c.get_mut.ensures.value ∙ sym (get-view nat_list_cmp_total c.self.inside.rows.entries c.args.path.now) ∙ ap (λ m. map.get m c.args.path.now) c.self.view_is },
