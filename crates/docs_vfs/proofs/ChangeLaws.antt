@@ -1,10 +1,10 @@
 -- The changes that are taken are the difference of the table at the last take and now.
-use Rattle.std.proofs.Common.{◌≡◌, ◌≢◌, ◌↔◌, ℕ, Bool, true, false, not, ◌&&◌, List, [], ◌∷◌, map, Option, Some, None, sym, refl, ap, subst, ◌∙◌, ⊎_elim}
-use Rattle.std.specs.Prelude.{bytes_eq, cond, is_some, T}
-use Rattle.std.specs.Option.{option_map, option_and_then}
-use Rattle.std.specs.List.{find, filter_map, cons_option, AllByRecursion}
+use Rattle.std.proofs.Common.{◌≡◌, ◌≢◌, ◌↔◌, ℕ, Bool, true, false, ◌&&◌, List, [], ◌∷◌, map, Option, Some, None, sym, refl, ap, subst, ◌∙◌, ⊎_elim}
+use Rattle.std.specs.Prelude.{bytes_eq, is_some, T}
+use Rattle.std.specs.Option.{option_and_then}
+use Rattle.std.specs.List.{filter_map, cons_option, AllByRecursion}
 use Rattle.std.specs.List.Sorted.{IsStrictlySortedBy}
-use Rattle.std.specs.Ordering.{is_lt, is_eq, eq_by_cmp}
+use Rattle.std.specs.Ordering.{is_lt, is_eq}
 use Rattle.std.specs.FinMap as map
 use Rattle.std.specs.FinMap.Entries.{below_all}
 use Rattle.std.proofs.Common.{Ordering}
@@ -17,10 +17,9 @@ use Rattle.docs_vfs.specs.declared.file_kinds.FileId.{FileId}
 use Rattle.docs_vfs.specs.declared.file_kinds.FileRow.{FileRow}
 use Rattle.docs_vfs.specs.declared.file_kinds.FileWas.{FileWas}
 use Rattle.docs_vfs.specs.Paths.{path_cmp}
-use Rattle.docs_vfs.specs.Files.{Files, new_files, kept_in, contents_of, contents_at, kind_between, change_with, change_of, changes}
+use Rattle.docs_vfs.specs.Files.{Files, contents_at, kind_between, change_with, change_of, changes}
 use Rattle.docs_vfs.specs.FileLaws.{number_at, IsNumbered, taken, taken_at, change_at, listed, IsDifference}
 use Rattle.docs_vfs.proofs.PutLemmas.{same_path, one_path, itself}
-use Rattle.docs_vfs.proofs.KeptLaws.{contents_same}
 
 abbrev Rows : Type 0
 Rows = map.FinMap path_cmp FileRow

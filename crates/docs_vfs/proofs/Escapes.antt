@@ -1,5 +1,5 @@
 -- The bytes that the URL of a path escapes, one by one.
-use Rattle.std.proofs.Common.{◌≡◌, ℕ, ◌<◌, Bool, true, false, not, ◌||◌, ◌==◌, sym, ap, ◌∙◌, ⊎_elim, arith, refl}
+use Rattle.std.proofs.Common.{◌≡◌, ℕ, ◌<◌, true, false, not, ◌||◌, ◌==◌, sym, ap, ◌∙◌, ⊎_elim, arith, refl}
 use Rattle.std.specs.Prelude.{nat_lt, codes, ◌∷◌}
 use Rattle.std.specs.List.{list_any}
 use Rattle.std.specs.Char.{is_ascii}

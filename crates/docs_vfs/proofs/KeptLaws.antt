@@ -1,14 +1,14 @@
 -- The calls of the table of files change what is kept at one path, and nothing of the last take.
-use Rattle.std.proofs.Common.{◌≡◌, ◌≢◌, ◌↔◌, ℕ, Bool, true, false, ◌||◌, List, Option, Some, None, Ok, sym, refl, ap, subst, ◌∙◌, ⊎_elim}
+use Rattle.std.proofs.Common.{◌≡◌, ℕ, Bool, true, false, ◌||◌, List, Option, Some, None, Ok, sym, refl, ap, subst, ◌∙◌, ⊎_elim}
 use Rattle.std.specs.Prelude.{bytes_eq, cond, if◌then◌else◌}
 use Rattle.std.proofs.lemmas.Bool.{cases_Bool, cond-true, cond-false, true≢false}
 use Rattle.std.proofs.lemmas.Slice.Eq.{bytes_eq-Decides}
 use Rattle.docs_vfs.specs.declared.file_kinds.Kept.{Kept}
 use Rattle.docs_vfs.specs.declared.file_kinds.Kept.TheVariants.{Nothing, Contents, Excluded}
 use Rattle.docs_vfs.specs.Files.{Files, kept_at, contents_of, contents_at, is_marked, kept_of, same_contents, set_in, mark_in}
-use Rattle.docs_vfs.specs.FileLaws.{Keeps, SetsContents, KeepsTaken, taken_at}
+use Rattle.docs_vfs.specs.FileLaws.{Keeps, SetsContents, KeepsTaken}
 use Rattle.docs_vfs.proofs.PathLemmas.{or_left_false, or_right_false, or_right_true}
-use Rattle.docs_vfs.proofs.PutLemmas.{Put, put_keeps, same_keeps, marked_is, put_keeps_taken, set_is, mark_is, itself}
+use Rattle.docs_vfs.proofs.PutLemmas.{put_keeps, same_keeps, marked_is, put_keeps_taken, set_is, mark_is, itself}
 
 pub contents_same : (a b : Option (List ℕ)) → same_contents a b ≡ true → a ≡ b
 contents_same None None same = refl

@@ -1,5 +1,5 @@
 -- Numbers and paths are inverse.
-use Rattle.std.proofs.Common.{◌≡◌, ◌≢◌, ℕ, ◌+◌, ◌-◌, ◌<◌, ◌≤◌, Bool, true, false, List, [], ◌∷◌, ◌++◌, length, Option, Some, None, Ok, sym, refl, ap, subst, ◌∙◌, ⊎_elim, arith, zero, suc, length-append, unwrap_or}
+use Rattle.std.proofs.Common.{◌≡◌, ℕ, ◌+◌, ◌-◌, ◌<◌, ◌≤◌, Bool, true, false, List, [], ◌∷◌, ◌++◌, length, Option, Some, None, Ok, sym, refl, ap, subst, ◌∙◌, ⊎_elim, arith, zero, suc, length-append, unwrap_or}
 use Rattle.std.specs.Prelude.{bytes_eq, cond, is_some, nat_lt, slice_get}
 use Rattle.std.specs.Option.{option_map}
 use Rattle.std.specs.FinMap as map
@@ -10,9 +10,9 @@ use Rattle.docs_vfs.specs.declared.file_kinds.FileId.{FileId}
 use Rattle.docs_vfs.specs.declared.file_kinds.FileRow.{FileRow}
 use Rattle.docs_vfs.specs.declared.file_kinds.FileWas.{FileWas}
 use Rattle.docs_vfs.specs.declared.file_kinds.Kept.{Kept}
-use Rattle.docs_vfs.specs.declared.file_kinds.Kept.TheVariants.{Nothing, Contents, Excluded}
+use Rattle.docs_vfs.specs.declared.file_kinds.Kept.TheVariants.{Excluded}
 use Rattle.docs_vfs.specs.Paths.{path_cmp}
-use Rattle.docs_vfs.specs.Files.{Files, new_files, kept_in, kept_at, contents_at, is_marked, kept_of, path_at, next_file, set_in, mark_in}
+use Rattle.docs_vfs.specs.Files.{Files, new_files, kept_in, contents_at, is_marked, kept_of, path_at, next_file, set_in, mark_in}
 use Rattle.docs_vfs.specs.FileLaws.{number_at, IsNumbered, KeepsNumbers}
 use Rattle.docs_vfs.proofs.PutLemmas.{Put, row_after, before_after, one_path, itself, set_is, mark_is}
 

@@ -1,6 +1,6 @@
 -- What a call of the table of files changes.
-use Rattle.std.proofs.Common.{◌≡◌, ℕ, ◌+◌, Bool, true, false, not, ◌||◌, List, [], ◌∷◌, ◌++◌, length, Option, Some, None, Ok, Err, Result, sym, refl, ap, subst, ◌∙◌, ⊎_elim, inl, inr}
-use Rattle.std.specs.Prelude.{◌⊎◌, ◌≢◌, ◌↔◌, is_some, nat_le, bytes_eq, cond}
+use Rattle.std.proofs.Common.{◌≡◌, ℕ, ◌+◌, Bool, true, false, ◌||◌, List, [], ◌∷◌, ◌++◌, length, Option, Some, None, Ok, Err, Result, sym, refl, ap, subst, ◌∙◌, ⊎_elim, inl, inr}
+use Rattle.std.specs.Prelude.{◌⊎◌, is_some, nat_le, bytes_eq, cond}
 use Rattle.std.specs.Ordering.{eq_by_cmp}
 use Rattle.std.specs.Option.{option_map}
 use Rattle.std.specs.Cmp.Lexicographic.{nat_list_cmp_total}
@@ -15,8 +15,8 @@ use Rattle.docs_vfs.specs.declared.file_kinds.Kept.{Kept}
 use Rattle.docs_vfs.specs.declared.file_kinds.Kept.TheVariants.{Nothing, Contents, Excluded}
 use Rattle.docs_vfs.specs.declared.file_kinds.TableFault.{TableFault}
 use Rattle.docs_vfs.specs.Paths.{path_cmp}
-use Rattle.docs_vfs.specs.Files.{Files, kept_in, kept_at, contents_of, contents_at, is_marked, kept_of, same_contents, number_in, with_number, next_file, before_of, put_at, put_in, set_in, mark_in, and_then}
-use Rattle.docs_vfs.specs.FileLaws.{Keeps, SetsContents, number_at, taken, taken_at, KeepsTaken}
+use Rattle.docs_vfs.specs.Files.{Files, kept_in, kept_at, contents_of, contents_at, is_marked, kept_of, same_contents, number_in, next_file, before_of, put_at, put_in, set_in, mark_in, and_then}
+use Rattle.docs_vfs.specs.FileLaws.{Keeps, number_at, taken, taken_at, KeepsTaken}
 
 pub same_path : (q k : List ℕ) → eq_by_cmp path_cmp q k ≡ bytes_eq q k
 same_path q k = is_eq-slice_cmp q k

@@ -2,7 +2,7 @@
 use Rattle.std.specs.Prelude.{◌≡◌, ℕ, ◌<◌, ◌≤◌, List, length, slice_get, Option, Some, MatchOption}
 use Rattle.std.specs.List.{enumerate_from}
 use Rattle.docs_vfs.specs.declared.source_roots.Root.{Root}
-use Rattle.docs_vfs.specs.Roots.{root_length, root_of, parent_length, parent_of}
+use Rattle.docs_vfs.specs.Roots.{root_length, parent_length}
 
 -- at this place stands the greatest number, which isn't 0, and before it stand lesser ones
 pub record IsFirstGreatest {X : Type 0} (h : X → ℕ) (xs : List X) (at : ℕ) : Type 0 where

@@ -1,6 +1,6 @@
 use crate::{
     ByPath, ChangeKind, ChangedFile, DocumentData, FileExcluded, FileId, FileTable, MemDocs, Root,
-    SourceRoots, TableFault, UrlFault, VfsPath, path_of_url, url_of_path,
+    SharedBytes, SourceRoots, TableFault, UrlFault, VfsPath, path_of_url, url_of_path,
 };
 use plain::{Bytes, Items, Text};
 use std::alloc::Global;
@@ -11,12 +11,32 @@ fn path_at(alloc: Global, text: &str) -> Result<VfsPath, Fail> {
     Ok(VfsPath::new(alloc, text)?.ok_or("no path")?)
 }
 
+/// Whether a URL names this path.
+fn is_named(alloc: Global, url: &str, text: &str) -> bool {
+    match path_of_url(alloc, url) {
+        Ok(path) => path.as_str() == text,
+        Err(_) => false,
+    }
+}
+
+/// Whether a URL is refused for this reason.
+fn is_refused(alloc: Global, url: &str, fault: UrlFault) -> bool {
+    match path_of_url(alloc, url) {
+        Ok(_) => false,
+        Err(found) => found == fault,
+    }
+}
+
+/// Whether this is the URL of a path, and names it.
+fn goes_both_ways(alloc: Global, text: &str, url: &str) -> Result<bool, Fail> {
+    let made = url_of_path(alloc, &path_at(alloc, text)?)?;
+    Ok(made.as_str() == url && is_named(alloc, url, text))
+}
+
 #[test]
-fn accepted_urls(rt: HostRuntime) -> Result<(), Fail> {
-    let alloc = rt.alloc();
+fn accepted_urls(rt: HostRuntime) {
     for (url, text) in [
         ("file:///w/a.rs", "/w/a.rs"),
-        ("file:///w/a%20b%25.rs", "/w/a b%.rs"),
         ("file:///a//b%20c?q#f", "/a/b c"),
         ("FILE://localhost/a^/%25", "/a^/%"),
         ("file:/a", "/a"),
@@ -28,10 +48,8 @@ fn accepted_urls(rt: HostRuntime) -> Result<(), Fail> {
         ("file:///", "/"),
         ("file:", "/"),
     ] {
-        let path = path_of_url(alloc, url).ok().ok_or("refused")?;
-        assert_eq!(rt; path.as_str(), text, "at {url}");
+        assert!(rt; is_named(rt.alloc(), url, text));
     }
-    Ok(())
 }
 
 #[test]
@@ -47,23 +65,18 @@ fn refused_urls(rt: HostRuntime) {
         ("file:///a/%2F", UrlFault::NotText),
         ("file:///%00", UrlFault::NotText),
     ] {
-        assert_eq!(rt; path_of_url(rt.alloc(), url).err(), Some(fault), "at {url}");
+        assert!(rt; is_refused(rt.alloc(), url, fault));
     }
 }
 
 #[test]
 fn urls_of_paths(rt: HostRuntime) -> Result<(), Fail> {
-    let alloc = rt.alloc();
     for (text, url) in [
         ("/w/a b%.rs", "file:///w/a%20b%25.rs"),
         ("/a^ %\\/\u{e9}", "file:///a^%20%25%5C/%C3%A9"),
         ("/", "file:///"),
     ] {
-        let path = path_at(alloc, text)?;
-        let made = url_of_path(alloc, &path)?;
-        assert_eq!(rt; made.as_str(), url, "at {text}");
-        let back = path_of_url(alloc, made.as_str()).ok().ok_or("refused")?;
-        assert_eq!(rt; back.as_str(), text, "at {url}");
+        assert!(rt; goes_both_ways(rt.alloc(), text, url)?);
     }
     Ok(())
 }
@@ -149,40 +162,66 @@ fn copied_map(rt: HostRuntime) -> Result<(), Fail> {
     Ok(())
 }
 
-/// Contents of a file.
-fn bytes_of(alloc: Global, text: &str) -> Result<Option<Bytes>, Fail> {
-    Ok(Some(Bytes::from_slice(alloc, text.as_bytes())?))
-}
-
 /// Sets contents, and answers whether they changed.
-fn set(alloc: Global, table: &mut FileTable, path: &str, text: Option<&str>) -> Result<bool, Fail> {
-    let contents = match text {
-        Some(text) => bytes_of(alloc, text)?,
-        None => None,
-    };
+fn set(alloc: Global, table: &mut FileTable, path: &str, text: &str) -> Result<bool, Fail> {
+    let contents = Bytes::from_slice(alloc, text.as_bytes())?;
+    let path = path_at(alloc, path)?;
     Ok(
         table
-            .set_contents(path_at(alloc, path)?, contents)
+            .set_contents(path, Some(contents))
             .ok()
             .ok_or("refused")?,
     )
+}
+
+/// Takes contents away, and answers whether there were some.
+fn unset(alloc: Global, table: &mut FileTable, path: &str) -> Result<bool, Fail> {
+    let path = path_at(alloc, path)?;
+    Ok(table.set_contents(path, None).ok().ok_or("refused")?)
 }
 
 /// Marks a path.
 fn mark(alloc: Global, table: &mut FileTable, path: &str) -> Result<(), Fail> {
-    Ok(
-        table
-            .insert_excluded(path_at(alloc, path)?)
-            .ok()
-            .ok_or("refused")?,
-    )
+    let path = path_at(alloc, path)?;
+    Ok(table.insert_excluded(path).ok().ok_or("refused")?)
+}
+
+/// Whether a path that has contents or a mark has this number.
+fn has_number(
+    alloc: Global,
+    table: &FileTable,
+    path: &str,
+    number: u32,
+    excluded: FileExcluded,
+) -> Result<bool, Fail> {
+    let found = table.file_id(&path_at(alloc, path)?);
+    Ok(found == Some((FileId(number), excluded)))
+}
+
+/// Whether a path has neither contents nor a mark.
+fn is_absent(alloc: Global, table: &FileTable, path: &str) -> Result<bool, Fail> {
+    let path = path_at(alloc, path)?;
+    Ok(table.file_id(&path).is_none() && table.contents(&path).is_none())
+}
+
+/// Whether the number is this path's, and whether it has contents.
+fn is_path(table: &FileTable, number: u32, text: &str, exists: bool) -> bool {
+    match table.path(FileId(number)) {
+        Some(path) => path.as_str() == text && table.exists(FileId(number)) == exists,
+        None => false,
+    }
+}
+
+/// How many changes there are to take.
+fn count_changes(table: &mut FileTable) -> Result<usize, Fail> {
+    Ok(table.take_changes()?.len())
 }
 
 /// A table of `/b`, `/a` and a mark at `/c`, given in this order.
 fn three_files(alloc: Global) -> Result<FileTable, Fail> {
     let mut table = FileTable::new(alloc);
-    set(alloc, &mut table, "/b", Some("two"))?;
-    set(alloc, &mut table, "/a", Some("one"))?;
+    set(alloc, &mut table, "/b", "two")?;
+    set(alloc, &mut table, "/a", "one")?;
     mark(alloc, &mut table, "/c")?;
     Ok(table)
 }
@@ -191,11 +230,11 @@ fn three_files(alloc: Global) -> Result<FileTable, Fail> {
 fn set_and_set_back(rt: HostRuntime) -> Result<(), Fail> {
     let alloc = rt.alloc();
     let mut table = FileTable::new(alloc);
-    assert!(rt; set(alloc, &mut table, "/x", Some("a"))?);
-    assert!(rt; !set(alloc, &mut table, "/x", Some("a"))?);
-    assert!(rt; set(alloc, &mut table, "/x", None)?);
-    assert!(rt; !set(alloc, &mut table, "/y", None)?);
-    assert!(rt; table.take_changes()?.is_empty());
+    assert!(rt; set(alloc, &mut table, "/x", "a")?);
+    assert!(rt; !set(alloc, &mut table, "/x", "a")?);
+    assert!(rt; unset(alloc, &mut table, "/x")?);
+    assert!(rt; !unset(alloc, &mut table, "/y")?);
+    assert!(rt; count_changes(&mut table)? == 0);
     Ok(())
 }
 
@@ -204,11 +243,9 @@ fn marks_stay(rt: HostRuntime) -> Result<(), Fail> {
     let alloc = rt.alloc();
     let mut table = FileTable::new(alloc);
     mark(alloc, &mut table, "/x")?;
-    assert!(rt; !set(alloc, &mut table, "/x", Some("b"))?);
-    let path = path_at(alloc, "/x")?;
-    assert_eq!(rt; table.file_id(&path), Some((FileId(0), FileExcluded::Yes)));
-    assert!(rt; table.contents(&path).is_none());
-    assert!(rt; table.take_changes()?.is_empty());
+    assert!(rt; !set(alloc, &mut table, "/x", "b")?);
+    assert!(rt; has_number(alloc, &table, "/x", 0, FileExcluded::Yes)?);
+    assert!(rt; count_changes(&mut table)? == 0);
     Ok(())
 }
 
@@ -216,130 +253,153 @@ fn marks_stay(rt: HostRuntime) -> Result<(), Fail> {
 fn numbers_in_order(rt: HostRuntime) -> Result<(), Fail> {
     let alloc = rt.alloc();
     let mut table = three_files(alloc)?;
-    set(alloc, &mut table, "/b", None)?;
-    for (number, text, exists) in [(0, "/b", false), (1, "/a", true), (2, "/c", false)] {
-        let path = table.path(FileId(number)).ok_or("none")?;
-        assert_eq!(rt; path.as_str(), text);
-        assert_eq!(rt; table.exists(FileId(number)), exists, "at {text}");
-    }
+    unset(alloc, &mut table, "/b")?;
+    assert!(rt; is_path(&table, 0, "/b", false));
+    assert!(rt; is_path(&table, 1, "/a", true));
+    assert!(rt; is_path(&table, 2, "/c", false));
     assert!(rt; table.path(FileId(3)).is_none());
-    assert_eq!(rt; table.file_id(&path_at(alloc, "/b")?), None);
-    set(alloc, &mut table, "/b", Some("again"))?;
-    let found = table.file_id(&path_at(alloc, "/b")?);
-    assert_eq!(rt; found, Some((FileId(0), FileExcluded::No)));
+    assert!(rt; is_absent(alloc, &table, "/b")?);
     Ok(())
 }
 
-/// Whether a change is this one.
-fn is_change(change: &ChangedFile, file: u32, path: &str, kind: ChangeKind, text: &str) -> bool {
-    let same = match &change.contents {
+#[test]
+fn numbers_stay(rt: HostRuntime) -> Result<(), Fail> {
+    let alloc = rt.alloc();
+    let mut table = three_files(alloc)?;
+    unset(alloc, &mut table, "/b")?;
+    set(alloc, &mut table, "/b", "again")?;
+    assert!(rt; has_number(alloc, &table, "/b", 0, FileExcluded::No)?);
+    Ok(())
+}
+
+/// Whether the contents are this text.
+fn holds(contents: &Option<SharedBytes>, text: &str) -> bool {
+    match contents {
         Some(bytes) => bytes.as_slice() == text.as_bytes(),
-        None => text.is_empty(),
-    };
-    same && change.file == FileId(file) && change.kind == kind && change.path.as_str() == path
+        None => false,
+    }
+}
+
+/// Whether a change is of this file.
+fn is_of(change: &ChangedFile, file: u32, path: &str, kind: ChangeKind) -> bool {
+    change.file == FileId(file) && change.path.as_str() == path && change.kind == kind
+}
+
+/// Whether two files were created, and in this order.
+fn are_created(changes: &[ChangedFile]) -> bool {
+    match changes {
+        [a, b] => {
+            is_of(a, 1, "/a", ChangeKind::Create)
+                && holds(&a.contents, "one")
+                && is_of(b, 0, "/b", ChangeKind::Create)
+                && holds(&b.contents, "two")
+        }
+        _ => false,
+    }
+}
+
+/// Whether one file was deleted, and then one modified.
+fn are_changed(changes: &[ChangedFile]) -> bool {
+    match changes {
+        [a, b] => {
+            is_of(a, 1, "/a", ChangeKind::Delete)
+                && a.contents.is_none()
+                && is_of(b, 0, "/b", ChangeKind::Modify)
+                && holds(&b.contents, "2")
+        }
+        _ => false,
+    }
 }
 
 #[test]
 fn changes_in_order(rt: HostRuntime) -> Result<(), Fail> {
     let alloc = rt.alloc();
     let mut table = three_files(alloc)?;
-    let first = table.take_changes()?;
-    assert_eq!(rt; first.len(), 2);
-    assert!(rt;
-        is_change(
-            first.get(0).ok_or("none")?,
-            1,
-            "/a",
-            ChangeKind::Create,
-            "one"
-        )
-    );
-    assert!(rt;
-        is_change(
-            first.get(1).ok_or("none")?,
-            0,
-            "/b",
-            ChangeKind::Create,
-            "two"
-        )
-    );
-    set(alloc, &mut table, "/b", Some("2"))?;
+    assert!(rt; are_created(table.take_changes()?.as_slice()));
+    set(alloc, &mut table, "/b", "2")?;
     mark(alloc, &mut table, "/a")?;
-    let second = table.take_changes()?;
-    assert_eq!(rt; second.len(), 2);
-    assert!(rt;
-        is_change(
-            second.get(0).ok_or("none")?,
-            1,
-            "/a",
-            ChangeKind::Delete,
-            ""
-        )
-    );
-    assert!(rt;
-        is_change(
-            second.get(1).ok_or("none")?,
-            0,
-            "/b",
-            ChangeKind::Modify,
-            "2"
-        )
-    );
+    assert!(rt; are_changed(table.take_changes()?.as_slice()));
     Ok(())
+}
+
+/// Whether a table has no number left for a path.
+fn is_full(alloc: Global, table: &mut FileTable, path: &str) -> Result<bool, Fail> {
+    let contents = Bytes::from_slice(alloc, path.as_bytes())?;
+    let set = table
+        .set_contents(path_at(alloc, path)?, Some(contents))
+        .err();
+    let marked = table.insert_excluded(path_at(alloc, path)?).err();
+    Ok(set == Some(TableFault::Full) && marked == Some(TableFault::Full))
 }
 
 #[test]
 fn numbers_run_out(rt: HostRuntime) -> Result<(), Fail> {
     let alloc = rt.alloc();
     let mut table = FileTable::new_at(alloc, 4_294_967_294);
-    assert!(rt; set(alloc, &mut table, "/a", Some("a"))?);
-    let found = table.file_id(&path_at(alloc, "/a")?);
-    assert_eq!(rt; found, Some((FileId(4_294_967_294), FileExcluded::No)));
-    let refused = table
-        .set_contents(path_at(alloc, "/b")?, bytes_of(alloc, "b")?)
-        .err();
-    assert_eq!(rt; refused, Some(TableFault::Full));
-    let refused = table.insert_excluded(path_at(alloc, "/b")?).err();
-    assert_eq!(rt; refused, Some(TableFault::Full));
-    assert!(rt; set(alloc, &mut table, "/a", Some("c"))?);
+    assert!(rt; set(alloc, &mut table, "/a", "a")?);
+    assert!(rt; has_number(alloc, &table, "/a", 4_294_967_294, FileExcluded::No)?);
+    assert!(rt; is_full(alloc, &mut table, "/b")?);
+    assert!(rt; set(alloc, &mut table, "/a", "c")?);
     Ok(())
 }
 
-/// A document.
-fn document(alloc: Global, version: i32, text: &str) -> Result<DocumentData, Fail> {
-    Ok(DocumentData {
-        version,
-        text: Text::from_str(alloc, text)?,
-    })
+/// Puts a document, and answers whether none was there.
+fn put(alloc: Global, docs: &mut MemDocs, path: &str, version: i32) -> Result<bool, Fail> {
+    let text = Text::from_str(alloc, path)?;
+    let path = path_at(alloc, path)?;
+    Ok(docs.insert(path, DocumentData { version, text })?.is_ok())
 }
 
 /// The documents `/b` and `/a`.
 fn two_documents(alloc: Global) -> Result<MemDocs, Fail> {
     let mut docs = MemDocs::new(alloc);
-    docs.insert(path_at(alloc, "/b")?, document(alloc, 1, "two")?)?
-        .ok()
-        .ok_or("there")?;
-    docs.insert(path_at(alloc, "/a")?, document(alloc, 1, "one")?)?
-        .ok()
-        .ok_or("there")?;
+    put(alloc, &mut docs, "/b", 1)?;
+    put(alloc, &mut docs, "/a", 1)?;
     Ok(docs)
+}
+
+/// Whether a document has this version.
+fn has_version(docs: &MemDocs, path: &VfsPath, version: i32) -> bool {
+    match docs.get(path) {
+        Some(document) => document.version == version,
+        None => false,
+    }
+}
+
+/// Sets a document's version in its place.
+fn set_version(docs: &mut MemDocs, path: &VfsPath, version: i32) -> bool {
+    match docs.get_mut(path) {
+        Some(document) => {
+            document.version = version;
+            true
+        }
+        None => false,
+    }
 }
 
 #[test]
 fn documents_come_and_go(rt: HostRuntime) -> Result<(), Fail> {
     let alloc = rt.alloc();
-    let mut docs = two_documents(alloc)?;
     let path = path_at(alloc, "/a")?;
-    assert!(rt;
-        docs.insert(path_at(alloc, "/a")?, document(alloc, 2, "1")?)?
-            .is_err()
-    );
-    assert_eq!(rt; docs.get(&path).ok_or("none")?.version, 2);
-    assert!(rt; docs.take_changes());
-    assert!(rt; !docs.take_changes());
+    let mut docs = MemDocs::new(alloc);
+    assert!(rt; put(alloc, &mut docs, "/a", 1)?);
+    assert!(rt; !put(alloc, &mut docs, "/a", 2)?);
+    assert!(rt; has_version(&docs, &path, 2));
     assert!(rt; docs.remove(&path).is_ok());
     assert!(rt; docs.remove(&path).is_err());
     assert!(rt; !docs.contains(&path));
+    Ok(())
+}
+
+#[test]
+fn documents_tell_changes(rt: HostRuntime) -> Result<(), Fail> {
+    let alloc = rt.alloc();
+    let path = path_at(alloc, "/a")?;
+    let mut docs = two_documents(alloc)?;
+    assert!(rt; docs.take_changes());
+    assert!(rt; set_version(&mut docs, &path, 7));
+    assert!(rt; !docs.take_changes());
+    docs.remove(&path).ok();
     assert!(rt; docs.take_changes());
     Ok(())
 }
@@ -347,19 +407,29 @@ fn documents_come_and_go(rt: HostRuntime) -> Result<(), Fail> {
 #[test]
 fn documents_in_their_place(rt: HostRuntime) -> Result<(), Fail> {
     let alloc = rt.alloc();
+    let path = path_at(alloc, "/a")?;
     let mut docs = two_documents(alloc)?;
     let copy = docs.clone()?;
-    docs.take_changes();
-    let path = path_at(alloc, "/a")?;
-    docs.get_mut(&path).ok_or("none")?.version = 7;
-    assert!(rt; docs.get_mut(&path_at(alloc, "/c")?).is_none());
-    assert_eq!(rt; docs.get(&path).ok_or("none")?.version, 7);
-    assert_eq!(rt; copy.get(&path).ok_or("none")?.version, 1);
-    assert!(rt; !docs.take_changes());
-    let mut paths = docs.iter();
-    assert_eq!(rt; paths.next().ok_or("none")?.as_str(), "/a");
-    assert_eq!(rt; paths.next().ok_or("none")?.as_str(), "/b");
-    assert!(rt; paths.next().is_none());
+    assert!(rt; set_version(&mut docs, &path, 7));
+    assert!(rt; !set_version(&mut docs, &path_at(alloc, "/c")?, 7));
+    assert!(rt; has_version(&docs, &path, 7));
+    assert!(rt; has_version(&copy, &path, 1));
+    Ok(())
+}
+
+/// The paths of documents, one after another.
+fn joined_paths(alloc: Global, docs: &MemDocs) -> Result<Text, Fail> {
+    let mut text = Text::new(alloc);
+    for path in docs.iter() {
+        text.push_str(path.as_str())?;
+    }
+    Ok(text)
+}
+
+#[test]
+fn documents_in_order(rt: HostRuntime) -> Result<(), Fail> {
+    let alloc = rt.alloc();
+    assert!(rt; joined_paths(alloc, &two_documents(alloc)?)?.as_str() == "/a/b");
     Ok(())
 }
 
@@ -372,24 +442,44 @@ fn paths_at(alloc: Global, texts: &[&str]) -> Result<Items<VfsPath>, Fail> {
     Ok(paths)
 }
 
-/// A root.
-fn root(alloc: Global, include: &[&str], exclude: &[&str], is_local: bool) -> Result<Root, Fail> {
-    Ok(Root {
-        include: paths_at(alloc, include)?,
-        exclude: paths_at(alloc, exclude)?,
+/// Adds a root.
+fn add_root(
+    alloc: Global,
+    roots: &mut Items<Root>,
+    include: &[&str],
+    exclude: &[&str],
+    is_local: bool,
+) -> Result<(), Fail> {
+    let include = paths_at(alloc, include)?;
+    let exclude = paths_at(alloc, exclude)?;
+    roots.push(Root {
+        include,
+        exclude,
         is_local,
-    })
+    })?;
+    Ok(())
 }
 
 /// Five roots.
 fn five_roots(alloc: Global) -> Result<SourceRoots, Fail> {
     let mut roots = Items::new(alloc);
-    roots.push(root(alloc, &["/w"], &["/w/out"], true)?)?;
-    roots.push(root(alloc, &["/w/lib"], &[], true)?)?;
-    roots.push(root(alloc, &["/w/lib", "/w/lib/deep/in"], &["/w/lib/deep"], true)?)?;
-    roots.push(root(alloc, &["/w/out/gen"], &[], false)?)?;
-    roots.push(root(alloc, &["/v", "/w/lib/a/b"], &[], true)?)?;
+    add_root(alloc, &mut roots, &["/w"], &["/w/out"], true)?;
+    add_root(alloc, &mut roots, &["/w/lib"], &[], true)?;
+    add_root(
+        alloc,
+        &mut roots,
+        &["/w/lib", "/w/lib/deep/in"],
+        &["/w/lib/deep"],
+        true,
+    )?;
+    add_root(alloc, &mut roots, &["/w/out/gen"], &[], false)?;
+    add_root(alloc, &mut roots, &["/v", "/w/lib/a/b"], &[], true)?;
     Ok(SourceRoots::new(roots))
+}
+
+/// Whether a path is in this root.
+fn is_in(alloc: Global, roots: &SourceRoots, text: &str, number: u32) -> Result<bool, Fail> {
+    Ok(roots.root_of(&path_at(alloc, text)?) == number)
 }
 
 #[test]
@@ -408,8 +498,14 @@ fn roots_of_paths(rt: HostRuntime) -> Result<(), Fail> {
         ("/u", 5),
         ("/", 5),
     ] {
-        assert_eq!(rt; roots.root_of(&path_at(alloc, text)?), number, "at {text}");
+        assert!(rt; is_in(alloc, &roots, text, number)?);
     }
+    Ok(())
+}
+
+#[test]
+fn local_roots(rt: HostRuntime) -> Result<(), Fail> {
+    let roots = five_roots(rt.alloc())?;
     assert!(rt; roots.is_local(0));
     assert!(rt; !roots.is_local(3));
     assert!(rt; !roots.is_local(5));
@@ -419,7 +515,7 @@ fn roots_of_paths(rt: HostRuntime) -> Result<(), Fail> {
 #[test]
 fn parents_of_roots(rt: HostRuntime) -> Result<(), Fail> {
     let pairs = five_roots(rt.alloc())?.parent_map(rt.alloc())?;
-    assert_eq!(rt; pairs.as_slice(), [(1, 0), (2, 1), (4, 1)].as_slice());
+    assert!(rt; pairs.as_slice() == [(1, 0), (2, 1), (4, 1)].as_slice());
     Ok(())
 }
 

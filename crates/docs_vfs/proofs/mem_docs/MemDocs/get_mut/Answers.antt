@@ -1,4 +1,4 @@
-use Rattle.std.proofs.Common.{◌≡◌, refl, sym, ap, ◌∙◌}
+use Rattle.std.proofs.Common.{refl, ap, ◌∙◌}
 use Rattle.std.specs.Prelude.{Option, Some, None, OnSome}
 use Rattle.std.specs.Borrow.{MutBor}
 use Rattle.std.specs.FinMap as map
