@@ -88,10 +88,6 @@ id_in (Some row) = id_by row.file row.kept
 abbrev pub file_id_of : Files → List ℕ → Option (FileId × FileExcluded)
 file_id_of t path = id_in (map.get t.rows path)
 
--- the last number there is
-abbrev pub last_file : ℕ
-last_file = 4294967294
-
 -- the next number: as many as were given
 abbrev pub next_file : Files → FileId
 next_file t = record { 0 = t.first + length t.paths }

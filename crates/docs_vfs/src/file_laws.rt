@@ -1,7 +1,7 @@
 ghost use Rattle.std.specs.Prelude.{◌≡◌, ℕ, Bool, List, Option, Ok, true};
 ghost use Rattle.std.specs.FinMap as map;
 ghost use Rattle.docs_vfs.specs.declared.file_kinds.Kept.TheVariants.{Excluded};
-ghost use Rattle.docs_vfs.specs.Files.{Files, new_files, set_in, mark_in, changes, contents_at, kept_at};
+ghost use Rattle.docs_vfs.specs.Files.{Files, new_files, set_in, mark_in, changes, contents_at};
 ghost use Rattle.docs_vfs.specs.FileLaws.{Keeps, SetsContents, IsNumbered, KeepsNumbers, KeepsTaken, taken_at, IsDifference};
 
 /// What a table keeps changes at the path of the call alone; a marked path stays marked.

@@ -1,8 +1,8 @@
-ghost use Rattle.std.specs.Prelude.{◌≡◌, ◌++◌, [], ◌+◌, length, nat_le, OnOk, IfOk, is_some, option_to_list};
+ghost use Rattle.std.specs.Prelude.{◌≡◌, ◌++◌, ◌+◌, OnOk, IfOk, is_some, option_to_list};
 ghost use Rattle.std.specs.Option.{option_copied};
 ghost use Rattle.std.specs.FinMap as map;
 ghost use Rattle.std.specs.List.{filter_map};
-ghost use Rattle.docs_vfs.specs.Files.{new_files, contents_of, kept_of, kept_in, is_marked, contents_at, same_contents, number_in, with_number, before_of, put_in, set_in, mark_in, path_at, exists_in, file_id_of, kind_between, change_of, changes, last_file, Meets, Gives};
+ghost use Rattle.docs_vfs.specs.Files.{new_files, contents_of, kept_of, kept_in, is_marked, contents_at, same_contents, with_number, before_of, put_in, set_in, mark_in, path_at, exists_in, file_id_of, kind_between, change_of, changes, Meets, Gives};
 
 use crate::by_path::ByPath;
 use crate::file_kinds::{

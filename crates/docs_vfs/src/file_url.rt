@@ -1,10 +1,10 @@
-ghost use Rattle.std.specs.Prelude.{ℕ, ◌≡◌, ◌≤◌, ◌<◌, All, false, length, Ok, IfOk, string_bytes};
-ghost use Rattle.std.specs.Prelude.{◌⊎◌, IfErr, OnOk, ◌++◌, ◌∷◌, [], not, ◌&&◌, true};
+ghost use Rattle.std.specs.Prelude.{ℕ, ◌≡◌, ◌≤◌, ◌<◌, All, false, length, Ok, IfOk};
+ghost use Rattle.std.specs.Prelude.{◌⊎◌, IfErr, OnOk, ◌++◌, ◌∷◌, [], ◌&&◌, true};
 ghost use Rattle.std.specs.List.{list_any, list_all};
 ghost use Rattle.percent_encoding.specs.Percent.{percent_decode};
 ghost use Rattle.percent_encoding.specs.AsciiSet.{should_percent_encode};
 ghost use Rattle.docs_vfs.specs.declared.file_url.TheConstants.{ESCAPED};
-ghost use Rattle.docs_vfs.specs.Paths.{is_slash, is_path};
+ghost use Rattle.docs_vfs.specs.Paths.{is_slash};
 ghost use Rattle.std.specs.Str.{is_utf8};
 ghost use Rattle.docs_vfs.specs.FileUrls.{is_escaped, max_url, url_of, path_of, path_of_parts, path_of_segments, url_segments, decoded_segments, is_text_segment, joined, begins_with_drive, Answers, LacksText};
 ghost use Rattle.docs_vfs.specs.declared.file_url.UrlFault.TheVariants.{NoMemory, NotFile};

@@ -1,5 +1,5 @@
-ghost use Rattle.std.specs.Prelude.{◌≡◌, ◌==◌, ◌++◌, ◌≤◌, ◌<◌, length, take, map, option_to_list, OnOk, IfOk, IfSome};
-ghost use Rattle.std.specs.List.{list_any, position, enumerate_from, filter_map};
+ghost use Rattle.std.specs.Prelude.{◌≡◌, ◌==◌, ◌++◌, ◌≤◌, ◌<◌, length, take, option_to_list, OnOk, IfOk, IfSome};
+ghost use Rattle.std.specs.List.{list_any, position, enumerate_from};
 ghost use Rattle.docs_vfs.specs.Paths.{is_within};
 ghost use Rattle.docs_vfs.specs.Roots.{most_roots, greatest, first_greatest, include_length, root_length, root_of, is_below, proper_length, parent_length, parent_of, parent_pair, parent_map, is_local_at};
 
