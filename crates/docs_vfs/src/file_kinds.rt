@@ -53,7 +53,7 @@ pub struct FileWas {
 }
 
 /// Why a call of the table failed.
-#[derive(Clone, Copy, Debug, PartialEq, Eq)]
+#[derive(Clone, Copy, Debug, PartialEq, Eq, PartialOrd, Ord, Hash)]
 pub enum TableFault {
     /// The path needs a number, and 4,294,967,295 were given. The table is as it was.
     Full,

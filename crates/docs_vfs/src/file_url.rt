@@ -36,7 +36,7 @@ pub const ESCAPED: AsciiSet = ascii_set!(
 );
 
 /// Why a text names no path.
-#[derive(Clone, Copy, Debug, PartialEq, Eq)]
+#[derive(Clone, Copy, Debug, PartialEq, Eq, PartialOrd, Ord, Hash)]
 pub enum UrlFault {
     /// It is too long, no URL, or no `file` URL.
     NotFile,

@@ -4,7 +4,7 @@ ghost use Rattle.docs_vfs.specs.Paths.{is_within};
 ghost use Rattle.docs_vfs.specs.Roots.{most_roots, greatest, first_greatest, include_length, root_length, root_of, is_below, proper_length, parent_length, parent_of, parent_pair, parent_map, is_local_at};
 
 use crate::path::VfsPath;
-use plain::Items;
+use plain::{Copied, Items};
 use std::alloc::{AllocError, Global};
 use std::marker::Model;
 
@@ -14,6 +14,22 @@ pub struct Root {
     pub include: Items<VfsPath>,
     pub exclude: Items<VfsPath>,
     pub is_local: bool,
+}
+
+impl Clone for Root {
+    ghost is_clone = { λ root copy. copy ≡ root };
+
+    fn clone(&self) -> Result<Root, AllocError> {
+        Ok(Root {
+            include: self.include.clone()?,
+            exclude: self.exclude.clone()?,
+            is_local: self.is_local,
+        })
+    }
+}
+
+impl Copied for Root {
+    ghost copies = { λ x y h. h };
 }
 
 /// At most this many roots are kept.
@@ -254,4 +270,18 @@ impl SourceRoots {
     {
         parent_pairs(alloc, self.roots.as_slice())
     }
+}
+
+impl Clone for SourceRoots {
+    ghost is_clone = { λ roots copy. copy ≡ roots };
+
+    fn clone(&self) -> Result<SourceRoots, AllocError> {
+        Ok(SourceRoots {
+            roots: self.roots.clone()?,
+        })
+    }
+}
+
+impl Copied for SourceRoots {
+    ghost copies = { λ x y h. h };
 }

@@ -505,7 +505,7 @@ fn roots_of_paths(rt: HostRuntime) -> Result<(), Fail> {
 
 #[test]
 fn local_roots(rt: HostRuntime) -> Result<(), Fail> {
-    let roots = five_roots(rt.alloc())?;
+    let roots = five_roots(rt.alloc())?.clone()?;
     assert!(rt; roots.is_local(0));
     assert!(rt; !roots.is_local(3));
     assert!(rt; !roots.is_local(5));
