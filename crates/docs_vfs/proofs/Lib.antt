@@ -1,5 +1,14 @@
+pub mod ChangeLaws
 pub mod CutLemmas
-pub mod FileUrlLemmas
+pub mod Escapes
+pub mod KeptLaws
 pub mod LastLemmas
+pub mod NumberLaws
+pub mod ParseFile
+pub mod PartLemmas
 pub mod PathLemmas
+pub mod PutLemmas
+pub mod RootChoice
+pub mod RoundTrip
+pub mod SegmentLemmas
 pub mod WithinLemmas

@@ -1,4 +1,8 @@
-ghost use Rattle.std.specs.Prelude.{◌≡◌, ◌↔◌, [], ◌∷◌, OnOk, OnErr, IfOk, IsTrue, MatchOption, is_some};
+ghost use Rattle.std.specs.Prelude.{◌≡◌, ◌↔◌, [], ◌∷◌, OnOk, OnErr, IfOk, IsTrue, MatchOption, is_some, List, ℕ};
+ghost use Rattle.std.specs.Option.{option_copied_mut};
+ghost use Rattle.std.specs.Borrow.{sem};
+ghost use Rattle.std.specs.Map.Iter.{ShowsInOrder, deref};
+ghost use Rattle.docs_vfs.specs.Lent.{lends_at};
 ghost use Rattle.std.specs.Option.{option_copied};
 ghost use Rattle.std.specs.FinMap as map;
 
@@ -6,6 +10,7 @@ use crate::VfsPath;
 use plain::Copied;
 use std::alloc::{AllocError, Global};
 use std::collections::BTreeMap;
+use std::collections::btree_map::Keys;
 use std::marker::Model;
 
 /// Values by path, which contracts see as a finite map.
@@ -52,6 +57,22 @@ impl<V> ByPath<V> {
         ensures { option_copied result ≡ map.get self.now path.now }
     {
         self.rows.get(path)
+    }
+
+    /// The value at a path, to be changed in its place.
+    pub fn get_mut(&mut self, path: &VfsPath) -> Option<&mut V>
+        ensures* writes_back { sem 𝓛 (lends_at V.row self.entry path.now result) }
+        ensures value { option_copied_mut result ≡ map.get self.old path.now }
+    {
+        self.rows.get_mut(path)
+    }
+
+    /// The paths in order.
+    pub fn keys(&self) -> Keys<'_, VfsPath, V>
+        ensures rest { result ≡ map.keys self.now }
+        ensures runs { ShowsInOrder (deref {X = List ℕ}) }
+    {
+        self.rows.keys()
     }
 
     pub fn contains(&self, path: &VfsPath) -> bool

@@ -1,19 +1,49 @@
-ghost use Rattle.std.specs.Prelude.{◌≡◌, ◌++◌, Ok, Err, true, IfOk, MatchOption};
-ghost use Rattle.std.specs.List.{list_all};
-ghost use Rattle.docs_vfs.specs.Paths.{is_path};
-ghost use Rattle.docs_vfs.specs.FileUrls.{is_plain_byte, is_plain_segment, is_plain_path, file_scheme, path_of, Answers};
-ghost use Rattle.docs_vfs.specs.declared.file_url.UrlFault.TheVariants.{NotFile};
+ghost use Rattle.std.specs.Prelude.{ℕ, ◌≡◌, ◌≤◌, ◌<◌, All, false, length, Ok, IfOk};
+ghost use Rattle.std.specs.Prelude.{◌⊎◌, IfErr, OnOk, ◌++◌, ◌∷◌, [], ◌&&◌, true};
+ghost use Rattle.std.specs.List.{list_any, list_all};
+ghost use Rattle.percent_encoding.specs.Percent.{percent_decode};
+ghost use Rattle.percent_encoding.specs.AsciiSet.{should_percent_encode};
+ghost use Rattle.docs_vfs.specs.declared.file_url.TheConstants.{ESCAPED};
+ghost use Rattle.docs_vfs.specs.Paths.{is_slash};
+ghost use Rattle.std.specs.Str.{is_utf8};
+ghost use Rattle.docs_vfs.specs.FileUrls.{is_escaped, max_url, url_of, path_of, path_of_parts, path_of_segments, url_segments, decoded_segments, is_text_segment, joined, begins_with_drive, Answers, LacksText};
+ghost use Rattle.docs_vfs.specs.declared.file_url.UrlFault.TheVariants.{NoMemory, NotFile};
+ghost use Rattle.url.specs.Parser.{IsOutOfRoom};
 
 use crate::path::VfsPath;
-use crate::path_text::is_dots_text;
+use crate::path_text::is_segment_text;
+use percent_encoding::{
+    AsciiSet, CONTROLS, DecodeError, ascii_set, percent_decode, percent_encode,
+};
 use plain::Text;
 use std::alloc::{AllocError, Global};
+use url::{ParseError, Url};
+
+/// The bytes of ASCII that the URL of a path escapes.
+pub const ESCAPED: AsciiSet = ascii_set!(
+    CONTROLS
+        .add(b' ')
+        .add(b'"')
+        .add(b'<')
+        .add(b'>')
+        .add(b'#')
+        .add(b'?')
+        .add(b'{')
+        .add(b'}')
+        .add(b'%')
+        .add(b'\\')
+        .add(b'`')
+);
 
 /// Why a text names no path.
-#[derive(Clone, Copy, Debug, PartialEq, Eq)]
+#[derive(Clone, Copy, Debug, PartialEq, Eq, PartialOrd, Ord, Hash)]
 pub enum UrlFault {
-    /// It is no URL of a file, or its path needs an escape.
+    /// It is too long, no URL, or no `file` URL.
     NotFile,
+    /// It names a host.
+    HasHost,
+    /// A segment can't stand in a path.
+    NotText,
     /// The allocator had no memory.
     NoMemory,
 }
@@ -29,65 +59,130 @@ impl From<AllocError> for UrlFault {
     }
 }
 
-/// Whether each byte is an ASCII letter or digit, `.`, `_` or `-`.
-fn has_plain_bytes(text: &str) -> bool
-    ensures { result ≡ list_all is_plain_byte text.now }
-{
-    text.as_bytes().iter().all(|b| b.is_ascii_alphanumeric()
-        || *b == b'.'
-        || *b == b'_'
-        || *b == b'-')
-}
+/// A URL has at most this many bytes.
+pub const MAX_URL: usize = 67_108_864;
 
-/// Whether a text may stand between two slashes of an accepted URL.
-fn is_plain_segment_text(text: &str) -> bool
-    ensures { result ≡ is_plain_segment text.now }
+/// What a part of a URL's path decodes to.
+fn decode_part(alloc: Global, part: &str) -> Result<Text, UrlFault>
+    ensures ok { IfOk result (λ text. text ≡ percent_decode part.now) }
+    ensures err { IfErr result (λ e. LacksText e (is_utf8 (percent_decode part.now))) }
 {
-    !text.is_empty() && !is_dots_text(text) && has_plain_bytes(text)
-}
-
-/// Whether a text is the path of an accepted URL.
-fn is_plain_path_text(text: &str) -> bool
-    ensures { result ≡ is_plain_path text.now }
-{
-    match text.strip_prefix('/') {
-        None => false,
-        Some(rest) => rest.split('/').all(|part| is_plain_segment_text(part)),
+    match percent_decode(part.as_bytes()).decode_utf8(alloc) {
+        Ok(text) => Ok(Text::from_string(text.into_owned(alloc)?)),
+        Err(DecodeError::Utf8(_)) => Err(UrlFault::NotText),
+        Err(DecodeError::OutOfMemory) => Err(UrlFault::NoMemory),
     }
 }
 
-/// What follows `file://`, where that is a path that needs no escape.
-fn plain_path_in(url: &str) -> Option<&str>
-    ensures { MatchOption result (path_of url.now ≡ Err NotFile) (λ path. path_of url.now ≡ Ok path.now) }
+/// Whether a text holds a slash.
+fn has_slash_text(text: &str) -> bool
+    ensures { result ≡ list_any is_slash text.now }
 {
-    let path = url.strip_prefix("file://")?;
-    if is_plain_path_text(path) {
-        Some(path)
-    } else {
-        None
-    }
+    text.as_bytes().iter().any(|b| *b == b'/')
 }
 
-/// The path that a URL names. A URL is taken where it is `file://` and then one or more segments, each
-/// after a `/`, of ASCII letters, digits, `.`, `_` and `-`, none of them `.` or `..`.
-pub fn path_of_url(alloc: Global, url: &str) -> Result<VfsPath, UrlFault>
-    ensures answers { Answers result (path_of url.now) }
-    ensures text { IfOk result (λ path. url.now ≡ file_scheme ++ path) }
-    ensures path { IfOk result (λ path. is_path path ≡ true) }
+/// Whether a decoded segment may stand in a path.
+fn is_whole_segment(text: &str) -> bool
+    ensures { result ≡ is_text_segment text.now }
 {
-    let Some(path) = plain_path_in(url) else {
+    !has_slash_text(text) && is_segment_text(text)
+}
+
+/// Adds a part of a URL's path as a segment, unless it is empty.
+fn push_part(alloc: Global, part: &str, text: &mut Text) -> Result<(), UrlFault>
+    ensures good { OnOk result (list_all is_text_segment (decoded_segments (part.now ∷ [])) ≡ true) }
+    ensures ok { OnOk result (text.new ≡ text.old ++ joined (decoded_segments (part.now ∷ []))) }
+    ensures err { IfErr result (λ e. LacksText e (list_all is_text_segment (decoded_segments (part.now ∷ [])))) }
+{
+    let segment = decode_part(alloc, part)?;
+    if segment.is_empty() {
+        return Ok(());
+    }
+    if !is_whole_segment(segment.as_str()) {
+        return Err(UrlFault::NotText);
+    }
+    text.push_str("/")?;
+    text.push_str(segment.as_str())?;
+    Ok(())
+}
+
+/// The text of the path that a URL's path names.
+fn text_of_path(alloc: Global, path: &str) -> Result<Text, UrlFault>
+    ensures { Answers result (path_of_segments (url_segments path.now)) }
+{
+    let mut text = Text::new(alloc);
+    for part in path.split('/') {
+        push_part(alloc, part, &mut text)?;
+    }
+    if text.is_empty() {
+        text.push_str("/")?;
+    }
+    Ok(text)
+}
+
+/// The path that a URL names.
+fn path_of_url_parts(alloc: Global, url: &Url) -> Result<VfsPath, UrlFault>
+    ensures { Answers result (path_of_parts url.now) }
+{
+    if url.scheme() != "file" {
         return Err(UrlFault::NotFile);
-    };
-    Ok(VfsPath::from_text(Text::from_str(alloc, path)?))
+    }
+    if url.has_host() {
+        return Err(UrlFault::HasHost);
+    }
+    let text = text_of_path(alloc, url.path())?;
+    Ok(VfsPath::from_text(text))
 }
 
-/// A URL that names a path is `file://` and that path, which is a path of [`VfsPath`].
-pub fn url_is_scheme_and_path(url: &str)
-    ensures text { IfOk (path_of url.now) (λ path. url.now ≡ file_scheme ++ path) }
-    ensures path { IfOk (path_of url.now) (λ path. is_path path ≡ true) }
+/// What an error of the parser says: no room, or no URL.
+fn fault_of(e: ParseError) -> UrlFault
+    ensures { (result ≡ NoMemory) ⊎ ((result ≡ NotFile) × (IsOutOfRoom e → ⊥)) }
+{
+    match e {
+        ParseError::OutOfMemory | ParseError::Overflow => UrlFault::NoMemory,
+        _ => UrlFault::NotFile,
+    }
+}
+
+/// The path that a text names as a `file` URL.
+pub fn path_of_url(alloc: Global, url: &str) -> Result<VfsPath, UrlFault>
+    ensures { Answers result (path_of url.now) }
+{
+    if url.len() > MAX_URL {
+        return Err(UrlFault::NotFile);
+    }
+    match Url::parse(alloc, url) {
+        Ok(url) => path_of_url_parts(alloc, &url),
+        Err(e) => Err(fault_of(e)),
+    }
+}
+
+/// The `file` URL of a path.
+#[tactic(auto, unfolding(crate::specs::FileUrls::url_of))]
+pub fn url_of_path(alloc: Global, path: &VfsPath) -> Result<Text, AllocError>
+    ensures { IfOk result (λ url. url ≡ url_of path.now) }
+{
+    let mut url = String::from_str(alloc, "file://")?;
+    percent_encode(path.as_str().as_bytes(), ESCAPED).append_to(&mut url)?;
+    Ok(Text::from_string(url))
+}
+
+/// The bytes of a text are below 256.
+fn are_bytes(text: &str)
+    ensures { All (λ b. b < 256) text.now }
 {}
 
-/// `file://` and a path whose segments need no escape is a URL of that path.
-pub fn url_names_its_path(path: &str)
-    ensures law { is_plain_path path.now ≡ true → path_of (file_scheme ++ path.now) ≡ Ok path.now }
+/// The URL of a path names that path. Two kinds of path are left out: those whose URL is too long, and
+/// those whose first segment the URL Standard reads as a drive.
+pub fn url_names_its_path(path: &VfsPath)
+    ensures law { length (url_of path.now) ≤ max_url → begins_with_drive path.now ≡ false
+        → path_of (url_of path.now) ≡ Ok path.now }
+{
+    let text = path.as_str();
+    are_bytes(text);
+}
+
+/// The bytes that the URL of a path escapes.
+pub fn url_escapes_are_listed()
+    ensures law { (b : ℕ) → should_percent_encode ESCAPED b ≡ is_escaped b }
 {}

@@ -18,7 +18,7 @@ fn has_nul_text(text: &str) -> bool
 }
 
 /// Whether a text may stand between two slashes of a path.
-fn is_segment_text(text: &str) -> bool
+pub(crate) fn is_segment_text(text: &str) -> bool
     ensures { result ≡ is_segment text.now }
 {
     !text.is_empty() && !is_dots_text(text) && !has_nul_text(text)

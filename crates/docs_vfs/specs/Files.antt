@@ -1,0 +1,174 @@
+-- The table of files: the numbers of paths, what is kept of each, and what was there at the last take.
+use Rattle.std.specs.Prelude.{◌≡◌, ℕ, Bool, true, false, ◌||◌, ◌+◌, ◌-◌, nat_le, nat_lt, List, [], ◌∷◌, ◌++◌, length, slice_get, bytes_eq, Option, Some, None, is_some, Result, Ok, Err, if◌then◌else◌}
+use Rattle.std.specs.List.{filter_map}
+use Rattle.std.specs.FinMap as map
+use Rattle.docs_vfs.specs.Paths.{path_cmp}
+use Rattle.docs_vfs.specs.declared.file_kinds.ChangeKind.{ChangeKind}
+use Rattle.docs_vfs.specs.declared.file_kinds.ChangeKind.TheVariants.{Create, Modify, Delete}
+use Rattle.docs_vfs.specs.declared.file_kinds.ChangedFile.{ChangedFile}
+use Rattle.docs_vfs.specs.declared.file_kinds.FileId.{FileId}
+use Rattle.docs_vfs.specs.declared.file_kinds.FileExcluded.{FileExcluded}
+use Rattle.docs_vfs.specs.declared.file_kinds.FileExcluded.TheVariants.{Yes, No}
+use Rattle.docs_vfs.specs.declared.file_kinds.FileRow.{FileRow}
+use Rattle.docs_vfs.specs.declared.file_kinds.FileWas.{FileWas}
+use Rattle.docs_vfs.specs.declared.file_kinds.Kept.{Kept}
+use Rattle.docs_vfs.specs.declared.file_kinds.Kept.TheVariants.{Nothing, Contents, Excluded}
+use Rattle.docs_vfs.specs.declared.file_kinds.TableFault.{TableFault}
+use Rattle.docs_vfs.specs.declared.file_kinds.TableFault.TheVariants.{Full, NoMemory}
+
+-- the first number that this table gives, the paths in the order of their numbers, what is kept of each path that
+-- has a number, and the contents at the last take of the paths that were touched since
+pub record Files : Type 0 where
+  pub first : ℕ
+  pub paths : List (List ℕ)
+  pub rows : map.FinMap path_cmp FileRow
+  pub before : map.FinMap path_cmp FileWas
+
+-- a table without files, whose first number is this one
+abbrev pub new_files : ℕ → Files
+new_files first = record { first = first; paths = []; rows = map.empty; before = map.empty }
+
+-- ---- what is kept of a path
+
+abbrev pub kept_in : Option FileRow → Kept
+kept_in None = Nothing
+kept_in (Some row) = row.kept
+
+abbrev pub kept_at : Files → List ℕ → Kept
+kept_at t path = kept_in (map.get t.rows path)
+
+abbrev pub contents_of : Kept → Option (List ℕ)
+contents_of Nothing = None
+contents_of (Contents bytes) = Some bytes
+contents_of Excluded = None
+
+abbrev pub is_marked : Kept → Bool
+is_marked Nothing = false
+is_marked (Contents bytes) = false
+is_marked Excluded = true
+
+-- the contents at a path
+abbrev pub contents_at : Files → List ℕ → Option (List ℕ)
+contents_at t path = contents_of (kept_at t path)
+
+abbrev pub kept_of : Option (List ℕ) → Kept
+kept_of None = Nothing
+kept_of (Some bytes) = Contents bytes
+
+abbrev pub same_contents : Option (List ℕ) → Option (List ℕ) → Bool
+same_contents None None = true
+same_contents None (Some new) = false
+same_contents (Some old) None = false
+same_contents (Some old) (Some new) = bytes_eq old new
+
+-- ---- numbers
+
+-- the path with a number
+abbrev pub path_at : Files → FileId → Option (List ℕ)
+path_at t file = if nat_lt file.0 t.first then None else slice_get t.paths (file.0 - t.first)
+
+abbrev pub has_contents : Files → Option (List ℕ) → Bool
+has_contents t None = false
+has_contents t (Some path) = is_some (contents_at t path)
+
+-- whether the path with a number has contents
+abbrev pub exists_in : Files → FileId → Bool
+exists_in t file = has_contents t (path_at t file)
+
+abbrev pub id_by : FileId → Kept → Option (FileId × FileExcluded)
+id_by file Nothing = None
+id_by file (Contents bytes) = Some (file, No)
+id_by file Excluded = Some (file, Yes)
+
+abbrev pub id_in : Option FileRow → Option (FileId × FileExcluded)
+id_in None = None
+id_in (Some row) = id_by row.file row.kept
+
+-- the number of a path that has contents or a mark, and whether it is marked
+abbrev pub file_id_of : Files → List ℕ → Option (FileId × FileExcluded)
+file_id_of t path = id_in (map.get t.rows path)
+
+-- the next number: as many as were given
+abbrev pub next_file : Files → FileId
+next_file t = record { 0 = t.first + length t.paths }
+
+abbrev pub number_in : Files → List ℕ → Option FileRow → Result (Files × FileId) TableFault
+number_in t path (Some row) = Ok (t, row.file)
+number_in t path None =
+    if nat_le 4294967295 (t.first + length t.paths) then Err Full
+    else Ok (record t { paths = t.paths ++ path ∷ [] }, next_file t)
+
+-- a path without a number gets the next one
+abbrev pub with_number : Files → List ℕ → Result (Files × FileId) TableFault
+with_number t path = number_in t path (map.get t.rows path)
+
+-- ---- the calls
+
+-- what was there is kept once
+abbrev pub before_of : map.FinMap path_cmp FileWas → List ℕ → FileWas → map.FinMap path_cmp FileWas
+before_of before path was = if is_some (map.get before path) then before else map.insert before path was
+
+abbrev pub and_then : {A B : Type 0} → Result A TableFault → (A → Result B TableFault) → Result B TableFault
+and_then (Ok x) next = next x
+and_then (Err e) next = Err e
+
+-- the table that keeps this of a path with this number
+abbrev pub put_at : Files → FileId → List ℕ → Kept → Files
+put_at t file path kept =
+    record t {
+      rows = map.insert t.rows path (record { file = file; kept = kept });
+      before = before_of t.before path (record { file = file; contents = contents_at t path });
+    }
+
+-- the table that keeps this of a path
+abbrev pub put_in : Files → List ℕ → Kept → Result Files TableFault
+put_in t path kept = and_then (with_number t path) (λ n. Ok (put_at n.0 n.1 path kept))
+
+-- the table with these contents at a path, and whether that is a change
+abbrev pub set_in : Files → List ℕ → Option (List ℕ) → Result (Files × Bool) TableFault
+set_in t path contents =
+    if is_marked (kept_at t path) || same_contents (contents_at t path) contents then Ok (t, false)
+    else and_then (put_in t path (kept_of contents)) (λ u. Ok (u, true))
+
+-- the table with a mark at a path
+abbrev pub mark_in : Files → List ℕ → Result Files TableFault
+mark_in t path = if is_marked (kept_at t path) then Ok t else put_in t path Excluded
+
+-- a full table is left as it was; without memory nothing is said
+abbrev pub FailsAs : {A : Type 0} → TableFault → Result A TableFault → Files → Files → Type 0
+FailsAs Full expected old new = (expected ≡ Err Full) × (new ≡ old)
+FailsAs NoMemory expected old new = Unit {0}
+
+-- the call made the expected table
+abbrev pub Meets : {A : Type 0} → Result A TableFault → Result Files TableFault → Files → Files → Type 0
+Meets (Ok x) expected old new = expected ≡ Ok new
+Meets (Err e) expected old new = FailsAs e expected old new
+
+-- the call made the expected table, and answered the expected value
+abbrev pub Gives : {A : Type 0} → Result A TableFault → Result (Files × A) TableFault → Files → Files → Type 0
+Gives (Ok x) expected old new = expected ≡ Ok (new, x)
+Gives (Err e) expected old new = FailsAs e expected old new
+
+-- ---- the difference since the last take
+
+-- what became of contents, if they aren't the same
+abbrev pub kind_between : Option (List ℕ) → Option (List ℕ) → Option ChangeKind
+kind_between None None = None
+kind_between None (Some new) = Some Create
+kind_between (Some old) None = Some Delete
+kind_between (Some old) (Some new) = if bytes_eq old new then None else Some Modify
+
+abbrev pub change_with : FileId → List ℕ → Option (List ℕ) → Option ChangeKind → Option ChangedFile
+change_with file path contents None = None
+change_with file path contents (Some kind) =
+    Some (record { file = file; path = path; kind = kind; contents = contents })
+
+-- what became of a path that had these contents
+abbrev pub change_of : map.FinMap path_cmp FileRow → List ℕ × FileWas → Option ChangedFile
+change_of rows (path, was) =
+    let now = contents_of (kept_in (map.get rows path)) in
+    change_with was.file path now (kind_between was.contents now)
+
+-- the difference since the last take, in the order of the paths
+abbrev pub changes : Files → List ChangedFile
+changes t = filter_map (change_of t.rows) (map.entries t.before)

@@ -1,0 +1,84 @@
+use crate::path::VfsPath;
+use crate::shared_bytes::SharedBytes;
+use std::alloc::{AllocError, AllocFailed};
+
+/// The number of a path in a table of files.
+#[derive(Clone, Copy, Debug, PartialEq, Eq, PartialOrd, Ord, Hash)]
+pub struct FileId(pub u32);
+
+/// Whether a file is marked as excluded.
+#[derive(Clone, Copy, Debug, PartialEq, Eq, PartialOrd, Ord, Hash)]
+pub enum FileExcluded {
+    Yes,
+    No,
+}
+
+/// What became of a file.
+#[derive(Clone, Copy, Debug, PartialEq, Eq, PartialOrd, Ord, Hash)]
+pub enum ChangeKind {
+    Create,
+    Modify,
+    Delete,
+}
+
+/// A file whose contents aren't what they were at the last take. The contents are shared with the table.
+#[derive(Drop)]
+pub struct ChangedFile {
+    pub file: FileId,
+    pub path: VfsPath,
+    pub kind: ChangeKind,
+    pub contents: Option<SharedBytes>,
+}
+
+/// What a table keeps of a path.
+#[derive(Drop)]
+pub enum Kept {
+    Nothing,
+    Contents(SharedBytes),
+    Excluded,
+}
+
+/// A path's number, and what is kept of it.
+#[derive(Drop)]
+pub struct FileRow {
+    pub file: FileId,
+    pub kept: Kept,
+}
+
+/// A path's number, and its contents at an earlier time.
+#[derive(Drop)]
+pub struct FileWas {
+    pub file: FileId,
+    pub contents: Option<SharedBytes>,
+}
+
+/// Why a call of the table failed.
+#[derive(Clone, Copy, Debug, PartialEq, Eq, PartialOrd, Ord, Hash)]
+pub enum TableFault {
+    /// The path needs a number, and 4,294,967,295 were given. The table is as it was.
+    Full,
+    /// The allocator had no memory. The table is only to be dropped.
+    NoMemory,
+}
+
+impl From<AllocError> for TableFault {
+    ghost use Rattle.std.specs.Prelude.{◌≡◌};
+    ghost use Rattle.docs_vfs.specs.declared.file_kinds.TableFault.TheVariants.{NoMemory};
+
+    ghost from_gives = { λ _ e. e ≡ NoMemory };
+
+    fn from(_: AllocError) -> TableFault {
+        TableFault::NoMemory
+    }
+}
+
+impl<T: Drop> From<AllocFailed<T>> for TableFault {
+    ghost use Rattle.std.specs.Prelude.{◌≡◌};
+    ghost use Rattle.docs_vfs.specs.declared.file_kinds.TableFault.TheVariants.{NoMemory};
+
+    ghost from_gives = { λ _ e. e ≡ NoMemory };
+
+    fn from(_: AllocFailed<T>) -> TableFault {
+        TableFault::NoMemory
+    }
+}

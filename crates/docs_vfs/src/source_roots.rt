@@ -1,0 +1,287 @@
+ghost use Rattle.std.specs.Prelude.{◌≡◌, ◌==◌, ◌++◌, ◌≤◌, ◌<◌, length, take, option_to_list, OnOk, IfOk, IfSome};
+ghost use Rattle.std.specs.List.{list_any, position, enumerate_from};
+ghost use Rattle.docs_vfs.specs.Paths.{is_within};
+ghost use Rattle.docs_vfs.specs.Roots.{most_roots, greatest, first_greatest, include_length, root_length, root_of, is_below, proper_length, parent_length, parent_of, parent_pair, parent_map, is_local_at};
+
+use crate::path::VfsPath;
+use plain::{Copied, Items};
+use std::alloc::{AllocError, Global};
+use std::marker::Model;
+
+/// A part of the files: those below an include that are below no exclude.
+#[derive(Drop)]
+pub struct Root {
+    pub include: Items<VfsPath>,
+    pub exclude: Items<VfsPath>,
+    pub is_local: bool,
+}
+
+impl Clone for Root {
+    ghost is_clone = { λ root copy. copy ≡ root };
+
+    fn clone(&self) -> Result<Root, AllocError> {
+        Ok(Root {
+            include: self.include.clone()?,
+            exclude: self.exclude.clone()?,
+            is_local: self.is_local,
+        })
+    }
+}
+
+impl Copied for Root {
+    ghost copies = { λ x y h. h };
+}
+
+/// At most this many roots are kept.
+const MOST_ROOTS: usize = 4_294_967_295;
+
+/// The roots of a workspace.
+#[derive(Drop)]
+pub struct SourceRoots {
+    roots: Items<Root>,
+}
+
+impl Model for SourceRoots {
+    ghost use Rattle.std.specs.Prelude.{List, length, ◌≤◌};
+    ghost use Rattle.docs_vfs.specs.declared.source_roots.Root.{Root};
+    ghost use Rattle.docs_vfs.specs.Roots.{most_roots};
+
+    ghost Value = { List Root };
+
+    ghost view = { λ s. s.roots };
+
+    ghost invariant = { λ s. length s.roots ≤ most_roots };
+}
+
+/// The length of an include that is a prefix of a path.
+fn include_length(path: &VfsPath, include: &VfsPath) -> usize
+    ensures { result ≡ include_length path.now include.now }
+{
+    if path.starts_with(include) {
+        include.as_str().len()
+    } else {
+        0
+    }
+}
+
+/// Whether an exclude of a root is a prefix of a path.
+fn is_excluded(path: &VfsPath, root: &Root) -> bool
+    ensures { result ≡ list_any (λ exclude. is_within exclude path.now) root.now.exclude }
+{
+    root.exclude.iter().any(|exclude| path.starts_with(exclude))
+}
+
+/// The length of the longest include that is a prefix of a path.
+fn longest_include(path: &VfsPath, includes: &[VfsPath]) -> usize
+    ensures { result ≡ greatest (include_length path.now) includes.now }
+{
+    includes.iter().fold(
+        0,
+        |longest, include| longest.max(include_length(path, include)),
+    )
+}
+
+/// The same of a root's includes, unless an exclude of the root is a prefix of the path.
+fn root_length(path: &VfsPath, root: &Root) -> usize
+    ensures { result ≡ root_length path.now root.now }
+{
+    if is_excluded(path, root) {
+        return 0;
+    }
+    longest_include(path, root.include.as_slice())
+}
+
+/// The length of the longest include of all roots.
+fn longest_root(path: &VfsPath, roots: &[Root]) -> usize
+    ensures { result ≡ greatest (root_length path.now) roots.now }
+{
+    roots
+        .iter()
+        .fold(0, |longest, root| longest.max(root_length(path, root)))
+}
+
+/// The first root whose longest include has this length.
+fn first_root(path: &VfsPath, roots: &[Root], longest: usize) -> Option<usize>
+    ensures { result ≡ position (λ root. root_length path.now root == longest) roots.now }
+{
+    roots
+        .iter()
+        .position(|root| root_length(path, root) == longest)
+}
+
+/// The root with the longest include.
+fn root_in(path: &VfsPath, roots: &[Root]) -> Option<usize>
+    ensures { result ≡ first_greatest (root_length path.now) roots.now }
+{
+    let longest = longest_root(path, roots);
+    if longest == 0 {
+        return None;
+    }
+    first_root(path, roots, longest)
+}
+
+/// Whether a path lies in a folder and isn't the folder itself.
+fn is_below(folder: &VfsPath, path: &VfsPath) -> bool
+    ensures { result ≡ is_below folder.now path.now }
+{
+    path.starts_with(folder) && folder != path
+}
+
+/// Whether a folder lies above a path of these.
+fn is_above(folder: &VfsPath, paths: &[VfsPath]) -> bool
+    ensures { result ≡ list_any (λ path. is_below folder.now path) paths.now }
+{
+    paths.iter().any(|path| is_below(folder, path))
+}
+
+/// The length of an include that is a proper prefix of an include of another root.
+fn proper_length(child: &Root, include: &VfsPath) -> usize
+    ensures { result ≡ proper_length child.now include.now }
+{
+    if is_above(include, child.include.as_slice()) {
+        include.as_str().len()
+    } else {
+        0
+    }
+}
+
+/// The length of the longest such include.
+fn longest_proper(child: &Root, includes: &[VfsPath]) -> usize
+    ensures { result ≡ greatest (proper_length child.now) includes.now }
+{
+    includes.iter().fold(
+        0,
+        |longest, include| longest.max(proper_length(child, include)),
+    )
+}
+
+/// The same of a root's includes, where it is local and isn't the child.
+fn parent_length(at: usize, child: &Root, place: usize, root: &Root) -> usize
+    ensures { result ≡ parent_length at child.now (place, root.now) }
+{
+    if root.is_local && place != at {
+        longest_proper(child, root.include.as_slice())
+    } else {
+        0
+    }
+}
+
+/// The length of the longest such include of all roots.
+fn longest_parent(at: usize, child: &Root, roots: &[Root]) -> usize
+    ensures { result ≡ greatest (parent_length at child.now) (enumerate_from 0 roots.now) }
+{
+    roots.iter().enumerate().fold(
+        0,
+        |longest, (place, root)| longest.max(parent_length(at, child, place, root)),
+    )
+}
+
+/// The first root with such an include of this length.
+fn first_parent(at: usize, child: &Root, roots: &[Root], longest: usize) -> Option<usize>
+    ensures bound { IfSome result (λ place. place < length roots.now) }
+    ensures first { result ≡ position (λ root. parent_length at child.now root == longest) (enumerate_from 0 roots.now) }
+{
+    roots.iter().enumerate().position(|(place, root)| parent_length(at, child, place, root)
+        == longest)
+}
+
+/// The parent of a root.
+fn parent_of(at: usize, child: &Root, roots: &[Root]) -> Option<usize>
+    ensures bound { IfSome result (λ place. place < length roots.now) }
+    ensures first { result ≡ parent_of roots.now at child.now }
+{
+    let longest = longest_parent(at, child, roots);
+    if longest == 0 {
+        return None;
+    }
+    first_parent(at, child, roots, longest)
+}
+
+/// Adds a local root with its parent, where it has one.
+fn push_parent(
+    list: &mut Items<(u32, u32)>,
+    at: usize,
+    root: &Root,
+    roots: &[Root],
+) -> Result<(), AllocError>
+    requires count { length roots.now ≤ most_roots }
+    requires place { at < length roots.now }
+    ensures { OnOk result (list.new ≡ list.old ++ option_to_list (parent_pair roots.now (at, root.now))) }
+{
+    if !root.is_local {
+        return Ok(());
+    }
+    match parent_of(at, root, roots) {
+        None => Ok(()),
+        Some(parent) => {
+            list.push((at as u32, parent as u32))?;
+            Ok(())
+        }
+    }
+}
+
+/// Each local root that has a parent, with its parent.
+fn parent_pairs(alloc: Global, roots: &[Root]) -> Result<Items<(u32, u32)>, AllocError>
+    requires { length roots.now ≤ most_roots }
+    ensures { IfOk result (λ list. list ≡ parent_map roots.now) }
+{
+    let mut list = Items::new(alloc);
+    for (at, root) in roots.iter().enumerate() {
+        push_parent(&mut list, at, root, roots)?;
+    }
+    Ok(list)
+}
+
+impl SourceRoots {
+    /// The first 4,294,967,295 of these roots.
+    pub fn new(roots: Items<Root>) -> SourceRoots
+        ensures { result ≡ take most_roots roots }
+    {
+        let mut roots = roots.into_vec();
+        roots.truncate(MOST_ROOTS);
+        SourceRoots {
+            roots: Items::from_vec(roots),
+        }
+    }
+
+    /// The number of the root that a path is in, or the number of roots where it is in none.
+    pub fn root_of(&self, path: &VfsPath) -> u32
+        ensures { result ≡ root_of self.now path.now }
+    {
+        match root_in(path, self.roots.as_slice()) {
+            Some(at) => at as u32,
+            None => self.roots.len() as u32,
+        }
+    }
+
+    /// Whether this is the number of a local root.
+    pub fn is_local(&self, root: u32) -> bool
+        ensures { result ≡ is_local_at self.now root }
+    {
+        match self.roots.get(root as usize) {
+            Some(root) => root.is_local,
+            None => false,
+        }
+    }
+    /// Each local root that has a parent, with its parent: the local root with the longest include that is a
+    /// proper prefix of one of its includes.
+    pub fn parent_map(&self, alloc: Global) -> Result<Items<(u32, u32)>, AllocError>
+        ensures { IfOk result (λ list. list ≡ parent_map self.now) }
+    {
+        parent_pairs(alloc, self.roots.as_slice())
+    }
+}
+
+impl Clone for SourceRoots {
+    ghost is_clone = { λ roots copy. copy ≡ roots };
+
+    fn clone(&self) -> Result<SourceRoots, AllocError> {
+        Ok(SourceRoots {
+            roots: self.roots.clone()?,
+        })
+    }
+}
+
+impl Copied for SourceRoots {
+    ghost copies = { λ x y h. h };
+}
