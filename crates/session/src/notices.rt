@@ -72,8 +72,10 @@ fn texts_in(alloc: Global, changes: Vec<Value>) -> Result<Option<Items<Text>>, A
 fn change_in(alloc: Global, mut params: Members) -> Result<Option<DidChange>, AllocError>
     ensures { IfOk result (λ change. change ≡ members_change params) }
 {
-    let (Some(document), Some(changes)) = (params.take("textDocument"), params.take("contentChanges"))
-    else {
+    let (Some(document), Some(changes)) = (
+        params.take("textDocument"),
+        params.take("contentChanges"),
+    ) else {
         return Ok(None);
     };
     let Some(mut document) = document.into_members() else {

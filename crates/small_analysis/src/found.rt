@@ -43,7 +43,9 @@ pub(crate) fn text_of<'a>(
             Some(text) => Ok(Ok(text)),
             None => Ok(Err(not_found(alloc, &path)?)),
         },
-        Err(UrlFault::NotFile) => Ok(Err(Text::from_str(alloc, "url is not a file")?)),
         Err(UrlFault::NoMemory) => Err(AllocError),
+        Err(UrlFault::NotFile | UrlFault::HasHost | UrlFault::NotText) => {
+            Ok(Err(Text::from_str(alloc, "url is not a file")?))
+        }
     }
 }

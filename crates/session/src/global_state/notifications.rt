@@ -127,8 +127,10 @@ impl GlobalState {
         };
         match path_of_url(self.alloc, document.uri.as_str()) {
             Ok(path) => self.open_at(path, document, out),
-            Err(UrlFault::NotFile) => self.log(LogCode::BadPath, document.uri, out),
             Err(UrlFault::NoMemory) => Err(TurnError::NoMemory),
+            Err(UrlFault::NotFile | UrlFault::HasHost | UrlFault::NotText) => {
+                self.log(LogCode::BadPath, document.uri, out)
+            }
         }
     }
 
@@ -178,8 +180,10 @@ impl GlobalState {
         };
         match path_of_url(self.alloc, change.uri.as_str()) {
             Ok(path) => self.change_at(path, change, out),
-            Err(UrlFault::NotFile) => self.log(LogCode::BadPath, change.uri, out),
             Err(UrlFault::NoMemory) => Err(TurnError::NoMemory),
+            Err(UrlFault::NotFile | UrlFault::HasHost | UrlFault::NotText) => {
+                self.log(LogCode::BadPath, change.uri, out)
+            }
         }
     }
 
