@@ -320,13 +320,16 @@ Going first place js message done = Batching first (place_past message done plac
 
 -- a message that fits no job
 going-none : (first : ℕ) (place : Place) (js : List Job) (message : TaskMsg) → fitting_job message place.out ≡ None → Batching first place js → Going first place js message silent
-going-none first place js message none b = (record {
-  sound = subst (λ xs. Sound place.number place.pending (with_jobs xs (after_message message place.out)) (place.handed + 0) place.revision) (sym (append-nil js))
-      (subst (λ out. Sound place.number place.pending (with_jobs js out) (place.handed + 0) place.revision) (sym same) (sound-stays _ _ _ _ _ b.sound));
-  early = λ n job there. b.early n job (ap (λ out. map.get out n) (sym same) ∙ there);
-  late = subst (AreAbove first) (sym (append-nil js)) b.late;
-  given = let g = b.given in omega arith;
-}, tt)
+going-none first place js message none b = (
+  record {
+    sound = subst (λ xs. Sound place.number place.pending (with_jobs xs (after_message message place.out)) (place.handed + 0) place.revision) (sym (append-nil js))
+        (subst (λ out. Sound place.number place.pending (with_jobs js out) (place.handed + 0) place.revision) (sym same) (sound-stays _ _ _ _ _ b.sound));
+    early = λ n job there. b.early n job (ap (λ out. map.get out n) (sym same) ∙ there);
+    late = subst (AreAbove first) (sym (append-nil js)) b.late;
+    given = let g = b.given in omega arith;
+  },
+  tt,
+)
   where
     same : after_message message place.out ≡ place.out
     same = after_message-none message place.out none
@@ -357,28 +360,34 @@ early-on first place js message found t n job there = t.before.early n job (stil
 
 -- a result of a job whose request doesn't wait
 going-off : (first : ℕ) (place : Place) (js : List Job) (message : TaskMsg) (found : Job) → id_of (ticket_of found.kind) place.pending ≡ None → Took first place js message found → Going first place js message silent
-going-off first place js message found none t = (record {
-  sound = subst (λ xs. Sound place.number place.pending (with_jobs xs (after_message message place.out)) (place.handed + 0) place.revision) (sym (append-nil js))
-      (subst (λ out. Sound place.number place.pending out (place.handed + 0) place.revision) (sym t.left)
-      (sound-stays _ _ _ _ _ (sound-off place.number place.pending (with_jobs js place.out) place.handed place.revision message.job found t.is_there none t.before.sound)));
-  early = early-on first place js message found t;
-  late = subst (AreAbove first) (sym (append-nil js)) t.before.late;
-  given = let g = t.before.given in omega arith;
-}, tt)
+going-off first place js message found none t = (
+  record {
+    sound = subst (λ xs. Sound place.number place.pending (with_jobs xs (after_message message place.out)) (place.handed + 0) place.revision) (sym (append-nil js))
+        (subst (λ out. Sound place.number place.pending out (place.handed + 0) place.revision) (sym t.left)
+        (sound-stays _ _ _ _ _ (sound-off place.number place.pending (with_jobs js place.out) place.handed place.revision message.job found t.is_there none t.before.sound)));
+    early = early-on first place js message found t;
+    late = subst (AreAbove first) (sym (append-nil js)) t.before.late;
+    given = let g = t.before.given in omega arith;
+  },
+  tt,
+)
 
 -- its request is answered
 going-said : (first : ℕ) (place : Place) (js : List Job) (message : TaskMsg) (found : Job) (id : RequestId) (response : Response) → id_of (ticket_of found.kind) place.pending ≡ Some id → response.id ≡ Some id
     → Took first place js message found → Going first place js message (says response)
-going-said first place js message found id response waits is t = (record {
-  sound = subst (λ xs. Sound place.number (closed_with response.id place.pending) (with_jobs xs (after_message message place.out)) (place.handed + 0) place.revision) (sym (append-nil js))
-      (subst (λ q. Sound place.number q (with_jobs js (after_message message place.out)) (place.handed + 0) place.revision)
-      (sym (ap (λ o. closed_with o place.pending) is ∙ closed-in_step place.pending (ticket_of found.kind) id t.before.sound.in_step waits))
-      (subst (λ out. Sound place.number (without (ticket_of found.kind) id place.pending) out (place.handed + 0) place.revision) (sym t.left)
-      (sound-stays _ _ _ _ _ (sound-without place.number place.pending (with_jobs js place.out) place.handed place.revision message.job found id t.is_there waits t.before.sound))));
-  early = early-on first place js message found t;
-  late = subst (AreAbove first) (sym (append-nil js)) t.before.late;
-  given = let g = t.before.given in omega arith;
-}, (id, is, waits-by-id place.pending (ticket_of found.kind) id t.before.sound.in_step waits, tt))
+going-said first place js message found id response waits is t = (
+  record {
+    sound = subst (λ xs. Sound place.number (closed_with response.id place.pending) (with_jobs xs (after_message message place.out)) (place.handed + 0) place.revision) (sym (append-nil js))
+        (subst (λ q. Sound place.number q (with_jobs js (after_message message place.out)) (place.handed + 0) place.revision)
+        (sym (ap (λ o. closed_with o place.pending) is ∙ closed-in_step place.pending (ticket_of found.kind) id t.before.sound.in_step waits))
+        (subst (λ out. Sound place.number (without (ticket_of found.kind) id place.pending) out (place.handed + 0) place.revision) (sym t.left)
+        (sound-stays _ _ _ _ _ (sound-without place.number place.pending (with_jobs js place.out) place.handed place.revision message.job found id t.is_there waits t.before.sound))));
+    early = early-on first place js message found t;
+    late = subst (AreAbove first) (sym (append-nil js)) t.before.late;
+    given = let g = t.before.given in omega arith;
+  },
+  (id, is, waits-by-id place.pending (ticket_of found.kind) id t.before.sound.in_step waits, tt),
+)
 
 -- the job that is handed over for a ticket
 abbrev job_for : ConfigData → Place → ℕ → RowId → Data → Job
@@ -387,13 +396,16 @@ job_for config place ticket row_id params = record { number = place.handed + 1; 
 -- a job is handed over for it
 going-again : (first : ℕ) (config : ConfigData) (place : Place) (js : List Job) (message : TaskMsg) (found : Job) (row_id : RowId) (params : Data) → Took first place js message found
     → Going first place js message (hands_over config place (ticket_of found.kind) row_id params)
-going-again first config place js message found row_id params t = (record {
-  sound = subst (λ out. Sound place.number place.pending out (place.handed + 1) place.revision) (sym (with_jobs-append js (job_for config place (ticket_of found.kind) row_id params ∷ []) (after_message message place.out) ∙ ap (λ out. map.insert out (place.handed + 1) (job_for config place (ticket_of found.kind) row_id params)) t.left))
-      (sound-again place.number place.pending (with_jobs js place.out) place.handed place.revision message.job found (job_for config place (ticket_of found.kind) row_id params) t.is_there refl (omega arith) t.before.sound);
-  early = early-on first place js message found t;
-  late = above-append first js _ t.before.late (let g = t.before.given in omega arith, tt);
-  given = let g = t.before.given in omega arith;
-}, tt)
+going-again first config place js message found row_id params t = (
+  record {
+    sound = subst (λ out. Sound place.number place.pending out (place.handed + 1) place.revision) (sym (with_jobs-append js (job_for config place (ticket_of found.kind) row_id params ∷ []) (after_message message place.out) ∙ ap (λ out. map.insert out (place.handed + 1) (job_for config place (ticket_of found.kind) row_id params)) t.left))
+        (sound-again place.number place.pending (with_jobs js place.out) place.handed place.revision message.job found (job_for config place (ticket_of found.kind) row_id params) t.is_there refl (omega arith) t.before.sound);
+    early = early-on first place js message found t;
+    late = above-append first js _ t.before.late (let g = t.before.given in omega arith, tt);
+    given = let g = t.before.given in omega arith;
+  },
+  tt,
+)
 
 going-reacts : (first : ℕ) (config : ConfigData) (place : Place) (js : List Job) (message : TaskMsg) (found : Job) (id : RequestId) (done : Reaction) → id_of (ticket_of found.kind) place.pending ≡ Some id
     → Reacts config place (ticket_of found.kind) id done → Took first place js message found → Going first place js message done

@@ -246,7 +246,7 @@ batch-settles meaning config place (m ∷ ms) w settings here =
     (λ u. Settled w u (batch_row meaning config (m ∷ ms) place) (after_batch ms (after_message m w.state.jobs)))
     (message-settles meaning config place m w settings here)
     (λ v a. let past = place_past m done place in
-        IfOk-weaker (batched meaning ms v) (λ u. Settled v u (batch_row meaning config ms past) (after_batch ms v.state.jobs)) _
-        (batch-settles meaning config past ms v (ap (λ (s : State). s.config) a.same ∙ settings) (settled-place place.number w v m done a ∙ ap (place_past m done) here))
-        (λ u b. settled-on w v u done (batch_row meaning config ms past) (after_message m w.state.jobs) (after_batch ms (after_message m w.state.jobs)) a
-        (subst (λ js. Settled v u (batch_row meaning config ms past) (after_batch ms js)) a.out b)))
+    IfOk-weaker (batched meaning ms v) (λ u. Settled v u (batch_row meaning config ms past) (after_batch ms v.state.jobs)) _
+    (batch-settles meaning config past ms v (ap (λ (s : State). s.config) a.same ∙ settings) (settled-place place.number w v m done a ∙ ap (place_past m done) here))
+    (λ u b. settled-on w v u done (batch_row meaning config ms past) (after_message m w.state.jobs) (after_batch ms (after_message m w.state.jobs)) a
+    (subst (λ js. Settled v u (batch_row meaning config ms past) (after_batch ms js)) a.out b)))
