@@ -35,6 +35,14 @@ fn note(alloc: Global, orders: &mut String, command: &Command) -> Result<(), All
     Ok(())
 }
 
+fn note_all(alloc: Global, orders: &mut String, commands: &[Command]) -> Result<(), AllocError> {
+    for command in commands {
+        note(alloc, orders, command)?;
+    }
+    orders.push('|')?;
+    Ok(())
+}
+
 impl<H: Host<A>, A: Analysis> Host<A> for Noted<H> {
     ghost out = { λ h. H.out h.host };
 
@@ -53,10 +61,7 @@ impl<H: Host<A>, A: Analysis> Host<A> for Noted<H> {
     }
 
     fn order(&mut self, commands: Items<Command>) -> Result<(), HostError> {
-        for command in commands.as_slice() {
-            note(self.alloc, &mut self.orders, command)?;
-        }
-        self.orders.push('|')?;
+        note_all(self.alloc, &mut self.orders, commands.as_slice())?;
         self.host.order(commands)
     }
 }

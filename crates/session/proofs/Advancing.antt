@@ -1,13 +1,13 @@
 -- One step of the loop, and the first and the last of a run.
-use Rattle.std.proofs.Common.{◌≡◌, ℕ, ◌+◌, ◌-◌, ◌^◌, ◌<◌, ◌≤◌, List, [], ◌∷◌, ◌++◌, length, Bool, true, false, refl, sym, ap, ◌∙◌, subst, arith, length-append}
-use Rattle.std.specs.Prelude.{IsTrue, Option, None, Some, Result, Ok, Err}
+use Rattle.std.proofs.Common.{◌≡◌, ℕ, ◌+◌, ◌^◌, ◌<◌, ◌≤◌, List, [], ◌∷◌, ◌++◌, length, Bool, false, refl, sym, ap, ◌∙◌, subst, arith, length-append}
+use Rattle.std.specs.Prelude.{IsTrue, Result, Ok, Err}
 use Rattle.std.specs.FinMap as maps
 use Rattle.lsp_frame.specs.Reader.{Reader}
 use Rattle.ra_config.specs.Config.{ConfigData}
 use Rattle.session_port.specs.Jobs.{Jobs}
 use Rattle.session_port.specs.Record.{grown, added}
 use Rattle.session_port.specs.declared.event.HostEvent.{HostEvent}
-use Rattle.session_port.specs.declared.event.HostEvent.TheVariants.{Bytes, Ended, Tasks}
+use Rattle.session_port.specs.declared.event.HostEvent.TheVariants.{Bytes}
 use Rattle.session_model.specs.Course.{Course, takes, session_course, bytes_in}
 use Rattle.session_model.specs.Meaning.{Meaning}
 use Rattle.session_model.specs.Run.{Told, Stretch, IsRun, Ends, EndsBy, IsHonestInput, after_input, fed_bytes}
@@ -18,7 +18,7 @@ use Rattle.session_model.specs.declared.input.Input.{Input}
 use Rattle.session_model.specs.declared.input.Input.TheVariants.{Start}
 use Rattle.session_model.proofs.Counted.{IsLater, steps-fewer}
 use Rattle.session_model.proofs.Stretches.{stretch-turn, stretch-fed, stretch-none, given-none}
-use Rattle.session.specs.Looping.{Goes, Advances, TurnDone, Done, left_of}
+use Rattle.session.specs.Looping.{Goes, Advances, TurnDone, Done}
 use Rattle.session.specs.Reading.{course_from}
 use Rattle.session.specs.declared.run.Turned.{Turned}
 use Rattle.session.specs.declared.run.Turned.TheVariants.{Going, Stopped}

@@ -1,17 +1,16 @@
 -- How a run ends.
-use Rattle.std.proofs.Common.{◌≡◌, ℕ, ◌+◌, ◌^◌, ◌<◌, ◌≤◌, inl, inr, List, [], ◌∷◌, ◌++◌, length, Bool, true, false, refl, sym, ap, ◌∙◌, subst, arith}
-use Rattle.std.specs.Prelude.{Option, None, Some, Result, Ok, Err}
+use Rattle.std.proofs.Common.{◌≡◌, ℕ, ◌≤◌, inl, inr, List, [], ◌∷◌, ◌++◌, length, sym, ap, ◌∙◌, subst, arith}
+use Rattle.std.specs.Prelude.{Err}
 use Rattle.session_port.specs.Jobs.{Jobs}
 use Rattle.session_port.specs.Record.{grown, added}
 use Rattle.session_port.specs.declared.cause.HostError.{HostError}
 use Rattle.session_port.specs.declared.cause.HostError.TheVariants.{Failed, NoMemory as HostNoMemory}
 use Rattle.session_port.specs.declared.event.HostEvent.{HostEvent}
-use Rattle.session_port.specs.declared.event.HostEvent.TheVariants.{Bytes, Ended, Tasks}
+use Rattle.session_port.specs.declared.event.HostEvent.TheVariants.{Bytes}
 use Rattle.session_model.specs.Course.{Course, takes}
 use Rattle.session_model.specs.Meaning.{Meaning}
-use Rattle.session_model.specs.Run.{Told, EndsBy, BreaksOff, RunsOut, TooManyBytes, host_error_of}
+use Rattle.session_model.specs.Run.{Told, EndsBy, BreaksOff, host_error_of}
 use Rattle.session_model.specs.State.{State}
-use Rattle.session_model.specs.declared.fault.Counter.{Counter}
 use Rattle.session_model.specs.declared.fault.SessionError.{SessionError}
 use Rattle.session_model.specs.declared.fault.SessionError.TheVariants.{ClientExited, BadFrame, BadMessage, HostFault, WriteFault, Exhausted, NoMemory}
 use Rattle.session_model.specs.declared.input.Input.{Input}

@@ -1,5 +1,5 @@
 -- A reader that gives a message has been fed as many bytes as before.
-use Rattle.std.proofs.Common.{◌≡◌, ℕ, ◌+◌, length, refl, sym, ap, ◌∙◌, arith, length-drop}
+use Rattle.std.proofs.Common.{◌≡◌, arith, length-drop}
 use Rattle.lsp_frame.specs.Reader.{Reader, GivesMessage}
 use Rattle.lsp_frame.specs.declared.message.Message.{Message}
 use Rattle.lsp_frame.proofs.Cuts.{cut_bounds}

@@ -1,10 +1,10 @@
 -- The session's responses can be written.
-use Rattle.std.proofs.Common.{◌≡◌, ◌≤◌, ℕ, ℤ, List, [], ◌∷◌, ◌++◌, Bool, true, false, not, refl, sym, ◌∙◌, arith}
-use Rattle.std.specs.Prelude.{◌&&◌, nat_le, Some, None}
+use Rattle.std.proofs.Common.{◌≡◌, ◌≤◌, ℕ, ℤ, List, [], ◌∷◌, ◌++◌, Bool, true, false, not, refl, sym, arith}
+use Rattle.std.specs.Prelude.{nat_le}
 use Rattle.std.proofs.lemmas.Bool.{and_parts, leb-true}
 use Rattle.serde_json.specs.Data.{Data, depth}
 use Rattle.serde_json.specs.Written.{has_float}
-use Rattle.plain.specs.Plain.{is_plain, is_within, most_levels}
+use Rattle.plain.specs.Plain.{is_plain, most_levels}
 use Rattle.lsp_frame.specs.Written.{IsWritable, AreWritable, value_depth}
 use Rattle.lsp_frame.specs.declared.message.Message.{Message}
 use Rattle.lsp_frame.specs.declared.message.Message.TheVariants.{Response as ResponseMessage}

@@ -1,5 +1,5 @@
 -- What the bytes held give next, and how the course of the session goes on.
-use Rattle.std.specs.Prelude.{◌≡◌, ◌+◌, length, ℕ, List, false}
+use Rattle.std.specs.Prelude.{◌≡◌, List, false}
 use Rattle.lsp_frame.specs.declared.frame.Cut.TheVariants.{NeedMore}
 use Rattle.lsp_frame.specs.Frames.{cut_of}
 use Rattle.lsp_frame.specs.Reader.{Reader}

@@ -7,7 +7,7 @@ use Rattle.session_port.specs.Record.{grown}
 use Rattle.session_port.specs.declared.event.HostEvent.{HostEvent}
 use Rattle.session_port.specs.declared.event.HostEvent.TheVariants.{Bytes}
 use Rattle.session_model.specs.Course.{Course, session_course}
-use Rattle.session_model.specs.Headline.{Place, Answers, IsAnswered, ListsEnd, AreHandedOver, AreHeld, place_after, place_after_all, beginning, reaction_of, row}
+use Rattle.session_model.specs.Headline.{Place, Answers, IsAnswered, ListsEnd, AreHandedOver, place_after, place_after_all, beginning, reaction_of, row}
 use Rattle.session_model.specs.Meaning.{Meaning}
 use Rattle.session_model.specs.Run.{Turn, Told, Runs, Steps, AreHonest, IsRun, Ends, RunsOut, TooManyBytes}
 use Rattle.session_model.specs.State.{State, fresh}

@@ -1,6 +1,6 @@
 -- Messages that fit a job out, and those that fit none.
 use Rattle.std.proofs.Common.{◌≡◌, Bool, true, false, refl}
-use Rattle.std.specs.Prelude.{Option, None, Some, if◌then◌else◌}
+use Rattle.std.specs.Prelude.{None, Some, if◌then◌else◌}
 use Rattle.std.specs.FinMap as map
 use Rattle.session_port.specs.Jobs.{Jobs, final_of, plain_result, fitting_job, after_message}
 use Rattle.session_port.specs.declared.event.TaskMsg.{TaskMsg}

@@ -1,16 +1,13 @@
 -- Each job out was handed over by the turn that read its request, or a later one, on the documents of all inputs before that turn.
-use Rattle.std.proofs.Common.{◌≡◌, ℕ, ◌+◌, ◌<◌, ◌≤◌, List, [], ◌∷◌, ◌++◌, Bool, true, false, refl, sym, ap, ◌∙◌, subst, arith, append_assoc, inl, inr}
+use Rattle.std.proofs.Common.{◌≡◌, ℕ, ◌<◌, ◌≤◌, List, [], ◌∷◌, ◌++◌, Bool, true, false, refl, sym, ap, ◌∙◌, subst, arith, append_assoc, inl, inr}
 use Rattle.std.specs.Prelude.{Option, None, Some, Contains, ◌⊎◌, codes, if◌then◌else◌}
 use Rattle.std.specs.List.{All}
 use Rattle.std.specs.FinMap as map
 use Rattle.std.proofs.lemmas.List.Elements.{All-cons, All-contains, Contains-append_left, Contains-append_right, Contains-push}
-use Rattle.serde_json.specs.Data.{Data}
 use Rattle.lsp_frame.specs.Pending.{is_pending, id_of}
-use Rattle.lsp_frame.specs.declared.message.Request.{Request}
 use Rattle.lsp_frame.specs.declared.message.RequestId.{RequestId}
 use Rattle.lsp_frame.specs.declared.message.Message.TheVariants.{Request as RequestMessage, Notification as NotificationMessage, Response as ResponseMessage}
 use Rattle.ra_config.specs.Config.{ConfigData}
-use Rattle.analysis_host.specs.declared.ask.RowId.{RowId}
 use Rattle.session_port.specs.Jobs.{Jobs, ticket_of, final_of, plain_result, fitting_job, after_message, after_batch}
 use Rattle.session_port.specs.Record.{spawned, with_jobs}
 use Rattle.session_port.specs.declared.event.TaskMsg.{TaskMsg}
@@ -21,7 +18,7 @@ use Rattle.session_model.specs.Headline.{Place, Reaction, reaction_of, row, says
 use Rattle.session_model.specs.Invariant.{SoundAt}
 use Rattle.session_model.specs.Meaning.{Meaning}
 use Rattle.session_model.specs.Replies.{already_pending, canceled_by_client, finished_reply}
-use Rattle.session_model.specs.Run.{Turn, after_input, out_after}
+use Rattle.session_model.specs.Run.{Turn, after_input}
 use Rattle.session_model.specs.Texts.{same_text}
 use Rattle.session_model.specs.declared.input.Event.TheVariants.{Lsp, Task}
 use Rattle.session_model.specs.declared.input.Input.{Input}

@@ -21,7 +21,7 @@ use Rattle.session_port.specs.declared.job.Job.{Job}
 use Rattle.session_port.specs.declared.job.JobKind.TheVariants.{Request as RequestJob}
 use Rattle.session_port.specs.declared.job.JobResult.{JobResult}
 use Rattle.session_model.specs.Cancelling.{cancel_of}
-use Rattle.session_model.specs.Headline.{Place, Reaction, reaction_of, row, silent, says, joined, hands_over, snapshot_at, new_row, notification_row, cancel_row, ticket_row, final_row, message_row, batch_row, place_past, beginning, IsHeld, AreAnswers, AnswersRequest, AnswersOnce, closed_by, closed_with, pending_after, place_after, number_after}
+use Rattle.session_model.specs.Headline.{Place, Reaction, reaction_of, row, silent, says, joined, hands_over, snapshot_at, new_row, cancel_row, ticket_row, final_row, message_row, batch_row, place_past, beginning, IsHeld, AreAnswers, AnswersOnce, closed_by, closed_with, pending_after, place_after, number_after}
 use Rattle.session_model.specs.Invariant.{Sound, SoundAt}
 use Rattle.session_model.specs.Meaning.{Meaning}
 use Rattle.session_model.specs.Methods.{class_of}

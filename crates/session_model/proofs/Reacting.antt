@@ -1,5 +1,5 @@
 -- What a row does for a request that waits: it answers it, or hands over one job for it.
-use Rattle.std.proofs.Common.{◌≡◌, ℕ, Bool, true, false, refl, sym, ap, ◌∙◌, inl, inr}
+use Rattle.std.proofs.Common.{◌≡◌, ℕ, Bool, true, false, refl, inl, inr}
 use Rattle.std.specs.Prelude.{◌⊎◌, Option, None, Some, ◌&&◌, not, ltb, codes, if◌then◌else◌}
 use Rattle.serde_json.specs.Data.{Data, null}
 use Rattle.plain.specs.Plain.{is_plain}

@@ -1,11 +1,11 @@
 -- The machine's turns are the rows of the reply table.
-use Rattle.std.proofs.Common.{◌≡◌, ℕ, ◌+◌, ◌-◌, ◌^◌, ◌≤◌, List, [], ◌∷◌, ◌++◌, length, Bool, true, false, refl, sym, ap, ◌∙◌, subst, arith, eqb-true, append-nil}
+use Rattle.std.proofs.Common.{◌≡◌, ℕ, ◌+◌, ◌-◌, ◌^◌, ◌≤◌, List, [], ◌∷◌, ◌++◌, length, Bool, true, false, refl, sym, ap, ◌∙◌, arith, eqb-true, append-nil}
 use Rattle.std.specs.Prelude.{Result, Ok, Err, IfOk, ℤ, Option, None, Some, ◌==◌, ◌&&◌, is_some, if◌then◌else◌, ltb, codes, nat_eq}
 use Rattle.std.specs.Cmp.Lexicographic.{bytes_decides}
 use Rattle.std.specs.List.{starts_with}
 use Rattle.std.specs.FinMap as map
 use Rattle.std.proofs.lemmas.Result.{IfOk-at_ok}
-use Rattle.serde_json.specs.Data.{Data, null}
+use Rattle.serde_json.specs.Data.{null}
 use Rattle.docs_vfs.specs.FileUrls.{path_of}
 use Rattle.docs_vfs.specs.declared.file_url.UrlFault.{UrlFault}
 use Rattle.lsp_frame.specs.Pending.{is_pending}
@@ -18,7 +18,6 @@ use Rattle.analysis_host.specs.HostData.{HostData}
 use Rattle.analysis_host.specs.declared.ask.RowId.{RowId}
 use Rattle.analysis_host.specs.declared.host.WorldFault.TheVariants.{Exhausted}
 use Rattle.session_port.specs.Record.{spawned, with_jobs}
-use Rattle.session_port.specs.declared.command.Command.{Command}
 use Rattle.session_port.specs.declared.command.Command.TheVariants.{Revise}
 use Rattle.session_port.specs.declared.command.LogCode.{LogCode}
 use Rattle.session_port.specs.declared.command.LogCode.TheVariants.{UnhandledNotification, DuplicateOpen, UnexpectedChange}
@@ -26,9 +25,9 @@ use Rattle.session_port.specs.declared.event.TaskMsg.{TaskMsg}
 use Rattle.session_port.specs.declared.job.Job.{Job}
 use Rattle.session_model.specs.Cancelling.{cancel_of, is_unit}
 use Rattle.session_model.specs.Changing.{changed_of, last_text}
-use Rattle.session_model.specs.Headline.{Documents, Place, Reaction, silent, says, reaction_of, row, class_row, new_row, notification_row, batch_row, place_after, number_after, documents_after, pending_after, revision_after, shutdown_after, closed_by, with_text}
+use Rattle.session_model.specs.Headline.{Documents, Reaction, silent, says, reaction_of, row, class_row, new_row, notification_row, batch_row, place_after, number_after, documents_after, pending_after, revision_after, shutdown_after, closed_by, with_text}
 use Rattle.session_model.specs.Invariant.{StepFits, place_of}
-use Rattle.session_model.specs.Machine.{Working, and_then, next_number, counted, classed, asked, noted, shut_down, admitted, requested, opened, opened_at, open_noted, changed, changed_at, cancelled, version_set, text_set, text_by, holds_text, world_changed, world_by, notified, received, unknown, answered, replied, logged, ordered, batched, happened, taken_in, kept, revised, step}
+use Rattle.session_model.specs.Machine.{Working, and_then, next_number, counted, asked, noted, shut_down, admitted, requested, opened, opened_at, open_noted, changed, changed_at, cancelled, version_set, text_set, text_by, holds_text, world_changed, world_by, notified, received, answered, replied, logged, ordered, batched, happened, taken_in, kept, revised, step}
 use Rattle.session_model.specs.Meaning.{Meaning}
 use Rattle.session_model.specs.Methods.{row_of}
 use Rattle.session_model.specs.Opening.{opened_of}

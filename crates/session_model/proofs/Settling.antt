@@ -1,7 +1,7 @@
 -- A part of the machine that answers and hands over is its row of the reply table.
 use Rattle.std.proofs.Common.{◌≡◌, ℕ, ◌+◌, List, [], ◌∷◌, ◌++◌, length, Bool, true, false, refl, sym, ap, ◌∙◌, subst, arith, append-nil, append_assoc}
 use Rattle.std.proofs.lemmas.List.{length-append}
-use Rattle.std.specs.Prelude.{Result, Ok, Err, IfOk, Option, None, Some, ◌&&◌, not, ltb, if◌then◌else◌}
+use Rattle.std.specs.Prelude.{Ok, IfOk, Option, None, Some, ◌&&◌, not, ltb, if◌then◌else◌}
 use Rattle.std.specs.FinMap as map
 use Rattle.serde_json.specs.Data.{Data}
 use Rattle.plain.specs.Plain.{is_plain}
@@ -16,8 +16,6 @@ use Rattle.analysis_host.specs.declared.ask.Ask.TheVariants.{Request as RequestA
 use Rattle.analysis_host.specs.declared.ask.RowId.{RowId}
 use Rattle.session_port.specs.Jobs.{Jobs, ticket_of, final_of, fitting_job, after_message, after_batch}
 use Rattle.session_port.specs.Record.{spawned}
-use Rattle.session_port.specs.declared.command.Command.{Command}
-use Rattle.session_port.specs.declared.command.Command.TheVariants.{Spawn, Log}
 use Rattle.session_port.specs.declared.command.LogCode.{LogCode}
 use Rattle.session_port.specs.declared.command.LogCode.TheVariants.{UnknownRequest}
 use Rattle.session_port.specs.declared.event.TaskMsg.{TaskMsg}
@@ -27,11 +25,11 @@ use Rattle.session_port.specs.declared.job.JobKind.TheVariants.{Request as Reque
 use Rattle.session_port.specs.declared.job.JobResult.{JobResult}
 use Rattle.session_port.specs.declared.job.JobResult.TheVariants.{Value, Fault, Cancelled, NoMemory}
 use Rattle.session_port.specs.declared.job.JobValue.TheVariants.{Json}
-use Rattle.session_model.specs.Headline.{Place, Reaction, revision_after, closed_with, closed_by, silent, says, joined, hands_over, granted_row, class_row, stopped_row, result_row, ticket_row, final_row, message_row, place_past, batch_row, snapshot_at}
-use Rattle.session_model.specs.Machine.{Working, and_then, logged, ordered, replied, answered, dispatched, granted, classed, unknown, retried, stopped, settled, delivered, ended, taken, batched}
+use Rattle.session_model.specs.Headline.{Place, Reaction, revision_after, closed_with, closed_by, silent, says, joined, hands_over, granted_row, class_row, stopped_row, result_row, ticket_row, final_row, message_row, place_past, batch_row}
+use Rattle.session_model.specs.Machine.{Working, logged, ordered, replied, answered, dispatched, granted, classed, unknown, retried, stopped, settled, delivered, ended, taken, batched}
 use Rattle.session_model.specs.Meaning.{Meaning}
 use Rattle.session_model.specs.Methods.{is_on_loop, retries}
-use Rattle.session_model.specs.Replies.{invalid_params, unknown_request, shut_already, content_modified, finding_reply, finished_reply, value_reply}
+use Rattle.session_model.specs.Replies.{invalid_params, unknown_request, shut_already, content_modified, finding_reply, finished_reply}
 use Rattle.session_model.specs.State.{State, snapshot_of}
 use Rattle.session_model.proofs.Appends.{closed_by-append, spawned-append, revision-append}
 use Rattle.session_model.proofs.Fitting.{after_message-none, after_message-some}

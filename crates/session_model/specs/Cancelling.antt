@@ -1,5 +1,5 @@
 -- What a `$/cancelRequest` says (LSP 3.17, CancelParams), and which params say nothing.
-use Rattle.std.specs.Prelude.{Bool, true, false, codes, if◌then◌else◌, Option, Some, None, option_and_then}
+use Rattle.std.specs.Prelude.{Bool, true, false, codes, if◌then◌else◌, Option, None, option_and_then}
 use Rattle.plain.specs.Plain.{is_plain}
 use Rattle.serde_json.specs.Data.{Data, null, boolean, number, string, array, object, Items, no_items, item, Members, no_members, member}
 use Rattle.serde_json.specs.Find.{get_member, as_object}

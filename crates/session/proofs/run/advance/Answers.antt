@@ -1,4 +1,4 @@
-use Rattle.std.proofs.Common.{rules, arith, refl, [], ◌∷◌, ◌≡◌, length, sym, ◌∙◌}
+use Rattle.std.proofs.Common.{arith, refl, [], ◌≡◌, sym}
 use Rattle.std.proofs.lemmas.Grind.{common_steps}
 use Rattle.std.proofs.lemmas.Result.{err_from_is_err_and}
 use Rattle.session_model.specs.Meaning.{meaning_of}

@@ -1,4 +1,4 @@
-use Rattle.std.proofs.Common.{rules, arith, refl, sym, subst, ◌≤◌, ◌<◌, ◌-◌, ◌^◌}
+use Rattle.std.proofs.Common.{rules}
 use Rattle.std.proofs.lemmas.Result.{err_from_is_err_and}
 use Rattle.session_model.proofs.Stretches.{stretch-on}
 use Rattle.session.proofs.Advancing.{run-none, run-first, run-ends, stretch-start}

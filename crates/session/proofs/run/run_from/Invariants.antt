@@ -1,4 +1,4 @@
-use Rattle.std.proofs.Common.{◌-◌, ◌^◌, ◌≤◌, ◌≡◌}
+use Rattle.std.proofs.Common.{◌≤◌, ◌≡◌}
 use Rattle.std.specs.FinMap as map
 use Rattle.session_model.specs.Course.{session_course}
 use Rattle.session_model.specs.Meaning.{meaning_of}

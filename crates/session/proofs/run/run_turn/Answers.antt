@@ -1,7 +1,6 @@
-use Rattle.std.proofs.Common.{rules, arith, refl, sym, ◌∙◌, ap, subst, ◌≡◌}
-use Rattle.std.specs.Prelude.{Ok}
+use Rattle.std.proofs.Common.{rules, arith, refl, sym, subst, ◌≡◌}
 use Rattle.std.proofs.lemmas.Grind.{common_steps}
-use Rattle.session_port.specs.Record.{AreRising, last_number, spawned}
+use Rattle.session_port.specs.Record.{AreRising, spawned}
 use Rattle.session_model.specs.Meaning.{Meaning, meaning_of}
 use Rattle.session_model.specs.Run.{Turn, Steps}
 use Rattle.session_model.proofs.Rising.{steps-hand}

@@ -1,4 +1,4 @@
-use Rattle.std.proofs.Common.{rules, arith, refl, [], ◌∷◌, ◌≡◌, ◌<◌, length, sym}
+use Rattle.std.proofs.Common.{rules, arith, refl, [], ◌∷◌, ◌≡◌, ◌<◌, length}
 use Rattle.std.proofs.lemmas.Grind.{common_steps}
 use Rattle.session_port.specs.declared.event.HostEvent.TheVariants.{Bytes, Tasks, Ended}
 use Rattle.session_model.specs.Meaning.{meaning_of}
@@ -7,7 +7,7 @@ use Rattle.session_model.specs.declared.input.Event.TheVariants.{Task}
 use Rattle.session_model.specs.declared.input.Input.TheVariants.{Next}
 use Rattle.session_model.proofs.Courses.{course-event, course-fed, course-empty}
 use Rattle.session.specs.Reading.{course_from}
-use Rattle.session.proofs.Endings.{ends-next, ends-feed}
+use Rattle.session.proofs.Endings.{ends-next}
 use Rattle.session.proofs.Advancing.{advances-turn, advances-fed}
 use Rattle.session.proofs.run.take_event.Goals as goal
 
