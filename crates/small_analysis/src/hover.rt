@@ -93,8 +93,10 @@ fn at_url(
 {
     match path_of_url(alloc, uri) {
         Ok(path) => in_file(alloc, snapshot, &path, position),
-        Err(UrlFault::NotFile) => Ok(refusal(Text::from_str(alloc, "url is not a file")?)),
         Err(UrlFault::NoMemory) => Err(AllocError),
+        Err(UrlFault::NotFile | UrlFault::HasHost | UrlFault::NotText) => {
+            Ok(refusal(Text::from_str(alloc, "url is not a file")?))
+        }
     }
 }
 
