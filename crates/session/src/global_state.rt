@@ -340,8 +340,10 @@ impl GlobalState {
         };
         match path_of_url(self.alloc, document.uri.as_str()) {
             Ok(path) => self.open_at(path, document, out),
-            Err(UrlFault::NotFile) => self.log(LogCode::BadPath, document.uri, out),
             Err(UrlFault::NoMemory) => Err(TurnError::NoMemory),
+            Err(UrlFault::NotFile | UrlFault::HasHost | UrlFault::NotText) => {
+                self.log(LogCode::BadPath, document.uri, out)
+            }
         }
     }
 
