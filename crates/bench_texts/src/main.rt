@@ -6,9 +6,8 @@ ghost use Rattle.std.specs.Prelude.{◌<◌, ◌≤◌, length};
 
 use plain::{Items, Text};
 use std::alloc::{AllocError, Global};
-use std::env;
-use std::io;
 use std::time::Instant;
+use std::{env, io};
 use text_core::{
     ContentChange, LineEndings, Position, PositionEncoding, Range, WideEncoding,
     apply_document_changes,
@@ -83,12 +82,7 @@ fn report(rt: &HostRuntime, name: &str, start: Instant, text: &str) -> io::Resul
     println!(rt; "{name}: {len} bytes, {sum}")
 }
 
-fn edit(
-    rt: &HostRuntime,
-    name: &str,
-    text: &str,
-    changes: Items<ContentChange>,
-) -> io::Result<()> {
+fn edit(rt: &HostRuntime, name: &str, text: &str, changes: Items<ContentChange>) -> io::Result<()> {
     if text.len() > u32::MAX as usize {
         return Ok(());
     }
@@ -125,5 +119,9 @@ fn main(rt: HostRuntime) -> io::Result<()> {
     let changes = scattered(alloc, edits, edits * 2)?;
     edit(&rt, "scattered edits", text.as_str(), changes)?;
     normalize(&rt, "lines that end with LF", lines(alloc, rows, "\n")?)?;
-    normalize(&rt, "lines that end with CR LF", lines(alloc, rows, "\r\n")?)
+    normalize(
+        &rt,
+        "lines that end with CR LF",
+        lines(alloc, rows, "\r\n")?,
+    )
 }
