@@ -1,5 +1,5 @@
 -- The board of diagnostics: lists by file for each pass of the analysis, and the files whose lists changed.
-use Rattle.std.specs.Prelude.{ℕ, ◌+◌, Bool, true, false, ◌&&◌, not, List, [], ◌∷◌, Option, None, Some, cond, nat_lt, nat_le}
+use Rattle.std.specs.Prelude.{ℕ, Bool, true, false, ◌&&◌, not, List, [], ◌∷◌, ◌++◌, Option, None, Some, cond, nat_lt, nat_le}
 use Rattle.std.specs.Ordering.{nat_cmp}
 use Rattle.std.specs.Cmp.Lexicographic.{pointwise}
 use Rattle.std.specs.FinMap as map
@@ -9,6 +9,7 @@ use Rattle.op_board.specs.declared.diagnostic.Pass.{Pass}
 use Rattle.op_board.specs.declared.diagnostic.Pass.TheVariants.{Syntax, Semantic}
 use Rattle.op_board.specs.declared.pass_list.PassList.{PassList}
 use Rattle.op_board.specs.Diagnostics.{same_diagnostic, in_order}
+use Rattle.op_board.specs.Checks.{Checks, checks_of, mark_checks}
 use Rattle.op_board.specs.Marked.{Marked, mark_if}
 
 abbrev pub Lists : Type 0
@@ -21,10 +22,11 @@ pub record Board : Type 0 where
   pub semantic : Lists
   -- the generation that was the last when a file was cleared
   pub cleared : map.FinMap nat_cmp ℕ
+  pub checks : Checks
   pub marked : Marked
 
 abbrev pub new_board : Board
-new_board = record { generation = 0; syntax = map.empty; semantic = map.empty; cleared = map.empty; marked = map.empty }
+new_board = record { generation = 0; syntax = map.empty; semantic = map.empty; cleared = map.empty; checks = map.empty; marked = map.empty }
 
 abbrev pub list_of : Option PassList → List Diagnostic
 list_of None = []
@@ -91,3 +93,14 @@ clear_pass pass file b = with_lists pass (clear_list file (lists_of pass b, b.ma
 abbrev pub clear_native : FileId → Board → Board
 clear_native file b =
     let c = clear_pass Semantic file (clear_pass Syntax file b) in record c { cleared = map.insert c.cleared file.0 c.generation }
+
+-- after a call changed the lists of checks
+abbrev pub with_checks : Checks × Marked → Board → Board
+with_checks (checks, marked) b = record b { checks = checks; marked = marked }
+
+abbrev pub clear_all_checks : Board → Board
+clear_all_checks b = record b { checks = map.empty; marked = mark_checks (map.entries b.checks) b.marked }
+
+abbrev pub diagnostics_of : FileId → Board → List Diagnostic
+diagnostics_of file b =
+    list_of (map.get b.syntax file.0) ++ list_of (map.get b.semantic file.0) ++ checks_of file b.checks

@@ -1,5 +1,5 @@
 -- A queue of one operation: the request that waits, whether one runs, and the result of the last that ended.
-use Rattle.std.specs.Prelude.{ℕ, Bool, true, false, List, Option, None, Some, ◌||◌, is_some, cond}
+use Rattle.std.specs.Prelude.{ℕ, Bool, false, List, Option, None, is_some, cond}
 
 pub record Queue (Args Output : Type 0) : Type 0 where
   pub waiting : Option (List ℕ × Args)

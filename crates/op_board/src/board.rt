@@ -1,13 +1,18 @@
-ghost use Rattle.std.specs.Prelude.{◌≡◌, ◌+◌, ◌<◌, OnOk};
+ghost use Rattle.std.specs.Prelude.{◌≡◌, ◌+◌, ◌<◌, ◌++◌, None, Some, OnOk, IfOk};
 ghost use Rattle.std.specs.FinMap as map;
-ghost use Rattle.op_board.specs.Board.{new_board, set_native, clear_pass, clear_native};
+ghost use Rattle.op_board.specs.Board.{new_board, set_native, clear_pass, clear_native, with_checks, clear_all_checks, list_of, diagnostics_of};
+ghost use Rattle.op_board.specs.Checks.{add_check, clear_id, clear_one, clear_older, drops_at, all_fixes};
 ghost use Rattle.op_board.specs.Marked.{taken};
 
-use crate::diagnostic::{Diagnostic, Pass};
+use crate::by_id::ById;
+use crate::check_package::{CheckEntry, push_all};
+use crate::checks::{Checks, add_check, all_fixes, push_checks};
+use crate::clearing::{clear_checks, clear_id, clear_older, clear_one};
+use crate::diagnostic::{CheckFix, Diagnostic, Pass};
 use crate::marks::Marks;
 use crate::pass_list::{PassList, clear_list, set_lists};
 use docs_vfs::FileId;
-use plain::{ByNumber, Items};
+use plain::{ByNumber, Items, Text};
 use std::alloc::{AllocError, Global};
 use std::marker::Model;
 
@@ -20,6 +25,7 @@ pub struct DiagnosticCollection {
     syntax: ByNumber<PassList>,
     semantic: ByNumber<PassList>,
     cleared: ByNumber<u64>,
+    checks: Checks,
     marks: Marks,
 }
 
@@ -27,12 +33,27 @@ impl Model for DiagnosticCollection {
     ghost use Rattle.std.specs.Coded.{codes};
     ghost use Rattle.std.specs.FinMap as map;
     ghost use Rattle.op_board.specs.Board.{Board};
+    ghost use Rattle.plain.specs.contracts.json.Json as json;
 
     ghost Value = { Board };
 
-    ghost coded = { Prim.hlevel (codes, map.code) };
+    ghost coded = { Prim.hlevel (codes, map.code, json.the_row.coded) };
 
-    ghost view = { λ b. record { generation = b.generation; syntax = b.syntax; semantic = b.semantic; cleared = b.cleared; marked = b.marks } };
+    ghost view = { λ b. record { generation = b.generation; syntax = b.syntax; semantic = b.semantic; cleared = b.cleared; checks = b.checks; marked = b.marks } };
+}
+
+/// Adds what a pass says of a file to a list.
+fn push_native(
+    into: &mut Items<Diagnostic>,
+    lists: &ByNumber<PassList>,
+    file: FileId,
+) -> Result<(), AllocError>
+    ensures { OnOk result (into.new ≡ into.old ++ list_of (map.get lists.now file.0)) }
+{
+    match lists.get(u64::from(file.0)) {
+        None => Ok(()),
+        Some(stored) => push_all(into, &stored.list),
+    }
 }
 
 impl DiagnosticCollection {
@@ -46,6 +67,7 @@ impl DiagnosticCollection {
             syntax: ByNumber::new(alloc),
             semantic: ByNumber::new(alloc),
             cleared: ByNumber::new(alloc),
+            checks: ById::new(alloc),
             marks: Marks::new(alloc),
         }
     }
@@ -104,6 +126,110 @@ impl DiagnosticCollection {
         self.clear_pass(Pass::Semantic, file)?;
         self.cleared.insert(u64::from(file.0), self.generation)?;
         Ok(())
+    }
+
+    /// Adds a diagnostic of a check, and its fix, and marks its file. A diagnostic of an older generation than its
+    /// package has is dropped, and a newer one empties the package first. One that the package has already is dropped.
+    pub fn add_check_diagnostic(
+        &mut self,
+        id: u64,
+        generation: u64,
+        name: Option<Text>,
+        file: FileId,
+        diagnostic: Diagnostic,
+        fix: Option<CheckFix>,
+    ) -> Result<(), AllocError>
+        ensures { OnOk result (self.new ≡ with_checks (add_check id generation name
+            (record { file = file; diagnostic = diagnostic; fix = fix }) (self.old.checks, self.old.marked)) self.old) }
+    {
+        let entry = CheckEntry {
+            file,
+            diagnostic,
+            fix,
+        };
+        add_check(
+            self.alloc,
+            &mut self.checks,
+            &mut self.marks,
+            id,
+            generation,
+            name,
+            entry,
+        )
+    }
+
+    /// Forgets a check, and marks the files that lose an entry.
+    pub fn clear_check(&mut self, id: u64) -> Result<(), AllocError>
+        ensures { OnOk result (self.new ≡ with_checks (clear_id id (self.old.checks, self.old.marked)) self.old) }
+    {
+        clear_id(&mut self.checks, &mut self.marks, id)
+    }
+
+    /// Forgets a package of a check, and marks the files that lose an entry.
+    pub fn clear_check_for_package(&mut self, id: u64, name: Option<Text>) -> Result<(), AllocError>
+        ensures { OnOk result (self.new
+            ≡ with_checks (clear_one (drops_at None) id name (self.old.checks, self.old.marked)) self.old) }
+    {
+        clear_one(&mut self.checks, &mut self.marks, id, name, None)
+    }
+
+    /// Forgets the packages of a check whose generations are older than this, and marks the files that lose an entry.
+    pub fn clear_check_older_than(&mut self, id: u64, generation: u64) -> Result<(), AllocError>
+        ensures { OnOk result (self.new
+            ≡ with_checks (clear_older id generation (self.old.checks, self.old.marked)) self.old) }
+    {
+        clear_older(
+            self.alloc,
+            &mut self.checks,
+            &mut self.marks,
+            id,
+            generation,
+        )
+    }
+
+    /// Forgets a package of a check if its generation is older than this, and marks the files that lose an entry.
+    pub fn clear_check_older_than_for_package(
+        &mut self,
+        id: u64,
+        name: Option<Text>,
+        generation: u64,
+    ) -> Result<(), AllocError>
+        ensures { OnOk result (self.new
+            ≡ with_checks (clear_one (drops_at (Some generation)) id name (self.old.checks, self.old.marked)) self.old) }
+    {
+        clear_one(
+            &mut self.checks,
+            &mut self.marks,
+            id,
+            name,
+            Some(generation),
+        )
+    }
+
+    /// Forgets all checks, and marks the files that lose an entry.
+    pub fn clear_check_all(&mut self) -> Result<(), AllocError>
+        ensures { OnOk result (self.new ≡ clear_all_checks self.old) }
+    {
+        clear_checks(&mut self.checks, &mut self.marks)
+    }
+
+    /// What is said of a file: by the passes, syntax first, and then by the checks in the order of their numbers and
+    /// packages.
+    pub fn diagnostics_for(&self, file: FileId) -> Result<Items<Diagnostic>, AllocError>
+        ensures { IfOk result (λ list. list ≡ diagnostics_of file self.now) }
+    {
+        let mut list = Items::new(self.alloc);
+        push_native(&mut list, &self.syntax, file)?;
+        push_native(&mut list, &self.semantic, file)?;
+        push_checks(&mut list, &self.checks, file)?;
+        Ok(list)
+    }
+
+    /// The fixes of all checks, in the order of their numbers and packages, and then as they came.
+    pub fn check_fixes(&self) -> Result<Items<CheckFix>, AllocError>
+        ensures { IfOk result (λ fixes. fixes ≡ all_fixes self.now.checks) }
+    {
+        all_fixes(self.alloc, &self.checks)
     }
 
     /// The files whose lists changed since the last take, in order, or none where there are none.

@@ -2,6 +2,11 @@
 #![tactic(auto)]
 
 mod board;
+mod by_id;
+mod by_package;
+mod check_package;
+mod checks;
+mod clearing;
 mod diagnostic;
 mod marks;
 mod op_queue;

@@ -66,7 +66,7 @@ impl Marks {
         }
     }
 
-    fn mark(&mut self, file: FileId) -> Result<(), AllocError>
+    pub fn mark(&mut self, file: FileId) -> Result<(), AllocError>
         ensures { OnOk result (self.new ≡ mark file self.old) }
     {
         let key = u64::from(file.0);
