@@ -1,0 +1,3 @@
+pub mod Rooms
+pub mod Stable
+pub mod Taken

@@ -1,0 +1,242 @@
+ghost use Rattle.std.specs.Prelude.{◌≡◌, ◌+◌, ◌<◌, ◌++◌, None, Some, OnOk, IfOk};
+ghost use Rattle.std.specs.FinMap as map;
+ghost use Rattle.op_board.specs.Board.{new_board, set_native, clear_pass, clear_native, with_checks, clear_all_checks, list_of, diagnostics_of};
+ghost use Rattle.op_board.specs.Checks.{add_check, clear_id, clear_one, clear_older, drops_at, all_fixes};
+ghost use Rattle.op_board.specs.Marked.{taken};
+
+use crate::by_id::ById;
+use crate::check_package::{CheckEntry, push_all};
+use crate::checks::{Checks, add_check, all_fixes, push_checks};
+use crate::clearing::{clear_checks, clear_id, clear_older, clear_one};
+use crate::diagnostic::{CheckFix, Diagnostic, Pass};
+use crate::marks::Marks;
+use crate::pass_list::{PassList, clear_list, set_lists};
+use docs_vfs::FileId;
+use plain::{ByNumber, Items, Text};
+use std::alloc::{AllocError, Global};
+use std::marker::Model;
+
+/// The diagnostics of all files, and the files whose lists changed. After a call that had no memory it is only to
+/// be dropped.
+#[derive(Drop)]
+pub struct DiagnosticCollection {
+    alloc: Global,
+    generation: u64,
+    syntax: ByNumber<PassList>,
+    semantic: ByNumber<PassList>,
+    cleared: ByNumber<u64>,
+    checks: Checks,
+    marks: Marks,
+}
+
+impl Model for DiagnosticCollection {
+    ghost use Rattle.std.specs.Coded.{codes};
+    ghost use Rattle.std.specs.FinMap as map;
+    ghost use Rattle.op_board.specs.Board.{Board};
+    ghost use Rattle.plain.specs.contracts.json.Json as json;
+
+    ghost Value = { Board };
+
+    ghost coded = { Prim.hlevel (codes, map.code, json.the_row.coded) };
+
+    ghost view = { λ b. record { generation = b.generation; syntax = b.syntax; semantic = b.semantic; cleared = b.cleared; checks = b.checks; marked = b.marks } };
+}
+
+/// Adds what a pass says of a file to a list.
+fn push_native(
+    into: &mut Items<Diagnostic>,
+    lists: &ByNumber<PassList>,
+    file: FileId,
+) -> Result<(), AllocError>
+    ensures { OnOk result (into.new ≡ into.old ++ list_of (map.get lists.now file.0)) }
+{
+    match lists.get(u64::from(file.0)) {
+        None => Ok(()),
+        Some(stored) => push_all(into, &stored.list),
+    }
+}
+
+impl DiagnosticCollection {
+    /// A board without lists and marks.
+    pub fn new(alloc: Global) -> DiagnosticCollection
+        ensures { result ≡ new_board }
+    {
+        DiagnosticCollection {
+            alloc,
+            generation: 0,
+            syntax: ByNumber::new(alloc),
+            semantic: ByNumber::new(alloc),
+            cleared: ByNumber::new(alloc),
+            checks: ById::new(alloc),
+            marks: Marks::new(alloc),
+        }
+    }
+
+    /// The next generation: 1, 2 and so on.
+    pub fn next_generation(&mut self) -> u64
+        requires { self.old.generation < u64.MAX }
+        ensures value { result ≡ self.old.generation + 1 }
+        ensures after { self.new ≡ record self.old { generation = self.old.generation + 1 } }
+    {
+        self.generation += 1;
+        self.generation
+    }
+
+    /// Stores the lists that are accepted, each sorted by start and end, and marks the files whose lists change.
+    pub fn set_native_diagnostics(
+        &mut self,
+        pass: Pass,
+        generation: u64,
+        lists: Items<(FileId, Items<Diagnostic>)>,
+    ) -> Result<(), AllocError>
+        ensures { OnOk result (self.new ≡ set_native pass generation lists self.old) }
+    {
+        match pass {
+            Pass::Syntax => set_lists(
+                &mut self.syntax,
+                &mut self.marks,
+                &self.cleared,
+                generation,
+                lists,
+            ),
+            Pass::Semantic => set_lists(
+                &mut self.semantic,
+                &mut self.marks,
+                &self.cleared,
+                generation,
+                lists,
+            ),
+        }
+    }
+
+    fn clear_pass(&mut self, pass: Pass, file: FileId) -> Result<(), AllocError>
+        ensures { OnOk result (self.new ≡ clear_pass pass file self.old) }
+    {
+        match pass {
+            Pass::Syntax => clear_list(self.alloc, &mut self.syntax, &mut self.marks, file),
+            Pass::Semantic => clear_list(self.alloc, &mut self.semantic, &mut self.marks, file),
+        }
+    }
+
+    /// Empties both lists of a file. From now on it takes only lists of generations that are still to be given.
+    pub fn clear_native_for(&mut self, file: FileId) -> Result<(), AllocError>
+        ensures { OnOk result (self.new ≡ clear_native file self.old) }
+    {
+        self.clear_pass(Pass::Syntax, file)?;
+        self.clear_pass(Pass::Semantic, file)?;
+        self.cleared.insert(u64::from(file.0), self.generation)?;
+        Ok(())
+    }
+
+    /// Adds a diagnostic of a check, and its fix, and marks its file. A diagnostic of an older generation than its
+    /// package has is dropped, and a newer one empties the package first. One that the package has already is dropped.
+    pub fn add_check_diagnostic(
+        &mut self,
+        id: u64,
+        generation: u64,
+        name: Option<Text>,
+        file: FileId,
+        diagnostic: Diagnostic,
+        fix: Option<CheckFix>,
+    ) -> Result<(), AllocError>
+        ensures { OnOk result (self.new ≡ with_checks (add_check id generation name
+            (record { file = file; diagnostic = diagnostic; fix = fix }) (self.old.checks, self.old.marked)) self.old) }
+    {
+        let entry = CheckEntry {
+            file,
+            diagnostic,
+            fix,
+        };
+        add_check(
+            self.alloc,
+            &mut self.checks,
+            &mut self.marks,
+            id,
+            generation,
+            name,
+            entry,
+        )
+    }
+
+    /// Forgets a check, and marks the files that lose an entry.
+    pub fn clear_check(&mut self, id: u64) -> Result<(), AllocError>
+        ensures { OnOk result (self.new ≡ with_checks (clear_id id (self.old.checks, self.old.marked)) self.old) }
+    {
+        clear_id(&mut self.checks, &mut self.marks, id)
+    }
+
+    /// Forgets a package of a check, and marks the files that lose an entry.
+    pub fn clear_check_for_package(&mut self, id: u64, name: Option<Text>) -> Result<(), AllocError>
+        ensures { OnOk result (self.new
+            ≡ with_checks (clear_one (drops_at None) id name (self.old.checks, self.old.marked)) self.old) }
+    {
+        clear_one(&mut self.checks, &mut self.marks, id, name, None)
+    }
+
+    /// Forgets the packages of a check whose generations are older than this, and marks the files that lose an entry.
+    pub fn clear_check_older_than(&mut self, id: u64, generation: u64) -> Result<(), AllocError>
+        ensures { OnOk result (self.new
+            ≡ with_checks (clear_older id generation (self.old.checks, self.old.marked)) self.old) }
+    {
+        clear_older(
+            self.alloc,
+            &mut self.checks,
+            &mut self.marks,
+            id,
+            generation,
+        )
+    }
+
+    /// Forgets a package of a check if its generation is older than this, and marks the files that lose an entry.
+    pub fn clear_check_older_than_for_package(
+        &mut self,
+        id: u64,
+        name: Option<Text>,
+        generation: u64,
+    ) -> Result<(), AllocError>
+        ensures { OnOk result (self.new
+            ≡ with_checks (clear_one (drops_at (Some generation)) id name (self.old.checks, self.old.marked)) self.old) }
+    {
+        clear_one(
+            &mut self.checks,
+            &mut self.marks,
+            id,
+            name,
+            Some(generation),
+        )
+    }
+
+    /// Forgets all checks, and marks the files that lose an entry.
+    pub fn clear_check_all(&mut self) -> Result<(), AllocError>
+        ensures { OnOk result (self.new ≡ clear_all_checks self.old) }
+    {
+        clear_checks(&mut self.checks, &mut self.marks)
+    }
+
+    /// What is said of a file: by the passes, syntax first, and then by the checks in the order of their numbers and
+    /// packages.
+    pub fn diagnostics_for(&self, file: FileId) -> Result<Items<Diagnostic>, AllocError>
+        ensures { IfOk result (λ list. list ≡ diagnostics_of file self.now) }
+    {
+        let mut list = Items::new(self.alloc);
+        push_native(&mut list, &self.syntax, file)?;
+        push_native(&mut list, &self.semantic, file)?;
+        push_checks(&mut list, &self.checks, file)?;
+        Ok(list)
+    }
+
+    /// The fixes of all checks, in the order of their numbers and packages, and then as they came.
+    pub fn check_fixes(&self) -> Result<Items<CheckFix>, AllocError>
+        ensures { IfOk result (λ fixes. fixes ≡ all_fixes self.now.checks) }
+    {
+        all_fixes(self.alloc, &self.checks)
+    }
+
+    /// The files whose lists changed since the last take, in order, or none where there are none.
+    pub fn take_changes(&mut self) -> Option<Items<FileId>>
+        ensures value { result ≡ taken self.old.marked }
+        ensures after { self.new ≡ record self.old { marked = map.empty } }
+    {
+        self.marks.take()
+    }
+}

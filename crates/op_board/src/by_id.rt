@@ -1,0 +1,70 @@
+ghost use Rattle.std.specs.Prelude.{◌≡◌, ◌∷◌, [], OnOk, MatchOption};
+ghost use Rattle.std.specs.Map.Iter.{ShowsInOrder, deref};
+ghost use Rattle.std.specs.Option.{option_copied};
+ghost use Rattle.std.specs.FinMap as map;
+
+use std::alloc::{AllocError, Global};
+use std::collections::BTreeMap;
+use std::collections::btree_map::Values;
+use std::marker::Model;
+
+/// Values by the number of a check, which contracts see as a finite map.
+#[derive(Drop)]
+pub struct ById<V> {
+    rows: BTreeMap<u64, V>,
+}
+
+impl<V> Model for ById<V> {
+    ghost use Rattle.std.specs.FinMap as map;
+    ghost use Rattle.std.specs.Coded.{coded_ℕ};
+    ghost use Rattle.std.specs.Ordering.{nat_cmp};
+
+    ghost Value = { map.FinMap nat_cmp V };
+
+    ghost coded = { map.code coded_ℕ V.code };
+
+    ghost view = { λ a. map.from_entries a.rows.entries };
+}
+
+impl<V> ById<V> {
+    pub fn new(alloc: Global) -> ById<V>
+        ensures { result ≡ map.empty }
+    {
+        ById {
+            rows: BTreeMap::new(alloc),
+        }
+    }
+
+    /// The values in the order of the numbers.
+    pub fn values(&self) -> Values<'_, u64, V>
+        ensures rest { result ≡ map.values self.now }
+        ensures runs { ShowsInOrder (deref {X = V}) }
+    {
+        self.rows.values()
+    }
+
+    pub fn insert(&mut self, id: u64, value: V) -> Result<(), AllocError>
+    where
+        V: Drop,
+        ensures { OnOk result (self.new ≡ map.insert self.old id value) }
+    {
+        self.rows.insert(id, value)?;
+        Ok(())
+    }
+
+    pub fn remove(&mut self, id: u64) -> Option<V>
+        ensures value { result ≡ map.get self.old id }
+        ensures map { self.new ≡ map.remove self.old id }
+    {
+        self.rows.remove(&id)
+    }
+
+    /// Takes the lowest number out, with its value.
+    pub fn pop_first(&mut self) -> Option<(u64, V)>
+        ensures { MatchOption result ((map.entries self.old ≡ []) × (map.entries self.new ≡ []))
+            (λ first. map.entries self.old ≡ first ∷ map.entries self.new) }
+    {
+        let _in_order = self.rows.iter();
+        self.rows.pop_first()
+    }
+}

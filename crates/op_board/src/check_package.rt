@@ -1,0 +1,211 @@
+ghost use Rattle.std.specs.Prelude.{◌≡◌, ◌++◌, ◌∷◌, [], OnOk, option_to_list};
+ghost use Rattle.std.specs.List.{list_any};
+ghost use Rattle.std.specs.Option.{option_copied};
+ghost use Rattle.std.specs.FinMap as map;
+ghost use Rattle.op_board.specs.Checks.{listed, list_in, fixes_of, mark_rows, mark_package, new_package, add_entry, renewed, add_to};
+ghost use Rattle.op_board.specs.Diagnostics.{same_diagnostic};
+
+use crate::diagnostic::{CheckFix, Diagnostic};
+use crate::marks::Marks;
+use docs_vfs::FileId;
+use plain::{ByNumber, Items};
+use std::alloc::{AllocError, Global};
+use std::mem;
+
+/// What a package of a check says of a file, in the order in which it came. There is something in the list.
+#[derive(Drop)]
+pub struct FileList {
+    pub file: FileId,
+    pub list: Items<Diagnostic>,
+}
+
+/// What a check says of a package: its newest generation, the lists by file, and the fixes in the order in which they
+/// came.
+#[derive(Drop)]
+pub struct CheckPackage {
+    pub generation: u64,
+    pub lists: ByNumber<FileList>,
+    pub fixes: Items<CheckFix>,
+}
+
+/// A diagnostic of a check, with what it offers to mend the file.
+#[derive(Drop)]
+pub struct CheckEntry {
+    pub file: FileId,
+    pub diagnostic: Diagnostic,
+    pub fix: Option<CheckFix>,
+}
+
+/// A package that says nothing.
+pub(crate) fn new_package(alloc: Global, generation: u64) -> CheckPackage
+    ensures { result ≡ new_package generation }
+{
+    CheckPackage {
+        generation,
+        lists: ByNumber::new(alloc),
+        fixes: Items::new(alloc),
+    }
+}
+
+/// Marks all files that have a list.
+fn mark_rows(mut lists: ByNumber<FileList>, marks: &mut Marks) -> Result<(), AllocError>
+    ensures { OnOk result (marks.new ≡ mark_rows (map.entries lists) marks.old) }
+{
+    'rows: loop {
+        match lists.pop_first() {
+            None => return Ok(()),
+            Some((_key, row)) => marks.mark(row.file)?,
+        }
+    }
+}
+
+/// Drops a package, and marks its files.
+pub(crate) fn mark_package(row: CheckPackage, marks: &mut Marks) -> Result<(), AllocError>
+    ensures { OnOk result (marks.new ≡ mark_package row marks.old) }
+{
+    mark_rows(row.lists, marks)
+}
+
+/// Whether a diagnostic stands in a list.
+fn contains(list: &Items<Diagnostic>, diagnostic: &Diagnostic) -> bool
+    ensures { result ≡ list_any (same_diagnostic diagnostic.now) list.now }
+{
+    for other in list.iter() {
+        if *diagnostic == *other {
+            return true;
+        }
+    }
+    false
+}
+
+fn is_known(row: Option<&FileList>, diagnostic: &Diagnostic) -> bool
+    ensures { result ≡ list_any (same_diagnostic diagnostic.now) (listed (option_copied row.entry)) }
+{
+    match row {
+        None => false,
+        Some(row) => contains(&row.list, diagnostic),
+    }
+}
+
+fn list_or_new(alloc: Global, row: Option<FileList>) -> Items<Diagnostic>
+    ensures { result ≡ listed row }
+{
+    match row {
+        None => Items::new(alloc),
+        Some(row) => row.list,
+    }
+}
+
+/// Adds a diagnostic at the end of its file's list.
+fn push_diagnostic(
+    alloc: Global,
+    lists: &mut ByNumber<FileList>,
+    file: FileId,
+    diagnostic: Diagnostic,
+) -> Result<(), AllocError>
+    ensures { OnOk result (lists.new ≡ map.insert lists.old file.0
+        (record { file = file; list = listed (map.get lists.old file.0) ++ diagnostic ∷ [] })) }
+{
+    let key = u64::from(file.0);
+    let mut list = list_or_new(alloc, lists.remove(key));
+    list.push(diagnostic)?;
+    lists.insert(key, FileList { file, list })?;
+    Ok(())
+}
+
+fn push_fix(fixes: &mut Items<CheckFix>, fix: Option<CheckFix>) -> Result<(), AllocError>
+    ensures { OnOk result (fixes.new ≡ fixes.old ++ option_to_list fix) }
+{
+    if let Some(fix) = fix {
+        fixes.push(fix)?;
+    }
+    Ok(())
+}
+
+/// Adds an entry whose diagnostic isn't there yet.
+fn add_entry(
+    alloc: Global,
+    row: &mut CheckPackage,
+    marks: &mut Marks,
+    entry: CheckEntry,
+) -> Result<(), AllocError>
+    ensures { OnOk result ((row.new, marks.new) ≡ add_entry entry (row.old, marks.old)) }
+{
+    let known = row.lists.get(u64::from(entry.file.0));
+    if is_known(known, &entry.diagnostic) {
+        return Ok(());
+    }
+    push_diagnostic(alloc, &mut row.lists, entry.file, entry.diagnostic)?;
+    push_fix(&mut row.fixes, entry.fix)?;
+    marks.mark(entry.file)
+}
+
+/// Empties a package of an older generation.
+fn renew(
+    alloc: Global,
+    row: &mut CheckPackage,
+    marks: &mut Marks,
+    generation: u64,
+) -> Result<(), AllocError>
+    ensures { OnOk result ((row.new, marks.new) ≡ renewed generation (row.old, marks.old)) }
+{
+    if row.generation < generation {
+        let old = mem::replace(row, new_package(alloc, generation));
+        mark_package(old, marks)?;
+    }
+    Ok(())
+}
+
+/// Adds an entry, unless the package has a newer generation.
+pub(crate) fn add_to(
+    alloc: Global,
+    row: &mut CheckPackage,
+    marks: &mut Marks,
+    generation: u64,
+    entry: CheckEntry,
+) -> Result<(), AllocError>
+    ensures { OnOk result ((row.new, marks.new) ≡ add_to generation entry (row.old, marks.old)) }
+{
+    if generation < row.generation {
+        return Ok(());
+    }
+    renew(alloc, row, marks, generation)?;
+    add_entry(alloc, row, marks, entry)
+}
+
+/// Adds what a package says of a file to a list.
+pub(crate) fn push_list(
+    into: &mut Items<Diagnostic>,
+    row: &CheckPackage,
+    file: FileId,
+) -> Result<(), AllocError>
+    ensures { OnOk result (into.new ≡ into.old ++ list_in file row.now) }
+{
+    match row.lists.get(u64::from(file.0)) {
+        None => Ok(()),
+        Some(found) => push_all(into, &found.list),
+    }
+}
+
+/// Adds copies of diagnostics to a list.
+pub(crate) fn push_all(
+    into: &mut Items<Diagnostic>,
+    list: &Items<Diagnostic>,
+) -> Result<(), AllocError>
+    ensures { OnOk result (into.new ≡ into.old ++ list.now) }
+{
+    for diagnostic in list.iter() {
+        into.push(diagnostic.clone()?)?;
+    }
+    Ok(())
+}
+
+/// Adds copies of the package's fixes to a list.
+pub(crate) fn push_fixes(into: &mut Items<CheckFix>, row: &CheckPackage) -> Result<(), AllocError>
+    ensures { OnOk result (into.new ≡ into.old ++ fixes_of row.now) }
+{
+    for fix in row.fixes.iter() {
+        into.push(fix.clone()?)?;
+    }
+    Ok(())
+}

@@ -1,0 +1,105 @@
+ghost use Rattle.std.specs.Prelude.{◌≡◌, ◌+◌, ◌<◌, ◌≤◌, ◌++◌, ◌∷◌, [], OnOk};
+ghost use Rattle.std.specs.Vec.{vec_len, vec_capacity};
+ghost use Rattle.std.specs.FinMap as map;
+ghost use Rattle.op_board.specs.Marked.{mark, mark_if, files_in, taken};
+
+use docs_vfs::FileId;
+use plain::{ByNumber, Items};
+use std::alloc::{AllocError, Global};
+use std::marker::Model;
+use std::mem;
+
+/// The files that are marked, and a list with room for them, so that a take needs no memory.
+#[derive(Drop)]
+pub struct Marks {
+    files: ByNumber<FileId>,
+    room: Vec<FileId>,
+}
+
+impl Model for Marks {
+    ghost use Rattle.std.specs.Prelude.{◌≤◌};
+    ghost use Rattle.std.specs.Coded.{codes};
+    ghost use Rattle.std.specs.FinMap as map;
+    ghost use Rattle.std.specs.Vec.{vec_len};
+    ghost use Rattle.op_board.specs.Marked.{Marked};
+
+    ghost Value = { Marked };
+
+    ghost coded = { Prim.hlevel (codes, map.code) };
+
+    ghost view = { λ m. m.files };
+
+    ghost invariant = { λ m. map.len m.files ≤ vec_len m.room };
+}
+
+/// Adds a file where there is room.
+fn push(list: &mut Vec<FileId>, file: FileId)
+    requires { vec_len list.old < vec_capacity list.old }
+    ensures items { list.new.items ≡ list.old.items ++ file ∷ [] }
+    ensures len { vec_len list.new ≡ vec_len list.old + 1 }
+    ensures capacity { vec_capacity list.old ≤ vec_capacity list.new }
+{
+    let _ = list.push(file);
+}
+
+/// Moves the files into the list, in order.
+fn drain(list: &mut Vec<FileId>, files: &mut ByNumber<FileId>)
+    requires { vec_len list.old + map.len files.old ≤ vec_capacity list.old }
+    ensures list { list.new.items ≡ list.old.items ++ files_in (map.entries files.old) }
+    ensures files { files.new ≡ map.empty }
+{
+    'files: loop {
+        match files.pop_first() {
+            None => return,
+            Some((_key, file)) => push(list, file),
+        }
+    }
+}
+
+impl Marks {
+    pub fn new(alloc: Global) -> Marks
+        ensures { result ≡ map.empty }
+    {
+        Marks {
+            files: ByNumber::new(alloc),
+            room: Vec::new(alloc),
+        }
+    }
+
+    pub fn mark(&mut self, file: FileId) -> Result<(), AllocError>
+        ensures { OnOk result (self.new ≡ mark file self.old) }
+    {
+        let key = u64::from(file.0);
+        if self.files.contains(key) {
+            self.files.insert(key, file)?;
+            return Ok(());
+        }
+        self.room.push(file)?;
+        self.files.insert(key, file)?;
+        Ok(())
+    }
+
+    pub fn mark_if(&mut self, is_new: bool, file: FileId) -> Result<(), AllocError>
+        ensures { OnOk result (self.new ≡ mark_if is_new file self.old) }
+    {
+        if is_new {
+            return self.mark(file);
+        }
+        Ok(())
+    }
+
+    /// Takes all marks away, and answers the files in order, if there are some.
+    pub fn take(&mut self) -> Option<Items<FileId>>
+        ensures value { result ≡ taken self.old }
+        ensures after { self.new ≡ map.empty }
+    {
+        if self.files.is_empty() {
+            return None;
+        }
+        let alloc = *self.room.allocator();
+        let mut list = mem::replace(&mut self.room, Vec::new(alloc));
+        list.clear();
+        drain(&mut list, &mut self.files);
+        Some(Items::from_vec(list))
+    }
+}
