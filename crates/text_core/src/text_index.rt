@@ -43,6 +43,22 @@ impl TextIndex {
         })
     }
 
+    /// The same of a text that is handed over, without a copy of it.
+    pub fn from_text(alloc: Global, text: Text) -> Result<TextIndex, AllocError>
+        requires { length text < 2 ^ 32 }
+        ensures { IfOk result (λ index. index ≡ text) }
+    {
+        let mut starts = Vec::new(alloc);
+        find_starts(&mut starts, text.as_str().as_bytes())?;
+        Ok(TextIndex { text, starts })
+    }
+
+    pub fn text(&self) -> &str
+        ensures { result.now ≡ self.now }
+    {
+        self.text.as_str()
+    }
+
     /// Where a line begins and ends, with its LF.
     pub fn line(&self, line: u32) -> Option<(u32, u32)>
         ensures value { result ≡ line_span line self.now }
@@ -74,14 +90,16 @@ impl TextIndex {
         self.starts.len() as u64
     }
 
-    fn place_of(&self, encoding: PositionEncoding, position: Position) -> Result<u32, OffsetFault>
+    /// The byte at which a position stands.
+    pub fn place_of(&self, encoding: PositionEncoding, position: Position) -> Result<u32, OffsetFault>
         ensures { result ≡ place_of encoding self.now position }
     {
         let place = offsets::place_of(encoding, self.text.as_str(), &self.starts, position)?;
         Ok(place as u32)
     }
 
-    fn range_of(&self, encoding: PositionEncoding, range: Range) -> Result<(u32, u32), OffsetFault>
+    /// The bytes from which and up to which a range goes.
+    pub fn range_of(&self, encoding: PositionEncoding, range: Range) -> Result<(u32, u32), OffsetFault>
         ensures { result ≡ range_of encoding self.now range }
     {
         let (start, end) = offsets::range_of(encoding, self.text.as_str(), &self.starts, range)?;
