@@ -1,1 +1,11 @@
+pub mod Paths
+pub mod Values
+pub mod Facts
+pub mod Find
+pub mod Read
+pub mod Layers
+pub mod Search
+pub mod Toml
+pub mod Order
+pub mod Change
 pub mod Config

@@ -1,8 +1,31 @@
-//! The settings of a session.
+//! The settings of a session: read from the client's JSON and from TOML files, and searched along a path.
 #![tactic(auto)]
 
+mod accessors;
+mod change;
 mod config;
+mod error;
+mod find;
+mod floats;
+mod layer;
+mod path_text;
+mod read;
+mod row;
+mod same;
+mod settings;
 #[cfg(test)]
 mod tests;
+mod toml_tree;
+mod typed;
+mod value;
 
+pub use change::{ConfigChange, SettingsFile};
 pub use config::Config;
+pub use error::ConfigError;
+pub use layer::{Layer, Source};
+pub use row::{Facts, Kind, ROWS, Row, Scope};
+pub use settings::{Files, Parents, Settings, SettingsParts};
+pub use value::{
+    CargoFeatures, DiscoverConfig, FilesWatcher, InvocationStrategy, LinkedProject, Reading, Reason,
+    SettingValue,
+};
