@@ -1,1 +1,3 @@
 pub mod Config
+pub mod Find
+pub mod Capabilities
