@@ -3,9 +3,11 @@ ghost use Rattle.std.specs.Prelude.{◌≡◌, map, option_map};
 ghost use Rattle.serde_json.specs.View.{view, items_view};
 ghost use Rattle.ra_config.specs.Capabilities.{client_at, is_true_at, is_text, lists_text, takes_utf_8, encoding_of, no_capabilities, capabilities_of};
 
+use crate::config::Config;
 use crate::find::find;
 use plain::Json;
 use serde_json::Value;
+use std::fmt;
 use text_core::{PositionEncoding, WideEncoding};
 
 /// What a client can do, as it told in `initialize`.
@@ -103,11 +105,30 @@ pub fn capabilities_of(params: &Json) -> Capabilities
     let params = params.as_value();
     Capabilities {
         work_done_progress: is_true_at(params, &["window", "workDoneProgress"]),
-        server_status_notification: is_true_at(params, &["experimental", "serverStatusNotification"]),
-        did_save_registration: is_true_at(params, &["textDocument", "synchronization", "dynamicRegistration"]),
-        watched_files_registration: is_true_at(params, &["workspace", "didChangeWatchedFiles", "dynamicRegistration"]),
-        relative_pattern: is_true_at(params, &["workspace", "didChangeWatchedFiles", "relativePatternSupport"]),
-        semantic_tokens_refresh: is_true_at(params, &["workspace", "semanticTokens", "refreshSupport"]),
+        server_status_notification: is_true_at(
+            params,
+            &["experimental", "serverStatusNotification"],
+        ),
+        did_save_registration: is_true_at(
+            params,
+            &["textDocument", "synchronization", "dynamicRegistration"],
+        ),
+        watched_files_registration: is_true_at(
+            params,
+            &["workspace", "didChangeWatchedFiles", "dynamicRegistration"],
+        ),
+        relative_pattern: is_true_at(
+            params,
+            &[
+                "workspace",
+                "didChangeWatchedFiles",
+                "relativePatternSupport",
+            ],
+        ),
+        semantic_tokens_refresh: is_true_at(
+            params,
+            &["workspace", "semanticTokens", "refreshSupport"],
+        ),
         code_lens_refresh: is_true_at(params, &["workspace", "codeLens", "refreshSupport"]),
         inlay_hints_refresh: is_true_at(params, &["workspace", "inlayHint", "refreshSupport"]),
         diagnostics_refresh: is_true_at(params, &["workspace", "diagnostics", "refreshSupport"]),
@@ -138,5 +159,112 @@ impl Capabilities {
             open_server_logs: false,
             encodings: UTF_16,
         }
+    }
+}
+
+impl Config {
+    pub fn work_done_progress(&self) -> bool
+        ensures { result ≡ self.now.capabilities.work_done_progress }
+    {
+        self.capabilities().work_done_progress
+    }
+
+    pub fn server_status_notification(&self) -> bool
+        ensures { result ≡ self.now.capabilities.server_status_notification }
+    {
+        self.capabilities().server_status_notification
+    }
+
+    pub fn did_save_registration(&self) -> bool
+        ensures { result ≡ self.now.capabilities.did_save_registration }
+    {
+        self.capabilities().did_save_registration
+    }
+
+    pub fn watched_files_registration(&self) -> bool
+        ensures { result ≡ self.now.capabilities.watched_files_registration }
+    {
+        self.capabilities().watched_files_registration
+    }
+
+    pub fn relative_pattern(&self) -> bool
+        ensures { result ≡ self.now.capabilities.relative_pattern }
+    {
+        self.capabilities().relative_pattern
+    }
+
+    pub fn semantic_tokens_refresh(&self) -> bool
+        ensures { result ≡ self.now.capabilities.semantic_tokens_refresh }
+    {
+        self.capabilities().semantic_tokens_refresh
+    }
+
+    pub fn code_lens_refresh(&self) -> bool
+        ensures { result ≡ self.now.capabilities.code_lens_refresh }
+    {
+        self.capabilities().code_lens_refresh
+    }
+
+    pub fn inlay_hints_refresh(&self) -> bool
+        ensures { result ≡ self.now.capabilities.inlay_hints_refresh }
+    {
+        self.capabilities().inlay_hints_refresh
+    }
+
+    pub fn diagnostics_refresh(&self) -> bool
+        ensures { result ≡ self.now.capabilities.diagnostics_refresh }
+    {
+        self.capabilities().diagnostics_refresh
+    }
+
+    pub fn text_document_diagnostic(&self) -> bool
+        ensures { result ≡ self.now.capabilities.text_document_diagnostic }
+    {
+        self.capabilities().text_document_diagnostic
+    }
+
+    pub fn test_explorer(&self) -> bool
+        ensures { result ≡ self.now.capabilities.test_explorer }
+    {
+        self.capabilities().test_explorer
+    }
+
+    pub fn open_server_logs(&self) -> bool
+        ensures { result ≡ self.now.capabilities.open_server_logs }
+    {
+        self.capabilities().open_server_logs
+    }
+
+    /// What a column counts.
+    pub fn encodings(&self) -> PositionEncoding
+        ensures { result ≡ self.now.capabilities.encodings }
+    {
+        self.capabilities().encodings
+    }
+}
+
+impl fmt::Debug for Capabilities {
+    fn fmt<W: fmt::Write>(&self, f: &mut fmt::Formatter<W>) -> fmt::Result {
+        f.debug_struct("Capabilities")
+            .field("work_done_progress", &self.work_done_progress)
+            .field(
+                "server_status_notification",
+                &self.server_status_notification,
+            )
+            .field("did_save_registration", &self.did_save_registration)
+            .field(
+                "watched_files_registration",
+                &self.watched_files_registration,
+            )
+            .field("relative_pattern", &self.relative_pattern)
+            .field("semantic_tokens_refresh", &self.semantic_tokens_refresh)
+            .field("code_lens_refresh", &self.code_lens_refresh)
+            .field("inlay_hints_refresh", &self.inlay_hints_refresh)
+            .field("diagnostics_refresh", &self.diagnostics_refresh)
+            .field("text_document_diagnostic", &self.text_document_diagnostic)
+            .field("test_explorer", &self.test_explorer)
+            .field("open_server_logs", &self.open_server_logs)
+            .field("utf_8", &matches!(self.encodings, PositionEncoding::Utf8))
+            .finish()
     }
 }

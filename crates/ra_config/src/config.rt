@@ -1,6 +1,7 @@
 ghost use Rattle.std.specs.Prelude.{◌≡◌, IfOk};
 ghost use Rattle.ra_config.specs.Config.{config_at};
 
+use crate::capabilities::Capabilities;
 use docs_vfs::VfsPath;
 use plain::{Copied, Items};
 use std::alloc::{AllocError, Global};
@@ -12,6 +13,7 @@ pub struct Config {
     root_path: VfsPath,
     workspace_roots: Items<VfsPath>,
     threads: u32,
+    capabilities: Capabilities,
 }
 
 impl Model for Config {
@@ -23,6 +25,7 @@ impl Model for Config {
       root_path = c.root_path;
       workspace_roots = c.workspace_roots;
       threads = c.threads;
+      capabilities = c.capabilities;
     } };
 }
 
@@ -37,6 +40,7 @@ impl Config {
             root_path: root,
             workspace_roots,
             threads,
+            capabilities: Capabilities::none(),
         })
     }
 
@@ -59,6 +63,28 @@ impl Config {
     {
         self.threads
     }
+
+    /// What the client can do.
+    pub fn capabilities(&self) -> Capabilities
+        ensures { result ≡ self.now.capabilities }
+    {
+        self.capabilities
+    }
+
+    /// The same settings with these workspaces, for this client.
+    pub(crate) fn with_client(
+        self,
+        workspace_roots: Items<VfsPath>,
+        capabilities: Capabilities,
+    ) -> Config
+        ensures { result ≡ record self { workspace_roots = workspace_roots; capabilities = capabilities } }
+    {
+        Config {
+            workspace_roots,
+            capabilities,
+            ..self
+        }
+    }
 }
 
 impl Clone for Config {
@@ -69,6 +95,7 @@ impl Clone for Config {
             root_path: self.root_path.clone()?,
             workspace_roots: self.workspace_roots.clone()?,
             threads: self.threads,
+            capabilities: self.capabilities,
         })
     }
 }
