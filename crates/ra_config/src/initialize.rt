@@ -1,8 +1,9 @@
 // What a session starts with, by the params of `initialize`.
-ghost use Rattle.std.specs.Prelude.{◌≡◌, ◌++◌, IfOk, OnOk, codes, option_to_list};
+ghost use Rattle.std.specs.Prelude.{◌≡◌, ◌↔◌, ◌++◌, None, Err, IfOk, OnOk, codes, option_to_list};
 ghost use Rattle.serde_json.specs.View.{view, items_view};
 ghost use Rattle.std.specs.Result.{result_ok};
 ghost use Rattle.docs_vfs.specs.FileUrls.{path_of};
+ghost use Rattle.ra_config.specs.declared.initialize.ConfigFault.TheVariants.{NoRoot};
 ghost use Rattle.ra_config.specs.Initialize.{path_at, folder_paths, folders_of, paths_of, roots_of, initial_config};
 
 use crate::capabilities::capabilities_of;
@@ -98,13 +99,14 @@ pub fn initial_roots(alloc: Global, params: &Json) -> Result<Option<Items<VfsPat
 
 impl Config {
     /// The settings that a client's `initialize` asks for.
-    #[tactic(auto, unfolding(crate::specs::Initialize::initial_config))]
+    #[tactic(auto, using(crate::proofs::InitialLaws::paths_give_a_root), unfolding(crate::specs::Initialize::initial_config, crate::specs::Initialize::roots_of))]
     pub fn from_initialize(
         alloc: Global,
         params: &Json,
         threads: u32,
     ) -> Result<Result<Config, ConfigFault>, AllocError>
-        ensures { IfOk result (λ answer. answer ≡ initial_config params.now threads) }
+        ensures value { IfOk result (λ answer. answer ≡ initial_config params.now threads) }
+        ensures no_root { IfOk result (λ answer. (answer ≡ Err NoRoot) ↔ (roots_of params.now ≡ None)) }
     {
         let roots = paths_of(alloc, params.as_value())?;
         let root = match roots.get(0) {
