@@ -107,5 +107,9 @@ unfolding HasKinds facts_of
 nothing-kinds Row.DetachedFiles v p = cc
 nothing-kinds _ v p = cc
 
+pub kinds_at : (values : Values) (row : Row) (v : SettingValue) → HasKinds values → value_at row values ≡ Some v → kind_of v ≡ kind_of (facts_of row).default
+unfolding HasKinds
+kinds_at values row v has p = has row v p
+
 pub none_more : (made : Values) (rows : List Row) (i : ℕ) → i < length rows → (made ++ None ∷ []) ++ none_of (drop (i + 1) rows) ≡ made ++ none_of (drop i rows)
 none_more made rows i h = rw (drop-cons rows i Row.FilesExclude, add-one, append_assoc)

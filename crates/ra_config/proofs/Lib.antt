@@ -1,3 +1,4 @@
+pub mod InitialLaws
 pub mod KindLaws
 pub mod SearchLaws
 pub mod Stable

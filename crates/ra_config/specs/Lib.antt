@@ -8,4 +8,9 @@ pub mod Search
 pub mod Toml
 pub mod Order
 pub mod Change
+pub mod Shown
+pub mod Projects
+pub mod Capabilities
 pub mod Config
+pub mod Initialize
+pub mod Codes

@@ -1,14 +1,22 @@
-ghost use Rattle.std.specs.Prelude.{◌≡◌, ◌↔◌, IsTrue, IfOk};
+ghost use Rattle.std.specs.Prelude.{◌≡◌, ◌↔◌, ◌++◌, IsTrue, IfOk, OnOk};
+ghost use Rattle.ra_config.specs.Projects.{with_discovered, without};
 ghost use Rattle.ra_config.specs.Change.{after, errors_after, HasChanged};
-ghost use Rattle.ra_config.specs.Config.{config_at};
+ghost use Rattle.ra_config.specs.Config.{config_at, projects_of};
 
+use crate::capabilities::Capabilities;
 use crate::change::ConfigChange;
-use crate::error::ConfigError;
+use crate::error::ConfigErrors;
+use crate::layer::Layer;
+use crate::projects::{
+    Discovered, push_discovered, push_linked, push_manifests, push_roots, remove_root, with_discovered,
+};
 use crate::settings::Settings;
+use crate::value::LinkedProject;
 use docs_vfs::VfsPath;
-use plain::{Copied, Items};
+use plain::{Copied, Items, Json, Text};
 use std::alloc::{AllocError, Global};
 use std::marker::Model;
+use std::sync::Arc;
 
 /// The settings of a session.
 #[derive(Drop)]
@@ -16,23 +24,29 @@ pub struct Config {
     root_path: VfsPath,
     workspace_roots: Items<VfsPath>,
     threads: u32,
+    capabilities: Capabilities,
     settings: Settings,
+    discovered: Arc<Items<Discovered>, Global>,
 }
 
 impl Model for Config {
     ghost use Rattle.std.specs.Coded.{codes};
     ghost use Rattle.ra_config.specs.Config.{ConfigData};
+    ghost use Rattle.ra_config.specs.contracts.capabilities.Capabilities as capabilities_row;
+    ghost use Rattle.ra_config.specs.contracts.projects.Discovered as discovered_row;
     ghost use Rattle.ra_config.specs.contracts.settings.Settings as settings_row;
 
     ghost Value = { ConfigData };
 
-    ghost coded = { Prim.hlevel (codes, settings_row.the_row.coded) };
+    ghost coded = { Prim.hlevel (codes, capabilities_row.the_row.coded, discovered_row.the_row.coded, settings_row.the_row.coded) };
 
     ghost view = { λ c. record {
       root_path = c.root_path;
       workspace_roots = c.workspace_roots;
       threads = c.threads;
+      capabilities = c.capabilities;
       settings = c.settings;
+      discovered = c.discovered.value;
     } };
 }
 
@@ -47,7 +61,9 @@ impl Config {
             root_path: root,
             workspace_roots,
             threads,
+            capabilities: Capabilities::none(),
             settings: Settings::new(alloc)?,
+            discovered: Arc::new(alloc, Items::new(alloc))?,
         })
     }
 
@@ -78,29 +94,119 @@ impl Config {
         &self.settings
     }
 
+    /// What the client can do.
+    pub fn capabilities(&self) -> Capabilities
+        ensures { result ≡ self.now.capabilities }
+    {
+        self.capabilities
+    }
+
+    /// The same settings with these workspaces, for this client, which sets these values.
+    pub(crate) fn with_client(
+        self,
+        workspace_roots: Items<VfsPath>,
+        capabilities: Capabilities,
+        client: Layer,
+    ) -> Config
+        ensures { result ≡ record self {
+          workspace_roots = workspace_roots;
+          capabilities = capabilities;
+          settings = record self.settings { client = client };
+        } }
+    {
+        let Config {
+            root_path,
+            threads,
+            settings,
+            discovered,
+            ..
+        } = self;
+        Config {
+            root_path,
+            workspace_roots,
+            threads,
+            capabilities,
+            settings: settings.with_client(client),
+            discovered,
+        }
+    }
+
     /// The settings after a change, the errors of the values that it brings, and whether the client's
     /// or the user's values changed.
     pub fn apply_change(
         &self,
         alloc: Global,
         change: ConfigChange,
-    ) -> Result<(Config, Items<ConfigError>, bool), AllocError>
+    ) -> Result<(Config, ConfigErrors, bool), AllocError>
         ensures config { IfOk result (λ r. r.0
             ≡ record self.now { settings = after self.now.root_path change self.now.settings }) }
         ensures errors { IfOk result (λ r. r.1 ≡ errors_after self.now.root_path change) }
         ensures truth { IfOk result (λ r. IsTrue r.2 ↔ HasChanged r.0.settings self.now.settings) }
     {
         let mut errors = Items::new(alloc);
-        let (settings, changed) = self
-            .settings
-            .after(alloc, &self.root_path, change, &mut errors)?;
+        let (settings, changed) =
+            self.settings
+                .after(alloc, &self.root_path, change, &mut errors)?;
         let config = Config {
             root_path: self.root_path.clone()?,
             workspace_roots: self.workspace_roots.clone()?,
             threads: self.threads,
+            capabilities: self.capabilities,
             settings,
+            discovered: self.discovered.clone()?,
         };
-        Ok((config, errors, changed))
+        Ok((config, ConfigErrors::new(alloc, errors)?, changed))
+    }
+
+    /// Adds roots of workspaces after those that are there.
+    pub fn add_workspaces(&mut self, paths: Items<VfsPath>) -> Result<(), AllocError>
+        ensures { OnOk result (self.new ≡ record self.old { workspace_roots = self.old.workspace_roots ++ paths }) }
+    {
+        push_roots(&mut self.workspace_roots, paths)
+    }
+
+    /// Takes the first root of a workspace out that is equal.
+    pub fn remove_workspace(&mut self, path: &VfsPath)
+        ensures { self.new ≡ record self.old { workspace_roots = without path.now self.old.workspace_roots } }
+    {
+        remove_root(&mut self.workspace_roots, path);
+    }
+
+    /// The projects that the session works on: those that are linked and then those that were
+    /// discovered, or where there is none the manifest of each workspace.
+    pub fn linked_or_discovered_projects(
+        &self,
+        alloc: Global,
+    ) -> Result<Items<LinkedProject>, AllocError>
+        ensures { IfOk result (λ projects. projects ≡ projects_of self.now) }
+    {
+        let mut projects = Items::new(alloc);
+        push_linked(&mut projects, self.linked_projects())?;
+        let discovered: &Items<Discovered> = &self.discovered;
+        push_discovered(alloc, &mut projects, discovered.as_slice())?;
+        if projects.len() == 0 {
+            push_manifests(alloc, &mut projects, self.workspace_roots())?;
+        }
+        Ok(projects)
+    }
+
+    /// Adds a project that the command found by a file. Of one file the newer project takes the older
+    /// one's place.
+    pub fn add_discovered_project_from_command(
+        &mut self,
+        alloc: Global,
+        project: Json,
+        buildfile: Text,
+    ) -> Result<(), AllocError>
+        ensures { OnOk result (self.new ≡ record self.old {
+          discovered = with_discovered (record { project = project; buildfile = buildfile }) self.old.discovered
+        }) }
+    {
+        let new = Discovered { project, buildfile };
+        let discovered: &Items<Discovered> = &self.discovered;
+        let discovered = with_discovered(alloc, new, discovered)?;
+        self.discovered = Arc::new(alloc, discovered)?;
+        Ok(())
     }
 }
 
@@ -112,7 +218,9 @@ impl Clone for Config {
             root_path: self.root_path.clone()?,
             workspace_roots: self.workspace_roots.clone()?,
             threads: self.threads,
+            capabilities: self.capabilities,
             settings: self.settings.clone()?,
+            discovered: self.discovered.clone()?,
         })
     }
 }

@@ -2,7 +2,7 @@ ghost use Rattle.std.specs.Prelude.{◌≡◌, ◌++◌, OnOk, IfOk, Some, IfSom
 ghost use Rattle.std.specs.Option.{option_copied};
 ghost use Rattle.serde_json.specs.View.{view};
 ghost use Rattle.ra_config.specs.Facts.{facts_of};
-ghost use Rattle.ra_config.specs.Layers.{allows, reading, values_of, errors_of, layer_of, none_of, nothing_set, value_at, value_in, error_in};
+ghost use Rattle.ra_config.specs.Layers.{allows, reading, values_of, errors_of, layer_of, none_of, nothing_set, value_at, value_in, error_in, HasKinds};
 ghost use Rattle.ra_config.specs.Values.{kind_of};
 
 use crate::error::ConfigError;
@@ -106,22 +106,11 @@ impl Layer {
     }
 
     /// The value of a row, where it is set.
-    #[tactic(auto, unfolding(crate::specs::Layers::HasKinds))]
     pub fn get(&self, row: Row) -> Option<&SettingValue>
         ensures value { option_copied result ≡ value_at row self.now }
         ensures kind { IfSome result (λ v. kind_of v.now ≡ kind_of (facts_of row).default) }
     {
-        self.at(row.number())
-    }
-
-    /// The value at a place of the table.
-    fn at(&self, place: usize) -> Option<&SettingValue>
-        ensures { option_copied result ≡ option_and_then (λ v. v) (slice_get self.now place) }
-    {
-        match self.values.as_slice().get(place) {
-            Some(value) => value_of(value),
-            None => None,
-        }
+        value_at(self.values.as_slice(), row)
     }
 }
 
@@ -228,6 +217,28 @@ fn value_of(value: &Option<SettingValue>) -> Option<&SettingValue>
     ensures { option_copied result ≡ value.now }
 {
     match value {
+        Some(value) => Some(value),
+        None => None,
+    }
+}
+
+/// The value at a place of the table.
+fn at(values: &[Option<SettingValue>], place: usize) -> Option<&SettingValue>
+    ensures { option_copied result ≡ option_and_then (λ v. v) (slice_get values.now place) }
+{
+    match values.get(place) {
+        Some(value) => value_of(value),
+        None => None,
+    }
+}
+
+/// The value of a row among values that have their rows' kinds.
+fn value_at(values: &[Option<SettingValue>], row: Row) -> Option<&SettingValue>
+    requires { HasKinds values.now }
+    ensures value { option_copied result ≡ value_at row values.now }
+    ensures kind { IfSome result (λ v. kind_of v.now ≡ kind_of (facts_of row).default) }
+{
+    match at(values, row.number()) {
         Some(value) => Some(value),
         None => None,
     }

@@ -2,13 +2,18 @@
 #![tactic(auto)]
 
 mod accessors;
+mod capabilities;
+#[cfg(test)]
+mod capability_tests;
 mod change;
 mod config;
 mod error;
 mod find;
 mod floats;
+mod initialize;
 mod layer;
 mod path_text;
+mod projects;
 mod read;
 mod row;
 mod same;
@@ -19,10 +24,13 @@ mod toml_tree;
 mod typed;
 mod value;
 
+pub use capabilities::{Capabilities, capabilities_of};
 pub use change::{ConfigChange, SettingsFile};
 pub use config::Config;
-pub use error::ConfigError;
+pub use error::{ConfigError, ConfigErrors};
+pub use initialize::{ConfigFault, initial_roots};
 pub use layer::{Layer, Source};
+pub use projects::Discovered;
 pub use row::{Facts, Kind, ROWS, Row, Scope};
 pub use settings::{Files, Parents, Settings, SettingsParts};
 pub use value::{

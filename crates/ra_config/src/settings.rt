@@ -217,6 +217,28 @@ impl Settings {
         ))
     }
 
+    /// The same with these values of the client.
+    pub(crate) fn with_client(self, client: Layer) -> Settings
+        ensures { result ≡ record self { client = client } }
+    {
+        let Settings {
+            user,
+            workspaces,
+            crates,
+            parents,
+            no_features,
+            ..
+        } = self;
+        Settings {
+            client,
+            user,
+            workspaces,
+            crates,
+            parents,
+            no_features,
+        }
+    }
+
     pub fn client(&self) -> &Layer
         ensures { result.now ≡ self.now.client }
     {

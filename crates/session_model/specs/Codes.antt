@@ -4,8 +4,9 @@ use Rattle.std.specs.Coded.{Coded, code_by, coded×, coded_ℕ, coded_bool, code
 use Rattle.std.specs.FinMap as map
 use Rattle.docs_vfs.specs.Paths.{path_cmp}
 use Rattle.ra_config.specs.Config.{ConfigData}
+use Rattle.ra_config.specs.Codes.{config_code}
 use Rattle.lsp_frame.specs.Pending.{Pending, pending_code}
-use Rattle.analysis_host.specs.Codes.{config_code, host_code, versions_code}
+use Rattle.analysis_host.specs.Codes.{host_code, versions_code}
 use Rattle.analysis_host.specs.HostData.{HostData}
 use Rattle.session_port.specs.Jobs.{Jobs}
 use Rattle.session_port.specs.declared.command.Command.{Command}

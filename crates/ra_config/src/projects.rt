@@ -1,0 +1,187 @@
+// The projects that a session works on, and the roots of its workspaces.
+ghost use Rattle.std.specs.Prelude.{◌≡◌, ◌++◌, map, bytes_eq, IfOk, OnOk, option_to_list};
+ghost use Rattle.std.specs.List.{list_any, position};
+ghost use Rattle.ra_config.specs.Projects.{newer, with_discovered, as_project, manifest, manifests, without};
+
+use crate::path_text::join;
+use crate::value::LinkedProject;
+use docs_vfs::VfsPath;
+use plain::{Copied, Items, Json, Text};
+use std::alloc::{AllocError, Global};
+
+/// A project that a command found, and the file by which it was found.
+#[derive(Debug, Drop)]
+pub struct Discovered {
+    pub project: Json,
+    pub buildfile: Text,
+}
+
+impl Clone for Discovered {
+    ghost is_clone = { λ discovered copy. copy ≡ discovered };
+
+    fn clone(&self) -> Result<Discovered, AllocError> {
+        Ok(Discovered {
+            project: self.project.clone()?,
+            buildfile: self.buildfile.clone()?,
+        })
+    }
+}
+
+impl Copied for Discovered {
+    ghost copies = { λ x y h. h };
+}
+
+fn is_of(discovered: &Discovered, buildfile: &str) -> bool
+    ensures { result ≡ bytes_eq discovered.now.buildfile buildfile.now }
+{
+    discovered.buildfile.as_str() == buildfile
+}
+
+fn newer(new: &Discovered, old: &Discovered) -> Result<Discovered, AllocError>
+    ensures { IfOk result (λ d. d ≡ newer new.now old.now) }
+{
+    if is_of(old, new.buildfile.as_str()) {
+        new.clone()
+    } else {
+        old.clone()
+    }
+}
+
+fn replaced(
+    alloc: Global,
+    new: &Discovered,
+    list: &[Discovered],
+) -> Result<Items<Discovered>, AllocError>
+    ensures { IfOk result (λ made. made ≡ map (newer new.now) list.now) }
+{
+    let mut made = Items::new(alloc);
+    for old in list {
+        made.push(newer(new, old)?)?;
+    }
+    Ok(made)
+}
+
+fn is_any_of(list: &[Discovered], buildfile: &str) -> bool
+    ensures { result ≡ list_any (λ d. bytes_eq d.buildfile buildfile.now) list.now }
+{
+    list.iter().any(|d| is_of(d, buildfile))
+}
+
+/// The discovered projects with a newer one.
+#[tactic(auto, unfolding(crate::specs::Projects::with_discovered))]
+pub(crate) fn with_discovered(
+    alloc: Global,
+    new: Discovered,
+    list: &Items<Discovered>,
+) -> Result<Items<Discovered>, AllocError>
+    ensures { IfOk result (λ made. made ≡ with_discovered new list.now) }
+{
+    if is_any_of(list.as_slice(), new.buildfile.as_str()) {
+        return replaced(alloc, &new, list.as_slice());
+    }
+    let mut made = list.clone()?;
+    made.push(new)?;
+    Ok(made)
+}
+
+pub(crate) fn push_linked(
+    projects: &mut Items<LinkedProject>,
+    linked: &[LinkedProject],
+) -> Result<(), AllocError>
+    ensures { OnOk result (projects.new ≡ projects.old ++ linked.now) }
+{
+    for project in linked {
+        projects.push(project.clone()?)?;
+    }
+    Ok(())
+}
+
+fn as_project(alloc: Global, discovered: &Discovered) -> Result<LinkedProject, AllocError>
+    ensures { IfOk result (λ p. p ≡ as_project discovered.now) }
+{
+    let mut buildfiles = Items::new(alloc);
+    buildfiles.push(discovered.buildfile.clone()?)?;
+    Ok(LinkedProject::InlineProjectJson {
+        project: discovered.project.clone()?,
+        buildfiles,
+    })
+}
+
+pub(crate) fn push_discovered(
+    alloc: Global,
+    projects: &mut Items<LinkedProject>,
+    list: &[Discovered],
+) -> Result<(), AllocError>
+    ensures { OnOk result (projects.new ≡ projects.old ++ map as_project list.now) }
+{
+    for discovered in list {
+        projects.push(as_project(alloc, discovered)?)?;
+    }
+    Ok(())
+}
+
+fn manifest(alloc: Global, root: &VfsPath) -> Result<Option<LinkedProject>, AllocError>
+    ensures { IfOk result (λ p. p ≡ manifest root.now) }
+{
+    match VfsPath::new(alloc, join(alloc, root, "Cargo.toml")?.as_str())? {
+        Some(path) => Ok(Some(LinkedProject::ProjectManifest(path))),
+        None => Ok(None),
+    }
+}
+
+fn push_manifest(
+    alloc: Global,
+    projects: &mut Items<LinkedProject>,
+    root: &VfsPath,
+) -> Result<(), AllocError>
+    ensures { OnOk result (projects.new ≡ projects.old ++ option_to_list (manifest root.now)) }
+{
+    match manifest(alloc, root)? {
+        Some(project) => {
+            projects.push(project)?;
+            Ok(())
+        }
+        None => Ok(()),
+    }
+}
+
+pub(crate) fn push_manifests(
+    alloc: Global,
+    projects: &mut Items<LinkedProject>,
+    roots: &[VfsPath],
+) -> Result<(), AllocError>
+    ensures { OnOk result (projects.new ≡ projects.old ++ manifests roots.now) }
+{
+    for root in roots {
+        push_manifest(alloc, projects, root)?;
+    }
+    Ok(())
+}
+
+fn place_of(roots: &[VfsPath], path: &VfsPath) -> Option<usize>
+    ensures { result ≡ position (λ root. bytes_eq root path.now) roots.now }
+{
+    roots.iter().position(|root| root == path)
+}
+
+/// Takes the first root that is equal out.
+#[tactic(auto, unfolding(crate::specs::Projects::without))]
+pub(crate) fn remove_root(roots: &mut Items<VfsPath>, path: &VfsPath)
+    ensures { roots.new ≡ without path.now roots.old }
+{
+    if let Some(at) = place_of(roots.as_slice(), path) {
+        roots.remove(at);
+    }
+}
+
+pub(crate) fn push_roots(
+    roots: &mut Items<VfsPath>,
+    paths: Items<VfsPath>,
+) -> Result<(), AllocError>
+    ensures { OnOk result (roots.new ≡ roots.old ++ paths) }
+{
+    for path in paths.into_vec() {
+        roots.push(path)?;
+    }
+    Ok(())
+}
