@@ -52,15 +52,18 @@ first_client root (Some d) = layer_of Source.Client root d
 abbrev pub first_settings : List ℕ → Data → SettingsData
 first_settings root params = record no_settings { client = first_client root (get (codes "initializationOptions") params) }
 
+-- the settings with these workspaces and this root
+unfoldable pub config_from : Data → ℕ → List ℕ → List (List ℕ) → ConfigData
+config_from params threads root roots = record (config_at root threads) {
+  workspace_roots = roots;
+  capabilities = capabilities_of params;
+  settings = first_settings root params;
+}
+
 -- the settings with these workspaces, of which the first is the root
 abbrev pub config_with : Data → ℕ → List (List ℕ) → Result ConfigData ConfigFault
 config_with params threads [] = Err NoRoot
-config_with params threads (root ∷ rest) =
-    Ok (record (config_at root threads) {
-      workspace_roots = root ∷ rest;
-      capabilities = capabilities_of params;
-      settings = first_settings root params;
-    })
+config_with params threads (root ∷ rest) = Ok (config_from params threads root (root ∷ rest))
 
 -- the settings that a session starts with: `NoRoot` where it has no roots
 unfoldable pub initial_config : Data → ℕ → Result ConfigData ConfigFault

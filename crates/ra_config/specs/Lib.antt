@@ -14,3 +14,4 @@ pub mod Capabilities
 pub mod Config
 pub mod Initialize
 pub mod Codes
+pub mod PathLaws

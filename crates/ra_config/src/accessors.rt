@@ -7,11 +7,11 @@ ghost use Rattle.ra_config.specs.Search.{setting};
 ghost use Rattle.ra_config.specs.Config.{thread_count_of};
 
 use crate::config::Config;
-use docs_vfs::VfsPath;
 use crate::row::Row;
 use crate::value::{
     CargoFeatures, DiscoverConfig, FilesWatcher, InvocationStrategy, LinkedProject,
 };
+use docs_vfs::VfsPath;
 use plain::{Items, Text};
 
 #[tactic(auto, unfolding(crate::specs::Facts::facts_of))]
@@ -38,7 +38,8 @@ impl Config {
     pub fn files_watcher(&self) -> FilesWatcher
         ensures { setting Row.FilesWatcher None self.now.settings ≡ SettingValue.Watcher result }
     {
-        self.settings().watcher(Row::FilesWatcher, None, FilesWatcher::Client)
+        self.settings()
+            .watcher(Row::FilesWatcher, None, FilesWatcher::Client)
     }
 
     pub fn cargo_autoreload(&self) -> bool
@@ -50,13 +51,15 @@ impl Config {
     pub fn cargo_build_scripts_enable(&self, root: Option<u32>) -> bool
         ensures { setting Row.CargoBuildScriptsEnable root self.now.settings ≡ SettingValue.Truth result }
     {
-        self.settings().truth(Row::CargoBuildScriptsEnable, root, true)
+        self.settings()
+            .truth(Row::CargoBuildScriptsEnable, root, true)
     }
 
     pub fn cargo_build_scripts_rebuild_on_save(&self, root: Option<u32>) -> bool
         ensures { setting Row.CargoBuildScriptsRebuildOnSave root self.now.settings ≡ SettingValue.Truth result }
     {
-        self.settings().truth(Row::CargoBuildScriptsRebuildOnSave, root, true)
+        self.settings()
+            .truth(Row::CargoBuildScriptsRebuildOnSave, root, true)
     }
 
     /// In the order of the keys; None takes a variable away.
@@ -111,13 +114,18 @@ impl Config {
     pub fn check_invocation_strategy(&self, root: Option<u32>) -> InvocationStrategy
         ensures { setting Row.CheckInvocationStrategy root self.now.settings ≡ SettingValue.Strategy result }
     {
-        self.settings().strategy(Row::CheckInvocationStrategy, root, InvocationStrategy::PerWorkspace)
+        self.settings().strategy(
+            Row::CheckInvocationStrategy,
+            root,
+            InvocationStrategy::PerWorkspace,
+        )
     }
 
     pub fn check_override_command(&self, root: Option<u32>) -> Option<&[Text]>
         ensures { setting Row.CheckOverrideCommand root self.now.settings ≡ SettingValue.TextsOrNull (option_copied result) }
     {
-        self.settings().texts_or_null(Row::CheckOverrideCommand, root)
+        self.settings()
+            .texts_or_null(Row::CheckOverrideCommand, root)
     }
 
     pub fn cache_priming_enable(&self) -> bool
@@ -148,7 +156,8 @@ impl Config {
     pub fn proc_macro_attributes_enable(&self) -> bool
         ensures { setting Row.ProcMacroAttributesEnable None self.now.settings ≡ SettingValue.Truth result }
     {
-        self.settings().truth(Row::ProcMacroAttributesEnable, None, true)
+        self.settings()
+            .truth(Row::ProcMacroAttributesEnable, None, true)
     }
 
     /// The names of the macros that are ignored, by package, in the order of the packages.

@@ -5,12 +5,12 @@ ghost use Rattle.ra_config.specs.Order.{by_path};
 ghost use Rattle.ra_config.specs.Change.{after, errors_after, put_first, parents_of, parents_after, HasChanged, text_layer, text_errors, files_after, files_errors, tree_in, client_after, client_errors, user_after, user_errors, held, put_files, tell_files};
 ghost use Rattle.ra_config.specs.Search.{is_in};
 
-use crate::settings::{Files, Parents, Settings, SettingsParts};
 use crate::error::ConfigError;
 use crate::layer::{Layer, Source};
-use docs_vfs::VfsPath;
+use crate::settings::{Files, Parents, Settings, SettingsParts};
 use crate::toml_tree::toml_tree;
 use crate::value::Reason;
+use docs_vfs::VfsPath;
 use plain::{ByNumber, Items, Json, Members, Text};
 use std::alloc::{AllocError, Global};
 

@@ -8,7 +8,8 @@ use crate::change::ConfigChange;
 use crate::error::ConfigErrors;
 use crate::layer::Layer;
 use crate::projects::{
-    Discovered, push_discovered, push_linked, push_manifests, push_roots, remove_root, with_discovered,
+    Discovered, push_discovered, push_linked, push_manifests, push_roots, remove_root,
+    with_discovered,
 };
 use crate::settings::Settings;
 use crate::value::LinkedProject;
@@ -144,9 +145,9 @@ impl Config {
         ensures truth { IfOk result (λ r. IsTrue r.2 ↔ HasChanged r.0.settings self.now.settings) }
     {
         let mut errors = Items::new(alloc);
-        let (settings, changed) =
-            self.settings
-                .after(alloc, &self.root_path, change, &mut errors)?;
+        let (settings, changed) = self
+            .settings
+            .after(alloc, &self.root_path, change, &mut errors)?;
         let config = Config {
             root_path: self.root_path.clone()?,
             workspace_roots: self.workspace_roots.clone()?,
@@ -199,7 +200,7 @@ impl Config {
         buildfile: Text,
     ) -> Result<(), AllocError>
         ensures { OnOk result (self.new ≡ record self.old {
-          discovered = with_discovered (record { project = project; buildfile = buildfile }) self.old.discovered
+          discovered = with_discovered (record { project = project; buildfile = buildfile }) self.old.discovered;
         }) }
     {
         let new = Discovered { project, buildfile };

@@ -5,7 +5,7 @@ ghost use Rattle.serde_json.specs.Find.{get};
 ghost use Rattle.std.specs.Result.{result_ok};
 ghost use Rattle.docs_vfs.specs.FileUrls.{path_of};
 ghost use Rattle.ra_config.specs.declared.initialize.ConfigFault.TheVariants.{NoRoot};
-ghost use Rattle.ra_config.specs.Initialize.{path_at, folder_paths, folders_of, paths_of, roots_of, first_client, initial_config};
+ghost use Rattle.ra_config.specs.Initialize.{path_at, folder_paths, folders_of, paths_of, roots_of, first_client, config_from, initial_config};
 
 use crate::capabilities::capabilities_of;
 use crate::config::Config;
@@ -113,9 +113,25 @@ fn client_layer(alloc: Global, root: &VfsPath, params: &Value) -> Result<Layer, 
     }
 }
 
+/// The settings with these workspaces and this root.
+#[tactic(auto, unfolding(crate::specs::Initialize::config_from))]
+fn config_from(
+    alloc: Global,
+    params: &Json,
+    root: VfsPath,
+    roots: Items<VfsPath>,
+    threads: u32,
+) -> Result<Config, AllocError>
+    ensures { IfOk result (λ config. config ≡ config_from params.now threads root roots) }
+{
+    let client = client_layer(alloc, &root, params.as_value())?;
+    let config = Config::new(alloc, root, threads)?;
+    Ok(config.with_client(roots, capabilities_of(params), client))
+}
+
 impl Config {
     /// The settings that a client's `initialize` asks for.
-    #[tactic(auto, using(crate::proofs::InitialLaws::paths_give_a_root), unfolding(crate::specs::Initialize::initial_config, crate::specs::Initialize::roots_of))]
+    #[tactic(auto, using(crate::proofs::InitialLaws::roots), unfolding(crate::specs::Initialize::initial_config, crate::specs::Initialize::roots_of))]
     pub fn from_initialize(
         alloc: Global,
         params: &Json,
@@ -129,12 +145,6 @@ impl Config {
             Some(root) => root.clone()?,
             None => return Ok(Err(ConfigFault::NoRoot)),
         };
-        let client = client_layer(alloc, &root, params.as_value())?;
-        let config = Config::new(alloc, root, threads)?;
-        Ok(Ok(config.with_client(
-            roots,
-            capabilities_of(params),
-            client,
-        )))
+        Ok(Ok(config_from(alloc, params, root, roots, threads)?))
     }
 }

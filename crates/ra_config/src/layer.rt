@@ -7,13 +7,11 @@ ghost use Rattle.ra_config.specs.Values.{kind_of};
 
 use crate::error::ConfigError;
 use crate::find::find;
-use docs_vfs::VfsPath;
 use crate::read::read_value;
 use crate::row::{ROWS, Row, Scope};
 use crate::value::{Reading, SettingValue};
-use plain::Copied;
-use plain::Items;
-use plain::Text;
+use docs_vfs::VfsPath;
+use plain::{Copied, Items, Text};
 use serde_json::Value;
 use std::alloc::{AllocError, Global};
 use std::marker::Model;

@@ -12,6 +12,7 @@ mod find;
 mod floats;
 mod initialize;
 mod layer;
+mod path_laws;
 mod path_text;
 mod projects;
 mod read;
@@ -30,10 +31,11 @@ pub use config::Config;
 pub use error::{ConfigError, ConfigErrors};
 pub use initialize::{ConfigFault, initial_roots};
 pub use layer::{Layer, Source};
+pub use path_laws::the_search_path_ends;
 pub use projects::Discovered;
 pub use row::{Facts, Kind, ROWS, Row, Scope};
 pub use settings::{Files, Parents, Settings, SettingsParts};
 pub use value::{
-    CargoFeatures, DiscoverConfig, FilesWatcher, InvocationStrategy, LinkedProject, Reading, Reason,
-    SettingValue,
+    CargoFeatures, DiscoverConfig, FilesWatcher, InvocationStrategy, LinkedProject, Reading,
+    Reason, SettingValue,
 };

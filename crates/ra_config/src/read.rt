@@ -4,17 +4,15 @@ ghost use Rattle.serde_json.specs.Find.{as_str};
 ghost use Rattle.ra_config.specs.Paths.{resolve};
 ghost use Rattle.ra_config.specs.Read.{read, read_truth, read_text, read_text_or_null, text_or_null, read_watcher, read_paths, read_env, read_small, texts_of, paths_of, env_of, env_item, read_strategy, read_threads, texts_in, texts_or_null, read_texts_or_null, read_features, features_of, value_or, read_projects, typed_projects, is_project, are_projects, project_of, projects_of, read_lists, lists_of, list_item, read_discover, discover_or_null, discover_in, texts_at, text_at};
 
-use docs_vfs::VfsPath;
 use crate::floats::members_have_float;
 use crate::path_text::resolve;
 use crate::row::Kind;
 use crate::value::{
-    CargoFeatures, DiscoverConfig, FilesWatcher, InvocationStrategy, LinkedProject, Reading, Reason,
-    SettingValue,
+    CargoFeatures, DiscoverConfig, FilesWatcher, InvocationStrategy, LinkedProject, Reading,
+    Reason, SettingValue,
 };
-use plain::Items;
-use plain::Json;
-use plain::Text;
+use docs_vfs::VfsPath;
+use plain::{Items, Json, Text};
 use serde_json::{Map, Value};
 use std::alloc::{AllocError, Global};
 
@@ -288,9 +286,7 @@ fn selected_features(alloc: Global, list: &[Value]) -> Result<Reading, AllocErro
         ≡ value_or Reason.WrongType (λ ts. SettingValue.Features (CargoFeatures.Selected ts)) (texts_of (items_view list.now))) }
 {
     match texts_of(alloc, list)? {
-        Some(texts) => Ok(Reading::Value(SettingValue::Features(
-            CargoFeatures::Selected(texts),
-        ))),
+        Some(texts) => Ok(Reading::Value(SettingValue::Features(CargoFeatures::Selected(texts)))),
         None => Ok(Reading::Refused(Reason::WrongType)),
     }
 }

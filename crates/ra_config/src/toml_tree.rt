@@ -5,9 +5,7 @@ ghost use Rattle.serde_json.specs.View.{view as json_view};
 ghost use Rattle.toml.specs.View.{view, items_view, table_view};
 ghost use Rattle.ra_config.specs.Toml.{tree_of, list_of, members_of, toml_tree, no_setting};
 
-use plain::Json;
-use plain::Members;
-use plain::Text;
+use plain::{Json, Members, Text};
 use serde_json::Value as JsonValue;
 use std::alloc::{AllocError, Global};
 use toml::{Table, Value};

@@ -6,12 +6,12 @@ ghost use Rattle.ra_config.specs.declared.value.CargoFeatures.{CargoFeatures};
 ghost use Rattle.ra_config.specs.Facts.{facts_of};
 ghost use Rattle.ra_config.specs.Search.{setting};
 
-use docs_vfs::VfsPath;
 use crate::row::Row;
 use crate::settings::Settings;
 use crate::value::{
     CargoFeatures, DiscoverConfig, FilesWatcher, InvocationStrategy, LinkedProject,
 };
+use docs_vfs::VfsPath;
 use plain::{Items, Text};
 
 impl Settings {
@@ -93,7 +93,12 @@ impl Settings {
     }
 
     #[tactic(auto, unfolding(crate::specs::Search::setting))]
-    pub(crate) fn strategy(&self, row: Row, root: Option<u32>, default: InvocationStrategy) -> InvocationStrategy
+    pub(crate) fn strategy(
+        &self,
+        row: Row,
+        root: Option<u32>,
+        default: InvocationStrategy,
+    ) -> InvocationStrategy
         requires { (facts_of row).default ≡ SettingValue.Strategy default }
         ensures { setting row root self.now ≡ SettingValue.Strategy result }
     {
