@@ -217,194 +217,170 @@ fn value(alloc: Global, c: &Config, row: usize, root: Option<u32>) -> Result<Str
 
 /// For each row: its default; a client's settings and the value; the file of a root, and the value there
 /// and at a root below it.
-struct Case {
-    default: &'static str,
-    client: &'static str,
-    at_client: &'static str,
-    file: &'static str,
-    at_file: &'static str,
-}
-
-const fn case(
-    default: &'static str,
-    client: &'static str,
-    at_client: &'static str,
-    file: &'static str,
-    at_file: &'static str,
-) -> Case {
-    Case {
-        default,
-        client,
-        at_client,
-        file,
-        at_file,
-    }
-}
-
-const CASES: [Case; 25] = [
-    case(
+const CASES: [(&str, &str, &str, &str, &str); 25] = [
+    (
         "",
         r#"{"linkedProjects":["a/../p","/q",{"k":[1]}]}"#,
         r#"/w/p;/q;{"k":[1]};"#,
         "linkedProjects = [\"a\"]",
         "",
     ),
-    case(
+    (
         "",
         r#"{"detachedFiles":["./x.rs"]}"#,
         "/w/x.rs;",
         "detachedFiles = [\"a\"]",
         "",
     ),
-    case(
+    (
         "",
         r#"{"files":{"exclude":["."]}}"#,
         "/w;",
         "files.exclude = [\"a\"]",
         "",
     ),
-    case(
+    (
         "client",
         r#"{"files":{"watcher":"server"}}"#,
         "server",
         "files.watcher = \"server\"",
         "client",
     ),
-    case(
+    (
         "true",
         r#"{"cargo":{"autoreload":false}}"#,
         "false",
         "cargo.autoreload = false",
         "true",
     ),
-    case(
+    (
         "true",
         r#"{"cargo":{"buildScripts":{"enable":false}}}"#,
         "false",
         "cargo.buildScripts.enable = false",
         "false",
     ),
-    case(
+    (
         "true",
         r#"{"cargo":{"buildScripts":{"rebuildOnSave":false}}}"#,
         "false",
         "[cargo.buildScripts]\nrebuildOnSave = false",
         "false",
     ),
-    case(
+    (
         "",
         r#"{"cargo":{"extraEnv":{"b":null,"a":"1"}}}"#,
         "a=1;b;",
         "cargo.extraEnv = {x = \"y\"}",
         "x=y;",
     ),
-    case(
+    (
         "",
         r#"{"cargo":{"features":"all"}}"#,
         "all",
         "cargo.features = [\"f\", \"g\"]",
         "f;g;",
     ),
-    case(
+    (
         "true",
         r#"{"cargo":{"allTargets":false}}"#,
         "false",
         "cargo.allTargets = false",
         "false",
     ),
-    case(
+    (
         "null",
         r#"{"cargo":{"target":"t"}}"#,
         "t",
         "cargo.target = \"u\"",
         "u",
     ),
-    case(
+    (
         "true",
         r#"{"cfg":{"setTest":false}}"#,
         "false",
         "cfg.setTest = false",
         "false",
     ),
-    case(
+    (
         "true",
         r#"{"checkOnSave":false}"#,
         "false",
         "checkOnSave = false",
         "false",
     ),
-    case(
+    (
         "check",
         r#"{"check":{"command":"clippy"}}"#,
         "clippy",
         "check.command = \"c\"",
         "c",
     ),
-    case(
+    (
         "true",
         r#"{"check":{"workspace":false}}"#,
         "false",
         "check.workspace = false",
         "false",
     ),
-    case(
+    (
         "per_workspace",
         r#"{"check":{"invocationStrategy":"once"}}"#,
         "once",
         "check.invocationStrategy = \"once\"",
         "once",
     ),
-    case(
+    (
         "null",
         r#"{"check":{"overrideCommand":["a","b"]}}"#,
         "a;b;",
         "check.overrideCommand = []",
         "",
     ),
-    case(
+    (
         "true",
         r#"{"cachePriming":{"enable":false}}"#,
         "false",
         "cachePriming.enable = false",
         "true",
     ),
-    case(
+    (
         "0",
         r#"{"cachePriming":{"numThreads":255}}"#,
         "255",
         "cachePriming.numThreads = 3",
         "0",
     ),
-    case(
+    (
         "true",
         r#"{"diagnostics":{"enable":false}}"#,
         "false",
         "diagnostics.enable = false",
         "false",
     ),
-    case(
+    (
         "true",
         r#"{"procMacro":{"enable":false}}"#,
         "false",
         "procMacro.enable = false",
         "true",
     ),
-    case(
+    (
         "true",
         r#"{"procMacro":{"attributes":{"enable":false}}}"#,
         "false",
         "procMacro.attributes.enable = false",
         "true",
     ),
-    case(
+    (
         "",
         r#"{"procMacro":{"ignored":{"p":["m"]}}}"#,
         "p:m;",
         "procMacro.ignored = {q = [\"n\", \"o\"]}",
         "q:n;o;",
     ),
-    case("4", r#"{"numThreads":64}"#, "64", "numThreads = 3", "4"),
-    case(
+    ("4", r#"{"numThreads":64}"#, "64", "numThreads = 3", "4"),
+    (
         "null",
         r#"{"workspace":{"discoverConfig":{"command":["c"],"progressLabel":"l","filesToWatch":["f"]}}}"#,
         "c;lf;",
@@ -416,8 +392,8 @@ const CASES: [Case; 25] = [
 /// The first row whose answer is another than it should be.
 fn wrong_default(alloc: Global) -> Result<Option<usize>, Fail> {
     let config = at_start(alloc)?;
-    for (row, case) in CASES.iter().enumerate() {
-        if value(alloc, &config, row, None)?.as_str() != case.default {
+    for (row, (default, _, _, _, _)) in CASES.iter().enumerate() {
+        if value(alloc, &config, row, None)?.as_str() != *default {
             return Ok(Some(row));
         }
     }
@@ -425,9 +401,9 @@ fn wrong_default(alloc: Global) -> Result<Option<usize>, Fail> {
 }
 
 fn wrong_at_client(alloc: Global) -> Result<Option<usize>, Fail> {
-    for (row, case) in CASES.iter().enumerate() {
-        let config = of_client(alloc, case.client)?;
-        if value(alloc, &config, row, Some(7))?.as_str() != case.at_client {
+    for (row, (_, client, at_client, _, _)) in CASES.iter().enumerate() {
+        let config = of_client(alloc, client)?;
+        if value(alloc, &config, row, Some(7))?.as_str() != *at_client {
             return Ok(Some(row));
         }
     }
@@ -435,9 +411,9 @@ fn wrong_at_client(alloc: Global) -> Result<Option<usize>, Fail> {
 }
 
 fn wrong_at_file(alloc: Global, root: u32) -> Result<Option<usize>, Fail> {
-    for (row, case) in CASES.iter().enumerate() {
-        let config = of_file(alloc, case.file)?;
-        if value(alloc, &config, row, Some(root))?.as_str() != case.at_file {
+    for (row, (_, _, _, file, at_file)) in CASES.iter().enumerate() {
+        let config = of_file(alloc, file)?;
+        if value(alloc, &config, row, Some(root))?.as_str() != *at_file {
             return Ok(Some(row));
         }
     }
