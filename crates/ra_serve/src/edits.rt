@@ -255,6 +255,7 @@ fn a_malformed_range_is_no_change(rt: HostRuntime) -> Result<(), Fail> {
 // ---- many edits
 
 /// Numbers that look drawn by chance, and are the same for the same seed.
+#[derive(Drop)]
 struct Draws {
     state: u64,
 }
@@ -275,8 +276,10 @@ impl Draws {
     fn places(&mut self, lines: u32) -> Places {
         let line = self.below(lines.saturating_add(1).max(1));
         let column = self.below(7);
-        let end_line = line.wrapping_add(self.below(2)).wrapping_sub(self.below(8) / 7);
-        let end_column = column.wrapping_add(self.below(4));
+        let end_line = line
+            .wrapping_add(self.below(16) / 15)
+            .wrapping_sub(self.below(8) / 7);
+        let end_column = column.wrapping_add(self.below(2));
         Places(line, column, end_line, end_column)
     }
 
@@ -334,6 +337,13 @@ fn place(units: &[u16], line: u32, column: u32) -> Option<usize> {
     }
 }
 
+fn push_units(units: &mut Vec<u16>, text: &str) -> Result<(), AllocError> {
+    for unit in text.encode_utf16() {
+        units.push(unit)?;
+    }
+    Ok(())
+}
+
 /// The code units after an edit, where it has a place.
 fn units_after(
     alloc: Global,
@@ -342,8 +352,10 @@ fn units_after(
     new: &str,
 ) -> Result<Option<Vec<u16>>, AllocError> {
     let Places(line, column, end_line, end_column) = places;
-    let (Some(start), Some(end)) = (place(units, line, column), place(units, end_line, end_column))
-    else {
+    let (Some(start), Some(end)) = (
+        place(units, line, column),
+        place(units, end_line, end_column),
+    ) else {
         return Ok(None);
     };
     if end < start {
@@ -353,14 +365,13 @@ fn units_after(
         return Ok(None);
     };
     let mut after = Vec::from_slice(alloc, front)?;
-    for unit in new.encode_utf16() {
-        after.push(unit)?;
-    }
+    push_units(&mut after, new)?;
     after.extend_from_slice(back)?;
     Ok(Some(after))
 }
 
 /// A session of many edits, and what it is to log and to see.
+#[derive(Drop)]
 struct Drawn {
     events: Items<HostEvent>,
     units: Vec<u16>,
@@ -369,7 +380,12 @@ struct Drawn {
 }
 
 /// One edit more.
-fn draw(alloc: Global, draws: &mut Draws, drawn: &mut Drawn, version: u32) -> Result<(), AllocError> {
+fn draw(
+    alloc: Global,
+    draws: &mut Draws,
+    drawn: &mut Drawn,
+    version: u32,
+) -> Result<(), AllocError> {
     let lines = drawn.units.iter().filter(|unit| **unit == 10).count() as u32;
     let places = draws.places(lines);
     let (piece, json) = draws.piece();
@@ -399,7 +415,10 @@ fn drawn_session(alloc: Global, seed: u64) -> Result<Drawn, AllocError> {
         expected: String::new(alloc),
         made: 0,
     };
-    drawn.events.push(opening(alloc, "")?)?;
+    drawn
+        .events
+        .push(opening(alloc, "fn é() {}\\r\\n😀✓ b\\r\\n\\r\\nend😀")?)?;
+    push_units(&mut drawn.units, "fn é() {}\r\n😀✓ b\r\n\r\nend😀")?;
     draw_all(alloc, &mut Draws { state: seed }, &mut drawn)?;
     drawn.events.push(event(alloc, HOVER)?)?;
     drawn.events.push(event(alloc, EXIT)?)?;
@@ -414,7 +433,7 @@ fn two_hundred_edits_leave_what_a_plain_program_makes(rt: HostRuntime) -> Result
     let expected = format!(in alloc; "{}201: {text}|", drawn.expected)?;
     assert_eq!(rt; seen_of(alloc, drawn.events)?.as_str(), expected.as_str());
     // Most edits have a place, and many don't.
-    println!(rt; "{} {}", drawn.made, text)?;
     assert!(rt; drawn.made > 100 && drawn.made < 180);
+    assert!(rt; drawn.units.len() > 100);
     Ok(())
 }
