@@ -1,3 +1,6 @@
+pub mod MarkRuns
+pub mod NativeRuns
+pub mod QueueLaws
 pub mod Rooms
 pub mod Stable
 pub mod Taken
