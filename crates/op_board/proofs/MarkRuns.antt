@@ -1,11 +1,11 @@
 -- A file is marked where what is stored of it changed since the last take.
-use Rattle.std.proofs.Common.{◌≡◌, ℕ, Bool, true, false, ◌&&◌, ◌||◌, List, [], ◌∷◌, refl, ap, sym, subst, ◌∙◌, ⊎_elim}
-use Rattle.std.specs.Prelude.{Option, None, Some, cond, not, is_some, nat_eq, nat_lt}
-use Rattle.std.specs.Ordering.{nat_cmp, eq_by_cmp}
+use Rattle.std.proofs.Common.{◌≡◌, ℕ, Bool, true, false, ◌&&◌, ◌||◌, List, [], ◌∷◌, refl, ap, sym, ◌∙◌}
+use Rattle.std.specs.Prelude.{Option, None, Some, cond, not, is_some, nat_eq}
+use Rattle.std.specs.Ordering.{nat_cmp}
 use Rattle.std.specs.Cmp.{nat_cmp_total, unsigned_tied}
 use Rattle.std.specs.Cmp.Lexicographic.{pointwise_decides}
 use Rattle.std.specs.FinMap as map
-use Rattle.std.proofs.lemmas.Bool.{cases_Bool, cond_both, cond-true, cond-false, true≢false, eqb-true}
+use Rattle.std.proofs.lemmas.Bool.{cond_both, true≢false, eqb-true}
 use Rattle.docs_vfs.specs.declared.file_kinds.FileId.{FileId}
 use Rattle.op_board.specs.declared.diagnostic.Diagnostic.{Diagnostic}
 use Rattle.op_board.specs.declared.diagnostic.Pass.{Pass}
@@ -14,11 +14,11 @@ use Rattle.op_board.specs.declared.pass_list.PassList.{PassList}
 use Rattle.op_board.specs.declared.check_package.CheckPackage.{CheckPackage}
 use Rattle.op_board.specs.declared.check_package.CheckEntry.{CheckEntry}
 use Rattle.op_board.specs.declared.check_package.FileList.{FileList}
-use Rattle.op_board.specs.Diagnostics.{same_diagnostic, diagnostic_told, in_order}
-use Rattle.op_board.specs.Checks.{Packages, Checks, mark_rows, mark_package, mark_packages, mark_checks, add_entry, renewed, add_to, add_in, add_check, package_or_new, packages_or_none, mark_dropped, drop_package, forget, clear_id, drop_in, clear_one, sift, clear_older, older_than, drops_at, list_in, new_package}
+use Rattle.op_board.specs.Diagnostics.{diagnostic_told, in_order}
+use Rattle.op_board.specs.Checks.{Packages, Checks, mark_rows, mark_package, mark_packages, mark_checks, add_entry, renewed, add_to, package_or_new, packages_or_none, mark_dropped, drop_package, forget, drop_in, sift, older_than, drops_at}
 use Rattle.op_board.specs.Marked.{Marked, mark, mark_if}
 use Rattle.op_board.specs.Board.{Board, Lists, list_of, differs, is_accepted, set_list, clear_list, clear_stored, has_some, lists_of, with_lists}
-use Rattle.op_board.specs.Acts.{Act, step, after}
+use Rattle.op_board.specs.Acts.{Act, after}
 use Rattle.op_board.specs.Acts.Act.{Counts, Gives, Clears, Adds, Forgets, ForgetsIn, ForgetsOlder, ForgetsOlderIn, ForgetsAll, Takes}
 use Rattle.op_board.specs.Runs.{same_file, accepts, last_list, stored, is_marked, differ, changes, changed, is_of_passes}
 use Rattle.op_board.proofs.NativeRuns.{accepts_is, stored_is}
@@ -105,15 +105,15 @@ given_marks file p g f new before =
     let apart = differs (list_of (map.get ls f.0)) (in_order new) in
     let set = set_list (map.get b.cleared f.0) g f new (ls, b.marked) in
     ap (λ (m : Marked). is_some (map.get m file.0)) (
-      marked_with p set b
-      ∙ second_of {A = Lists} {B = Marked} test (map.insert ls f.0 (record { accepted = g; list = in_order new })) ls (mark_if apart f b.marked) b.marked
+    marked_with p set b
+    ∙ second_of {A = Lists} {B = Marked} test (map.insert ls f.0 (record { accepted = g; list = in_order new })) ls (mark_if apart f b.marked) b.marked
     )
     ∙ set_marks test apart f b.marked file.0
     ∙ ap (λ t. t || is_marked file b) (
-      here_same (same_file file f) (test && apart) (accepts p file before g && differ (stored p file before) (in_order new)) (λ h.
-        ap (λ q. is_accepted (map.get b.cleared q) (map.get ls q) g && differs (list_of (map.get ls q)) (in_order new)) (sym (eqb-true file.0 f.0 h))
-        ∙ (λ i. accepts_is p file before g i && differ (stored_is p file before i) (in_order new)))
-      ∙ sym (changes_given file p g f new before)
+    here_same (same_file file f) (test && apart) (accepts p file before g && differ (stored p file before) (in_order new)) (λ h.
+    ap (λ q. is_accepted (map.get b.cleared q) (map.get ls q) g && differs (list_of (map.get ls q)) (in_order new)) (sym (eqb-true file.0 f.0 h))
+    ∙ (λ i. accepts_is p file before g i && differ (stored_is p file before i) (in_order new)))
+    ∙ sym (changes_given file p g f new before)
     )
 
 -- ---- a clear
@@ -133,7 +133,7 @@ clear_marks_is : (file f : FileId) (p : Pass) (before : List Act)
     → (same_file file f && has_some (list_of (map.get (lists_of p (after before)) f.0))) ≡ differ (stored p file before) (stored p file (Clears f ∷ before))
 clear_marks_is file f p before =
     here_same (same_file file f) _ _ (λ h.
-      ap (λ q. has_some (list_of (map.get (lists_of p (after before)) q))) (sym (eqb-true file.0 f.0 h)) ∙ ap has_some (stored_is p file before))
+    ap (λ q. has_some (list_of (map.get (lists_of p (after before)) q))) (sym (eqb-true file.0 f.0 h)) ∙ ap has_some (stored_is p file before))
     ∙ sym (clear_differs (same_file file f) (last_list p file before))
 
 clears_mark : (file f : FileId) (before : List Act)

@@ -1,11 +1,11 @@
 -- What is stored of a file and pass after a run.
-use Rattle.std.proofs.Common.{◌≡◌, ℕ, ◌+◌, ◌≤◌, Bool, true, false, ◌&&◌, List, [], ◌∷◌, refl, ap, sym, subst, ◌∙◌, ⊎_elim, arith}
+use Rattle.std.proofs.Common.{◌≡◌, ℕ, ◌+◌, ◌≤◌, Bool, true, false, ◌&&◌, List, [], ◌∷◌, refl, ap, sym, ◌∙◌, arith}
 use Rattle.std.specs.Prelude.{Option, None, Some, cond, nat_eq, nat_le}
 use Rattle.std.specs.List.{list_all}
-use Rattle.std.specs.Ordering.{nat_cmp, eq_by_cmp}
+use Rattle.std.specs.Ordering.{nat_cmp}
 use Rattle.std.specs.Cmp.{nat_cmp_total, unsigned_tied}
 use Rattle.std.specs.FinMap as map
-use Rattle.std.proofs.lemmas.Bool.{cases_Bool, cond-true, cond-false, true≢false, eqb-true, leb-true, le-leb, and_parts, and_from}
+use Rattle.std.proofs.lemmas.Bool.{cond-true, cond-false, true≢false, eqb-true, leb-true, le-leb, and_parts, and_from}
 use Rattle.docs_vfs.specs.declared.file_kinds.FileId.{FileId}
 use Rattle.op_board.specs.declared.diagnostic.Diagnostic.{Diagnostic}
 use Rattle.op_board.specs.declared.diagnostic.Pass.{Pass}
@@ -13,7 +13,7 @@ use Rattle.op_board.specs.declared.diagnostic.Pass.TheVariants.{Syntax, Semantic
 use Rattle.op_board.specs.declared.pass_list.PassList.{PassList}
 use Rattle.op_board.specs.Diagnostics.{in_order}
 use Rattle.op_board.specs.Marked.{Marked, mark_if}
-use Rattle.op_board.specs.Board.{Board, Lists, list_of, differs, is_recent, is_above, is_accepted, set_list, clear_list, clear_stored, has_some, lists_of, with_lists, set_lists, set_native}
+use Rattle.op_board.specs.Board.{Board, Lists, list_of, differs, is_recent, is_above, is_accepted, set_list, clear_list, clear_stored, lists_of, with_lists, set_lists, set_native}
 use Rattle.op_board.specs.Acts.{Act, step, after, gives_each}
 use Rattle.op_board.specs.Acts.Act.{Counts, Gives, Clears, Adds, Forgets, ForgetsIn, ForgetsOlder, ForgetsOlderIn, ForgetsAll, Takes}
 use Rattle.op_board.specs.Runs.{same_pass, same_file, last_generation, cleared_mark, above, fits, accepted, accepts, last_list, stored}
@@ -79,7 +79,7 @@ first_of false x y u v = refl
 
 set_at : (mark : Option ℕ) (g : ℕ) (f : FileId) (l : List Diagnostic) (m : Lists) (marked : Marked) (q : ℕ)
     → map.get (set_list mark g f l (m, marked)).0 q
-      ≡ cond (nat_eq q f.0 && is_accepted mark (map.get m f.0) g) (Some (record { accepted = g; list = in_order l })) (map.get m q)
+    ≡ cond (nat_eq q f.0 && is_accepted mark (map.get m f.0) g) (Some (record { accepted = g; list = in_order l })) (map.get m q)
 set_at mark g f l m marked q =
     ap (λ (m : Lists). map.get m q) (first_of {A = Lists} {B = Marked} (is_accepted mark (map.get m f.0) g) (map.insert m f.0 (record { accepted = g; list = in_order l })) m (mark_if (differs (list_of (map.get m f.0)) (in_order l)) f marked) marked)
     ∙ put_if (is_accepted mark (map.get m f.0) g) (nat_eq q f.0) m f.0 q _ refl
@@ -150,7 +150,7 @@ third_of false b t e = absurd (true≢false (sym e))
 given_is : (sp sf t u : Bool) (gs : List ℕ) (l new : List Diagnostic) (g : ℕ) (here there : Option PassList)
     → (sp ≡ true → here ≡ entry_of gs l) → there ≡ entry_of gs l → (sp ≡ true → sf ≡ true → u ≡ t)
     → cond sp (cond (sf && u) (Some (record { accepted = g; list = in_order new })) here) there
-      ≡ entry_of (cond (sp && sf && t) (g ∷ gs) gs) (cond (sp && sf && t) new l)
+    ≡ entry_of (cond (sp && sf && t) (g ∷ gs) gs) (cond (sp && sf && t) new l)
 given_is true true t u gs l new g here there is other same =
     ap (λ u. cond u (Some (record { accepted = g; list = in_order new })) here) (same refl refl)
     ∙ ap (cond t (Some (record { accepted = g; list = in_order new }))) (is refl)
@@ -170,17 +170,17 @@ module _ (pass : Pass) (file : FileId) where
       let here : same_pass pass p ≡ true → map.get (lists_of p b) file.0 ≡ entry_of gs l = λ e. ap (λ p. map.get (lists_of p b) file.0) (sym (pass_is pass p e)) ∙ k.entry in
       let same : same_pass pass p ≡ true → same_file file f ≡ true → test ≡ fits mark gs g =
       λ e h.
-        ap (λ q. is_accepted (map.get b.cleared q) (map.get (lists_of p b) q) g) (sym (eqb-true file.0 f.0 h))
-        ∙ (λ i. is_accepted (k.cleared i) (here e i) g)
-        ∙ accepted_is mark gs l g k.falls in
+      ap (λ q. is_accepted (map.get b.cleared q) (map.get (lists_of p b) q) g) (sym (eqb-true file.0 f.0 h))
+      ∙ (λ i. is_accepted (k.cleared i) (here e i) g)
+      ∙ accepted_is mark gs l g k.falls in
       record {
         generation = generation_with p set.0 set.1 b ∙ k.generation;
         cleared = ap (λ m. map.get m file.0) (cleared_with p set.0 set.1 b) ∙ k.cleared;
         entry =
-          ap (λ m. map.get m file.0) (lists_with pass p set.0 set.1 b)
-          ∙ by_test (same_pass pass p) set.0 (lists_of pass b) file.0
-          ∙ ap (λ o. cond (same_pass pass p) o (map.get (lists_of pass b) file.0)) (set_at (map.get b.cleared f.0) g f new (lists_of p b) b.marked file.0)
-          ∙ given_is (same_pass pass p) (same_file file f) (fits mark gs g) test gs l new g _ _ here k.entry same;
+            ap (λ m. map.get m file.0) (lists_with pass p set.0 set.1 b)
+            ∙ by_test (same_pass pass p) set.0 (lists_of pass b) file.0
+            ∙ ap (λ o. cond (same_pass pass p) o (map.get (lists_of pass b) file.0)) (set_at (map.get b.cleared f.0) g f new (lists_of p b) b.marked file.0)
+            ∙ given_is (same_pass pass p) (same_file file f) (fits mark gs g) test gs l new g _ _ here k.entry same;
         falls = falls_on (same_pass pass p && same_file file f && fits mark gs g) mark gs g (third_of (same_pass pass p) (same_file file f) (fits mark gs g)) k.falls;
       }
 
@@ -208,8 +208,8 @@ module _ (pass : Pass) (file : FileId) where
   clears f before b k = record {
     generation = k.generation;
     cleared =
-      at_put b.cleared f.0 file.0 b.generation
-      ∙ (λ i. cond (nat_eq file.0 f.0) (Some (k.generation i)) (k.cleared i));
+        at_put b.cleared f.0 file.0 b.generation
+        ∙ (λ i. cond (nat_eq file.0 f.0) (Some (k.generation i)) (k.cleared i));
     entry = cleared_of f pass b _ _ k.entry;
     falls = k.falls;
   }
@@ -312,7 +312,7 @@ gives_each_is p g (x ∷ more) run =
     let first = set_list (map.get b.cleared x.0.0) g x.0 x.1 (lists_of p b, b.marked) in
     let c = with_lists p first b in
     sym (
-      (λ i. with_lists p (set_lists (cleared_with p first.0 first.1 b i) g more (with_both p first b i)) c)
-      ∙ with_twice p first (set_lists b.cleared g more first) b
+    (λ i. with_lists p (set_lists (cleared_with p first.0 first.1 b i) g more (with_both p first b i)) c)
+    ∙ with_twice p first (set_lists b.cleared g more first) b
     )
     ∙ gives_each_is p g more (Gives p g x.0 x.1 ∷ run)

@@ -1,9 +1,9 @@
 -- A queue hands out the last request, and has one operation in progress at most.
-use Rattle.std.proofs.Common.{◌≡◌, ℕ, ◌+◌, Bool, true, false, List, [], ◌∷◌, ◌++◌, length, refl, ap, sym, subst, ◌∙◌, ⊎_elim, arith}
+use Rattle.std.proofs.Common.{◌≡◌, ℕ, ◌+◌, Bool, true, false, List, [], ◌∷◌, ◌++◌, length, refl, ap, sym, ◌∙◌, ⊎_elim, arith}
 use Rattle.std.specs.Prelude.{Option, None, Some, cond, option_to_list}
-use Rattle.std.proofs.lemmas.Bool.{cases_Bool, cond-true, cond-false, true≢false}
+use Rattle.std.proofs.lemmas.Bool.{cases_Bool, cond-true, cond-false}
 use Rattle.op_board.specs.Queue.{Queue, starts, after_start}
-use Rattle.op_board.specs.QueueRuns.{QueueAct, queue_step, queue_after, IsQueueRun, handed_out, ended, running, HasNoRequest, IsLastRequest}
+use Rattle.op_board.specs.QueueRuns.{QueueAct, queue_after, IsQueueRun, handed_out, ended, running, IsLastRequest}
 use Rattle.op_board.specs.QueueRuns.QueueAct.{Requests, Starts, Ends}
 
 inside : {X : Type 0} (x y : X) → Some x ≡ Some y → x ≡ y

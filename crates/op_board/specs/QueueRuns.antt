@@ -1,5 +1,5 @@
 -- Runs of a queue of one operation: what its calls did, one act after another. A run has its last act first.
-use Rattle.std.specs.Prelude.{◌≡◌, ℕ, ◌+◌, Bool, true, false, List, [], ◌∷◌, ◌++◌, length, Option, None, Some, cond, option_to_list}
+use Rattle.std.specs.Prelude.{◌≡◌, ℕ, ◌+◌, true, false, List, [], ◌∷◌, ◌++◌, Some, cond, option_to_list}
 use Rattle.op_board.specs.Queue.{Queue, new_queue, starts, after_start}
 
 pub data QueueAct (A O : Type 0) : Type 0 where

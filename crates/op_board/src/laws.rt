@@ -1,11 +1,12 @@
 // Laws of whole runs: what the calls leave behind, told by the calls alone.
-ghost use Rattle.std.specs.Prelude.{◌≡◌, ℕ, ◌+◌, List, Some, length, true};
+ghost use Rattle.std.specs.Prelude.{◌≡◌, ℕ, ◌+◌, List, Option, Some, length, true};
 ghost use Rattle.std.specs.FinMap as map;
 ghost use Rattle.docs_vfs.specs.declared.file_kinds.FileId.{FileId};
 ghost use Rattle.op_board.specs.declared.diagnostic.Diagnostic.{Diagnostic};
 ghost use Rattle.op_board.specs.declared.diagnostic.Pass.{Pass};
 ghost use Rattle.op_board.specs.Acts.{Act, after, gives_each};
 ghost use Rattle.op_board.specs.Board.{list_of, lists_of, set_native};
+ghost use Rattle.op_board.specs.CheckRuns.{entries, said_of, fixes_told, package_at, listed_in, fixes_at};
 ghost use Rattle.op_board.specs.Queue.{starts};
 ghost use Rattle.op_board.specs.QueueRuns.{QueueAct, queue_after, IsQueueRun, handed_out, ended, running, IsLastRequest};
 ghost use Rattle.op_board.specs.Runs.{stored, is_marked, changed, is_of_passes};
@@ -33,4 +34,13 @@ pub fn one_operation_runs<Args, Output>()
         → length (handed_out run) ≡ ended run + running (queue_after run) }
     ensures last { (run : List (QueueAct Args Output)) (request : List ℕ × Args)
         → starts (queue_after run) ≡ Some request → IsLastRequest request run }
+{}
+
+/// After every run a package of a check says what came since it was last emptied: the entries of the newest generation,
+/// in the order in which they came, without those whose diagnostic the file had already; and their fixes.
+pub fn packages_say_the_newest()
+    ensures lists { (run : List Act) (id : ℕ) (name : Option (List ℕ)) (file : FileId)
+        → listed_in file (package_at id name (after run).checks) ≡ said_of file (entries id name run) }
+    ensures fixes { (run : List Act) (id : ℕ) (name : Option (List ℕ))
+        → fixes_at (package_at id name (after run).checks) ≡ fixes_told (entries id name run) }
 {}

@@ -18,6 +18,7 @@ mod tests;
 pub use board::DiagnosticCollection;
 pub use diagnostic::{CheckFix, Diagnostic, Pass, Related};
 pub use laws::{
-    changed_files_are_marked, one_operation_runs, the_last_accepted_list_is_stored,
+    changed_files_are_marked, one_operation_runs, packages_say_the_newest,
+    the_last_accepted_list_is_stored,
 };
 pub use op_queue::OpQueue;
