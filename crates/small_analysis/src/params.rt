@@ -1,7 +1,7 @@
 // The params of a hover and of matchingBrace.
 ghost use Rattle.std.specs.Prelude.{◌≡◌, IfOk, is_some, option_copied};
 ghost use Rattle.std.specs.Option.{option_map};
-ghost use Rattle.serde_json.specs.View.{items_view, view};
+ghost use Rattle.serde_json.specs.View.{items_view};
 ghost use Rattle.small_analysis.specs.Params.{list_of, uri_of, position_of, positions_in, positions_of};
 
 use analysis_host::position_of as position_in;
