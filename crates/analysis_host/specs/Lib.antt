@@ -4,3 +4,4 @@ pub mod Polls
 pub mod SnapshotData
 pub mod Versions
 pub mod Codes
+pub mod FromProto

@@ -1,7 +1,7 @@
 // The world that changes: each change makes a new one, and those that were given out stay as they are.
-ghost use Rattle.std.specs.Prelude.{◌≡◌, IfOk, option_copied};
+ghost use Rattle.std.specs.Prelude.{◌≡◌, All, IfOk, option_copied};
 ghost use Rattle.std.specs.FinMap as map;
-ghost use Rattle.analysis_host.specs.HostData.{new_host, changed, Changes};
+ghost use Rattle.analysis_host.specs.HostData.{new_host, changed, Changes, Fits};
 ghost use Rattle.analysis_host.specs.declared.host.WorldFault.TheVariants.{NoMemory as OutOfMemory};
 
 use crate::world::World;
@@ -9,6 +9,7 @@ use docs_vfs::VfsPath;
 use plain::{Items, Text};
 use std::alloc::{AllocError, Global};
 use std::marker::Model;
+use text_core::TextIndex;
 
 /// A file's new text, or that it has none.
 #[derive(Drop)]
@@ -91,8 +92,17 @@ impl AnalysisHost {
         self.world.text(path)
     }
 
-    /// Makes one change, and so a new revision. After want of memory the host is spent.
+    /// The present text of a path, with its lines.
+    pub fn index(&self, path: &VfsPath) -> Option<&TextIndex>
+        ensures { option_copied result ≡ map.get self.now.world.texts path.now }
+    {
+        self.world.index(path)
+    }
+
+    /// Makes one change, and so a new revision. A text has at most 4,294,967,295 bytes. After want of memory the
+    /// host is spent.
     pub fn apply_change(&mut self, change: Change) -> Result<(), WorldFault>
+        requires { All Fits change.files }
         ensures { Changes result (changed change.files self.old) self.old self.new }
     {
         if self.revision == u64::MAX {

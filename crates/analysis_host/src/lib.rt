@@ -5,6 +5,8 @@
 mod analysis;
 mod ask;
 mod cancel;
+mod file_places;
+mod from_proto;
 mod host;
 mod shared_text;
 mod snapshot;
@@ -16,6 +18,8 @@ mod world;
 pub use analysis::Analysis;
 pub use ask::{Answer, Ask, Outcome, RowId};
 pub use cancel::{Cancel, Never};
+pub use file_places::{FilePosition, FileRange, ProtoFault, file_position, file_range};
+pub use from_proto::{AssistKind, assist_kind, columns, position_of, range_of};
 pub use host::{AnalysisHost, Change, FileChange, WorldFault};
 pub use shared_text::SharedText;
 pub use snapshot::{GlobalStateSnapshot, SnapshotParts};

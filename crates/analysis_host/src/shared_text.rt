@@ -1,15 +1,16 @@
-// A text that worlds share.
-ghost use Rattle.std.specs.Prelude.{◌≡◌, IfOk};
+// A text that worlds share, with the index of its lines.
+ghost use Rattle.std.specs.Prelude.{◌≡◌, ◌<◌, ◌^◌, length, IfOk};
 
 use plain::{Copied, Text};
 use std::alloc::{AllocError, Global};
 use std::marker::Model;
 use std::sync::Arc;
+use text_core::TextIndex;
 
-/// A text whose clones share its bytes.
+/// A text whose clones share its bytes and its index, which is built once.
 #[derive(Drop)]
 pub struct SharedText {
-    text: Arc<Text, Global>,
+    index: Arc<TextIndex, Global>,
 }
 
 impl Model for SharedText {
@@ -18,23 +19,30 @@ impl Model for SharedText {
 
     ghost Value = { List ℕ };
 
-    ghost view = { λ t. arc_value t.text };
+    ghost view = { λ t. arc_value t.index };
 }
 
 impl SharedText {
     pub fn new(alloc: Global, text: Text) -> Result<SharedText, AllocError>
+        requires { length text < 2 ^ 32 }
         ensures { IfOk result (λ shared. shared ≡ text) }
     {
+        let index = TextIndex::from_text(alloc, text)?;
         Ok(SharedText {
-            text: Arc::new(alloc, text)?,
+            index: Arc::new(alloc, index)?,
         })
+    }
+
+    pub fn index(&self) -> &TextIndex
+        ensures { result.now ≡ self.now }
+    {
+        &self.index
     }
 
     pub fn as_str(&self) -> &str
         ensures { result.now ≡ self.now }
     {
-        let text: &Text = &self.text;
-        text.as_str()
+        self.index().text()
     }
 }
 
@@ -43,7 +51,7 @@ impl Clone for SharedText {
 
     fn clone(&self) -> Result<SharedText, AllocError> {
         Ok(SharedText {
-            text: Arc::try_clone(&self.text)?,
+            index: Arc::try_clone(&self.index)?,
         })
     }
 }

@@ -11,6 +11,7 @@ use ra_config::Config;
 use std::alloc::{AllocError, Global};
 use std::marker::Model;
 use std::sync::Arc;
+use text_core::TextIndex;
 
 /// The parts of a snapshot.
 #[derive(Drop)]
@@ -64,6 +65,13 @@ impl GlobalStateSnapshot {
         ensures { option_copied result ≡ map.get self.now.world.texts path.now }
     {
         self.parts.world.text(path)
+    }
+
+    /// The text of a path, with its lines.
+    pub fn file_index(&self, path: &VfsPath) -> Option<&TextIndex>
+        ensures { option_copied result ≡ map.get self.now.world.texts path.now }
+    {
+        self.parts.world.index(path)
     }
 
     /// The version of a path that is open.

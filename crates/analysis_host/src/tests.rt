@@ -1,6 +1,7 @@
 use crate::{
-    AnalysisHost, Answer, Ask, Cancel, Change, FileChange, GlobalStateSnapshot, Never, Outcome,
-    RowId, SharedText, SnapshotParts, Versions, World, WorldFault,
+    AnalysisHost, Answer, Ask, AssistKind, Cancel, Change, FileChange, GlobalStateSnapshot, Never,
+    Outcome, RowId, SharedText, SnapshotParts, Versions, World, WorldFault, assist_kind,
+    file_position, file_range,
 };
 use docs_vfs::VfsPath;
 use plain::{Items, Json, Text};
@@ -8,6 +9,7 @@ use ra_config::Config;
 use std::alloc::Global;
 use std::sync::Arc;
 use std::test::Fail;
+use text_core::{Position, Range};
 
 /// A path, or a failed test.
 fn path_at(alloc: Global, text: &str) -> Result<VfsPath, Fail> {
@@ -145,4 +147,56 @@ fn questions_cross_threads(rt: HostRuntime) -> Result<(), Fail> {
     sends(Outcome::Value(Answer::Json(Json::null())).clone()?);
     sends(WorldFault::Exhausted);
     Ok(())
+}
+
+fn position(line: u32, character: u32) -> Position {
+    Position { line, character }
+}
+
+/// The byte of a position in a file, or why there is none, in words.
+fn place(alloc: Global, url: &str, line: u32, character: u32) -> Result<String, Fail> {
+    let snapshot = snapshot(alloc)?;
+    match file_position(alloc, &snapshot, url, position(line, character)) {
+        Ok(place) => Ok(format!(in alloc; "{} {}", place.path.as_str(), place.offset)?),
+        Err(fault) => Ok(format!(in alloc; "{fault:?}")?),
+    }
+}
+
+/// The bytes of a range of the first line of `/w/a.rs`, or why there are none, in words.
+fn places(alloc: Global, start: u32, end: u32) -> Result<String, Fail> {
+    let snapshot = snapshot(alloc)?;
+    let range = Range {
+        start: position(0, start),
+        end: position(0, end),
+    };
+    match file_range(alloc, &snapshot, "file:///w/a.rs", range) {
+        Ok(places) => Ok(format!(in alloc; "{} {}", places.start, places.end)?),
+        Err(fault) => Ok(format!(in alloc; "{fault:?}")?),
+    }
+}
+
+#[test]
+fn places_of_positions(rt: HostRuntime) -> Result<(), Fail> {
+    let alloc = rt.alloc();
+    assert_eq!(rt; place(alloc, "file:///w/a.rs", 0, 4)?.as_str(), "/w/a.rs 4");
+    assert_eq!(rt; place(alloc, "file:///w/a.rs", 0, 99)?.as_str(), "/w/a.rs 6");
+    assert_eq!(rt; place(alloc, "file:///w/a.rs", 1, 0)?.as_str(), "Offset(LinePastEnd)");
+    assert_eq!(rt; place(alloc, "file:///w/b.rs", 1, 0)?.as_str(), "NotFound");
+    assert_eq!(rt; place(alloc, "http://w/b.rs", 1, 0)?.as_str(), "Url(NotFile)");
+    Ok(())
+}
+
+#[test]
+fn places_of_ranges(rt: HostRuntime) -> Result<(), Fail> {
+    let alloc = rt.alloc();
+    assert_eq!(rt; places(alloc, 1, 3)?.as_str(), "1 3");
+    assert_eq!(rt; places(alloc, 3, 1)?.as_str(), "Offset(Reversed)");
+    Ok(())
+}
+
+#[test]
+fn kinds_of_code_actions(rt: HostRuntime) {
+    assert_eq!(rt; assist_kind(""), Some(AssistKind::Generate));
+    assert_eq!(rt; assist_kind("refactor.inline"), Some(AssistKind::RefactorInline));
+    assert_eq!(rt; assist_kind("source"), None);
 }

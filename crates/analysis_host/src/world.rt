@@ -1,8 +1,8 @@
 // The texts of a workspace at one moment.
-ghost use Rattle.std.specs.Prelude.{◌≡◌, IfOk, option_copied};
+ghost use Rattle.std.specs.Prelude.{◌≡◌, All, IfOk, option_copied};
 ghost use Rattle.std.specs.FinMap as map;
 ghost use Rattle.analysis_host.specs.SnapshotData.{empty_world};
-ghost use Rattle.analysis_host.specs.HostData.{with_files, with_text};
+ghost use Rattle.analysis_host.specs.HostData.{with_files, with_text, Fits};
 
 use crate::host::FileChange;
 use crate::shared_text::SharedText;
@@ -11,6 +11,7 @@ use plain::{Copied, Items};
 use std::alloc::{AllocError, Global};
 use std::marker::Model;
 use std::sync::Arc;
+use text_core::TextIndex;
 
 /// A world, which never changes. Its clones share all texts.
 #[derive(Drop)]
@@ -37,6 +38,7 @@ fn set_text(
     texts: &mut ByPath<SharedText>,
     file: FileChange,
 ) -> Result<(), AllocError>
+    requires { Fits file }
     ensures { IfOk result (λ _. texts.new ≡ with_text file.path file.text texts.old) }
 {
     let FileChange { path, text } = file;
@@ -65,9 +67,19 @@ impl World {
     pub fn text(&self, path: &VfsPath) -> Option<&str>
         ensures { option_copied result ≡ map.get self.now.texts path.now }
     {
+        match self.index(path) {
+            Some(index) => Some(index.text()),
+            None => None,
+        }
+    }
+
+    /// The text of a path, with its lines.
+    pub fn index(&self, path: &VfsPath) -> Option<&TextIndex>
+        ensures { option_copied result ≡ map.get self.now.texts path.now }
+    {
         let texts: &ByPath<SharedText> = &self.texts;
         match texts.get(path) {
-            Some(text) => Some(text.as_str()),
+            Some(text) => Some(text.index()),
             None => None,
         }
     }
@@ -75,6 +87,7 @@ impl World {
     /// The world with these files set or taken away, one after another. The texts are shared, and the table of
     /// their paths is copied.
     pub fn with_files(&self, alloc: Global, files: Items<FileChange>) -> Result<World, AllocError>
+        requires { All Fits files }
         ensures { IfOk result (λ world. world ≡ record { texts = with_files files self.now.texts }) }
     {
         let present: &ByPath<SharedText> = &self.texts;

@@ -6,11 +6,11 @@ ghost use Rattle.std.specs.Prelude.{◌<◌, ◌≤◌, length};
 
 use plain::{Items, Text};
 use std::alloc::{AllocError, Global};
-use std::time::Instant;
+use std::time::{Duration, Instant};
 use std::{env, io};
 use text_core::{
-    ContentChange, LineEndings, Position, PositionEncoding, Range, WideEncoding,
-    apply_document_changes,
+    ContentChange, LineEndings, Position, PositionEncoding, Range, TextIndex, WideEncoding,
+    apply_document_changes, edit_document,
 };
 
 const UTF16: PositionEncoding = PositionEncoding::Wide(WideEncoding::Utf16);
@@ -97,6 +97,52 @@ fn normalize(rt: &HostRuntime, name: &str, text: Text) -> io::Result<()> {
     report(rt, name, start, after.as_str())
 }
 
+/// How long edits took, and the indices of the texts that they left.
+#[derive(Drop)]
+struct Spent {
+    edits: Duration,
+    indices: Duration,
+}
+
+/// One letter more, and the index of the text with it.
+fn type_letter(
+    rt: &HostRuntime,
+    index: TextIndex,
+    line: u32,
+    spent: &mut Spent,
+) -> io::Result<TextIndex> {
+    let alloc = rt.alloc();
+    let mut changes = Items::new(alloc);
+    changes.push(letter(alloc, line, 4)?)?;
+    let start = Instant::now(rt)?;
+    let edited = edit_document(alloc, UTF16, &index, changes)?;
+    spent.edits = spent.edits.saturating_add(start.elapsed(rt)?);
+    let start = Instant::now(rt)?;
+    let index = TextIndex::from_text(alloc, edited.text)?;
+    spent.indices = spent.indices.saturating_add(start.elapsed(rt)?);
+    Ok(index)
+}
+
+/// Letters that come one by one, each to a text with its index.
+fn type_letters(rt: &HostRuntime, text: Text, count: u32) -> io::Result<()> {
+    if text.len() > u32::MAX as usize {
+        return Ok(());
+    }
+    let mut index = TextIndex::from_text(rt.alloc(), text)?;
+    let mut spent = Spent {
+        edits: Duration::ZERO,
+        indices: Duration::ZERO,
+    };
+    for k in 0..count {
+        index = type_letter(rt, index, k.wrapping_mul(7919) % count, &mut spent)?;
+    }
+    let (edits, indices) = (spent.edits.as_micros(), spent.indices.as_micros());
+    eprintln!(rt; "letters one by one: {edits} microseconds for edits, {indices} for indices")?;
+    let len = index.len();
+    let sum = digest(index.text());
+    println!(rt; "letters one by one: {len} bytes, {sum}")
+}
+
 /// Whether the full sizes are asked for.
 fn is_full(rt: &HostRuntime) -> io::Result<bool> {
     for word in env::args(rt)?.skip(1) {
@@ -118,6 +164,7 @@ fn main(rt: HostRuntime) -> io::Result<()> {
     edit(&rt, "falling edits", text.as_str(), falling(alloc, edits)?)?;
     let changes = scattered(alloc, edits, edits * 2)?;
     edit(&rt, "scattered edits", text.as_str(), changes)?;
+    type_letters(&rt, text, edits / 10)?;
     normalize(&rt, "lines that end with LF", lines(alloc, rows, "\n")?)?;
     normalize(
         &rt,

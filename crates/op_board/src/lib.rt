@@ -8,6 +8,7 @@ mod check_package;
 mod checks;
 mod clearing;
 mod diagnostic;
+mod laws;
 mod marks;
 mod op_queue;
 mod pass_list;
@@ -16,4 +17,8 @@ mod tests;
 
 pub use board::DiagnosticCollection;
 pub use diagnostic::{CheckFix, Diagnostic, Pass, Related};
+pub use laws::{
+    changed_files_are_marked, one_operation_runs, packages_say_the_newest,
+    the_last_accepted_list_is_stored,
+};
 pub use op_queue::OpQueue;

@@ -29,6 +29,7 @@ fn words_of(code: LogCode) -> &'static str {
         LogCode::UnknownResponse => "response to no request",
         LogCode::DuplicateOpen => "document opened twice",
         LogCode::UnexpectedChange => "change of a document that is not open",
+        LogCode::SkippedChange => "edit that has no place in its document",
         LogCode::BadPath => "URL of no file",
         LogCode::StrangeResult => "result that fits no job",
     }

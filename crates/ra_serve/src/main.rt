@@ -2,6 +2,8 @@
 #![tactic(auto)]
 
 mod command_line;
+#[cfg(test)]
+mod edits;
 mod logging_host;
 #[cfg(test)]
 mod scripts;

@@ -1,21 +1,24 @@
 // What a client tells.
-ghost use Rattle.std.specs.Prelude.{◌≡◌, None, IfOk};
+ghost use Rattle.std.specs.Prelude.{◌≡◌, ◌<◌, ◌^◌, length, IfOk, IfSome};
 ghost use Rattle.serde_json.specs.View.{view, items_view, members_view};
 ghost use Rattle.session_model.specs.Cancelling.{cancel_of, is_unit, no_items_in, no_members_in};
-ghost use Rattle.session_model.specs.Changing.{changed_of, members_change, whole_text, texts_in, last_text};
+ghost use Rattle.session_model.specs.Changing.{changed_of, members_change, range_in, edit_of, edits_in};
 ghost use Rattle.session_model.specs.Opening.{opened_of, opened_in, text_within};
 
+use analysis_host::range_of;
 use lsp_frame::RequestId;
 use plain::{Items, Json, Members, Text};
 use serde_json::{Map, Value};
 use session_model::{DidChange, DidOpen};
 use std::alloc::{AllocError, Global};
+use text_core::{ContentChange, Range};
 
 /// The most bytes that a text of a world has.
 const TEXT_LIMIT: usize = 4_294_967_295;
 
 fn within(text: Text) -> Option<Text>
-    ensures { result ≡ text_within text }
+    ensures value { result ≡ text_within text }
+    ensures fits { IfSome result (λ text. length text < 2 ^ 32) }
 {
     if text.len() <= TEXT_LIMIT {
         Some(text)
@@ -26,7 +29,8 @@ fn within(text: Text) -> Option<Text>
 
 /// The document that the params open, or none where they are malformed.
 pub fn opened_of(params: Json) -> Option<DidOpen>
-    ensures { result ≡ opened_of params }
+    ensures value { result ≡ opened_of params }
+    ensures fits { IfSome result (λ document. length document.text < 2 ^ 32) }
 {
     if !params.is_plain() {
         return None;
@@ -35,7 +39,8 @@ pub fn opened_of(params: Json) -> Option<DidOpen>
 }
 
 fn document_of(params: Json) -> Option<DidOpen>
-    ensures { result ≡ opened_in params }
+    ensures value { result ≡ opened_in params }
+    ensures fits { IfSome result (λ document. length document.text < 2 ^ 32) }
 {
     let mut members = params.into_members()?.take("textDocument")?.into_members()?;
     let uri = members.take("uri")?.into_text()?;
@@ -44,29 +49,41 @@ fn document_of(params: Json) -> Option<DidOpen>
     Some(DidOpen { uri, version, text })
 }
 
-// The whole text that a change brings.
-fn whole_text(change: Json) -> Option<Text>
-    ensures { result ≡ whole_text change }
+// The range of a change, where it is one: a range that is absent or null is none.
+fn range_in(range: Option<Json>) -> Option<Option<Range>>
+    ensures { result ≡ range_in range }
 {
-    let mut members = change.into_members()?;
-    match members.take("range") {
-        Some(range) if !range.is_null() => None,
-        _ => members.take("text")?.into_text(),
+    match range {
+        Some(range) if !range.is_null() => Some(Some(range_of(range.as_value())?)),
+        _ => Some(None),
     }
 }
 
-// The whole texts of changes, or none where one of them has none.
-fn texts_in(alloc: Global, changes: Vec<Value>) -> Result<Option<Items<Text>>, AllocError>
-    ensures { IfOk result (λ texts. texts ≡ texts_in (items_view changes.items)) }
+// One edit, or none where it is malformed.
+fn edit_of(change: Json) -> Option<ContentChange>
+    ensures { result ≡ edit_of change }
 {
-    let mut texts = Items::new(alloc);
+    let mut members = change.into_members()?;
+    let range = range_in(members.take("range"))?;
+    let text = members.take("text")?.into_text()?;
+    Some(ContentChange { range, text })
+}
+
+// The edits of changes, or none where one of them is malformed.
+fn edits_in(
+    alloc: Global,
+    changes: Vec<Value>,
+) -> Result<Option<Items<ContentChange>>, AllocError>
+    ensures { IfOk result (λ edits. edits ≡ edits_in (items_view changes.items)) }
+{
+    let mut edits = Items::new(alloc);
     for change in changes {
-        match whole_text(Json::new(change)) {
-            Some(text) => texts.push(text)?,
+        match edit_of(Json::new(change)) {
+            Some(edit) => edits.push(edit)?,
             None => return Ok(None),
         }
     }
-    Ok(Some(texts))
+    Ok(Some(edits))
 }
 
 fn change_in(alloc: Global, mut params: Members) -> Result<Option<DidChange>, AllocError>
@@ -90,11 +107,11 @@ fn change_in(alloc: Global, mut params: Members) -> Result<Option<DidChange>, Al
     let Value::Array(changes) = changes.into_value() else {
         return Ok(None);
     };
-    match texts_in(alloc, changes)? {
-        Some(texts) => Ok(Some(DidChange {
+    match edits_in(alloc, changes)? {
+        Some(changes) => Ok(Some(DidChange {
             uri,
             version,
-            texts,
+            changes,
         })),
         None => Ok(None),
     }
@@ -111,19 +128,6 @@ pub fn changed_of(alloc: Global, params: Json) -> Result<Option<DidChange>, Allo
         Some(members) => change_in(alloc, members),
         None => Ok(None),
     }
-}
-
-/// The text that whole texts leave, one after another: the last one that a world can hold.
-pub fn last_text(texts: Items<Text>) -> Option<Text>
-    ensures { result ≡ last_text texts None }
-{
-    let mut found = None;
-    for text in texts.into_vec() {
-        if text.len() <= TEXT_LIMIT {
-            found = Some(text);
-        }
-    }
-    found
 }
 
 /// The id of the request that the params cancel, or none where they are malformed.

@@ -20,14 +20,14 @@ use Rattle.analysis_host.specs.declared.host.WorldFault.TheVariants.{Exhausted}
 use Rattle.session_port.specs.Record.{spawned, with_jobs}
 use Rattle.session_port.specs.declared.command.Command.TheVariants.{Revise}
 use Rattle.session_port.specs.declared.command.LogCode.{LogCode}
-use Rattle.session_port.specs.declared.command.LogCode.TheVariants.{UnhandledNotification, DuplicateOpen, UnexpectedChange}
+use Rattle.session_port.specs.declared.command.LogCode.TheVariants.{UnhandledNotification, DuplicateOpen, UnexpectedChange, SkippedChange}
 use Rattle.session_port.specs.declared.event.TaskMsg.{TaskMsg}
 use Rattle.session_port.specs.declared.job.Job.{Job}
 use Rattle.session_model.specs.Cancelling.{cancel_of, is_unit}
-use Rattle.session_model.specs.Changing.{changed_of, last_text}
-use Rattle.session_model.specs.Headline.{Documents, Reaction, silent, says, reaction_of, row, class_row, new_row, notification_row, batch_row, place_after, number_after, documents_after, pending_after, revision_after, shutdown_after, closed_by, with_text}
+use Rattle.session_model.specs.Changing.{changed_of, text_after, has_skipped}
+use Rattle.session_model.specs.Headline.{Documents, Reaction, silent, says, reaction_of, row, class_row, new_row, notification_row, batch_row, place_after, number_after, documents_after, pending_after, revision_after, shutdown_after, closed_by}
 use Rattle.session_model.specs.Invariant.{StepFits, place_of}
-use Rattle.session_model.specs.Machine.{Working, and_then, next_number, counted, asked, noted, shut_down, admitted, requested, opened, opened_at, open_noted, changed, changed_at, cancelled, version_set, text_set, text_by, holds_text, world_changed, world_by, notified, received, answered, replied, logged, ordered, batched, happened, taken_in, kept, revised, step}
+use Rattle.session_model.specs.Machine.{Working, and_then, next_number, counted, asked, noted, shut_down, admitted, requested, opened, opened_at, open_noted, changed, changed_at, cancelled, version_set, text_set, skip_noted, edited, edited_by, holds_text, world_changed, world_by, notified, received, answered, replied, logged, ordered, batched, happened, taken_in, kept, revised, step}
 use Rattle.session_model.specs.Meaning.{Meaning}
 use Rattle.session_model.specs.Methods.{row_of}
 use Rattle.session_model.specs.Opening.{opened_of}
@@ -216,10 +216,10 @@ held-there : (o : Option (List ℕ)) (text : List ℕ) → holds_text o text ≡
 held-there None text e = absurd cc
 held-there (Some held) text e = ap Some (same_text-is held text e)
 
--- the notification sets the version of a path, and its text where there is one
-record Sets (s : State) (n : Notification) (path : List ℕ) (version : ℤ) (text : Option (List ℕ)) : Type 0 where
+-- the notification sets the version and the text of a path
+record Sets (s : State) (n : Notification) (path : List ℕ) (version : ℤ) (text : List ℕ) : Type 0 where
   other : same_text n.method (codes "$/cancelRequest") ≡ false
-  texts : (documents_after (notification_input n) (place_of s).documents).texts ≡ with_text path text s.host.world.texts
+  texts : (documents_after (notification_input n) (place_of s).documents).texts ≡ map.insert s.host.world.texts path text
   versions : (documents_after (notification_input n) (place_of s).documents).versions ≡ map.insert s.versions path version
 
 abbrev set_state : State → List ℕ → ℤ → State
@@ -228,8 +228,8 @@ set_state s path version = record s { turns = s.turns + 1; versions = map.insert
 abbrev setting_turn : State → List ℕ → ℤ → Written → Working
 setting_turn s path version out = record { state = set_state s path version; out = out }
 
-set-mid : (meaning : Meaning) (s : State) (n : Notification) (path : List ℕ) (version : ℤ) (text : Option (List ℕ)) (out : Written) (host : HostData) → IsQuiet out → Sets s n path version text
-    → host.world.texts ≡ with_text path text s.host.world.texts → s.host.revision ≤ host.revision → Mid meaning s (notification_input n) (record { state = record (set_state s path version) { host = host }; out = out })
+set-mid : (meaning : Meaning) (s : State) (n : Notification) (path : List ℕ) (version : ℤ) (text : List ℕ) (out : Written) (host : HostData) → IsQuiet out → Sets s n path version text
+    → host.world.texts ≡ map.insert s.host.world.texts path text → s.host.revision ≤ host.revision → Mid meaning s (notification_input n) (record { state = record (set_state s path version) { host = host }; out = out })
 set-mid meaning s n path version text out host quiet sets texts later = record {
   turns = refl;
   config = refl;
@@ -248,31 +248,32 @@ set-mid meaning s n path version text out host quiet sets texts later = record {
 abbrev later_host : State → List ℕ → List ℕ → HostData
 later_host s path text = record { world = record { texts = map.insert s.host.world.texts path text }; revision = s.host.revision + 1 }
 
-room-cases : (meaning : Meaning) (s : State) (n : Notification) (path : List ℕ) (version : ℤ) (text : List ℕ) (out : Written) (b : Bool) → IsQuiet out → Sets s n path version (Some text)
+room-cases : (meaning : Meaning) (s : State) (n : Notification) (path : List ℕ) (version : ℤ) (text : List ℕ) (out : Written) (b : Bool) → IsQuiet out → Sets s n path version text
     → IfOk (world_by (if b then Ok (later_host s path text) else Err Exhausted) (setting_turn s path version out)) (Mid meaning s (notification_input n))
 unfolding world_by
-room-cases meaning s n path version text out true quiet sets = set-mid meaning s n path version (Some text) out (later_host s path text) quiet sets refl (omega arith)
+room-cases meaning s n path version text out true quiet sets = set-mid meaning s n path version text out (later_host s path text) quiet sets refl (omega arith)
 room-cases meaning s n path version text out false quiet sets = tt
 
-text-cases : (meaning : Meaning) (s : State) (n : Notification) (path : List ℕ) (version : ℤ) (text : List ℕ) (out : Written) (b : Bool) → IsQuiet out → Sets s n path version (Some text)
+text-cases : (meaning : Meaning) (s : State) (n : Notification) (path : List ℕ) (version : ℤ) (text : List ℕ) (out : Written) (b : Bool) → IsQuiet out → Sets s n path version text
     → holds_text (map.get s.host.world.texts path) text ≡ b
     → IfOk (if b then Ok (setting_turn s path version out) else world_changed ((record { path = path; text = Some text }) ∷ []) (setting_turn s path version out)) (Mid meaning s (notification_input n))
 unfolding world_changed
 text-cases meaning s n path version text out true quiet sets held =
-    set-mid meaning s n path version (Some text) out s.host quiet sets
+    set-mid meaning s n path version text out s.host quiet sets
     (sym (insert-there by_path_total by_path_same s.host.world.texts path text (held-there (map.get s.host.world.texts path) text held))) (omega arith)
 text-cases meaning s n path version text out false quiet sets held = room-cases meaning s n path version text out (ltb s.host.revision (2 ^ 64 - 1)) quiet sets
 
-text-mid : (meaning : Meaning) (s : State) (n : Notification) (path : List ℕ) (version : ℤ) (text : List ℕ) (out : Written) → IsQuiet out → Sets s n path version (Some text)
+text-mid : (meaning : Meaning) (s : State) (n : Notification) (path : List ℕ) (version : ℤ) (text : List ℕ) (out : Written) → IsQuiet out → Sets s n path version text
     → IfOk (text_set path text (version_set path version (record { state = record s { turns = s.turns + 1 }; out = out }))) (Mid meaning s (notification_input n))
 unfolding text_set version_set
 text-mid meaning s n path version text out quiet sets = text-cases meaning s n path version text out (holds_text (map.get s.host.world.texts path) text) quiet sets refl
 
-duplicate-cases : (meaning : Meaning) (s : State) (n : Notification) (path : List ℕ) (version : ℤ) (text : List ℕ) (b : Bool) → Sets s n path version (Some text)
-    → IfOk (text_set path text (version_set path version (if b then logged DuplicateOpen path (counted_turn s) else counted_turn s))) (Mid meaning s (notification_input n))
+-- the same where a line is logged first, or not
+noted-cases : (meaning : Meaning) (s : State) (n : Notification) (code : LogCode) (path : List ℕ) (version : ℤ) (text : List ℕ) (b : Bool) → Sets s n path version text
+    → IfOk (text_set path text (version_set path version (if b then logged code path (counted_turn s) else counted_turn s))) (Mid meaning s (notification_input n))
 unfolding logged ordered
-duplicate-cases meaning s n path version text true sets = text-mid meaning s n path version text _ (record { written = refl; none = refl; unrevised = λ q. refl }) sets
-duplicate-cases meaning s n path version text false sets = text-mid meaning s n path version text _ (record { written = refl; none = refl; unrevised = λ q. refl }) sets
+noted-cases meaning s n code path version text true sets = text-mid meaning s n path version text _ (record { written = refl; none = refl; unrevised = λ q. refl }) sets
+noted-cases meaning s n code path version text false sets = text-mid meaning s n path version text _ (record { written = refl; none = refl; unrevised = λ q. refl }) sets
 
 -- a log line alone
 logged-mid : (meaning : Meaning) (s : State) (n : Notification) (code : LogCode) (text : List ℕ) → same_text n.method (codes "$/cancelRequest") ≡ false → documents_after (notification_input n) (place_of s).documents ≡ (place_of s).documents
@@ -284,7 +285,7 @@ open-path-cases : (meaning : Meaning) (s : State) (n : Notification) (document :
 unfolding opened_at open_noted
 open-path-cases meaning s n document (Err fault) named reads is = logged-mid meaning s n _ _ (other-name n.method _ _ named refl) (rw (named, reads, is) refl)
 open-path-cases meaning s n document (Ok path) named reads is =
-    duplicate-cases meaning s n path document.version document.text (is_some (map.get s.versions path))
+    noted-cases meaning s n DuplicateOpen path document.version document.text (is_some (map.get s.versions path))
     (record { other = other-name n.method _ _ named refl; texts = rw (named, reads, is) refl; versions = rw (named, reads, is) refl })
 
 opened-cases : (meaning : Meaning) (s : State) (n : Notification) (o : Option DidOpen) → same_text n.method (codes "textDocument/didOpen") ≡ true → opened_of n.params ≡ o
@@ -299,16 +300,12 @@ record IsChange (n : Notification) : Type 0 where
   named : same_text n.method (codes "textDocument/didChange") ≡ true
   other : same_text n.method (codes "$/cancelRequest") ≡ false
 
-text_by-mid : (meaning : Meaning) (s : State) (n : Notification) (path : List ℕ) (version : ℤ) (text : Option (List ℕ)) → Sets s n path version text
-    → IfOk (text_by path text (version_set path version (counted_turn s))) (Mid meaning s (notification_input n))
-unfolding text_by version_set
-text_by-mid meaning s n path version None sets = set-mid meaning s n path version None _ s.host (record { written = refl; none = refl; unrevised = λ q. refl }) sets refl (omega arith)
-text_by-mid meaning s n path version (Some text) sets = text-mid meaning s n path version text _ (record { written = refl; none = refl; unrevised = λ q. refl }) sets
-
 is_open-cases : (meaning : Meaning) (s : State) (n : Notification) (change : DidChange) (path : List ℕ) (b : Bool) → IsChange n → changed_of n.params ≡ Some change → path_of change.uri ≡ Ok path → is_some (map.get s.versions path) ≡ b
-    → IfOk (if b then text_by path (last_text change.texts None) (version_set path change.version (counted_turn s)) else Ok (logged UnexpectedChange path (counted_turn s))) (Mid meaning s (notification_input n))
+    → IfOk (if b then edited path change (counted_turn s) else Ok (logged UnexpectedChange path (counted_turn s))) (Mid meaning s (notification_input n))
+unfolding edited edited_by skip_noted
 is_open-cases meaning s n change path true named reads is stays =
-    text_by-mid meaning s n path change.version (last_text change.texts None)
+    let held = map.get s.host.world.texts path in
+    noted-cases meaning s n SkippedChange path change.version (text_after change.changes held) (has_skipped change.changes held)
     (record { other = named.other; texts = rw (named.unlike, named.named, reads, is, stays) refl; versions = rw (named.unlike, named.named, reads, is, stays) refl })
 is_open-cases meaning s n change path false named reads is shut = logged-mid meaning s n _ _ named.other (rw (named.unlike, named.named, reads, is, shut) refl)
 

@@ -1,31 +1,38 @@
--- What a `textDocument/didChange` says (LSP 3.17, DidChangeTextDocumentParams). Each change has the whole text; one of a range isn't read yet.
-use Rattle.std.specs.Prelude.{ℕ, List, [], ◌∷◌, codes, length, nat_le, Bool, false, not, if◌then◌else◌, Option, Some, None, option_map, option_and_then}
+-- What a `textDocument/didChange` says (LSP 3.17, DidChangeTextDocumentParams), and what it makes of a document's text.
+use Rattle.std.specs.Prelude.{ℕ, List, [], ◌∷◌, codes, Bool, if◌then◌else◌, Option, Some, None, option_map, option_and_then, unwrap_or}
 use Rattle.plain.specs.Reading.{as_i32, is_null}
 use Rattle.plain.specs.Plain.{is_plain}
 use Rattle.serde_json.specs.Data.{Data, Members, Items, no_items, item}
 use Rattle.serde_json.specs.Find.{get_member, as_str, as_object, as_array}
+use Rattle.text_core.specs.Changes.{document}
+use Rattle.text_core.specs.Skips.{skips}
+use Rattle.text_core.specs.declared.change.ContentChange.{ContentChange}
+use Rattle.text_core.specs.declared.position.Range.{Range}
+use Rattle.analysis_host.specs.FromProto.{columns, range_of}
 use Rattle.session_model.specs.declared.notice.DidChange.{DidChange}
 
--- a null range is none
-abbrev pub has_range : Option Data → Bool
-has_range None = false
-has_range (Some d) = not (is_null d)
+-- a range that is absent or null is none
+abbrev pub range_in : Option Data → Option (Option Range)
+range_in None = Some None
+range_in (Some d) = if is_null d then Some None else option_map Some (range_of d)
 
-abbrev pub whole_change : Members → Option (List ℕ)
-whole_change ms = if has_range (get_member (codes "range") ms) then None else option_and_then as_str (get_member (codes "text") ms)
+abbrev pub members_edit : Members → Option ContentChange
+members_edit ms =
+    option_and_then (λ range. option_map (λ text. record { range = range; text = text }) (option_and_then as_str (get_member (codes "text") ms)))
+    (range_in (get_member (codes "range") ms))
 
--- the whole text that a change brings
-abbrev pub whole_text : Data → Option (List ℕ)
-whole_text d = option_and_then whole_change (as_object d)
+-- a text, in the place of a range or of the whole text
+abbrev pub edit_of : Data → Option ContentChange
+edit_of d = option_and_then members_edit (as_object d)
 
-abbrev pub texts_in : Items → Option (List (List ℕ))
-texts_in no_items = Some []
-texts_in (item d ds) = option_and_then (λ text. option_map (λ texts. text ∷ texts) (texts_in ds)) (whole_text d)
+abbrev pub edits_in : Items → Option (List ContentChange)
+edits_in no_items = Some []
+edits_in (item d ds) = option_and_then (λ edit. option_map (λ edits. edit ∷ edits) (edits_in ds)) (edit_of d)
 
 abbrev pub change_in : Members → Option Data → Option DidChange
 change_in document changes =
-    option_and_then (λ uri. option_and_then (λ version. option_map (λ texts. record { uri = uri; version = version; texts = texts })
-    (option_and_then texts_in (option_and_then as_array changes)))
+    option_and_then (λ uri. option_and_then (λ version. option_map (λ edits. record { uri = uri; version = version; changes = edits })
+    (option_and_then edits_in (option_and_then as_array changes)))
     (option_and_then as_i32 (get_member (codes "version") document)))
     (option_and_then as_str (get_member (codes "uri") document))
 
@@ -37,7 +44,18 @@ members_change ms =
 abbrev pub changed_of : Data → Option DidChange
 changed_of params = if is_plain params then option_and_then members_change (as_object params) else None
 
--- the text that these leave, one after another, of one found before: each that a world can hold takes the place of what was there
-abbrev pub last_text : List (List ℕ) → Option (List ℕ) → Option (List ℕ)
-last_text [] found = found
-last_text (text ∷ texts) found = last_text texts (if nat_le (length text) 4294967295 then Some text else found)
+-- the most bytes that a text of a world has
+abbrev pub text_limit : ℕ
+text_limit = 4294967295
+
+-- the text of a document; one that has none is empty
+abbrev pub text_held : Option (List ℕ) → List ℕ
+text_held held = unwrap_or held []
+
+-- the text that the changes leave
+unfoldable pub text_after : List ContentChange → Option (List ℕ) → List ℕ
+text_after changes held = document columns text_limit (text_held held) changes
+
+-- one of them was skipped
+unfoldable pub has_skipped : List ContentChange → Option (List ℕ) → Bool
+has_skipped changes held = skips columns text_limit (text_held held) changes

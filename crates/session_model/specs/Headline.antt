@@ -32,7 +32,7 @@ use Rattle.session_port.specs.declared.job.JobKind.TheVariants.{Request as Reque
 use Rattle.session_port.specs.declared.job.JobResult.{JobResult}
 use Rattle.session_model.specs.Course.{Course, Stop as CourseStop, exit, client_gone, bad_frame, bad_message, end_of, session_course}
 use Rattle.session_model.specs.Cancelling.{cancel_of, is_unit}
-use Rattle.session_model.specs.Changing.{changed_of, last_text}
+use Rattle.session_model.specs.Changing.{changed_of, text_after}
 use Rattle.session_model.specs.Meaning.{Meaning}
 use Rattle.session_model.specs.Methods.{row_of, class_of, is_on_loop, retries}
 use Rattle.session_model.specs.Opening.{opened_of}
@@ -94,17 +94,12 @@ abbrev pub with_opened : Option DidOpen → Documents → Documents
 with_opened None documents = documents
 with_opened (Some document) documents = opened_at (path_of document.uri) document documents
 
--- the text of a path
-abbrev pub with_text : List ℕ → Option (List ℕ) → map.FinMap path_cmp (List ℕ) → map.FinMap path_cmp (List ℕ)
-with_text path None texts = texts
-with_text path (Some text) texts = map.insert texts path text
-
--- a document is changed at a path, where it is open
+-- a document is changed at a path, where it is open: its text is what the changes make of it, one after another
 abbrev pub changed_at : Result (List ℕ) UrlFault → DidChange → Documents → Documents
 changed_at (Err fault) change documents = documents
 changed_at (Ok path) change documents =
     if is_some (map.get documents.versions path)
-    then record { texts = with_text path (last_text change.texts None) documents.texts; versions = map.insert documents.versions path change.version }
+    then record { texts = map.insert documents.texts path (text_after change.changes (map.get documents.texts path)); versions = map.insert documents.versions path change.version }
     else documents
 
 abbrev pub with_changed : Option DidChange → Documents → Documents

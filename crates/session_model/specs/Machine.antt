@@ -23,14 +23,14 @@ use Rattle.session_port.specs.Record.{after_order}
 use Rattle.session_port.specs.declared.command.Command.{Command}
 use Rattle.session_port.specs.declared.command.Command.TheVariants.{Spawn, Revise, Log}
 use Rattle.session_port.specs.declared.command.LogCode.{LogCode}
-use Rattle.session_port.specs.declared.command.LogCode.TheVariants.{MalformedNotification, UnhandledNotification, UnknownRequest, UnknownResponse, DuplicateOpen, UnexpectedChange, BadPath, StrangeResult}
+use Rattle.session_port.specs.declared.command.LogCode.TheVariants.{MalformedNotification, UnhandledNotification, UnknownRequest, UnknownResponse, DuplicateOpen, UnexpectedChange, SkippedChange, BadPath, StrangeResult}
 use Rattle.session_port.specs.declared.event.TaskMsg.{TaskMsg}
 use Rattle.session_port.specs.declared.job.Job.{Job}
 use Rattle.session_port.specs.declared.job.JobKind.{JobKind}
 use Rattle.session_port.specs.declared.job.JobKind.TheVariants.{Request as RequestJob}
 use Rattle.session_port.specs.declared.job.JobResult.{JobResult}
 use Rattle.session_model.specs.Cancelling.{cancel_of, is_unit}
-use Rattle.session_model.specs.Changing.{changed_of, last_text}
+use Rattle.session_model.specs.Changing.{changed_of, text_after, has_skipped}
 use Rattle.session_model.specs.Meaning.{Meaning}
 use Rattle.session_model.specs.Methods.{row_of, class_of, is_on_loop, retries}
 use Rattle.session_model.specs.Opening.{opened_of}
@@ -162,16 +162,22 @@ unfoldable pub opened : Option DidOpen → List ℕ → Working → Result Worki
 opened None method w = Ok (logged MalformedNotification method w)
 opened (Some document) method w = opened_at (path_of document.uri) document w
 
-unfoldable pub text_by : List ℕ → Option (List ℕ) → Working → Result Working Counter
-text_by path None w = Ok w
-text_by path (Some text) w = text_set path text w
+-- that an edit was skipped is logged once
+unfoldable pub skip_noted : List ℕ → Bool → Working → Working
+skip_noted path skipped w = if skipped then logged SkippedChange path w else w
 
--- the version is set where the document is open, also where no text is left
+unfoldable pub edited_by : List ℕ → Option (List ℕ) → DidChange → Working → Result Working Counter
+edited_by path held change w =
+    text_set path (text_after change.changes held) (version_set path change.version (skip_noted path (has_skipped change.changes held) w))
+
+-- the text that the changes leave, made on the one that the path has
+unfoldable pub edited : List ℕ → DidChange → Working → Result Working Counter
+edited path change w = edited_by path (map.get w.state.host.world.texts path) change w
+
+-- a document that isn't open is logged; else its version is set, also where each change is skipped
 unfoldable pub changed_at : Result (List ℕ) UrlFault → DidChange → Working → Result Working Counter
 changed_at (Err fault) change w = Ok (logged BadPath change.uri w)
-changed_at (Ok path) change w =
-    if is_open path w then text_by path (last_text change.texts None) (version_set path change.version w)
-    else Ok (logged UnexpectedChange path w)
+changed_at (Ok path) change w = if is_open path w then edited path change w else Ok (logged UnexpectedChange path w)
 
 unfoldable pub changed : Option DidChange → List ℕ → Working → Result Working Counter
 changed None method w = Ok (logged MalformedNotification method w)

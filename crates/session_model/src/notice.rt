@@ -1,5 +1,6 @@
 // What a client tells.
 use plain::{Items, Text};
+use text_core::ContentChange;
 
 /// The params of `textDocument/didOpen` (LSP 3.17, DidOpenTextDocumentParams).
 #[derive(Drop)]
@@ -9,12 +10,11 @@ pub struct DidOpen {
     pub text: Text,
 }
 
-/// The params of `textDocument/didChange` (LSP 3.17, DidChangeTextDocumentParams), of which each change has the
-/// whole text.
+/// The params of `textDocument/didChange` (LSP 3.17, DidChangeTextDocumentParams).
 #[derive(Drop)]
 pub struct DidChange {
     pub uri: Text,
     pub version: i32,
-    /// The texts of the changes, one after another.
-    pub texts: Items<Text>,
+    /// One after another: each is made on the text that those before it leave.
+    pub changes: Items<ContentChange>,
 }

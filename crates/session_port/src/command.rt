@@ -18,6 +18,8 @@ pub enum LogCode {
     DuplicateOpen,
     /// A change of a document that is not open. The text is its path.
     UnexpectedChange,
+    /// A change of which some edit has no place in the text, or would leave too long a one. The text is the path.
+    SkippedChange,
     /// A URL that names no file. The text is the URL.
     BadPath,
     /// A message that fits no job out. The text is the job's number.

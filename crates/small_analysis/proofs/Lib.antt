@@ -2,5 +2,5 @@ pub mod BracketLemmas
 pub mod Laws
 pub mod LineLemmas
 pub mod ListLemmas
-pub mod OffsetLemmas
+pub mod PlaceLemmas
 pub mod RunLemmas

@@ -1,16 +1,16 @@
 -- Lists that are read or made item by item.
-use Rattle.std.proofs.Common.{◌≡◌, ◌+◌, ◌≤◌, true, false, not, List, [], ◌∷◌, ◌++◌, map, Option, refl, ap, ◌∙◌, arith}
+use Rattle.std.proofs.Common.{◌≡◌, ◌≤◌, true, false, not, List, [], ◌∷◌, ◌++◌, map, Option, refl, ap, ◌∙◌, arith}
 use Rattle.std.specs.Prelude.{suc, ◌&&◌, nat_le}
 use Rattle.std.specs.Option.{option_map}
 use Rattle.std.proofs.lemmas.Bool.{le-leb}
 use Rattle.plain.specs.Plain.{is_plain, most_levels}
-use Rattle.serde_json.specs.Data.{item, items_depth}
+use Rattle.serde_json.specs.Data.{items_depth}
 use Rattle.serde_json.specs.Written.{items_have_float}
 use Rattle.serde_json.specs.View.{items_of, view}
 use Rattle.serde_json.specs.declared.value.Value.{Value}
 use Rattle.small_analysis.specs.Params.{positions_in}
 use Rattle.small_analysis.specs.Small.{position_value, positions_value}
-use Rattle.small_analysis.specs.declared.params.Position.{Position}
+use Rattle.text_core.specs.declared.position.Position.{Position}
 
 -- what is done, and then the others
 abbrev pub joined : {X : Type 0} → List X → Option (List X) → Option (List X)

@@ -1,10 +1,10 @@
 -- The params of a hover (LSP 3.17, HoverParams) and of matchingBrace, as far as they are read.
 use Rattle.std.specs.Prelude.{ℕ, List, [], ◌∷◌, codes, Option, Some, option_and_then}
 use Rattle.std.specs.Option.{option_map}
-use Rattle.plain.specs.Reading.{as_u32}
 use Rattle.serde_json.specs.Data.{Data, Items, no_items, item}
 use Rattle.serde_json.specs.Find.{get, as_array, as_str}
-use Rattle.small_analysis.specs.declared.params.Position.{Position}
+use Rattle.analysis_host.specs.FromProto.{position_of as position_in}
+use Rattle.text_core.specs.declared.position.Position.{Position}
 
 -- what hover is asked for
 pub record HoverData : Type 0 where
@@ -19,16 +19,6 @@ pub record BraceData : Type 0 where
 -- the text `uri` in `textDocument`
 abbrev pub uri_of : Data → Option (List ℕ)
 uri_of params = option_and_then as_str (option_and_then (get (codes "uri")) (get (codes "textDocument") params))
-
--- a whole number of u32
-abbrev pub number_at : List ℕ → Data → Option ℕ
-number_at key d = option_and_then as_u32 (get key d)
-
--- an object with the numbers `line` and `character`
-abbrev pub position_in : Data → Option Position
-position_in d =
-    option_and_then (λ line. option_map (λ character. record { line = line; character = character }) (number_at (codes "character") d))
-    (number_at (codes "line") d)
 
 -- the position in `position`
 abbrev pub position_of : Data → Option Position

@@ -15,11 +15,11 @@ use Rattle.analysis_host.specs.declared.ask.Ask.TheVariants.{Request}
 use Rattle.analysis_host.specs.declared.ask.Answer.TheVariants.{Json}
 use Rattle.analysis_host.specs.declared.ask.Outcome.{Outcome}
 use Rattle.analysis_host.specs.declared.ask.Outcome.TheVariants.{Value, Fault, Cancelled}
-use Rattle.small_analysis.specs.declared.params.Position.{Position}
+use Rattle.text_core.specs.declared.position.Position.{Position}
 use Rattle.small_analysis.specs.Brackets.{partner_near}
 use Rattle.small_analysis.specs.Names.{name_at}
 use Rattle.small_analysis.specs.Params.{HoverData, BraceData, hover_params, brace_params}
-use Rattle.small_analysis.specs.Positions.{offset_of}
+use Rattle.small_analysis.specs.Positions.{place_in}
 
 -- the row of `textDocument/hover`
 abbrev pub is_hover : RowId → Bool
@@ -66,7 +66,7 @@ hover_at text None = refusal (codes "Invalid offset")
 hover_at text (Some offset) = answer (Json (hover_value (name_at text offset)))
 
 abbrev pub hover_in : Position → List ℕ → Finding
-hover_in position text = hover_at text (offset_of text position.line position.character)
+hover_in position text = hover_at text (place_in text position)
 
 abbrev pub hover_of : SnapshotData → Option HoverData → Finding
 hover_of snapshot None = malformed
@@ -81,7 +81,7 @@ abbrev pub all_matched : List ℕ → List Position → Option (List Position)
 all_matched text [] = Some []
 all_matched text (position ∷ positions) =
     option_and_then (λ place. option_map (λ others. matched text position place ∷ others) (all_matched text positions))
-    (offset_of text position.line position.character)
+    (place_in text position)
 
 -- `{"character": .., "line": ..}`
 abbrev pub position_value : Position → Data

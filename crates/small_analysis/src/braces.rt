@@ -1,29 +1,29 @@
 // What matchingBrace answers.
-ghost use Rattle.std.specs.Prelude.{◌≡◌, ◌<◌, map, true, None, IfOk};
+ghost use Rattle.std.specs.Prelude.{◌≡◌, map, true, None, IfOk};
 ghost use Rattle.serde_json.specs.Data.{array};
 ghost use Rattle.serde_json.specs.View.{items_view, view};
 ghost use Rattle.plain.specs.Plain.{is_plain};
 ghost use Rattle.analysis_host.specs.Answers.{Answers, IsPlainOutcome};
 ghost use Rattle.small_analysis.specs.Brackets.{partners_of};
 ghost use Rattle.small_analysis.specs.Params.{brace_params};
-ghost use Rattle.small_analysis.specs.Positions.{units, AreLineStarts};
 ghost use Rattle.small_analysis.specs.Small.{all_matched, braces_in, braces_of, in_text, matched, position_value, positions_value, text_of};
 
 use crate::brackets::{Bracket, bracket_near, partners_of};
 use crate::found::{refusal, text_of};
-use crate::offsets::{line_starts, place_by};
-use crate::params::{Position, list_of, positions_in, uri_of};
+use crate::offsets::place_in;
+use crate::params::{list_of, positions_in, uri_of};
 use analysis_host::{Answer, GlobalStateSnapshot, Outcome};
 use plain::{ByNumber, Items, Json, Members, Text};
 use serde_json::Value;
 use std::alloc::{AllocError, Global};
+use text_core::{Position, TextIndex};
 
 /// Where the bracket stands that matches the one near a place, else the position itself.
-fn matched(text: &[u8], partners: &ByNumber<Bracket>, position: Position, place: usize) -> Position
+fn matched(text: &str, partners: &ByNumber<Bracket>, position: Position, place: usize) -> Position
     requires { partners.now ≡ partners_of text.now }
     ensures { result ≡ matched text.now position place }
 {
-    let Some(near) = bracket_near(text, place) else {
+    let Some(near) = bracket_near(text.as_bytes(), place) else {
         return position;
     };
     match partners.get(near as u64) {
@@ -35,21 +35,19 @@ fn matched(text: &[u8], partners: &ByNumber<Bracket>, position: Position, place:
 /// The same of each position, where all have a place.
 fn all_matched_by(
     alloc: Global,
-    text: &[u8],
-    starts: &[usize],
+    index: &TextIndex,
     partners: &ByNumber<Bracket>,
     positions: &[Position],
 ) -> Result<Option<Items<Position>>, AllocError>
-    requires starts { AreLineStarts text.now starts.now }
-    requires partners { partners.now ≡ partners_of text.now }
-    ensures { IfOk result (λ found. found ≡ all_matched text.now positions.now) }
+    requires { partners.now ≡ partners_of index.now }
+    ensures { IfOk result (λ found. found ≡ all_matched index.now positions.now) }
 {
     let mut found = Items::new(alloc);
     for position in positions {
-        let Some(place) = place_by(text, starts, *position) else {
+        let Some(place) = place_in(index, *position) else {
             return Ok(None);
         };
-        found.push(matched(text, partners, *position, place))?;
+        found.push(matched(index.text(), partners, *position, place))?;
     }
     Ok(Some(found))
 }
@@ -57,25 +55,24 @@ fn all_matched_by(
 /// The match of each position. It reads the text once.
 fn all_matched(
     alloc: Global,
-    text: &str,
+    index: &TextIndex,
     positions: &[Position],
 ) -> Result<Option<Items<Position>>, AllocError>
-    ensures { IfOk result (λ found. found ≡ all_matched text.now positions.now) }
+    ensures { IfOk result (λ found. found ≡ all_matched index.now positions.now) }
 {
-    let bytes = text.as_bytes();
-    // There are as many code units at most, so a column fits 64 bits.
-    let _length = bytes.len();
-    let starts = line_starts(alloc, bytes)?;
-    let partners = partners_of(alloc, bytes)?;
-    all_matched_by(alloc, bytes, &starts, &partners, positions)
+    // There are as many lines and code units at most, so both fit 32 bits.
+    let _length = index.len();
+    let partners = partners_of(alloc, index.text().as_bytes())?;
+    all_matched_by(alloc, index, &partners, positions)
 }
 
 fn position_value(alloc: Global, position: Position) -> Result<Value, AllocError>
     ensures { IfOk result (λ value. view value ≡ position_value position) }
 {
     let mut members = Members::new(alloc);
-    members.put(alloc, "character", Json::from_u64(position.character))?;
-    members.put(alloc, "line", Json::from_u64(position.line))?;
+    let Position { line, character } = position;
+    members.put(alloc, "character", Json::from_u64(u64::from(character)))?;
+    members.put(alloc, "line", Json::from_u64(u64::from(line)))?;
     Ok(members.into_json().into_value())
 }
 
@@ -104,11 +101,11 @@ fn positions_value(alloc: Global, positions: &[Position]) -> Result<Json, AllocE
 }
 
 /// The matches of positions in a text.
-fn in_text(alloc: Global, text: &str, positions: &[Position]) -> Result<Outcome, AllocError>
-    ensures answers { IfOk result (Answers (braces_in positions.now text.now) None) }
+fn in_text(alloc: Global, index: &TextIndex, positions: &[Position]) -> Result<Outcome, AllocError>
+    ensures answers { IfOk result (Answers (braces_in positions.now index.now) None) }
     ensures plain { IfOk result IsPlainOutcome }
 {
-    match all_matched(alloc, text, positions)? {
+    match all_matched(alloc, index, positions)? {
         None => Ok(refusal(Text::from_str(alloc, "Invalid offset")?)),
         Some(found) => {
             let value = positions_value(alloc, found.as_slice())?;
@@ -128,7 +125,7 @@ fn at_url(
     ensures plain { IfOk result IsPlainOutcome }
 {
     match text_of(alloc, snapshot, uri)? {
-        Ok(text) => in_text(alloc, text, positions),
+        Ok(index) => in_text(alloc, index, positions),
         Err(message) => Ok(refusal(message)),
     }
 }

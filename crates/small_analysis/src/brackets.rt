@@ -1,13 +1,13 @@
 // The brackets of a text that match.
-ghost use Rattle.std.specs.Prelude.{◌≡◌, ◌<◌, ◌^◌, slice_get, sum_by, IfOk};
+ghost use Rattle.std.specs.Prelude.{◌≡◌, ◌<◌, ◌^◌, length, slice_get, sum_by, IfOk};
 ghost use Rattle.small_analysis.specs.Brackets.{closes, is_bracket, is_bracket_at, is_opener, bracket_near, partners_of, with_byte, IsMatching};
 ghost use Rattle.small_analysis.specs.Positions.{units};
 
 use crate::offsets::past_byte;
-use crate::params::Position;
 use plain::ByNumber;
 use std::alloc::{AllocError, Global};
 use std::collections::VecDeque;
+use text_core::Position;
 
 /// A byte of a text with its place and its position.
 #[derive(Clone, Copy, Drop)]
@@ -71,7 +71,8 @@ fn take_byte(
 
 /// The partner of each bracket that is matched, by its place.
 pub(crate) fn partners_of(alloc: Global, text: &[u8]) -> Result<ByNumber<Bracket>, AllocError>
-    requires { sum_by units text.now < 2 ^ 64 }
+    requires length { length text.now < 2 ^ 32 }
+    requires columns { sum_by units text.now < 2 ^ 32 }
     ensures value { IfOk result (λ partners. partners ≡ partners_of text.now) }
     ensures matching { IfOk result (IsMatching text.now) }
 {

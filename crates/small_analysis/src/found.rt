@@ -7,6 +7,7 @@ use analysis_host::{GlobalStateSnapshot, Outcome};
 use docs_vfs::{UrlFault, VfsPath, path_of_url};
 use plain::Text;
 use std::alloc::{AllocError, Global};
+use text_core::TextIndex;
 
 /// A fault without code.
 pub(crate) fn refusal(message: Text) -> Outcome
@@ -28,19 +29,19 @@ fn not_found(alloc: Global, path: &VfsPath) -> Result<Text, AllocError>
     Ok(message)
 }
 
-/// The text of the file that a URL names, or the message that there is none.
+/// The text of the file that a URL names, with its lines, or the message that there is none.
 pub(crate) fn text_of<'a>(
     alloc: Global,
     snapshot: &'a GlobalStateSnapshot,
     uri: &str,
-) -> Result<Result<&'a str, Text>, AllocError>
+) -> Result<Result<&'a TextIndex, Text>, AllocError>
     ensures { IfOk result (λ found. MatchResult found
         (λ text. text_of snapshot.now uri.now ≡ Ok text.now)
         (λ message. text_of snapshot.now uri.now ≡ Err message)) }
 {
     match path_of_url(alloc, uri) {
-        Ok(path) => match snapshot.file_text(&path) {
-            Some(text) => Ok(Ok(text)),
+        Ok(path) => match snapshot.file_index(&path) {
+            Some(index) => Ok(Ok(index)),
             None => Ok(Err(not_found(alloc, &path)?)),
         },
         Err(UrlFault::NoMemory) => Err(AllocError),

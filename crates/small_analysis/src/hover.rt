@@ -7,11 +7,12 @@ ghost use Rattle.small_analysis.specs.Small.{hover_value, hover_in, hover_of, in
 
 use crate::found::{refusal, text_of};
 use crate::names::name_at;
-use crate::offsets::offset_of;
-use crate::params::{Position, position_of, uri_of};
+use crate::offsets::place_in;
+use crate::params::{position_of, uri_of};
 use analysis_host::{Answer, GlobalStateSnapshot, Outcome};
 use plain::{Json, Members, Text};
 use std::alloc::{AllocError, Global};
+use text_core::{Position, TextIndex};
 
 /// What a hover shows for a name.
 #[tactic(auto, unfolding(plain::specs::Plain::most_levels))]
@@ -32,14 +33,14 @@ fn hover_value(alloc: Global, name: Option<&str>) -> Result<Json, AllocError>
 }
 
 /// Hover at a position of a text.
-fn in_text(alloc: Global, text: &str, position: Position) -> Result<Outcome, AllocError>
-    ensures answers { IfOk result (Answers (hover_in position text.now) None) }
+fn in_text(alloc: Global, index: &TextIndex, position: Position) -> Result<Outcome, AllocError>
+    ensures answers { IfOk result (Answers (hover_in position index.now) None) }
     ensures plain { IfOk result IsPlainOutcome }
 {
-    match offset_of(text, position) {
+    match place_in(index, position) {
         None => Ok(refusal(Text::from_str(alloc, "Invalid offset")?)),
         Some(offset) => {
-            let value = hover_value(alloc, name_at(text, offset))?;
+            let value = hover_value(alloc, name_at(index.text(), offset))?;
             Ok(Outcome::Value(Answer::Json(value)))
         }
     }
@@ -56,7 +57,7 @@ fn at_url(
     ensures plain { IfOk result IsPlainOutcome }
 {
     match text_of(alloc, snapshot, uri)? {
-        Ok(text) => in_text(alloc, text, position),
+        Ok(index) => in_text(alloc, index, position),
         Err(message) => Ok(refusal(message)),
     }
 }

@@ -1,44 +1,20 @@
 // The params of a hover and of matchingBrace.
 ghost use Rattle.std.specs.Prelude.{◌≡◌, IfOk, is_some, option_copied};
 ghost use Rattle.std.specs.Option.{option_map};
-ghost use Rattle.serde_json.specs.View.{items_view, view};
-ghost use Rattle.small_analysis.specs.Params.{list_of, uri_of, number_at, position_in, position_of, positions_in, positions_of};
+ghost use Rattle.serde_json.specs.View.{items_view};
+ghost use Rattle.small_analysis.specs.Params.{list_of, uri_of, position_of, positions_in, positions_of};
 
+use analysis_host::position_of as position_in;
 use plain::{Items, Json};
 use serde_json::Value;
 use std::alloc::{AllocError, Global};
-
-/// A line, and a column in UTF-16 code units.
-#[derive(Clone, Copy, Drop)]
-pub(crate) struct Position {
-    pub(crate) line: u64,
-    pub(crate) character: u64,
-}
+use text_core::Position;
 
 /// The URL of the params' document.
 pub(crate) fn uri_of(params: &Json) -> Option<&str>
     ensures { option_copied result ≡ uri_of params.now }
 {
     params.as_value().get("textDocument")?.get("uri")?.as_str()
-}
-
-fn number_at(value: &Value, key: &str) -> Option<u32>
-    ensures { result ≡ number_at key.now (view value.now) }
-{
-    let number = value.get(key)?.as_u64()?;
-    if number <= u64::from(u32::MAX) {
-        Some(number as u32)
-    } else {
-        None
-    }
-}
-
-fn position_in(value: &Value) -> Option<Position>
-    ensures { result ≡ position_in (view value.now) }
-{
-    let line = u64::from(number_at(value, "line")?);
-    let character = u64::from(number_at(value, "character")?);
-    Some(Position { line, character })
 }
 
 /// The position of the params.

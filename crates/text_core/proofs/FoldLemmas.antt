@@ -1,6 +1,6 @@
 -- Rebuilds and texts over lists of changes.
-use Rattle.std.proofs.Common.{◌≡◌, ℕ, zero, suc, ◌+◌, ◌-◌, ◌<◌, ◌≤◌, Bool, true, false, ◌&&◌, List, [], ◌∷◌, length, take, drop, get_or, set, Option, Some, None, refl, ap, sym, subst, ◌∙◌, arith, ⊎_elim}
-use Rattle.std.specs.Prelude.{slice_get, is_none}
+use Rattle.std.proofs.Common.{◌≡◌, ℕ, zero, suc, ◌+◌, ◌-◌, ◌<◌, ◌≤◌, Bool, true, false, ◌&&◌, ◌||◌, List, [], ◌∷◌, length, take, drop, get_or, set, Option, Some, None, refl, ap, sym, subst, ◌∙◌, arith, ⊎_elim}
+use Rattle.std.specs.Prelude.{slice_get, is_none, is_some}
 use Rattle.std.specs.Option.{unwrap_or}
 use Rattle.std.specs.List.{fold}
 use Rattle.std.proofs.lemmas.Bool.{cases_Bool, cond-true, cond-false, false≢true}
@@ -12,14 +12,15 @@ use Rattle.text_core.specs.declared.position.Range.{Range}
 use Rattle.text_core.specs.declared.change.ContentChange.{ContentChange}
 use Rattle.text_core.specs.Changes.{fits, edited, changed, changed_at, admitted, document}
 use Rattle.text_core.specs.Rebuilds.{Progress, begun, is_past, refreshed, after_edit, with_edit, progress_at, progressed, rebuilds}
+use Rattle.text_core.specs.Skips.{is_skipped_at, is_skipped, all_ranged, some_skipped, skips}
 use Rattle.text_core.specs.Whole.{is_whole, HaveRanges, StandsLast, Begins, taken}
 
 -- the same with more rebuilds before
 abbrev pub raised : ℕ → Progress → Progress
 raised n p = record p { rebuilds = n + p.rebuilds }
 
-abbrev made : List ℕ → Option ℕ → ℕ → Progress
-made text least rebuilds = record { text = text; least = least; rebuilds = rebuilds }
+abbrev made : List ℕ → Option ℕ → Bool → ℕ → Progress
+made text least skipped rebuilds = record { text = text; least = least; skipped = skipped; rebuilds = rebuilds }
 
 and_first : (a b : Bool) → (a && b) ≡ true → a ≡ true
 and_first true b h = refl
@@ -37,7 +38,7 @@ refreshed_raised : (n : ℕ) (range : Range) (p : Progress) → refreshed range 
 refreshed_raised n range p = ⊎_elim
     (λ t.
     let sum : n + p.rebuilds + 1 ≡ n + (p.rebuilds + 1) = omega arith in
-    cond-true _ _ _ t ∙ ap (made p.text None) sum ∙ sym (ap (raised n) (cond-true _ _ _ t)))
+    cond-true _ _ _ t ∙ ap (made p.text None p.skipped) sum ∙ sym (ap (raised n) (cond-true _ _ _ t)))
     (λ f. cond-false _ _ _ f ∙ sym (ap (raised n) (cond-false _ _ _ f)))
     (cases_Bool (is_past range p.least))
 
@@ -138,6 +139,51 @@ fold_text e limit p [] = refl
 fold_text e limit p (c ∷ xs) =
     fold_text e limit (progressed e limit p c) xs ∙ ap (λ t. fold (changed e limit) t xs) (progress_at_text e limit p c.range c.text)
 
+-- what is noted of skipped edits
+refreshed_skipped : (range : Range) (p : Progress) → (refreshed range p).skipped ≡ p.skipped
+refreshed_skipped range p = ⊎_elim
+    (λ t. ap (λ (q : Progress). q.skipped) (cond-true _ _ _ t))
+    (λ f. ap (λ (q : Progress). q.skipped) (cond-false _ _ _ f))
+    (cases_Bool (is_past range p.least))
+
+after_edit_skipped : (line : ℕ) (p : Progress) (next : Option (List ℕ)) → (after_edit line p next).skipped ≡ (is_none next || p.skipped)
+after_edit_skipped line p None = refl
+after_edit_skipped line p (Some text) = refl
+
+progress_at_skipped : (e : PositionEncoding) (limit : ℕ) (p : Progress) (range : Option Range) (new : List ℕ)
+    → (progress_at e limit p range new).skipped ≡ (is_skipped_at e limit p.text range new || is_some range && p.skipped)
+progress_at_skipped e limit p None new = refl
+progress_at_skipped e limit p (Some range) new =
+    after_edit_skipped range.start.line (refreshed range p) (edited e limit p.text range new)
+    ∙ ap (λ b. is_none (edited e limit p.text range new) || b) (refreshed_skipped range p)
+
+or_false : (b : Bool) → b ≡ (b || false)
+or_false true = refl
+or_false false = refl
+
+none_noted : (b c : Bool) → (b && false || c) ≡ c
+none_noted true c = refl
+none_noted false c = refl
+
+noted_first : (later skipped ranged noted others : Bool)
+    → (later && (skipped || ranged && noted) || others) ≡ (ranged && later && noted || (skipped && later || others))
+noted_first later skipped ranged noted others = grind arith
+
+fold_skipped : (e : PositionEncoding) (limit : ℕ) (p : Progress) (xs : List ContentChange)
+    → (fold (progressed e limit) p xs).skipped ≡ (all_ranged xs && p.skipped || some_skipped e limit p.text xs)
+fold_skipped e limit p [] = or_false p.skipped
+fold_skipped e limit p (c ∷ xs) =
+    fold_skipped e limit (progressed e limit p c) xs
+    ∙ ap (λ b. all_ranged xs && b || some_skipped e limit (progressed e limit p c).text xs) (progress_at_skipped e limit p c.range c.text)
+    ∙ ap (λ t. all_ranged xs && (is_skipped e limit p.text c || is_some c.range && p.skipped) || some_skipped e limit t xs) (progress_at_text e limit p c.range c.text)
+    ∙ noted_first (all_ranged xs) (is_skipped e limit p.text c) (is_some c.range) p.skipped (some_skipped e limit (changed e limit p.text c) xs)
+
+pub skips_are : (e : PositionEncoding) (limit : ℕ) (contents : List ℕ) (xs : List ContentChange) → skips e limit contents xs ≡ (fold (taken e limit) (begun contents) xs).skipped
+unfolding skips
+skips_are e limit contents xs =
+    sym (ap (λ (p : Progress). p.skipped) (sym (fold_admitted e limit (begun contents) xs)) ∙ fold_skipped e limit (begun contents) (admitted limit xs)
+    ∙ none_noted (all_ranged (admitted limit xs)) (some_skipped e limit contents (admitted limit xs)))
+
 pub document_is : (e : PositionEncoding) (limit : ℕ) (contents : List ℕ) (xs : List ContentChange) → document e limit contents xs ≡ (fold (taken e limit) (begun contents) xs).text
 unfolding document
 document_is e limit contents xs = sym (ap (λ (p : Progress). p.text) (sym (fold_admitted e limit (begun contents) xs)) ∙ fold_text e limit (begun contents) (admitted limit xs))
@@ -196,6 +242,10 @@ pub begins_document : (e : PositionEncoding) (limit : ℕ) (contents : List ℕ)
     → document e limit contents xs ≡ (fold (taken e limit) (begun text) rest).text
 begins_document e limit contents xs text rest begins = document_is e limit contents xs ∙ ap (λ (p : Progress). p.text) (begins.same e)
 
+pub begins_skips : (e : PositionEncoding) (limit : ℕ) (contents : List ℕ) (xs : List ContentChange) (text : List ℕ) (rest : List ContentChange) → Begins limit contents xs text rest
+    → skips e limit contents xs ≡ (fold (taken e limit) (begun text) rest).skipped
+begins_skips e limit contents xs text rest begins = skips_are e limit contents xs ∙ ap (λ (p : Progress). p.skipped) (begins.same e)
+
 pub begins_rebuilds : (e : PositionEncoding) (limit : ℕ) (contents : List ℕ) (xs : List ContentChange) (text : List ℕ) (rest : List ContentChange) → Begins limit contents xs text rest
     → rebuilds e limit contents xs ≡ (fold (taken e limit) (begun text) rest).rebuilds
 begins_rebuilds e limit contents xs text rest begins = rebuilds_are e limit contents xs ∙ ap (λ (p : Progress). p.rebuilds) (begins.same e)
@@ -211,3 +261,10 @@ pub begins_same : (limit : ℕ) (contents : List ℕ) (xs ys : List ContentChang
 begins_same limit contents xs ys text n vs ws same left begins =
     subst (Begins limit contents ys text) (sym (take_rest ws n))
     (subst (λ l. Begins limit contents l text (drop n ws)) same (subst (λ l. Begins limit contents xs text (drop n l)) left begins))
+
+-- the same of equal lists of changes
+pub document_of : (e : PositionEncoding) (limit : ℕ) (contents : List ℕ) (xs ys : List ContentChange) → ys ≡ xs → (fold (taken e limit) (begun contents) ys).text ≡ document e limit contents xs
+document_of e limit contents xs ys same = ap (λ l. (fold (taken e limit) (begun contents) l).text) same ∙ sym (document_is e limit contents xs)
+
+pub skips_of : (e : PositionEncoding) (limit : ℕ) (contents : List ℕ) (xs ys : List ContentChange) → ys ≡ xs → (fold (taken e limit) (begun contents) ys).skipped ≡ skips e limit contents xs
+skips_of e limit contents xs ys same = ap (λ l. (fold (taken e limit) (begun contents) l).skipped) same ∙ sym (skips_are e limit contents xs)

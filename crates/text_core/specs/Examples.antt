@@ -1,5 +1,5 @@
--- Changes that the tests count rebuilds of.
-use Rattle.std.specs.Prelude.{ℕ, List, [], ◌∷◌, codes, Some}
+-- Changes that the tests count rebuilds of, and look for skips among.
+use Rattle.std.specs.Prelude.{ℕ, List, [], ◌∷◌, codes, Some, None}
 use Rattle.text_core.specs.declared.position.PositionEncoding.{PositionEncoding}
 use Rattle.text_core.specs.declared.position.PositionEncoding.TheVariants.{Wide}
 use Rattle.text_core.specs.declared.position.WideEncoding.TheVariants.{Utf16}
@@ -22,3 +22,9 @@ at_line line = edit_at line 0 line 0 (codes "x")
 -- a new line, an edit whose range is reversed by lines, and an edit past the first
 abbrev pub with_reversed : List ContentChange
 with_reversed = edit_at 1 0 1 0 (120 ∷ 121 ∷ 122 ∷ 10 ∷ []) ∷ edit_at 3 0 0 0 (codes "?") ∷ edit_at 2 0 2 1 (codes "B") ∷ []
+
+abbrev pub whole_text : List ℕ → ContentChange
+whole_text text = record { range = None; text = text }
+
+abbrev pub insert : List ℕ → ContentChange
+insert text = edit_at 0 0 0 0 text

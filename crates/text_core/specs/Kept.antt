@@ -1,8 +1,10 @@
 -- What is known of lines in an index that is kept over edits.
-use Rattle.std.specs.Prelude.{◌≡◌, ℕ, ◌≤◌, List, length, slice_get, string_bytes, Option, Some, None}
+use Rattle.std.specs.Prelude.{◌≡◌, ℕ, ◌≤◌, false, List, length, slice_get, string_bytes, Option, Some, None}
 use Rattle.text_core.specs.Positions.{line_start}
 use Rattle.text_core.specs.Rebuilds.{Progress}
+use Rattle.text_core.specs.Starts.{line_starts}
 use Rattle.text_core.specs.declared.draft.Draft.{Draft}
+use Rattle.text_core.specs.declared.editing.EditedText.{EditedText}
 
 -- a line at which no later edit was made
 abbrev pub IsKnown : Option ℕ → ℕ → Type 0
@@ -17,6 +19,18 @@ pub record IsKept (limit : ℕ) (text starts : List ℕ) (least : Option ℕ) : 
 abbrev pub IsKeptIn : ℕ → Draft → Type 0
 IsKeptIn limit draft = IsKept limit (string_bytes draft.text) draft.starts.items draft.least
 
+-- a draft that wasn't edited yet
+pub record IsNewDraft (draft : Draft) : Type 0 where
+  pub starts : draft.starts.items ≡ line_starts (string_bytes draft.text)
+  pub least : draft.least ≡ None
+  pub skipped : draft.skipped ≡ false
+
+-- the end of a progress: its text, which is within the limit, and whether an edit was skipped
+pub record IsEdited (limit : ℕ) (end : Progress) (edited : EditedText) : Type 0 where
+  pub text : edited.text ≡ end.text
+  pub skipped : edited.skipped ≡ end.skipped
+  pub fits : length edited.text ≤ limit
+
 -- a draft and the rebuilds so far
 abbrev pub progress : Draft → ℕ → Progress
-progress draft rebuilds = record { text = string_bytes draft.text; least = draft.least; rebuilds = rebuilds }
+progress draft rebuilds = record { text = string_bytes draft.text; least = draft.least; skipped = draft.skipped; rebuilds = rebuilds }

@@ -1,7 +1,9 @@
 pub mod Positions
+pub mod Same
 pub mod Starts
 pub mod Changes
 pub mod Rebuilds
+pub mod Skips
 pub mod Kept
 pub mod Whole
 pub mod LineEnds

@@ -1,19 +1,21 @@
--- How often the index of lines is built anew, where one is kept over a list of changes.
-use Rattle.std.specs.Prelude.{ℕ, ◌+◌, nat_le, max, min, Bool, false, List, if◌then◌else◌, Option, Some, None}
+-- A text on the way through a list of changes, and how often the index of lines that is kept over it is built anew.
+use Rattle.std.specs.Prelude.{ℕ, ◌+◌, nat_le, max, min, Bool, true, false, List, if◌then◌else◌, Option, Some, None}
 use Rattle.std.specs.List.{fold}
 use Rattle.text_core.specs.declared.position.PositionEncoding.{PositionEncoding}
 use Rattle.text_core.specs.declared.position.Range.{Range}
 use Rattle.text_core.specs.declared.change.ContentChange.{ContentChange}
 use Rattle.text_core.specs.Changes.{edited, admitted}
 
--- a text on the way, the least line at which an edit was made since the index was built, and the rebuilds so far
+-- a text on the way, the least line at which an edit was made since the index was built, whether an edit was skipped, and
+-- the rebuilds so far
 pub record Progress : Type 0 where
   pub text : List ℕ
   pub least : Option ℕ
+  pub skipped : Bool
   pub rebuilds : ℕ
 
 abbrev pub begun : List ℕ → Progress
-begun text = record { text = text; least = None; rebuilds = 0 }
+begun text = record { text = text; least = None; skipped = false; rebuilds = 0 }
 
 -- the greater line of a range is at or past the least line
 abbrev pub is_past : Range → Option ℕ → Bool
@@ -28,9 +30,9 @@ abbrev pub lowered : ℕ → Option ℕ → ℕ
 lowered line None = line
 lowered line (Some least) = min least line
 
--- an edit lowers the least line to its start's; a skipped one doesn't
+-- an edit lowers the least line to its start's; a skipped one doesn't, and is noted
 abbrev pub after_edit : ℕ → Progress → Option (List ℕ) → Progress
-after_edit line p None = p
+after_edit line p None = record p { skipped = true }
 after_edit line p (Some text) = record p { text = text; least = Some (lowered line p.least) }
 
 abbrev pub with_edit : PositionEncoding → ℕ → Range → List ℕ → Progress → Progress

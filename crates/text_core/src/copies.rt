@@ -1,11 +1,12 @@
 // The types of this crate as elements of lists: their clones are equal values, and `==` says whether two are equal.
 ghost use Rattle.std.specs.Prelude.{◌≡◌};
 ghost use Rattle.std.proofs.Common.{rules};
+ghost use Rattle.text_core.specs.Same.{position_told, range_told};
 
 use crate::change::{CompletionEdit, ContentChange, TextEdit};
 use crate::line_endings::LineEndings;
 use crate::position::{OffsetFault, Position, PositionEncoding, Range, WideEncoding};
-use plain::Copied;
+use plain::{Copied, Told};
 
 impl Copied for WideEncoding {
     ghost copies = { λ x y h. Prim.search rules };
@@ -41,4 +42,12 @@ impl Copied for ContentChange {
 
 impl Copied for CompletionEdit {
     ghost copies = { λ x y h. Prim.search rules };
+}
+
+impl Told for Position {
+    ghost tells = { position_told };
+}
+
+impl Told for Range {
+    ghost tells = { range_told };
 }

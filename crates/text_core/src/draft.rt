@@ -1,22 +1,41 @@
 // A text that is edited, with the line starts that are kept over the edits.
-ghost use Rattle.std.specs.Prelude.{◌≡◌, ◌≤◌, ℕ, length, false, OnOk, string_bytes};
+ghost use Rattle.std.specs.Prelude.{◌≡◌, ◌<◌, ◌≤◌, ◌^◌, ℕ, length, false, OnOk, IfOk, string_bytes};
 ghost use Rattle.text_core.specs.Changes.{edited};
 ghost use Rattle.text_core.specs.Rebuilds.{is_past, refreshed, after_edit, with_edit};
-ghost use Rattle.text_core.specs.Kept.{IsKeptIn, progress};
+ghost use Rattle.text_core.specs.Kept.{IsKeptIn, IsNewDraft, progress};
 
 use crate::offsets::range_of;
 use crate::position::{PositionEncoding, Range};
 use crate::starts::find_starts;
 use crate::steps::Steps;
-use std::alloc::AllocError;
+use plain::Text;
+use std::alloc::{AllocError, Global};
 use std::sync::ledger::Ledger;
 
-/// A text, the starts of its lines up to the least line at which an edit was made, and that line.
+/// A text, the starts of its lines up to the least line at which an edit was made, that line, and whether an edit was
+/// skipped.
 #[derive(Drop)]
 pub(crate) struct Draft {
     pub(crate) text: String,
     pub(crate) starts: Vec<u32>,
     pub(crate) least: Option<u32>,
+    pub(crate) skipped: bool,
+}
+
+/// A draft of a text.
+pub(crate) fn new_draft(alloc: Global, text: Text) -> Result<Draft, AllocError>
+    requires { length text < 2 ^ 32 }
+    ensures new { IfOk result IsNewDraft }
+    ensures text { IfOk result (λ draft. string_bytes draft.text ≡ text) }
+{
+    let mut starts = Vec::new(alloc);
+    find_starts(&mut starts, text.as_str().as_bytes())?;
+    Ok(Draft {
+        text: text.into_string(),
+        starts,
+        least: None,
+        skipped: false,
+    })
 }
 
 /// Whether the greater line of a range is at or past the least line.
@@ -51,7 +70,7 @@ fn refresh<L: Ledger>(
     Ok(())
 }
 
-/// Puts a text in the place of a range, where that can be done.
+/// Puts a text in the place of a range, where that can be done. Else it is noted as skipped.
 fn replace(
     draft: &mut Draft,
     encoding: PositionEncoding,
@@ -67,11 +86,14 @@ fn replace(
         OnOk result ((n : ℕ) → progress draft.new n ≡ after_edit range.start.line (progress draft.old n) next) }
 {
     let Ok((start, end)) = range_of(encoding, draft.text.as_str(), &draft.starts, range) else {
+        draft.skipped = true;
         return Ok(());
     };
     if draft.text.len() - (end - start) + new_text.len() <= limit as usize {
         draft.text.replace_range(start..end, new_text)?;
         draft.least = Some(range.start.line);
+    } else {
+        draft.skipped = true;
     }
     Ok(())
 }

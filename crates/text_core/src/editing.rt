@@ -1,21 +1,30 @@
 // A text after a list of changes.
-ghost use Rattle.std.specs.Prelude.{◌≡◌, ◌+◌, ◌<◌, ◌≤◌, ℕ, length, drop, None, OnOk, IfOk, string_bytes, false};
+ghost use Rattle.std.specs.Prelude.{◌≡◌, ◌+◌, ◌<◌, ◌≤◌, ◌^◌, ℕ, List, length, drop, None, OnOk, IfOk, IfSome, IsNone, string_bytes, false};
 ghost use Rattle.std.specs.List.{fold};
 ghost use Rattle.text_core.specs.Changes.{document};
 ghost use Rattle.text_core.specs.Rebuilds.{begun, rebuilds};
-ghost use Rattle.text_core.specs.Kept.{IsKeptIn, progress};
+ghost use Rattle.text_core.specs.Skips.{skips};
+ghost use Rattle.text_core.specs.Kept.{IsKeptIn, IsNewDraft, IsEdited, progress};
 ghost use Rattle.text_core.specs.Whole.{is_whole, HaveRanges, IsLastWhole, Begins, taken};
 
 use crate::change::ContentChange;
-use crate::draft::{Draft, edit};
+use crate::draft::{Draft, edit, new_draft};
 use crate::position::PositionEncoding;
-use crate::starts::find_starts;
 use crate::steps::Steps;
+use crate::text_index::TextIndex;
 use plain::{Items, Text};
 use std::alloc::{AllocError, Global};
 use std::marker::Brand;
 use std::mem;
 use std::sync::ledger::{Blank, Ledger};
+
+/// A text after changes, and whether one of them was skipped.
+#[derive(Drop)]
+pub struct EditedText {
+    pub text: Text,
+    /// Whether an edit could not be made, after the last change that is the whole text.
+    pub skipped: bool,
+}
 
 /// Whether a change is the whole text.
 fn is_whole(change: &ContentChange, limit: u32) -> bool
@@ -73,6 +82,7 @@ fn take_changes<L: Ledger>(
 ) -> Result<(), AllocError>
     requires kept { IsKeptIn limit draft.old }
     requires ranged { HaveRanges limit changes.now }
+    ensures kept { OnOk result (IsKeptIn limit draft.new) }
     ensures progress { let start = progress draft.old steps.old in
         OnOk result (progress draft.new steps.new ≡ fold (taken encoding limit) start changes.now) }
     ensures most { let start = progress draft.old steps.old in
@@ -84,6 +94,32 @@ fn take_changes<L: Ledger>(
     Ok(())
 }
 
+/// What a draft becomes by changes none of which is the whole text.
+fn edit_draft<L: Ledger>(
+    mut draft: Draft,
+    encoding: PositionEncoding,
+    changes: &[ContentChange],
+    limit: u32,
+    steps: &mut Steps<L>,
+) -> Result<EditedText, AllocError>
+    requires new { IsNewDraft draft }
+    requires fits { length (string_bytes draft.text) ≤ limit }
+    requires ranged { HaveRanges limit changes.now }
+    ensures edited { let end = fold (taken encoding limit) (begun (string_bytes draft.text)) changes.now in
+        IfOk result (IsEdited limit end) }
+    ensures steps { let end = fold (taken encoding limit) (begun (string_bytes draft.text)) changes.now in
+        OnOk result (steps.new ≡ steps.old + end.rebuilds) }
+    ensures most { let end = fold (taken encoding limit) (begun (string_bytes draft.text)) changes.now in
+        steps.new ≤ steps.old + end.rebuilds }
+{
+    take_changes(&mut draft, encoding, changes, limit, steps)?;
+    let Draft { text, skipped, .. } = draft;
+    Ok(EditedText {
+        text: Text::from_string(text),
+        skipped,
+    })
+}
+
 /// A text after changes none of which is the whole text.
 fn edit_text<L: Ledger>(
     alloc: Global,
@@ -92,28 +128,37 @@ fn edit_text<L: Ledger>(
     changes: &[ContentChange],
     limit: u32,
     steps: &mut Steps<L>,
-) -> Result<Text, AllocError>
+) -> Result<EditedText, AllocError>
     requires fits { length text ≤ limit }
     requires ranged { HaveRanges limit changes.now }
-    ensures text { let end = fold (taken encoding limit) (begun text) changes.now in
-        IfOk result (λ new. new ≡ end.text) }
+    ensures edited { let end = fold (taken encoding limit) (begun text) changes.now in
+        IfOk result (IsEdited limit end) }
     ensures steps { let end = fold (taken encoding limit) (begun text) changes.now in
         OnOk result (steps.new ≡ steps.old + end.rebuilds) }
     ensures most { let end = fold (taken encoding limit) (begun text) changes.now in
         steps.new ≤ steps.old + end.rebuilds }
 {
     if changes.is_empty() {
-        return Ok(text);
+        return Ok(EditedText {
+            text,
+            skipped: false,
+        });
     }
-    let mut starts = Vec::new(alloc);
-    find_starts(&mut starts, text.as_str().as_bytes())?;
-    let mut draft = Draft {
-        text: text.into_string(),
-        starts,
-        least: None,
-    };
-    take_changes(&mut draft, encoding, changes, limit, steps)?;
-    Ok(Text::from_string(draft.text))
+    let draft = new_draft(alloc, text)?;
+    edit_draft(draft, encoding, changes, limit, steps)
+}
+
+/// The last change that is the whole text, if there is one, and from which change on the others are made.
+fn whole_text(alloc: Global, changes: &mut Vec<ContentChange>, limit: u32) -> Option<(Text, usize)>
+    ensures none { IsNone result → HaveRanges limit changes.new.items }
+    ensures same { IsNone result → changes.new.items ≡ changes.old.items }
+    ensures within { IfSome result (λ start. start.1 ≤ length changes.new.items) }
+    ensures begins { IfSome result (λ start. (contents : List ℕ) →
+        Begins limit contents changes.old.items start.0 (drop start.1 changes.new.items)) }
+{
+    let i = last_whole(changes, limit)?;
+    let text = mem::replace(&mut changes[i].text, Text::new(alloc));
+    Some((text, i + 1))
 }
 
 /// The text to begin with, and from which change on the others are made.
@@ -128,11 +173,8 @@ fn begin(
     ensures begins { IfOk result (λ start.
         Begins limit file_contents.now changes.old.items start.0 (drop start.1 changes.new.items)) }
 {
-    match last_whole(changes, limit) {
-        Some(i) => {
-            let text = mem::replace(&mut changes[i].text, Text::new(alloc));
-            Ok((text, i + 1))
-        }
+    match whole_text(alloc, changes, limit) {
+        Some(start) => Ok(start),
         None => Ok((Text::from_str(alloc, file_contents)?, 0)),
     }
 }
@@ -161,7 +203,8 @@ pub fn apply_with_limit<L: Ledger>(
 {
     let mut changes = content_changes.into_vec();
     let (text, from) = begin(alloc, file_contents, &mut changes, limit)?;
-    edit_text(alloc, encoding, text, &changes[from..], limit, steps)
+    let edited = edit_text(alloc, encoding, text, &changes[from..], limit, steps)?;
+    Ok(edited.text)
 }
 
 /// The same where nobody counts the steps.
@@ -172,14 +215,14 @@ fn edit_uncounted<L: Ledger>(
     changes: &[ContentChange],
     limit: u32,
     blank: Blank,
-) -> Result<Text, AllocError>
+) -> Result<EditedText, AllocError>
     requires name { blank.name ≡ L.name }
     requires parts { blank.parts ≡ L.parts }
     requires some { 0 < L.parts }
     requires fits { length text ≤ limit }
     requires ranged { HaveRanges limit changes.now }
     ensures { let end = fold (taken encoding limit) (begun text) changes.now in
-        IfOk result (λ new. new ≡ end.text) }
+        IfOk result (IsEdited limit end) }
 {
     let mut steps = Steps::<L>::new(blank);
     edit_text(alloc, encoding, text, changes, limit, &mut steps)
@@ -199,5 +242,50 @@ pub fn apply_document_changes(
     let mut changes = content_changes.into_vec();
     let (text, from) = begin(alloc, file_contents, &mut changes, u32::MAX)?;
     let rest = &changes[from..];
-    edit_uncounted::<Brand>(alloc, encoding, text, rest, u32::MAX, Blank::new(1))
+    let edited = edit_uncounted::<Brand>(alloc, encoding, text, rest, u32::MAX, Blank::new(1))?;
+    Ok(edited.text)
+}
+
+/// An indexed text after changes none of which is the whole text.
+fn edit_indexed<L: Ledger>(
+    alloc: Global,
+    encoding: PositionEncoding,
+    index: &TextIndex,
+    changes: &[ContentChange],
+    blank: Blank,
+) -> Result<EditedText, AllocError>
+    requires name { blank.name ≡ L.name }
+    requires parts { blank.parts ≡ L.parts }
+    requires some { 0 < L.parts }
+    requires ranged { HaveRanges u32.MAX changes.now }
+    ensures { let end = fold (taken encoding u32.MAX) (begun index.now) changes.now in
+        IfOk result (IsEdited u32.MAX end) }
+{
+    let draft = index.draft(alloc)?;
+    let mut steps = Steps::<L>::new(blank);
+    edit_draft(draft, encoding, changes, u32::MAX, &mut steps)
+}
+
+/// A document after a list of changes, as `apply_document_changes` has it, and whether one of them was skipped. It takes
+/// the line starts from the index, and copies nothing of it where the last change is the whole text.
+pub fn edit_document(
+    alloc: Global,
+    encoding: PositionEncoding,
+    index: &TextIndex,
+    content_changes: Items<ContentChange>,
+) -> Result<EditedText, AllocError>
+    ensures text { let end = document encoding u32.MAX index.now content_changes in
+        IfOk result (λ edited. edited.text ≡ end) }
+    ensures skipped { let told = skips encoding u32.MAX index.now content_changes in
+        IfOk result (λ edited. edited.skipped ≡ told) }
+    ensures within { IfOk result (λ edited. length edited.text < 2 ^ 32) }
+{
+    let mut changes = content_changes.into_vec();
+    match whole_text(alloc, &mut changes, u32::MAX) {
+        Some((text, from)) => {
+            let rest = &changes[from..];
+            edit_uncounted::<Brand>(alloc, encoding, text, rest, u32::MAX, Blank::new(1))
+        }
+        None => edit_indexed::<Brand>(alloc, encoding, index, &changes, Blank::new(1)),
+    }
 }

@@ -24,7 +24,7 @@ pub use change::{CompletionEdit, ContentChange, TextEdit};
 pub use completion::{HashedItem, PostfixMatch, RefMode, Relevance, ReturnType, TypeMatch};
 pub use completion_hash::{completion_item_hash, equal_bytes_are_equal_items};
 pub use disjoint::all_edits_are_disjoint;
-pub use editing::{apply_document_changes, apply_with_limit};
+pub use editing::{EditedText, apply_document_changes, apply_with_limit, edit_document};
 pub use line_endings::LineEndings;
 pub use position::{OffsetFault, Position, PositionEncoding, Range, WideEncoding};
 pub use steps::Steps;

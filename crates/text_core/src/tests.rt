@@ -1,12 +1,13 @@
-ghost use Rattle.std.specs.Prelude.{◌≡◌, ◌<◌, [], ◌∷◌};
+ghost use Rattle.std.specs.Prelude.{◌≡◌, ◌<◌, [], ◌∷◌, codes, true, false};
 ghost use Rattle.text_core.specs.Rebuilds.{rebuilds};
-ghost use Rattle.text_core.specs.Examples.{utf16, three_lines, at_line, with_reversed};
+ghost use Rattle.text_core.specs.Skips.{skips};
+ghost use Rattle.text_core.specs.Examples.{utf16, three_lines, at_line, with_reversed, whole_text, insert};
 
 use crate::{
     CompletionEdit, ContentChange, HashedItem, LineEndings, LineIndex, OffsetFault, Position,
     PositionEncoding, PostfixMatch, Range, RefMode, Relevance, ReturnType, Steps, TextEdit,
     TextIndex, TypeMatch, WideEncoding, all_edits_are_disjoint, apply_document_changes,
-    apply_with_limit, completion_item_hash, offset, slow, text_range,
+    apply_with_limit, completion_item_hash, edit_document, offset, slow, text_range,
 };
 use plain::{Items, Text};
 use std::alloc::{AllocError, Global};
@@ -262,6 +263,86 @@ fn removed_text(rt: HostRuntime) -> Result<(), Fail> {
             "the quick \nthey have quiet dreams\n"
         )?
     );
+    Ok(())
+}
+
+/// Whether a document becomes a text by changes, and whether it is told that one was skipped.
+fn document_becomes(
+    alloc: Global,
+    text: &str,
+    changes: Items<ContentChange>,
+    after: &str,
+    skipped: bool,
+) -> Result<bool, Fail> {
+    if text.len() > u32::MAX as usize {
+        return Err(Fail::from("too long"));
+    }
+    let index = TextIndex::new(alloc, text)?;
+    let edited = edit_document(alloc, UTF16, &index, changes)?;
+    Ok(edited.text.is(after) && edited.skipped == skipped)
+}
+
+#[test]
+fn skips_are_told(rt: HostRuntime) -> Result<(), Fail> {
+    for (text, range, new, after, skipped) in [
+        ("😀b", range(0, 1, 0, 1), "x", "😀b", true),
+        ("😀b", range(0, 2, 0, 2), "x", "😀xb", false),
+        ("ab", range(1, 0, 1, 0), "X", "ab", true),
+        ("ab\ncd", range(0, 99, 0, 99), "X", "ab\nXcd", false),
+        ("a\nb", range(1, 0, 0, 0), "X", "a\nb", true),
+    ] {
+        let changes = edits(rt.alloc(), &[(range, new)])?;
+        assert!(rt;
+            document_becomes(rt.alloc(), text, changes, after, skipped)?,
+            "{text:?} {range:?}"
+        );
+    }
+    Ok(())
+}
+
+/// Skips under a small limit.
+fn skips_by_example()
+    ensures limited { skips utf16 3 (codes "ab") (insert (codes "XY") ∷ insert (codes "X") ∷ []) ≡ true }
+    ensures dropped { skips utf16 3 (codes "ab") (insert (codes "four") ∷ []) ≡ false }
+    ensures whole_dropped { skips utf16 3 (codes "ab") (at_line 9 ∷ whole_text (codes "four") ∷ []) ≡ true }
+    ensures before_whole { skips utf16 3 (codes "ab") (at_line 9 ∷ whole_text (codes "the") ∷ []) ≡ false }
+{}
+
+#[test]
+fn skips_under_a_limit() {
+    skips_by_example();
+}
+
+#[test]
+fn a_skip_among_edits(rt: HostRuntime) -> Result<(), Fail> {
+    let list = [
+        (range(0, 0, 0, 0), "x\n"),
+        (range(7, 0, 7, 0), "?"),
+        (range(1, 0, 1, 0), "y"),
+    ];
+    let changes = edits(rt.alloc(), &list)?;
+    assert!(rt; document_becomes(rt.alloc(), "a", changes, "x\nya", true)?);
+    Ok(())
+}
+
+#[test]
+fn a_skip_before_the_whole_text(rt: HostRuntime) -> Result<(), Fail> {
+    let alloc = rt.alloc();
+    let mut changes = Items::new(alloc);
+    changes.push(edit(alloc, range(7, 0, 7, 0), "gone")?)?;
+    changes.push(whole(alloc, "the")?)?;
+    assert!(rt; document_becomes(alloc, "old", changes, "the", false)?);
+    Ok(())
+}
+
+#[test]
+fn a_skip_after_the_whole_text(rt: HostRuntime) -> Result<(), Fail> {
+    let alloc = rt.alloc();
+    let mut changes = Items::new(alloc);
+    changes.push(whole(alloc, "the")?)?;
+    changes.push(edit(alloc, range(7, 0, 7, 0), "gone")?)?;
+    changes.push(edit(alloc, range(0, 3, 0, 3), "n")?)?;
+    assert!(rt; document_becomes(alloc, "old", changes, "then", true)?);
     Ok(())
 }
 

@@ -1,8 +1,10 @@
 // Lines of a text, and the offsets of positions in it.
-ghost use Rattle.std.specs.Prelude.{◌≡◌, ◌+◌, ◌<◌, ◌↔◌, ◌^◌, [], length, count_by, IsTrue, IfOk, IsNone};
+ghost use Rattle.std.specs.Prelude.{◌≡◌, ◌+◌, ◌<◌, ◌↔◌, ◌^◌, [], length, count_by, IsTrue, IfOk, IsNone, string_bytes};
 ghost use Rattle.std.specs.Arc.{arc_value};
+ghost use Rattle.text_core.specs.Kept.{IsNewDraft};
 ghost use Rattle.text_core.specs.Positions.{ends_line, line_span, place_of, range_of};
 
+use crate::draft::Draft;
 use crate::line_endings::LineEndings;
 use crate::offsets;
 use crate::position::{OffsetFault, Position, PositionEncoding, Range};
@@ -59,6 +61,20 @@ impl TextIndex {
         self.text.as_str()
     }
 
+    /// A draft of the text, with the line starts that are known.
+    pub(crate) fn draft(&self, alloc: Global) -> Result<Draft, AllocError>
+        ensures new { IfOk result IsNewDraft }
+        ensures text { IfOk result (λ draft. string_bytes draft.text ≡ self.now) }
+        ensures within { IfOk result (λ draft. length (string_bytes draft.text) < 2 ^ 32) }
+    {
+        Ok(Draft {
+            text: String::from_str(alloc, self.text.as_str())?,
+            starts: self.starts.to_vec(alloc)?,
+            least: None,
+            skipped: false,
+        })
+    }
+
     /// Where a line begins and ends, with its LF.
     pub fn line(&self, line: u32) -> Option<(u32, u32)>
         ensures value { result ≡ line_span line self.now }
@@ -91,7 +107,11 @@ impl TextIndex {
     }
 
     /// The byte at which a position stands.
-    pub fn place_of(&self, encoding: PositionEncoding, position: Position) -> Result<u32, OffsetFault>
+    pub fn place_of(
+        &self,
+        encoding: PositionEncoding,
+        position: Position,
+    ) -> Result<u32, OffsetFault>
         ensures { result ≡ place_of encoding self.now position }
     {
         let place = offsets::place_of(encoding, self.text.as_str(), &self.starts, position)?;
@@ -99,7 +119,11 @@ impl TextIndex {
     }
 
     /// The bytes from which and up to which a range goes.
-    pub fn range_of(&self, encoding: PositionEncoding, range: Range) -> Result<(u32, u32), OffsetFault>
+    pub fn range_of(
+        &self,
+        encoding: PositionEncoding,
+        range: Range,
+    ) -> Result<(u32, u32), OffsetFault>
         ensures { result ≡ range_of encoding self.now range }
     {
         let (start, end) = offsets::range_of(encoding, self.text.as_str(), &self.starts, range)?;

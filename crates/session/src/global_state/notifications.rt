@@ -1,26 +1,31 @@
 // Messages of the client: notifications, and which message is what.
-ghost use Rattle.std.specs.Prelude.{◌≡◌, Ok, is_some};
+ghost use Rattle.std.specs.Prelude.{◌≡◌, ◌<◌, ◌^◌, All, length, Ok, IfOk, IfSome, is_some};
 ghost use Rattle.std.specs.FinMap as map;
-ghost use Rattle.session_model.specs.Machine.{received, notified, opened, opened_at, open_noted, changed, changed_at, text_by, cancelled, logged, version_set, text_set, holds_text, world_changed};
+ghost use Rattle.analysis_host.specs.HostData.{Fits};
+ghost use Rattle.session_model.specs.Changing.{text_after, has_skipped};
+ghost use Rattle.session_model.specs.Machine.{received, notified, opened, opened_at, open_noted, changed, changed_at, edited, edited_by, skip_noted, cancelled, logged, version_set, text_set, holds_text, world_changed};
 ghost use Rattle.session_model.specs.Meaning.{meaning_of};
 ghost use Rattle.session_model.specs.Meets.{Meets, Gives};
 
 use crate::global_state::GlobalState;
 use crate::methods::is_name;
-use crate::notices::{cancel_of, changed_of, last_text, opened_of};
+use crate::notices::{cancel_of, changed_of, opened_of};
 use crate::replies;
 use crate::turn_out::TurnOut;
-use analysis_host::{Analysis, Change, FileChange, WorldFault};
+use analysis_host::{Analysis, Change, FileChange, WorldFault, columns};
 use docs_vfs::{UrlFault, VfsPath, path_of_url};
 use lsp_frame::{Message, Notification, RequestId};
 use plain::{Items, Text};
 use session_model::{Counter, DidChange, DidOpen, TurnError};
 use session_port::LogCode;
+use std::alloc::AllocError;
+use text_core::{ContentChange, EditedText, TextIndex, edit_document};
 
 impl GlobalState {
     // One change of the world, and so one revision more.
     #[tactic(auto, unfolding(session_model::specs::Machine::world_changed, session_model::specs::Machine::world_by))]
     fn change_world(&mut self, files: Items<FileChange>, out: &mut TurnOut) -> Result<(), TurnError>
+        requires { All Fits files }
         ensures { Meets result (world_changed files (record { state = self.old; out = out.old })) self.new out.new }
     {
         match self.host.apply_change(Change { files }) {
@@ -35,6 +40,7 @@ impl GlobalState {
     // The text of a path, where the world has another one.
     #[tactic(auto, unfolding(session_model::specs::Machine::text_set))]
     fn set_text(&mut self, path: VfsPath, text: Text, out: &mut TurnOut) -> Result<(), TurnError>
+        requires { length text < 2 ^ 32 }
         ensures { Meets result (text_set path text (record { state = self.old; out = out.old })) self.new out.new }
     {
         if self.has_text(&path, &text) {
@@ -106,6 +112,7 @@ impl GlobalState {
         document: DidOpen,
         out: &mut TurnOut,
     ) -> Result<(), TurnError>
+        requires { length document.text < 2 ^ 32 }
         ensures { Meets result (opened_at (Ok path) document (record { state = self.old; out = out.old })) self.new out.new }
     {
         self.note_open(&path, out)?;
@@ -120,6 +127,7 @@ impl GlobalState {
         method: Text,
         out: &mut TurnOut,
     ) -> Result<(), TurnError>
+        requires { IfSome document (λ document. length document.text < 2 ^ 32) }
         ensures { Meets result (opened document method (record { state = self.old; out = out.old })) self.new out.new }
     {
         let Some(document) = document else {
@@ -134,22 +142,62 @@ impl GlobalState {
         }
     }
 
-    #[tactic(auto, unfolding(session_model::specs::Machine::text_by))]
-    fn set_text_by(
-        &mut self,
-        path: VfsPath,
-        text: Option<Text>,
-        out: &mut TurnOut,
-    ) -> Result<(), TurnError>
-        ensures { Meets result (text_by path text (record { state = self.old; out = out.old })) self.new out.new }
+    // The text that the changes leave of a document's; one that has none is empty.
+    #[tactic(auto, unfolding(session_model::specs::Changing::text_after, session_model::specs::Changing::has_skipped))]
+    fn edit_text(
+        &self,
+        path: &VfsPath,
+        changes: Items<ContentChange>,
+    ) -> Result<EditedText, AllocError>
+        ensures text { IfOk result (λ edited. edited.text ≡ text_after changes (map.get self.now.host.world.texts path.now)) }
+        ensures skipped { IfOk result (λ edited. edited.skipped ≡ has_skipped changes (map.get self.now.host.world.texts path.now)) }
+        ensures fits { IfOk result (λ edited. length edited.text < 2 ^ 32) }
     {
-        match text {
-            None => Ok(()),
-            Some(text) => self.set_text(path, text, out),
+        match self.host.index(path) {
+            Some(index) => edit_document(self.alloc, columns(), index, changes),
+            None => {
+                let empty = TextIndex::from_text(self.alloc, Text::new(self.alloc))?;
+                edit_document(self.alloc, columns(), &empty, changes)
+            }
         }
     }
 
-    // The version is set where the document is open, also where no text is left.
+    // That an edit was skipped is logged.
+    #[tactic(auto, unfolding(session_model::specs::Machine::skip_noted))]
+    fn note_skip(
+        &mut self,
+        path: &VfsPath,
+        skipped: bool,
+        out: &mut TurnOut,
+    ) -> Result<(), TurnError>
+        ensures { Gives result (skip_noted path.now skipped (record { state = self.old; out = out.old })) self.new out.new }
+    {
+        if !skipped {
+            return Ok(());
+        }
+        self.log_path(LogCode::SkippedChange, path, out)
+    }
+
+    // The version is set also where the text stays as it is.
+    #[tactic(auto, unfolding(session_model::specs::Machine::edited, session_model::specs::Machine::edited_by))]
+    fn edit_at(
+        &mut self,
+        path: VfsPath,
+        change: DidChange,
+        out: &mut TurnOut,
+    ) -> Result<(), TurnError>
+        ensures { Meets result (edited path change (record { state = self.old; out = out.old })) self.new out.new }
+    {
+        let DidChange {
+            version, changes, ..
+        } = change;
+        let EditedText { text, skipped } = self.edit_text(&path, changes)?;
+        self.note_skip(&path, skipped, out)?;
+        self.set_version(path.clone()?, version, out)?;
+        self.set_text(path, text, out)
+    }
+
+    // A document that isn't open is logged.
     #[tactic(auto, unfolding(session_model::specs::Machine::changed_at))]
     fn change_at(
         &mut self,
@@ -162,8 +210,7 @@ impl GlobalState {
         if !self.is_open(&path) {
             return self.log_path(LogCode::UnexpectedChange, &path, out);
         }
-        self.set_version(path.clone()?, change.version, out)?;
-        self.set_text_by(path, last_text(change.texts), out)
+        self.edit_at(path, change, out)
     }
 
     #[tactic(auto, unfolding(session_model::specs::Machine::changed, session_model::specs::Machine::changed_at))]

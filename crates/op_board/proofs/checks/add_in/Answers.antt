@@ -1,7 +1,7 @@
 use Rattle.std.proofs.Common.{ap, ◌∙◌}
 use Rattle.std.specs.FinMap as map
 use Rattle.op_board.specs.Checks.{package_or_new, add_to}
-use Rattle.op_board.specs.Packages.{package_total, package_same}
+use Rattle.op_board.proofs.PackageOrder.{package_total, package_same}
 use Rattle.op_board.proofs.Rooms.{put_back}
 use Rattle.op_board.proofs.checks.add_in.Goals as goal
 

@@ -2,7 +2,7 @@ use Rattle.std.proofs.Common.{sym, ap, ◌∙◌}
 use Rattle.std.specs.FinMap as map
 use Rattle.std.proofs.lemmas.Bool.{cond-false}
 use Rattle.op_board.specs.Checks.{drop_package, drops_at}
-use Rattle.op_board.specs.Packages.{package_total, package_same}
+use Rattle.op_board.proofs.PackageOrder.{package_total, package_same}
 use Rattle.op_board.proofs.Rooms.{remove_none, put_back, insert_same}
 use Rattle.op_board.proofs.clearing.drop_package.Goals as goal
 

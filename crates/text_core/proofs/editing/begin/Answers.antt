@@ -1,15 +1,4 @@
-use Rattle.std.proofs.Common.{◌≡◌, ap, subst, ◌∙◌, Some}
-use Rattle.std.specs.Prelude.{slice_get}
-use Rattle.std.proofs.lemmas.Option.{get_or_from_slice_get}
-use Rattle.text_core.specs.declared.change.ContentChange.{ContentChange}
-use Rattle.text_core.specs.Whole.{StandsLast}
-use Rattle.text_core.proofs.FoldLemmas.{begins_whole}
 use Rattle.text_core.proofs.editing.begin.Goals as goal
 
 pub returns-in-Some-clause-begins : goal.returns-in-Some-clause-begins
-returns-in-Some-clause-begins c =
-    let last : StandsLast c.args.limit c.args.changes.now.items c.in-Some.i = subst (λ l. StandsLast c.args.limit l c.in-Some.i) c.deref.ensures.value c.in-Some.ensures in
-    let here : slice_get c.args.changes.now.items c.in-Some.i ≡ Some last.change = last.here in
-    let same : c.index_mut.result.now ≡ last.change = c.index_mut.ensures.value ∙ get_or_from_slice_get c.args.changes.now.items c.in-Some.i last.change c.index_mut.result.now here in
-    begins_whole c.args.limit c.args.file_contents.now c.args.changes.now.items c.in-Some.i last _ c.replace-text.result
-    (c.replace-text.ensures.value ∙ ap (λ (change : ContentChange). change.text) same)
+returns-in-Some-clause-begins c = c.in-Some.ensures.begins c.args.file_contents.now

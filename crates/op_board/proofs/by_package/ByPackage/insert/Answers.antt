@@ -1,6 +1,6 @@
 use Rattle.std.proofs.Common.{ap, ◌∙◌}
 use Rattle.std.specs.Prelude.{Some}
-use Rattle.op_board.specs.Packages.{package_total, package_same}
+use Rattle.op_board.proofs.PackageOrder.{package_total, package_same}
 use Rattle.std.specs.FinMap as map
 use Rattle.plain.proofs.Mapped.{view-update}
 use Rattle.op_board.proofs.by_package.ByPackage.insert.Goals as goal

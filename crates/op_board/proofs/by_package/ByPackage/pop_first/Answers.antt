@@ -1,5 +1,5 @@
 use Rattle.std.proofs.Common.{refl, arith}
-use Rattle.op_board.specs.Packages.{package_total}
+use Rattle.op_board.proofs.PackageOrder.{package_total}
 use Rattle.plain.proofs.Mapped.{popped}
 use Rattle.op_board.proofs.by_package.ByPackage.pop_first.Goals as goal
 

@@ -1,6 +1,6 @@
 use Rattle.std.proofs.Common.{sym, ap, ◌∙◌}
 use Rattle.std.specs.Map.{values_of}
-use Rattle.op_board.specs.Packages.{package_total}
+use Rattle.op_board.proofs.PackageOrder.{package_total}
 use Rattle.std.specs.FinMap as map
 use Rattle.plain.proofs.Mapped.{entries-view}
 use Rattle.op_board.proofs.by_package.ByPackage.values.Goals as goal
