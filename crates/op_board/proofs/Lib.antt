@@ -1,4 +1,7 @@
+pub mod CheckMarks
 pub mod PackageRuns
+pub mod RowLemmas
+pub mod SoundRows
 pub mod MarkRuns
 pub mod NativeRuns
 pub mod PackageOrder

@@ -2,13 +2,11 @@
 use Rattle.std.proofs.Common.{◌≡◌, ℕ, ◌<◌, ◌≤◌, Bool, true, false, ◌&&◌, ◌||◌, List, [], ◌∷◌, ◌++◌, refl, ap, sym, subst, ◌∙◌, arith}
 use Rattle.std.specs.Prelude.{T, max, Option, None, Some, cond, nat_eq, nat_lt, option_to_list}
 use Rattle.std.specs.List.{list_any}
-use Rattle.std.specs.Ordering.{nat_cmp, is_eq, is_lt}
-use Rattle.std.specs.declared.cmp.Ordering.{Ordering}
-use Rattle.std.specs.declared.cmp.Ordering.TheVariants.{Less, Equal, Greater}
+use Rattle.std.specs.Ordering.{nat_cmp}
 use Rattle.std.specs.Cmp.{nat_cmp_total, unsigned_tied}
 use Rattle.std.specs.FinMap as map
 use Rattle.std.specs.FinMap.Entries.{below_all}
-use Rattle.std.proofs.lemmas.Bool.{cond_both, cond-true, cond-false, true≢false, eqb-true, eq-eqb, ne_eqb, ltb-true, ltb-false, and_parts}
+use Rattle.std.proofs.lemmas.Bool.{cond_both, cond-true, cond-false, eqb-true, eq-eqb, ne_eqb, ltb-true, ltb-false, and_parts}
 use Rattle.std.proofs.Common.{append_assoc}
 use Rattle.docs_vfs.specs.declared.file_kinds.FileId.{FileId}
 use Rattle.op_board.specs.declared.diagnostic.Diagnostic.{Diagnostic}
@@ -26,6 +24,7 @@ use Rattle.op_board.specs.Acts.Act.{Counts, Gives, Clears, Adds, Forgets, Forget
 use Rattle.op_board.specs.Board.{Board}
 use Rattle.op_board.specs.Runs.{same_file}
 use Rattle.op_board.specs.CheckRuns.{Came, same_id, same_name, newest, came, of_generation, same_entry, as_told, entries, said_of, fixes_told, package_in, package_at, listed_in, fixes_at}
+use Rattle.op_board.proofs.RowLemmas.{tie, front, back, none_below}
 use Rattle.op_board.proofs.PackageOrder.{package_total, package_same}
 
 -- ---- tests and numbers
@@ -48,7 +47,7 @@ absorbed : (a b : Bool) → (a ≡ true → b ≡ true) → b ≡ (a || b)
 absorbed true b h = h refl
 absorbed false b h = refl
 
-no_more : {X : Type 0} (xs : List X) → xs ++ [] ≡ xs
+pub no_more : {X : Type 0} (xs : List X) → xs ++ [] ≡ xs
 no_more [] = refl
 no_more (x ∷ xs) = ap (λ l. x ∷ l) (no_more xs)
 
@@ -123,10 +122,10 @@ record Says (p : CheckPackage) (generation : ℕ) (es : List CheckEntry) : Type 
   lists : (file : FileId) → list_in file p ≡ said_of file (as_told es)
   fixes : p.fixes ≡ fixes_told (as_told es)
 
-put_list : (lists : map.FinMap nat_cmp FileList) (k q : ℕ) (v : FileList) → map.get (map.insert lists k v) q ≡ cond (nat_eq q k) (Some v) (map.get lists q)
+pub put_list : (lists : map.FinMap nat_cmp FileList) (k q : ℕ) (v : FileList) → map.get (map.insert lists k v) q ≡ cond (nat_eq q k) (Some v) (map.get lists q)
 put_list lists k q v = map.get-insert nat_cmp_total lists k v q ∙ ap (λ b. cond b (Some v) (map.get lists q)) (unsigned_tied q k)
 
-put_listed : (here : Bool) (f : FileId) (old : List Diagnostic) (d : Diagnostic) (o : Option FileList) → (here ≡ true → old ≡ listed o)
+pub put_listed : (here : Bool) (f : FileId) (old : List Diagnostic) (d : Diagnostic) (o : Option FileList) → (here ≡ true → old ≡ listed o)
     → listed (cond here (Some (record { file = f; list = old ++ d ∷ [] })) o) ≡ listed o ++ cond here (d ∷ []) []
 put_listed true f old d o is = ap (λ l. l ++ d ∷ []) (is refl)
 put_listed false f old d o is = sym (no_more (listed o))
@@ -203,21 +202,16 @@ first_added g e m =
     (λ lt. absurd (below_same g g refl (ltb-true g g lt)))
     (λ _. add_says e (new_package g) m g [] (new_says g)))))
 
-same_checks : (p : Pass) (g : ℕ) (f : FileId) (l : List Diagnostic) (b : Board) → (step (Gives p g f l) b).checks ≡ b.checks
+pub same_checks : (p : Pass) (g : ℕ) (f : FileId) (l : List Diagnostic) (b : Board) → (step (Gives p g f l) b).checks ≡ b.checks
 same_checks Syntax g f l b = refl
 same_checks Semantic g f l b = refl
 
 -- ---- keys
 
-tie : (r : Ordering) → is_eq r ≡ true → r ≡ Equal
-tie Less e = absurd (true≢false (sym e))
-tie Equal e = refl
-tie Greater e = absurd (true≢false (sym e))
-
-id_is : (x y : ℕ) → same_id x y ≡ true → x ≡ y
+pub id_is : (x y : ℕ) → same_id x y ≡ true → x ≡ y
 id_is x y e = map.nat_cmp-IsAntisymmetric x y (tie (nat_cmp x y) e)
 
-name_is : (x y : Option (List ℕ)) → same_name x y ≡ true → x ≡ y
+pub name_is : (x y : Option (List ℕ)) → same_name x y ≡ true → x ≡ y
 name_is x y e = package_same x y (tie (package_cmp x y) e)
 
 in_by : (here : Bool) (name : Option (List ℕ)) (packages : Packages) (o : Option Packages)
@@ -229,12 +223,12 @@ out_by : (here : Bool) (name : Option (List ℕ)) (o : Option Packages) → pack
 out_by true name o = refl
 out_by false name o = refl
 
-or_none_at : (name : Option (List ℕ)) (o : Option Packages) → map.get (packages_or_none o) name ≡ package_in name o
+pub or_none_at : (name : Option (List ℕ)) (o : Option Packages) → map.get (packages_or_none o) name ≡ package_in name o
 or_none_at name None = map.get-empty package_cmp name
 or_none_at name (Some packages) = refl
 
 -- what becomes of a package that a test may drop
-abbrev dropped : (CheckPackage → Bool) → Option CheckPackage → Option CheckPackage
+abbrev pub dropped : (CheckPackage → Bool) → Option CheckPackage → Option CheckPackage
 dropped drops None = None
 dropped drops (Some p) = cond (drops p) None (Some p)
 
@@ -242,24 +236,6 @@ dropped drops (Some p) = cond (drops p) None (Some p)
 abbrev kept_or : (CheckPackage → Bool) → Option CheckPackage → Option CheckPackage → Option CheckPackage
 kept_or drops None other = other
 kept_or drops (Some p) other = cond (drops p) other (Some p)
-
-not_less : (r : Ordering) → T (is_lt r) → is_eq r ≡ false
-not_less Less t = refl
-not_less Equal t = absurd t
-not_less Greater t = absurd t
-
-front : (a b : Bool) → T (a && b) → T a
-front true b t = tt
-front false b t = absurd t
-
-back : (a b : Bool) → T (a && b) → T b
-back true b t = t
-back false b t = absurd t
-
-none_below : (q : Option (List ℕ)) (rows : List (Option (List ℕ) × CheckPackage)) → T (below_all package_cmp q rows) → map.find package_cmp q rows ≡ None
-none_below q [] below = refl
-none_below q (row ∷ rows) below =
-    cond-false _ _ _ (not_less (package_cmp q row.0) (front _ _ below)) ∙ none_below q rows (back (is_lt (package_cmp q row.0)) _ below)
 
 put_kept : (drop here : Bool) (q : Option (List ℕ)) (row : Option (List ℕ) × CheckPackage) (acc : Packages) → same_name q row.0 ≡ here
     → map.get (cond drop acc (map.insert acc row.0 row.1)) q ≡ cond here (cond drop (map.get acc q) (Some row.1)) (map.get acc q)
@@ -280,7 +256,7 @@ kept_is drops q (row ∷ rows) acc up =
     kept_is drops q rows (cond (drops row.1) acc (map.insert acc row.0 row.1)) (back (below_all package_cmp row.0 rows) _ up)
     ∙ ap (kept_or drops (map.find package_cmp q rows)) (put_kept (drops row.1) (same_name q row.0) q row acc refl)
     ∙ kept_row drops (same_name q row.0) row.1 (map.get acc q) (map.find package_cmp q rows)
-    (λ here. none_below q rows (subst (λ k. T (below_all package_cmp k rows)) (sym (name_is q row.0 here)) (front _ _ up)))
+    (λ here. none_below package_cmp q rows (subst (λ k. T (below_all package_cmp k rows)) (sym (name_is q row.0 here)) (front _ _ up)))
 
 kept_or_none : (drops : CheckPackage → Bool) (o : Option CheckPackage) → kept_or drops o None ≡ dropped drops o
 kept_or_none drops None = refl
@@ -307,7 +283,7 @@ module _ (id : ℕ) (name : Option (List ℕ)) where
   forget_none true o is = is refl
   forget_none false o is = refl
 
-  forget_at : (i : ℕ) (o : Option Packages) (checks : Checks) (m : Marked) → map.get checks i ≡ o
+  pub forget_at : (i : ℕ) (o : Option Packages) (checks : Checks) (m : Marked) → map.get checks i ≡ o
       → package_at id name (forget i o (checks, m)).0 ≡ cond (same_id id i) None (package_at id name checks)
   forget_at i None checks m is = forget_none (same_id id i) _ (nothing_here i checks is)
   forget_at i (Some packages) checks m is = ap (package_in name) (map.get-remove nat_cmp_total checks i id) ∙ out_by (same_id id i) name (map.get checks id)
@@ -352,7 +328,7 @@ module _ (id : ℕ) (name : Option (List ℕ)) where
   second_none true b drops o is = drop_none b drops o (λ _. is refl)
   second_none false b drops o is = refl
 
-  drop_at : (drops : CheckPackage → Bool) (i : ℕ) (n : Option (List ℕ)) (o : Option Packages) (checks : Checks) (m : Marked) → map.get checks i ≡ o
+  pub drop_at : (drops : CheckPackage → Bool) (i : ℕ) (n : Option (List ℕ)) (o : Option Packages) (checks : Checks) (m : Marked) → map.get checks i ≡ o
       → package_at id name (drop_in drops i n o (checks, m)).0 ≡ cond (same_id id i && same_name name n) (dropped drops (package_at id name checks)) (package_at id name checks)
   drop_at drops i n None checks m is = second_none (same_id id i) (same_name name n) drops _ (nothing_here i checks is)
   drop_at drops i n (Some packages) checks m is =
@@ -364,7 +340,7 @@ module _ (id : ℕ) (name : Option (List ℕ)) where
   one_drop true drops y z is = ap (dropped drops) (is refl)
   one_drop false drops y z is = refl
 
-  sift_at : (drops : CheckPackage → Bool) (i : ℕ) (o : Option Packages) (checks : Checks) (m : Marked) → map.get checks i ≡ o
+  pub sift_at : (drops : CheckPackage → Bool) (i : ℕ) (o : Option Packages) (checks : Checks) (m : Marked) → map.get checks i ≡ o
       → package_at id name (sift drops i o (checks, m)).0 ≡ cond (same_id id i) (dropped drops (package_at id name checks)) (package_at id name checks)
   sift_at drops i None checks m is = drop_none (same_id id i) drops _ (nothing_here i checks is)
   sift_at drops i (Some packages) checks m is =
@@ -410,7 +386,7 @@ module _ (id : ℕ) (name : Option (List ℕ)) where
   fits_added g e None m cs k = subst (λ cs. Fits (Some (add_to g e (new_package g, m)).0) ((g, e) ∷ cs)) (sym k) (first_added g e m)
   fits_added g e (Some p) m cs k = added g e p m cs k
 
-  add_at : (i g : ℕ) (n : Option (List ℕ)) (e : CheckEntry) (checks : Checks) (m : Marked)
+  pub add_at : (i g : ℕ) (n : Option (List ℕ)) (e : CheckEntry) (checks : Checks) (m : Marked)
       → package_at id name (add_check i g n e (checks, m)).0
       ≡ cond (same_id id i) (cond (same_name name n) (Some (add_to g e (package_or_new g (map.get (packages_or_none (map.get checks i)) n), m)).0) (map.get (packages_or_none (map.get checks i)) name)) (package_at id name checks)
   add_at i g n e checks m =

@@ -1,16 +1,15 @@
 -- What a run of the board leaves of a file and pass, told by its acts alone.
-use Rattle.std.specs.Prelude.{ℕ, ◌+◌, Bool, true, false, ◌&&◌, ◌||◌, not, is_some, List, [], ◌∷◌, Option, None, Some, cond, nat_eq, nat_lt, nat_le}
+use Rattle.std.specs.Prelude.{ℕ, ◌+◌, Bool, true, false, ◌&&◌, is_some, List, [], ◌∷◌, Option, None, Some, cond, nat_eq, nat_lt, nat_le}
 use Rattle.std.specs.List.{list_all}
 use Rattle.std.specs.FinMap as map
-use Rattle.std.specs.Cmp.Lexicographic.{pointwise}
 use Rattle.docs_vfs.specs.declared.file_kinds.FileId.{FileId}
 use Rattle.op_board.specs.declared.diagnostic.Diagnostic.{Diagnostic}
 use Rattle.op_board.specs.declared.diagnostic.Pass.{Pass}
 use Rattle.op_board.specs.declared.diagnostic.Pass.TheVariants.{Syntax, Semantic}
-use Rattle.op_board.specs.Diagnostics.{same_diagnostic, in_order}
+use Rattle.op_board.specs.Diagnostics.{in_order}
 use Rattle.op_board.specs.Board.{Board}
 use Rattle.op_board.specs.Acts.{Act}
-use Rattle.op_board.specs.Acts.Act.{Counts, Gives, Clears, Takes}
+use Rattle.op_board.specs.Acts.Act.{Counts, Gives, Clears}
 
 abbrev pub same_pass : Pass → Pass → Bool
 same_pass Syntax Syntax = true
@@ -65,30 +64,6 @@ last_list pass file (act ∷ before) = last_list pass file before
 abbrev pub stored : Pass → FileId → List Act → List Diagnostic
 stored pass file run = in_order (last_list pass file run)
 
--- ---- marks
-
+-- whether a file is marked
 abbrev pub is_marked : FileId → Board → Bool
 is_marked file b = is_some (map.get b.marked file.0)
-
-abbrev pub differ : List Diagnostic → List Diagnostic → Bool
-differ old new = not (pointwise same_diagnostic old new)
-
--- whether an act changes what is stored of the file, by either pass
-abbrev pub changes : FileId → Act → List Act → Bool
-changes file act before =
-    differ (stored Syntax file before) (stored Syntax file (act ∷ before)) || differ (stored Semantic file before) (stored Semantic file (act ∷ before))
-
--- whether what is stored of the file changed since the last take
-abbrev pub changed : FileId → List Act → Bool
-changed file [] = false
-changed file (Takes ∷ before) = false
-changed file (act ∷ before) = changes file act before || changed file before
-
--- whether no act since the last take was one of the checks
-abbrev pub is_of_passes : List Act → Bool
-is_of_passes [] = true
-is_of_passes (Takes ∷ before) = true
-is_of_passes (Counts ∷ before) = is_of_passes before
-is_of_passes (Gives pass generation file list ∷ before) = is_of_passes before
-is_of_passes (Clears file ∷ before) = is_of_passes before
-is_of_passes (act ∷ before) = false

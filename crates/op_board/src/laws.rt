@@ -1,15 +1,16 @@
 // Laws of whole runs: what the calls leave behind, told by the calls alone.
-ghost use Rattle.std.specs.Prelude.{◌≡◌, ℕ, ◌+◌, List, Option, Some, length, true};
+ghost use Rattle.std.specs.Prelude.{◌≡◌, ◌↔◌, ℕ, ◌+◌, List, Option, Some, length, true};
 ghost use Rattle.std.specs.FinMap as map;
 ghost use Rattle.docs_vfs.specs.declared.file_kinds.FileId.{FileId};
 ghost use Rattle.op_board.specs.declared.diagnostic.Diagnostic.{Diagnostic};
 ghost use Rattle.op_board.specs.declared.diagnostic.Pass.{Pass};
 ghost use Rattle.op_board.specs.Acts.{Act, after, gives_each};
 ghost use Rattle.op_board.specs.Board.{list_of, lists_of, set_native};
+ghost use Rattle.op_board.specs.Changes.{ChangedSince};
 ghost use Rattle.op_board.specs.CheckRuns.{entries, said_of, fixes_told, package_at, listed_in, fixes_at};
 ghost use Rattle.op_board.specs.Queue.{starts};
 ghost use Rattle.op_board.specs.QueueRuns.{QueueAct, queue_after, IsQueueRun, handed_out, ended, running, IsLastRequest};
-ghost use Rattle.op_board.specs.Runs.{stored, is_marked, changed, is_of_passes};
+ghost use Rattle.op_board.specs.Runs.{stored, is_marked};
 
 /// After every run the list of a file and pass is the last that was accepted since the last clear, in order, else
 /// empty. A call that gives several lists is as many acts, one after another.
@@ -20,11 +21,10 @@ pub fn the_last_accepted_list_is_stored()
         → set_native pass generation given (after run) ≡ after (gives_each pass generation given run) }
 {}
 
-/// A file is marked where what a pass stored of it changed since the last take, by a clear too; and nowhere else, but by
-/// the acts of checks.
+/// A file is marked exactly where one of its lists changed since the last take: that of a pass, by a clear too, or that of
+/// a package of a check. An entry of a newer generation first empties its package.
 pub fn changed_files_are_marked()
-    ensures changed { (run : List Act) (file : FileId) → changed file run ≡ true → is_marked file (after run) ≡ true }
-    ensures others { (run : List Act) (file : FileId) → is_of_passes run ≡ true → is_marked file (after run) ≡ changed file run }
+    ensures { (run : List Act) (file : FileId) → (is_marked file (after run) ≡ true) ↔ ChangedSince file run }
 {}
 
 /// Of a queue's operations one is in progress at most: all that were handed out but for that one have ended. What is

@@ -1,0 +1,35 @@
+-- When a list of the board changed, told by the acts alone: those of the passes, and those of each package of a check.
+use Rattle.std.specs.Prelude.{◌≢◌, ◌⊎◌, ℕ, List, [], ◌∷◌, Option}
+use Rattle.docs_vfs.specs.declared.file_kinds.FileId.{FileId}
+use Rattle.op_board.specs.declared.diagnostic.Diagnostic.{Diagnostic}
+use Rattle.op_board.specs.declared.diagnostic.Pass.{Pass}
+use Rattle.op_board.specs.Runs.{stored}
+use Rattle.op_board.specs.CheckRuns.{entries, said_of}
+use Rattle.op_board.specs.Acts.{Act}
+use Rattle.op_board.specs.Acts.Act.{Adds, ForgetsOlderIn, Takes}
+
+-- where a list stands: with a pass, or with a package of a check
+pub data Place : Type 0 where
+  OfPass : Pass → Place
+  OfPackage : ℕ → Option (List ℕ) → Place
+
+abbrev pub said : Place → FileId → List Act → List Diagnostic
+said (OfPass pass) file run = stored pass file run
+said (OfPackage id name) file run = said_of file (entries id name run)
+
+-- some list of the file isn't the same after both runs
+abbrev pub Differs : FileId → List Act → List Act → Type 0
+Differs file old new = (place : Place) × (said place file old ≢ said place file new)
+
+-- an act changes a list of the file; an entry of a newer generation first empties its package
+abbrev pub Changes : FileId → Act → List Act → Type 0
+Changes file (Adds id generation name entry) before =
+    let emptied = ForgetsOlderIn id name generation ∷ before in
+    Differs file before emptied ⊎ Differs file emptied (Adds id generation name entry ∷ before)
+Changes file act before = Differs file before (act ∷ before)
+
+-- a list of the file changed since the last take
+abbrev pub ChangedSince : FileId → List Act → Type 0
+ChangedSince file [] = ⊥
+ChangedSince file (Takes ∷ before) = ⊥
+ChangedSince file (act ∷ before) = Changes file act before ⊎ ChangedSince file before
