@@ -38,6 +38,11 @@ abbrev pub held : List ℕ → List SettingsFile → List SettingsFile
 held done [] = []
 held done (c ∷ cs) = if is_in c.root done then held done cs else c ∷ held (done ++ c.root ∷ []) cs
 
+-- of files in order the paths of those that don't hold, each after another of its root
+abbrev pub over : List ℕ → List SettingsFile → List (List ℕ)
+over done [] = []
+over done (c ∷ cs) = if is_in c.root done then c.path ∷ over done cs else over (done ++ c.root ∷ []) cs
+
 abbrev pub put_files : Source → List ℕ → List SettingsFile → Layers → Layers
 put_files source root [] layers = layers
 put_files source root (c ∷ cs) layers = put_files source root cs (finmap.insert layers c.root (text_layer source root c.text))
@@ -98,6 +103,10 @@ after root c s = record {
 unfoldable pub errors_after : List ℕ → ConfigChange → List ConfigError
 errors_after root c =
     client_errors root c.client ++ user_errors root c.user ++ files_errors Source.WorkspaceFile root c.workspace_toml ++ files_errors Source.CrateFile root c.crate_toml
+
+-- the paths of the changed files that don't hold, since a smaller path of their root and kind does: the workspace files', then the crate files'
+unfoldable pub passed_over : ConfigChange → List (List ℕ)
+passed_over c = over [] (by_path c.workspace_toml) ++ over [] (by_path c.crate_toml)
 
 -- no value is set
 unfoldable pub no_settings : SettingsData

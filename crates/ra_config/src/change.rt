@@ -2,7 +2,7 @@
 ghost use Rattle.std.specs.Prelude.{◌≡◌, ◌++◌, ◌↔◌, [], IfOk, OnOk, IsTrue};
 ghost use Rattle.ra_config.specs.Layers.{layer_of, errors_of};
 ghost use Rattle.ra_config.specs.Order.{by_path};
-ghost use Rattle.ra_config.specs.Change.{after, errors_after, put_first, parents_of, parents_after, HasChanged, text_layer, text_errors, files_after, files_errors, tree_in, client_after, client_errors, user_after, user_errors, held, put_files, tell_files};
+ghost use Rattle.ra_config.specs.Change.{after, over, passed_over, errors_after, put_first, parents_of, parents_after, HasChanged, text_layer, text_errors, files_after, files_errors, tree_in, client_after, client_errors, user_after, user_errors, held, put_files, tell_files};
 ghost use Rattle.ra_config.specs.Search.{is_in};
 
 use crate::error::ConfigError;
@@ -88,14 +88,24 @@ pub(crate) fn read_files(
     before: &Files,
     changes: Items<SettingsFile>,
     errors: &mut Items<ConfigError>,
+    passed: &mut Items<VfsPath>,
 ) -> Result<Files, AllocError>
     ensures files { IfOk result
         (λ files. files ≡ files_after source root_path.now changes before.now) }
     ensures errors { OnOk result (errors.new
         ≡ errors.old ++ files_errors source root_path.now changes) }
+    ensures passed { OnOk result (passed.new ≡ passed.old ++ over [] (by_path changes)) }
 {
     let changes = sort(changes)?;
-    read_sorted(alloc, source, root_path, before, changes.as_slice(), errors)
+    read_sorted(
+        alloc,
+        source,
+        root_path,
+        before,
+        changes.as_slice(),
+        errors,
+        passed,
+    )
 }
 
 /// The same of files in order: of those of one root the first holds.
@@ -106,11 +116,13 @@ fn read_sorted(
     before: &Files,
     changes: &[SettingsFile],
     errors: &mut Items<ConfigError>,
+    passed: &mut Items<VfsPath>,
 ) -> Result<Files, AllocError>
     ensures files { IfOk result
         (λ files. files ≡ put_files source root_path.now (held [] changes.now) before.now) }
     ensures errors { OnOk result (errors.new
         ≡ errors.old ++ tell_files source root_path.now (held [] changes.now)) }
+    ensures passed { OnOk result (passed.new ≡ passed.old ++ over [] changes.now) }
 {
     if changes.is_empty() {
         return before.clone();
@@ -119,6 +131,7 @@ fn read_sorted(
     let mut done = Items::new(alloc);
     for change in changes {
         if is_in(change.root, done.as_slice()) {
+            passed.push(change.path.clone()?)?;
             continue;
         }
         let place = Text::from_str(alloc, change.path.as_str())?;
@@ -223,17 +236,19 @@ fn parents_after(
 
 impl Settings {
     /// The settings after a change, and whether the client's or the user's values changed. The errors
-    /// of the values that it brings are told.
-    #[tactic(auto, unfolding(crate::specs::Change::after, crate::specs::Change::errors_after))]
+    /// of the values that it brings are told, and the paths of the files that don't hold.
+    #[tactic(auto, unfolding(crate::specs::Change::after, crate::specs::Change::errors_after, crate::specs::Change::passed_over))]
     pub fn after(
         &self,
         alloc: Global,
         root: &VfsPath,
         change: ConfigChange,
         errors: &mut Items<ConfigError>,
+        passed: &mut Items<VfsPath>,
     ) -> Result<(Settings, bool), AllocError>
         ensures settings { IfOk result (λ r. r.0 ≡ after root.now change self.now) }
         ensures errors { OnOk result (errors.new ≡ errors.old ++ errors_after root.now change) }
+        ensures passed { OnOk result (passed.new ≡ passed.old ++ passed_over change) }
         ensures truth { IfOk result (λ r. IsTrue r.1 ↔ HasChanged r.0 self.now) }
     {
         let ConfigChange {
@@ -252,6 +267,7 @@ impl Settings {
             self.workspaces(),
             workspace_toml,
             errors,
+            passed,
         )?;
         let crates = read_files(
             alloc,
@@ -260,6 +276,7 @@ impl Settings {
             self.crates(),
             crate_toml,
             errors,
+            passed,
         )?;
         let parents = parents_after(alloc, &parents, self.parents())?;
         let settings = Settings::from_parts(

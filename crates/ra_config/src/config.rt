@@ -1,6 +1,6 @@
 ghost use Rattle.std.specs.Prelude.{◌≡◌, ◌↔◌, ◌++◌, IsTrue, IfOk, OnOk};
 ghost use Rattle.ra_config.specs.Projects.{with_discovered, without};
-ghost use Rattle.ra_config.specs.Change.{after, errors_after, HasChanged};
+ghost use Rattle.ra_config.specs.Change.{after, errors_after, passed_over, HasChanged};
 ghost use Rattle.ra_config.specs.Config.{config_at, projects_of};
 
 use crate::capabilities::Capabilities;
@@ -18,6 +18,19 @@ use plain::{Copied, Items, Json, Text};
 use std::alloc::{AllocError, Global};
 use std::marker::Model;
 use std::sync::Arc;
+
+/// What a change of settings comes to.
+#[derive(Drop)]
+pub struct Applied {
+    pub config: Config,
+    /// The errors of the values that the change brings.
+    pub errors: ConfigErrors,
+    /// Whether the client's or the user's values changed.
+    pub changed: bool,
+    /// The changed files that don't hold, since one of their root and kind has a smaller path: the
+    /// workspace files in order, and then the crate files.
+    pub passed_over: Items<VfsPath>,
+}
 
 /// The settings of a session.
 #[derive(Drop)]
@@ -132,22 +145,23 @@ impl Config {
         }
     }
 
-    /// The settings after a change, the errors of the values that it brings, and whether the client's
-    /// or the user's values changed.
-    pub fn apply_change(
-        &self,
-        alloc: Global,
-        change: ConfigChange,
-    ) -> Result<(Config, ConfigErrors, bool), AllocError>
-        ensures config { IfOk result (λ r. r.0
+    /// The settings after a change, and what is to be told of it.
+    pub fn apply_change(&self, alloc: Global, change: ConfigChange) -> Result<Applied, AllocError>
+        ensures config { IfOk result (λ r. r.config
             ≡ record self.now { settings = after self.now.root_path change self.now.settings }) }
-        ensures errors { IfOk result (λ r. r.1 ≡ errors_after self.now.root_path change) }
-        ensures truth { IfOk result (λ r. IsTrue r.2 ↔ HasChanged r.0.settings self.now.settings) }
+        ensures errors { IfOk result (λ r. r.errors ≡ errors_after self.now.root_path change) }
+        ensures truth { IfOk result (λ r. IsTrue r.changed ↔ HasChanged r.config.settings self.now.settings) }
+        ensures passed { IfOk result (λ r. r.passed_over ≡ passed_over change) }
     {
         let mut errors = Items::new(alloc);
-        let (settings, changed) = self
-            .settings
-            .after(alloc, &self.root_path, change, &mut errors)?;
+        let mut passed_over = Items::new(alloc);
+        let (settings, changed) = self.settings.after(
+            alloc,
+            &self.root_path,
+            change,
+            &mut errors,
+            &mut passed_over,
+        )?;
         let config = Config {
             root_path: self.root_path.clone()?,
             workspace_roots: self.workspace_roots.clone()?,
@@ -156,7 +170,12 @@ impl Config {
             settings,
             discovered: self.discovered.clone()?,
         };
-        Ok((config, ConfigErrors::new(alloc, errors)?, changed))
+        Ok(Applied {
+            config,
+            errors: ConfigErrors::new(alloc, errors)?,
+            changed,
+            passed_over,
+        })
     }
 
     /// Adds roots of workspaces after those that are there.

@@ -27,7 +27,7 @@ mod value;
 
 pub use capabilities::{Capabilities, capabilities_of};
 pub use change::{ConfigChange, SettingsFile};
-pub use config::Config;
+pub use config::{Applied, Config};
 pub use error::{ConfigError, ConfigErrors};
 pub use initialize::{ConfigFault, initial_roots};
 pub use layer::{Layer, Source};

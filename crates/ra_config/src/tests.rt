@@ -1,5 +1,5 @@
 use crate::{
-    CargoFeatures, Config, ConfigChange, ConfigErrors, DiscoverConfig, FilesWatcher,
+    Applied, CargoFeatures, Config, ConfigChange, ConfigErrors, DiscoverConfig, FilesWatcher,
     InvocationStrategy, LinkedProject, SettingsFile,
 };
 use docs_vfs::VfsPath;
@@ -48,8 +48,11 @@ fn at_start(alloc: Global) -> Result<Config, Fail> {
 
 /// The settings of a client.
 fn of_client(alloc: Global, text: &str) -> Result<Config, Fail> {
-    let (config, _, _) = at_start(alloc)?.apply_change(alloc, client(alloc, text)?)?;
-    Ok(config)
+    Ok(
+        at_start(alloc)?
+            .apply_change(alloc, client(alloc, text)?)?
+            .config,
+    )
 }
 
 /// The settings where root 0 has a workspace file, and is the parent of root 1.
@@ -61,8 +64,7 @@ fn of_file(alloc: Global, text: &str) -> Result<Config, Fail> {
     let mut parents = Items::new(alloc);
     parents.push((1, 0))?;
     change.parents = Some(parents);
-    let (config, _, _) = at_start(alloc)?.apply_change(alloc, change)?;
-    Ok(config)
+    Ok(at_start(alloc)?.apply_change(alloc, change)?.config)
 }
 
 /// The errors of a change, as they are shown.
@@ -485,10 +487,10 @@ const REFUSED: [(&str, &str); 16] = [
 
 fn wrong_errors(alloc: Global) -> Result<Option<usize>, Fail> {
     for (at, (text, told)) in REFUSED.iter().enumerate() {
-        let (_, errors, _) = at_start(alloc)?.apply_change(alloc, client(alloc, text)?)?;
+        let applied = at_start(alloc)?.apply_change(alloc, client(alloc, text)?)?;
         let mut all = String::from_str(alloc, "invalid config values: ")?;
         all.push_str(told)?;
-        if shown(alloc, &errors)?.as_str() != all.as_str() {
+        if shown(alloc, &applied.errors)?.as_str() != all.as_str() {
             return Ok(Some(at));
         }
     }
@@ -524,8 +526,17 @@ fn two_files(alloc: Global) -> Result<ConfigChange, Fail> {
 #[test]
 fn smaller_path_holds(rt: HostRuntime) -> Result<(), Fail> {
     let alloc = rt.alloc();
-    let (config, errors, changed) = at_start(alloc)?.apply_change(alloc, two_files(alloc)?)?;
+    let Applied {
+        config,
+        errors,
+        changed,
+        passed_over,
+    } = at_start(alloc)?.apply_change(alloc, two_files(alloc)?)?;
     assert!(rt; changed);
+    assert_eq!(rt;
+        paths(alloc, passed_over.as_slice())?.as_str(),
+        "/w/b/rust-analyzer.toml;"
+    );
     assert!(rt; config.check_workspace(Some(0)));
     assert!(rt; !config.check_workspace(None));
     assert!(rt; config.check_on_save(None));
@@ -533,8 +544,7 @@ fn smaller_path_holds(rt: HostRuntime) -> Result<(), Fail> {
         shown(alloc, &errors)?.as_str(),
         "invalid config values: client/checkOnSave: wrong type, /w/c/rust-analyzer.toml/: not TOML"
     );
-    let (_, _, changed) = config.apply_change(alloc, nothing(alloc))?;
-    assert!(rt; !changed);
+    assert!(rt; !config.apply_change(alloc, nothing(alloc))?.changed);
     Ok(())
 }
 
@@ -557,7 +567,12 @@ fn crate_file(alloc: Global) -> Result<ConfigChange, Fail> {
 #[test]
 fn crate_files_hold_local_rows(rt: HostRuntime) -> Result<(), Fail> {
     let alloc = rt.alloc();
-    let (config, errors, changed) = at_start(alloc)?.apply_change(alloc, crate_file(alloc)?)?;
+    let Applied {
+        config,
+        errors,
+        changed,
+        ..
+    } = at_start(alloc)?.apply_change(alloc, crate_file(alloc)?)?;
     assert!(rt; errors.is_empty());
     assert!(rt; !changed);
     assert!(rt; config.check_on_save(Some(1)));

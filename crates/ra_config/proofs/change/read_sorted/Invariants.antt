@@ -1,9 +1,10 @@
 use Rattle.std.proofs.Common.{◌≡◌, ◌++◌, [], drop}
-use Rattle.ra_config.specs.Change.{held, put_files, tell_files}
+use Rattle.ra_config.specs.Change.{held, over, put_files, tell_files}
 use Rattle.ra_config.proofs.change.read_sorted.Given as goal
 
 abbrev pub invariant-loop-change : goal.invariant-loop-change
 invariant-loop-change l = record {
   files : put_files l.source l.root_path (held l.done (drop l.change-index l.changes)) l.layers ≡ put_files l.source l.root_path (held [] l.changes) l.before;
   errors : l.errors ++ tell_files l.source l.root_path (held l.done (drop l.change-index l.changes)) ≡ l.initial.errors ++ tell_files l.source l.root_path (held [] l.changes);
+  passed : l.passed ++ over l.done (drop l.change-index l.changes) ≡ l.initial.passed ++ over [] l.changes;
 }
