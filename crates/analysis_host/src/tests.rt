@@ -179,10 +179,19 @@ fn places(alloc: Global, start: u32, end: u32) -> Result<String, Fail> {
 fn places_of_positions(rt: HostRuntime) -> Result<(), Fail> {
     let alloc = rt.alloc();
     assert_eq!(rt; place(alloc, "file:///w/a.rs", 0, 4)?.as_str(), "/w/a.rs 4");
-    assert_eq!(rt; place(alloc, "file:///w/a.rs", 0, 99)?.as_str(), "/w/a.rs 6");
-    assert_eq!(rt; place(alloc, "file:///w/a.rs", 1, 0)?.as_str(), "Offset(LinePastEnd)");
+    assert_eq!(rt;
+        place(alloc, "file:///w/a.rs", 0, 99)?.as_str(),
+        "/w/a.rs 6"
+    );
+    assert_eq!(rt;
+        place(alloc, "file:///w/a.rs", 1, 0)?.as_str(),
+        "Offset(LinePastEnd)"
+    );
     assert_eq!(rt; place(alloc, "file:///w/b.rs", 1, 0)?.as_str(), "NotFound");
-    assert_eq!(rt; place(alloc, "http://w/b.rs", 1, 0)?.as_str(), "Url(NotFile)");
+    assert_eq!(rt;
+        place(alloc, "http://w/b.rs", 1, 0)?.as_str(),
+        "Url(NotFile)"
+    );
     Ok(())
 }
 
@@ -197,6 +206,9 @@ fn places_of_ranges(rt: HostRuntime) -> Result<(), Fail> {
 #[test]
 fn kinds_of_code_actions(rt: HostRuntime) {
     assert_eq!(rt; assist_kind(""), Some(AssistKind::Generate));
-    assert_eq!(rt; assist_kind("refactor.inline"), Some(AssistKind::RefactorInline));
+    assert_eq!(rt;
+        assist_kind("refactor.inline"),
+        Some(AssistKind::RefactorInline)
+    );
     assert_eq!(rt; assist_kind("source"), None);
 }

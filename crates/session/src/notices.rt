@@ -70,10 +70,7 @@ fn edit_of(change: Json) -> Option<ContentChange>
 }
 
 // The edits of changes, or none where one of them is malformed.
-fn edits_in(
-    alloc: Global,
-    changes: Vec<Value>,
-) -> Result<Option<Items<ContentChange>>, AllocError>
+fn edits_in(alloc: Global, changes: Vec<Value>) -> Result<Option<Items<ContentChange>>, AllocError>
     ensures { IfOk result (λ edits. edits ≡ edits_in (items_view changes.items)) }
 {
     let mut edits = Items::new(alloc);

@@ -189,7 +189,9 @@ impl GlobalState {
         ensures { Meets result (edited path change (record { state = self.old; out = out.old })) self.new out.new }
     {
         let DidChange {
-            version, changes, ..
+            version,
+            changes,
+            ..
         } = change;
         let EditedText { text, skipped } = self.edit_text(&path, changes)?;
         self.note_skip(&path, skipped, out)?;
