@@ -1,3 +1,6 @@
+ghost use Rattle.std.specs.Prelude.{All, IfOk, OnOk};
+ghost use Rattle.analysis_host.specs.HostData.{Fits};
+
 use crate::{
     AnalysisHost, Answer, Ask, AssistKind, Cancel, Change, FileChange, GlobalStateSnapshot, Never,
     Outcome, RowId, SharedText, SnapshotParts, Versions, World, WorldFault, assist_kind,
@@ -16,16 +19,33 @@ fn path_at(alloc: Global, text: &str) -> Result<VfsPath, Fail> {
     Ok(VfsPath::new(alloc, text)?.ok_or("no path")?)
 }
 
-/// The change of one file.
-fn change_of(alloc: Global, path: &str, text: Option<&str>) -> Result<Change, Fail> {
+/// One file more, or a failed test where its text is too long for a world.
+fn push_file(
+    alloc: Global,
+    files: &mut Items<FileChange>,
+    path: &str,
+    text: Option<&str>,
+) -> Result<(), Fail>
+    requires { All Fits files.old }
+    ensures { OnOk result (All Fits files.new) }
+{
     let text = match text {
+        Some(text) if text.len() > u32::MAX as usize => return Err(Fail::from("too long")),
         Some(text) => Some(Text::from_str(alloc, text)?),
         None => None,
     };
     let path = path_at(alloc, path)?;
-    let mut files = Items::new(alloc);
     files.push(FileChange { path, text })?;
-    Ok(Change { files })
+    Ok(())
+}
+
+/// The change of one file.
+fn files_of(alloc: Global, path: &str, text: Option<&str>) -> Result<Items<FileChange>, Fail>
+    ensures { IfOk result (All Fits) }
+{
+    let mut files = Items::new(alloc);
+    push_file(alloc, &mut files, path, text)?;
+    Ok(files)
 }
 
 /// Makes the change of one file, or fails the test.
@@ -35,7 +55,8 @@ fn change_file(
     path: &str,
     text: Option<&str>,
 ) -> Result<(), Fail> {
-    match host.apply_change(change_of(alloc, path, text)?) {
+    let files = files_of(alloc, path, text)?;
+    match host.apply_change(Change { files }) {
         Ok(()) => Ok(()),
         Err(_) => Err(Fail::from("no change")),
     }
@@ -58,11 +79,9 @@ fn frozen_world(rt: HostRuntime) -> Result<(), Fail> {
 #[test]
 fn last_text_counts(rt: HostRuntime) -> Result<(), Fail> {
     let alloc = rt.alloc();
-    let mut change = change_of(alloc, "/w/a.rs", Some("one"))?;
-    for file in change_of(alloc, "/w/a.rs", Some("two"))?.files.into_vec() {
-        change.files.push(file)?;
-    }
-    let world = World::new(alloc)?.with_files(alloc, change.files)?;
+    let mut files = files_of(alloc, "/w/a.rs", Some("one"))?;
+    push_file(alloc, &mut files, "/w/a.rs", Some("two"))?;
+    let world = World::new(alloc)?.with_files(alloc, files)?;
     assert_eq!(rt; world.text(&path_at(alloc, "/w/a.rs")?), Some("two"));
     Ok(())
 }
@@ -80,7 +99,7 @@ fn versions_at_one_moment(rt: HostRuntime) -> Result<(), Fail> {
 
 /// A snapshot with one text, of version 3, at revision 9.
 fn snapshot(alloc: Global) -> Result<GlobalStateSnapshot, Fail> {
-    let files = change_of(alloc, "/w/a.rs", Some("mod b;"))?.files;
+    let files = files_of(alloc, "/w/a.rs", Some("mod b;"))?;
     let config = Config::new(alloc, path_at(alloc, "/w")?, 4)?;
     Ok(GlobalStateSnapshot::new(SnapshotParts {
         world: World::new(alloc)?.with_files(alloc, files)?,
@@ -128,9 +147,10 @@ fn shares<T: Sync + Drop>(x: T) {
 fn values_cross_threads(rt: HostRuntime) -> Result<(), Fail> {
     let alloc = rt.alloc();
     sends(AnalysisHost::new(alloc)?);
-    sends(snapshot(alloc)?);
-    shares(snapshot(alloc)?);
-    sends(change_of(alloc, "/w/a.rs", None)?);
+    sends(World::new(alloc)?);
+    shares(World::new(alloc)?);
+    sends(Versions::new(alloc)?);
+    sends(files_of(alloc, "/w/a.rs", None)?);
     sends(SharedText::new(alloc, Text::new(alloc))?.clone()?);
     sends(Never::new());
     Ok(())

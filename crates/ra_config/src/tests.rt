@@ -7,11 +7,6 @@ use plain::{Items, Json, Text};
 use std::alloc::{AllocError, Global};
 use std::test::Fail;
 
-/// Lets go of a value that may go to another thread.
-fn sends<T: Send + Drop>(x: T) {
-    drop(x)
-}
-
 fn path(alloc: Global, text: &str) -> Result<VfsPath, Fail> {
     Ok(VfsPath::new(alloc, text)?.ok_or("no path")?)
 }
@@ -623,7 +618,6 @@ fn roots_of_workspaces(rt: HostRuntime) -> Result<(), Fail> {
         "/Cargo.toml;/w/Cargo.toml;"
     );
     assert_eq!(rt; config.root_path().as_str(), "/w");
-    sends(config.clone()?);
     Ok(())
 }
 

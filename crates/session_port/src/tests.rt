@@ -412,7 +412,5 @@ fn events_and_jobs_are_sent(rt: HostRuntime) -> Result<(), Fail> {
         body: TaskBody::Final(JobResult::NoMemory),
     });
     sends(JobResult::Value(JobValue::Json(Json::null())));
-    sends(snapshot(alloc)?);
-    sends(job(alloc, 1)?);
     Ok(())
 }

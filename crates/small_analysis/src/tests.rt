@@ -22,6 +22,9 @@ fn path(alloc: Global, text: &str) -> Result<VfsPath, Fail> {
 
 /// A snapshot of one file, `/w/a.rs`.
 fn snapshot_of(alloc: Global, text: &str) -> Result<GlobalStateSnapshot, Fail> {
+    if text.len() > u32::MAX as usize {
+        return Err(Fail::from("too long"));
+    }
     let mut files = Items::new(alloc);
     files.push(FileChange {
         path: path(alloc, "/w/a.rs")?,
