@@ -527,28 +527,49 @@ fn two_files(alloc: Global) -> Result<ConfigChange, Fail> {
     Ok(change)
 }
 
+fn after_two_files(alloc: Global) -> Result<Applied, Fail> {
+    Ok(at_start(alloc)?.apply_change(alloc, two_files(alloc)?)?)
+}
+
 #[test]
 fn smaller_path_holds(rt: HostRuntime) -> Result<(), Fail> {
-    let alloc = rt.alloc();
-    let Applied {
-        config,
-        errors,
-        changed,
-        passed_over,
-    } = at_start(alloc)?.apply_change(alloc, two_files(alloc)?)?;
-    assert!(rt; changed);
-    assert_eq!(rt;
-        paths(alloc, passed_over.as_slice())?.as_str(),
-        "/w/b/rust-analyzer.toml;"
-    );
+    let config = after_two_files(rt.alloc())?.config;
     assert!(rt; config.check_workspace(Some(0)));
     assert!(rt; !config.check_workspace(None));
     assert!(rt; config.check_on_save(None));
+    Ok(())
+}
+
+#[test]
+fn greater_path_is_passed_over(rt: HostRuntime) -> Result<(), Fail> {
+    let alloc = rt.alloc();
+    let passed_over = after_two_files(alloc)?.passed_over;
+    let text = paths(alloc, passed_over.as_slice())?;
+    assert_eq!(rt; text.as_str(), "/w/b/rust-analyzer.toml;");
+    Ok(())
+}
+
+#[test]
+fn errors_of_client_and_file(rt: HostRuntime) -> Result<(), Fail> {
+    let alloc = rt.alloc();
+    let errors = after_two_files(alloc)?.errors;
+    let text = shown(alloc, &errors)?;
     assert_eq!(rt;
-        shown(alloc, &errors)?.as_str(),
+        text.as_str(),
         "client/checkOnSave: wrong type, /w/c/rust-analyzer.toml/: not TOML"
     );
-    assert!(rt; !config.apply_change(alloc, nothing(alloc))?.changed);
+    Ok(())
+}
+
+fn is_changed(alloc: Global, change: ConfigChange) -> Result<bool, Fail> {
+    Ok(at_start(alloc)?.apply_change(alloc, change)?.changed)
+}
+
+#[test]
+fn changes_of_client_and_user_are_told(rt: HostRuntime) -> Result<(), Fail> {
+    let alloc = rt.alloc();
+    assert!(rt; is_changed(alloc, two_files(alloc)?)?);
+    assert!(rt; !is_changed(alloc, nothing(alloc))?);
     Ok(())
 }
 
