@@ -1,5 +1,5 @@
 // Sessions of edits: what the jobs that they hand over work on.
-ghost use Rattle.std.specs.Prelude.{◌≡◌, None};
+ghost use Rattle.std.specs.Prelude.{◌≡◌, ◌<◌, None};
 ghost use Rattle.std.specs.FinMap as map;
 
 use analysis_host::Analysis;
@@ -300,6 +300,17 @@ impl Draws {
 
 // What the edits are to leave, by a program that keeps the code units of a text and looks for each place from the front.
 
+/// How many LF there are.
+fn lines_of(units: &[u16]) -> u32 {
+    let mut lines = 0u32;
+    for unit in units {
+        if *unit == 10 {
+            lines = lines.wrapping_add(1);
+        }
+    }
+    lines
+}
+
 /// Where a line begins.
 fn line_start(units: &[u16], line: u32) -> Option<usize> {
     if line == 0 {
@@ -386,7 +397,7 @@ fn draw(
     drawn: &mut Drawn,
     version: u32,
 ) -> Result<(), AllocError> {
-    let lines = drawn.units.iter().filter(|unit| **unit == 10).count() as u32;
+    let lines = lines_of(&drawn.units);
     let places = draws.places(lines);
     let (piece, json) = draws.piece();
     let list = edit(alloc, places, json)?;
