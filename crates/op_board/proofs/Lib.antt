@@ -7,5 +7,5 @@ pub mod NativeRuns
 pub mod PackageOrder
 pub mod QueueLaws
 pub mod Rooms
-pub mod Stable
+pub mod RangeOrder
 pub mod Taken

@@ -1,13 +1,14 @@
 -- When two diagnostics are the same, and the order of a list of them.
-use Rattle.std.specs.Prelude.{◌≡◌, Bool, ◌&&◌, List, [], ◌∷◌, cond, Decides, nat_eq}
+use Rattle.std.specs.Prelude.{◌≡◌, Bool, ◌&&◌, List, Decides, nat_eq}
 use Rattle.std.specs.Option.{option_eq}
 use Rattle.std.specs.Cmp.{unsigned_Decides, IsEquivalence, decided}
 use Rattle.std.specs.Cmp.Lexicographic.{pointwise, pointwise_decides, bytes_decides}
-use Rattle.std.specs.Ordering.{nat_cmp, ordering_then, is_lt}
+use Rattle.std.specs.Ordering.{nat_cmp, ordering_then}
 use Rattle.std.specs.declared.cmp.Ordering.{Ordering}
 use Rattle.std.proofs.Common.{ap}
 use Rattle.std.proofs.lemmas.Bool.Decides.{Decides-like, Decides-and}
 use Rattle.plain.specs.Told.{option_told}
+use Rattle.plain.specs.Order.{in_order_by, ranked}
 use Rattle.text_core.specs.declared.position.Position.{Position}
 use Rattle.text_core.specs.declared.position.Range.{Range}
 use Rattle.op_board.specs.declared.diagnostic.Related.{Related}
@@ -74,18 +75,6 @@ position_cmp p q = ordering_then (nat_cmp p.line q.line) (nat_cmp p.character q.
 abbrev pub range_cmp : Range → Range → Ordering
 range_cmp r s = ordering_then (position_cmp r.start s.start) (position_cmp r.end s.end)
 
-abbrev pub is_before : Diagnostic → Diagnostic → Bool
-is_before x y = is_lt (range_cmp x.range y.range)
-
--- with x before the first that isn't less by the test
-abbrev pub placed : {X : Type 0} → (X → X → Bool) → X → List X → List X
-placed lt x [] = x ∷ []
-placed lt x (y ∷ ys) = cond (lt y x) (y ∷ placed lt x ys) (x ∷ y ∷ ys)
-
--- the stable order by the test: those of which none is less than the other stay as they stood
-abbrev pub in_order_by : {X : Type 0} → (X → X → Bool) → List X → List X
-in_order_by lt [] = []
-in_order_by lt (x ∷ xs) = placed lt x (in_order_by lt xs)
-
+-- the stable order by the ranges
 abbrev pub in_order : List Diagnostic → List Diagnostic
-in_order = in_order_by is_before
+in_order = in_order_by (ranked range_cmp (λ (d : Diagnostic). d.range))
