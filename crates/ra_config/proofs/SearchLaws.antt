@@ -2,9 +2,9 @@
 use Rattle.std.proofs.Common.{◌≡◌, ◌+◌, ◌==◌, ℕ, zero, suc, List, [], ◌∷◌, ◌++◌, Bool, true, false, cond, Option, Some, None, refl, sym, ap, ◌∙◌, ◌⊎◌, inl, inr, arith, subst, length, true≢false, ◌<◌}
 use Rattle.std.specs.Prelude.{◌||◌, nat_eq, option_and_then}
 use Rattle.std.specs.FinMap as map
-use Rattle.ra_config.specs.declared.row.Row.{Row}
-use Rattle.ra_config.specs.declared.value.SettingValue.{SettingValue}
-use Rattle.ra_config.specs.Layers.{Values, value_at}
+use Rattle.ra_settings.specs.declared.row.Row.{Row}
+use Rattle.ra_settings.specs.declared.value.SettingValue.{SettingValue}
+use Rattle.ra_settings.specs.Layers.{Values, value_at}
 use Rattle.ra_config.specs.Search.{SettingsData, parent_of, is_in, chain, layers_at, layers_of, or_else, first_in, roots_from, path}
 use Rattle.std.proofs.lemmas.Bool.Decides.{nat_tests}
 

@@ -2,15 +2,15 @@
 use Rattle.std.specs.Prelude.{◌≡◌, ℕ, List, [], ◌∷◌, ◌++◌, Option, Some, None, option_map, is_some, if◌then◌else◌, codes}
 use Rattle.std.specs.FinMap as finmap
 use Rattle.serde_json.specs.Data.{Data, object, no_members}
-use Rattle.ra_config.specs.declared.error.ConfigError.{ConfigError}
-use Rattle.ra_config.specs.declared.value.Reason.{Reason}
-use Rattle.ra_config.specs.declared.layer.Source.{Source}
+use Rattle.ra_settings.specs.declared.error.ConfigError.{ConfigError}
+use Rattle.ra_settings.specs.declared.value.Reason.{Reason}
+use Rattle.ra_settings.specs.declared.layer.Source.{Source}
 use Rattle.ra_config.specs.declared.change.SettingsFile.{SettingsFile}
 use Rattle.ra_config.specs.declared.change.ConfigChange.{ConfigChange}
-use Rattle.ra_config.specs.declared.row.TheConstants.{ROWS}
-use Rattle.ra_config.specs.Layers.{Values, layer_of, errors_of, nothing_set}
+use Rattle.ra_settings.specs.declared.row.TheConstants.{ROWS}
+use Rattle.ra_settings.specs.Layers.{Values, layer_of, errors_of, nothing_set}
 use Rattle.ra_config.specs.Search.{SettingsData, Layers, Parents, is_in}
-use Rattle.ra_config.specs.Toml.{toml_tree}
+use Rattle.ra_settings.specs.Toml.{toml_tree}
 use Rattle.ra_config.specs.Order.{by_path}
 
 -- the tree of a text; a deleted file is an empty table

@@ -2,9 +2,9 @@
 use Rattle.std.specs.Prelude.{ℕ, List, [], ◌∷◌, ◌++◌, map, Option, Some, None, unwrap_or}
 use Rattle.ra_config.specs.declared.capabilities.Capabilities.{Capabilities}
 use Rattle.ra_config.specs.declared.projects.Discovered.{Discovered}
-use Rattle.ra_config.specs.declared.row.Row.{Row}
-use Rattle.ra_config.specs.declared.value.LinkedProject.{LinkedProject}
-use Rattle.ra_config.specs.declared.value.SettingValue.{SettingValue}
+use Rattle.ra_settings.specs.declared.row.Row.{Row}
+use Rattle.ra_settings.specs.declared.value.LinkedProject.{LinkedProject}
+use Rattle.ra_settings.specs.declared.value.SettingValue.{SettingValue}
 use Rattle.ra_config.specs.Capabilities.{no_capabilities}
 use Rattle.ra_config.specs.Change.{no_settings}
 use Rattle.ra_config.specs.Projects.{as_project, or_manifests}

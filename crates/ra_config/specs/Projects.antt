@@ -2,10 +2,10 @@
 use Rattle.std.specs.Prelude.{ℕ, List, [], ◌∷◌, ◌++◌, ◌==◌, length, map, bytes_eq, codes, remove, Option, Some, None, option_map, option_to_list, if◌then◌else◌}
 use Rattle.std.specs.List.{list_any, position}
 use Rattle.docs_vfs.specs.Paths.{path_from}
-use Rattle.ra_config.specs.Paths.{join}
+use Rattle.ra_settings.specs.Paths.{join}
 use Rattle.ra_config.specs.declared.projects.Discovered.{Discovered}
-use Rattle.ra_config.specs.declared.value.LinkedProject.{LinkedProject}
-use Rattle.ra_config.specs.declared.value.LinkedProject.TheVariants.{ProjectManifest, InlineProjectJson}
+use Rattle.ra_settings.specs.declared.value.LinkedProject.{LinkedProject}
+use Rattle.ra_settings.specs.declared.value.LinkedProject.TheVariants.{ProjectManifest, InlineProjectJson}
 
 -- ---- projects that a command found, each by a file
 

@@ -2,10 +2,10 @@
 use Rattle.std.specs.Prelude.{ℕ, ◌+◌, ◌==◌, zero, suc, List, [], ◌∷◌, ◌++◌, Bool, true, false, ◌||◌, Option, Some, None, option_and_then, option_to_list, unwrap_or, if◌then◌else◌}
 use Rattle.std.specs.Ordering.{nat_cmp}
 use Rattle.std.specs.FinMap as map
-use Rattle.ra_config.specs.declared.row.Row.{Row}
-use Rattle.ra_config.specs.declared.value.SettingValue.{SettingValue}
-use Rattle.ra_config.specs.Facts.{facts_of}
-use Rattle.ra_config.specs.Layers.{Values, value_at}
+use Rattle.ra_settings.specs.declared.row.Row.{Row}
+use Rattle.ra_settings.specs.declared.value.SettingValue.{SettingValue}
+use Rattle.ra_settings.specs.Facts.{facts_of}
+use Rattle.ra_settings.specs.Layers.{Values, value_at}
 
 -- the layers of files, by root
 abbrev pub Layers : Type 0

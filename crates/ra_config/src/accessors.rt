@@ -1,20 +1,17 @@
 // One accessor for each row.
 ghost use Rattle.std.specs.Prelude.{◌≡◌, None};
 ghost use Rattle.std.specs.Option.{option_copied};
-ghost use Rattle.ra_config.specs.declared.row.Row.{Row};
-ghost use Rattle.ra_config.specs.declared.value.SettingValue.{SettingValue};
+ghost use Rattle.ra_settings.specs.declared.row.Row.{Row};
+ghost use Rattle.ra_settings.specs.declared.value.SettingValue.{SettingValue};
 ghost use Rattle.ra_config.specs.Search.{setting};
 ghost use Rattle.ra_config.specs.Config.{thread_count_of};
 
 use crate::config::Config;
-use crate::row::Row;
-use crate::value::{
-    CargoFeatures, DiscoverConfig, FilesWatcher, InvocationStrategy, LinkedProject,
-};
 use docs_vfs::VfsPath;
 use plain::{Items, Text};
+use ra_settings::{CargoFeatures, DiscoverConfig, FilesWatcher, InvocationStrategy, LinkedProject, Row};
 
-#[tactic(auto, unfolding(crate::specs::Facts::facts_of))]
+#[tactic(auto, unfolding(ra_settings::specs::Facts::facts_of))]
 impl Config {
     /// The projects that the settings name. An object of them has no buildfiles.
     pub fn linked_projects(&self) -> &[LinkedProject]

@@ -4,8 +4,8 @@ ghost use Rattle.serde_json.specs.View.{view, items_view};
 ghost use Rattle.ra_config.specs.Capabilities.{client_at, is_true_at, is_text, lists_text, takes_utf_8, encoding_of, no_capabilities, capabilities_of};
 
 use crate::config::Config;
-use crate::find::find;
 use plain::Json;
+use ra_settings::find_at;
 use serde_json::Value;
 use std::fmt;
 use text_core::{PositionEncoding, WideEncoding};
@@ -42,7 +42,7 @@ fn client_at<'v>(params: &'v Value, path: &[&str]) -> Option<&'v Value>
         ≡ client_at (map (λ p. p.now) path.now) (view params.now) }
 {
     match params.get("capabilities") {
-        Some(client) => find(client, path),
+        Some(client) => find_at(client, path),
         None => None,
     }
 }

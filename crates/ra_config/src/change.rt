@@ -1,17 +1,14 @@
 // A change of settings.
 ghost use Rattle.std.specs.Prelude.{◌≡◌, ◌++◌, ◌↔◌, [], IfOk, OnOk, IsTrue};
-ghost use Rattle.ra_config.specs.Layers.{layer_of, errors_of};
+ghost use Rattle.ra_settings.specs.Layers.{layer_of, errors_of};
 ghost use Rattle.ra_config.specs.Order.{by_path};
 ghost use Rattle.ra_config.specs.Change.{after, over, passed_over, errors_after, put_first, parents_of, parents_after, HasChanged, text_layer, text_errors, files_after, files_errors, tree_in, client_after, client_errors, user_after, user_errors, held, put_files, tell_files};
 ghost use Rattle.ra_config.specs.Search.{is_in};
 
-use crate::error::ConfigError;
-use crate::layer::{Layer, Source};
 use crate::settings::{Files, Parents, Settings, SettingsParts};
-use crate::toml_tree::toml_tree;
-use crate::value::Reason;
 use docs_vfs::VfsPath;
 use plain::{ByNumber, Items, Json, Members, Text};
+use ra_settings::{ConfigError, Layer, Reason, Source, toml_tree};
 use std::alloc::{AllocError, Global};
 
 /// A changed settings file of a root; without a text it was deleted.

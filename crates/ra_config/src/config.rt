@@ -5,16 +5,14 @@ ghost use Rattle.ra_config.specs.Config.{config_at, projects_of};
 
 use crate::capabilities::Capabilities;
 use crate::change::ConfigChange;
-use crate::error::ConfigErrors;
-use crate::layer::Layer;
 use crate::projects::{
     Discovered, push_discovered, push_linked, push_manifests, push_roots, remove_root,
     with_discovered,
 };
 use crate::settings::Settings;
-use crate::value::LinkedProject;
 use docs_vfs::VfsPath;
 use plain::{Copied, Items, Json, Text};
+use ra_settings::{ConfigErrors, Layer, LinkedProject};
 use std::alloc::{AllocError, Global};
 use std::marker::Model;
 use std::sync::Arc;

@@ -9,9 +9,9 @@ ghost use Rattle.ra_config.specs.Initialize.{path_at, folder_paths, folders_of, 
 
 use crate::capabilities::capabilities_of;
 use crate::config::Config;
-use crate::layer::{Layer, Source};
 use docs_vfs::{UrlFault, VfsPath, path_of_url};
 use plain::{Items, Json, Text};
+use ra_settings::{Layer, Source};
 use serde_json::Value;
 use std::alloc::{AllocError, Global};
 use thiserror::Error;

@@ -3,10 +3,9 @@ ghost use Rattle.std.specs.Prelude.{◌≡◌, ◌++◌, map, bytes_eq, IfOk, On
 ghost use Rattle.std.specs.List.{list_any, position};
 ghost use Rattle.ra_config.specs.Projects.{newer, with_discovered, as_project, manifest, manifests, without};
 
-use crate::path_text::join;
-use crate::value::LinkedProject;
 use docs_vfs::VfsPath;
 use plain::{Copied, Items, Json, Text};
+use ra_settings::{LinkedProject, join};
 use std::alloc::{AllocError, Global};
 
 /// A project that a command found, and the file by which it was found.

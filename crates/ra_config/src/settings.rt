@@ -2,16 +2,14 @@
 ghost use Rattle.std.specs.Prelude.{◌≡◌, [], option_to_list, Some, None, IfSome, IfOk};
 ghost use Rattle.std.specs.Option.{option_copied};
 ghost use Rattle.std.specs.FinMap as map;
-ghost use Rattle.ra_config.specs.Facts.{facts_of};
-ghost use Rattle.ra_config.specs.Values.{kind_of};
-ghost use Rattle.ra_config.specs.declared.value.CargoFeatures.{CargoFeatures};
+ghost use Rattle.ra_settings.specs.Facts.{facts_of};
+ghost use Rattle.ra_settings.specs.Values.{kind_of};
+ghost use Rattle.ra_settings.specs.declared.value.CargoFeatures.{CargoFeatures};
 ghost use Rattle.ra_config.specs.Change.{no_settings};
 ghost use Rattle.ra_config.specs.Search.{parent_of, layers_at, layers_of, roots_from, path, first_in};
 
-use crate::layer::Layer;
-use crate::row::Row;
-use crate::value::{CargoFeatures, SettingValue};
 use plain::{ByNumber, Items};
+use ra_settings::{CargoFeatures, Layer, Row, SettingValue};
 use std::alloc::{AllocError, Global};
 use std::marker::Model;
 use std::sync::Arc;
@@ -26,9 +24,9 @@ impl Model for Files {
     ghost use Rattle.std.specs.Prelude.{List, Option};
     ghost use Rattle.std.specs.Ordering.{nat_cmp};
     ghost use Rattle.std.specs.FinMap as map;
-    ghost use Rattle.ra_config.specs.Layers.{Values};
+    ghost use Rattle.ra_settings.specs.Layers.{Values};
     ghost use Rattle.std.specs.Coded.{coded_ℕ};
-    ghost use Rattle.ra_config.specs.contracts.layer.Layer as layer_row;
+    ghost use Rattle.ra_settings.specs.contracts.layer.Layer as layer_row;
 
     ghost Value = { map.FinMap nat_cmp Values };
 
@@ -151,9 +149,9 @@ pub struct SettingsParts {
 impl Model for Settings {
     ghost use Rattle.std.specs.Prelude.{◌≡◌, []};
     ghost use Rattle.std.specs.Coded.{codes};
-    ghost use Rattle.ra_config.specs.declared.value.CargoFeatures.{CargoFeatures};
+    ghost use Rattle.ra_settings.specs.declared.value.CargoFeatures.{CargoFeatures};
     ghost use Rattle.ra_config.specs.Search.{SettingsData};
-    ghost use Rattle.ra_config.specs.contracts.layer.Layer as layer_row;
+    ghost use Rattle.ra_settings.specs.contracts.layer.Layer as layer_row;
     ghost use Rattle.ra_config.specs.contracts.settings.Files as files_row;
     ghost use Rattle.ra_config.specs.contracts.settings.Parents as parents_row;
 

@@ -1,18 +1,15 @@
 // The typed values of a row, one for each kind.
 ghost use Rattle.std.specs.Prelude.{◌≡◌, [], None};
 ghost use Rattle.std.specs.Option.{option_copied};
-ghost use Rattle.ra_config.specs.declared.value.SettingValue.{SettingValue};
-ghost use Rattle.ra_config.specs.declared.value.CargoFeatures.{CargoFeatures};
-ghost use Rattle.ra_config.specs.Facts.{facts_of};
+ghost use Rattle.ra_settings.specs.declared.value.SettingValue.{SettingValue};
+ghost use Rattle.ra_settings.specs.declared.value.CargoFeatures.{CargoFeatures};
+ghost use Rattle.ra_settings.specs.Facts.{facts_of};
 ghost use Rattle.ra_config.specs.Search.{setting};
 
-use crate::row::Row;
 use crate::settings::Settings;
-use crate::value::{
-    CargoFeatures, DiscoverConfig, FilesWatcher, InvocationStrategy, LinkedProject,
-};
 use docs_vfs::VfsPath;
 use plain::{Items, Text};
+use ra_settings::{CargoFeatures, DiscoverConfig, FilesWatcher, InvocationStrategy, LinkedProject, Row};
 
 impl Settings {
     #[tactic(auto, unfolding(crate::specs::Search::setting))]

@@ -1,5 +1,0 @@
-use Rattle.ra_config.proofs.KindLaws.{nothing-kinds}
-use Rattle.ra_config.proofs.layer.Layer.empty.Goals as goal
-
-pub invariant_of-result : goal.invariant_of-result
-invariant_of-result c = rw (c.in_ok-new.ensures.ok, c.in_ok-values.ensures) nothing-kinds

@@ -1,7 +1,0 @@
-use Rattle.std.proofs.Common.{◌≡◌, ◌++◌, option_map}
-use Rattle.serde_json.specs.View.{members_view}
-use Rattle.ra_config.specs.Read.{lists_of}
-use Rattle.ra_config.proofs.read.lists_of.Given as goal
-
-abbrev pub invariant-loop-name : goal.invariant-loop-name
-invariant-loop-name l = option_map (λ rest. l.lists ++ rest) (lists_of (members_view l.name-iterator)) ≡ lists_of (members_view l.map.entries)

@@ -1,5 +1,0 @@
-use Rattle.std.proofs.Common.{length}
-use Rattle.ra_config.proofs.row.+join.Given as goal
-
-abbrev pub decreases-join : goal.decreases-join
-decreases-join l = length l.path.now
