@@ -1,14 +1,14 @@
 -- A search path ends where its definition says, and not for want of steps.
-use Rattle.std.proofs.Common.{◌≡◌, ◌+◌, ◌==◌, ◌≤◌, ◌<◌, ℕ, zero, suc, List, [], ◌∷◌, Bool, true, false, cond, Option, Some, None, refl, sym, ap, ◌∙◌, ◌⊎◌, inl, inr, arith, length, true≢false}
+use Rattle.std.proofs.Common.{◌≡◌, ◌+◌, ◌==◌, ◌≤◌, ℕ, zero, suc, List, [], ◌∷◌, Bool, true, false, cond, Option, Some, None, refl, sym, ap, ◌∙◌, ◌⊎◌, inl, inr, arith, length, true≢false}
 use Rattle.std.proofs.lemmas.Bool.{cond-true, cond-false, false≢true}
 use Rattle.std.specs.Prelude.{◌||◌, is_some, ◌-◌}
-use Rattle.std.specs.Ordering.{nat_cmp, eq_by_cmp}
+use Rattle.std.specs.Ordering.{nat_cmp}
 use Rattle.std.specs.Cmp.{nat_cmp_total, unsigned_tied}
 use Rattle.std.specs.FinMap as map
 use Rattle.std.proofs.lemmas.Bool.Decides.{nat_tests}
-use Rattle.ra_config.specs.Change.{put_first, put_parents, parents_of}
+use Rattle.ra_config.specs.Change.{put_first, put_parents}
 use Rattle.ra_config.specs.Search.{Parents, parent_of, is_in, chain, or_else}
-use Rattle.ra_config.specs.PathLaws.{IsEnd, IsSearchPath, first_parent, PathsEnd, FirstPairHolds}
+use Rattle.ra_config.specs.PathLaws.{IsSearchPath, first_parent, PathsEnd, FirstPairHolds}
 
 same_number : (x y : ℕ) → (x == y) ≡ true → x ≡ y
 same_number x y h = grind (arith, nat_tests)

@@ -1,6 +1,6 @@
 -- A walk along parents that goes on through roots that it has seen finds what the chain without them has.
-use Rattle.std.proofs.Common.{◌≡◌, ◌+◌, ◌==◌, ℕ, zero, suc, List, [], ◌∷◌, ◌++◌, Bool, true, false, cond, Option, Some, None, refl, sym, ap, ◌∙◌, ◌⊎◌, inl, inr, arith, subst, length, true≢false, ◌<◌}
-use Rattle.std.specs.Prelude.{◌||◌, nat_eq, option_and_then}
+use Rattle.std.proofs.Common.{◌≡◌, ◌+◌, ◌==◌, ℕ, zero, suc, List, [], ◌∷◌, ◌++◌, Bool, true, false, cond, Option, Some, None, refl, sym, ap, ◌∙◌, ◌⊎◌, inl, inr, arith, true≢false, ◌<◌}
+use Rattle.std.specs.Prelude.{◌||◌}
 use Rattle.std.specs.FinMap as map
 use Rattle.ra_settings.specs.declared.row.Row.{Row}
 use Rattle.ra_settings.specs.declared.value.SettingValue.{SettingValue}

@@ -1,5 +1,5 @@
 -- The settings of a session.
-use Rattle.std.specs.Prelude.{ℕ, List, [], ◌∷◌, ◌++◌, map, Option, Some, None, unwrap_or}
+use Rattle.std.specs.Prelude.{ℕ, List, [], ◌∷◌, ◌++◌, map, None, unwrap_or}
 use Rattle.ra_config.specs.declared.capabilities.Capabilities.{Capabilities}
 use Rattle.ra_config.specs.declared.projects.Discovered.{Discovered}
 use Rattle.ra_settings.specs.declared.row.Row.{Row}

@@ -1,5 +1,5 @@
 -- What the search path of a root is, and which parents hold, without a count of steps.
-use Rattle.std.specs.Prelude.{◌≡◌, ℕ, ◌+◌, ◌==◌, List, [], ◌∷◌, true, false, Option, Some, None, ⊤, if◌then◌else◌}
+use Rattle.std.specs.Prelude.{◌≡◌, ℕ, ◌+◌, ◌==◌, List, [], ◌∷◌, true, false, Option, Some, None, if◌then◌else◌}
 use Rattle.std.specs.FinMap as map
 use Rattle.ra_config.specs.Change.{parents_of}
 use Rattle.ra_config.specs.Search.{Parents, parent_of, is_in, chain}

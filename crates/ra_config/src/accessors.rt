@@ -9,7 +9,9 @@ ghost use Rattle.ra_config.specs.Config.{thread_count_of};
 use crate::config::Config;
 use docs_vfs::VfsPath;
 use plain::{Items, Text};
-use ra_settings::{CargoFeatures, DiscoverConfig, FilesWatcher, InvocationStrategy, LinkedProject, Row};
+use ra_settings::{
+    CargoFeatures, DiscoverConfig, FilesWatcher, InvocationStrategy, LinkedProject, Row,
+};
 
 #[tactic(auto, unfolding(ra_settings::specs::Facts::facts_of))]
 impl Config {

@@ -21,9 +21,9 @@ pub use config::{Applied, Config};
 pub use initialize::{ConfigFault, initial_roots};
 pub use path_laws::the_search_path_ends;
 pub use projects::Discovered;
-pub use settings::{Files, Parents, Settings, SettingsParts};
 pub use ra_settings::{
     CargoFeatures, ConfigError, ConfigErrors, DiscoverConfig, Facts, FilesWatcher,
     InvocationStrategy, Kind, Layer, LinkedProject, ROWS, Reading, Reason, Row, Scope,
     SettingValue, Source,
 };
+pub use settings::{Files, Parents, Settings, SettingsParts};

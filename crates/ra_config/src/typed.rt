@@ -9,7 +9,9 @@ ghost use Rattle.ra_config.specs.Search.{setting};
 use crate::settings::Settings;
 use docs_vfs::VfsPath;
 use plain::{Items, Text};
-use ra_settings::{CargoFeatures, DiscoverConfig, FilesWatcher, InvocationStrategy, LinkedProject, Row};
+use ra_settings::{
+    CargoFeatures, DiscoverConfig, FilesWatcher, InvocationStrategy, LinkedProject, Row,
+};
 
 impl Settings {
     #[tactic(auto, unfolding(crate::specs::Search::setting))]

@@ -1,5 +1,5 @@
 -- Each value that a layer reads has its row's kind.
-use Rattle.std.proofs.Common.{◌≡◌, ℕ, List, Bool, true, false, cond, Option, Some, None, option_map, refl, sym, ap, ◌∙◌, subst, ◌<◌, ◌+◌, ◌++◌, [], ◌∷◌, length, drop, drop-cons, add-one, append_assoc}
+use Rattle.std.proofs.Common.{◌≡◌, ℕ, List, Bool, true, false, cond, Option, Some, None, option_map, refl, sym, ◌∙◌, ◌<◌, ◌+◌, ◌++◌, [], ◌∷◌, length, drop, drop-cons, add-one, append_assoc}
 use Rattle.serde_json.specs.Data.{Data}
 use Rattle.serde_json.specs.Find.{as_bool, as_str, as_array, as_object, as_number, as_u64, as_i64}
 use Rattle.std.specs.Prelude.{option_and_then, is_some, codes}

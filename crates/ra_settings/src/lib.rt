@@ -11,6 +11,8 @@ mod path_text;
 mod read;
 mod row;
 mod same;
+#[cfg(test)]
+mod tests;
 mod value;
 
 pub use error::{ConfigError, ConfigErrors};
