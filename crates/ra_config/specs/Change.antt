@@ -1,6 +1,7 @@
 -- A change of settings.
 use Rattle.std.specs.Prelude.{◌≡◌, ℕ, List, [], ◌∷◌, ◌++◌, Option, Some, None, is_some, if◌then◌else◌, codes}
 use Rattle.std.specs.FinMap as finmap
+use Rattle.std.specs.Ordering.{nat_cmp}
 use Rattle.serde_json.specs.Data.{Data, object, no_members}
 use Rattle.ra_settings.specs.declared.error.ConfigError.{ConfigError}
 use Rattle.ra_settings.specs.declared.value.Reason.{Reason}
@@ -9,7 +10,7 @@ use Rattle.ra_config.specs.declared.change.SettingsFile.{SettingsFile}
 use Rattle.ra_config.specs.declared.change.ConfigChange.{ConfigChange}
 use Rattle.ra_settings.specs.declared.row.TheConstants.{ROWS}
 use Rattle.ra_settings.specs.Layers.{Values, layer_of, errors_of, nothing_set}
-use Rattle.ra_config.specs.Search.{SettingsData, Layers, Parents, is_in}
+use Rattle.ra_config.specs.Search.{SettingsData, Layers, Parents}
 use Rattle.ra_settings.specs.Toml.{toml_tree}
 use Rattle.ra_config.specs.Order.{by_path}
 
@@ -33,15 +34,19 @@ text_layer source root text = layer_in source root (tree_in text)
 unfoldable pub text_errors : List ℕ → Source → List ℕ → Option (List ℕ) → List ConfigError
 text_errors place source root text = errors_in place source root (tree_in text)
 
+-- the roots that came already
+abbrev pub Roots : Type 0
+Roots = finmap.FinMap nat_cmp (Unit {0})
+
 -- of files in order the first of each root
-abbrev pub held : List ℕ → List SettingsFile → List SettingsFile
+abbrev pub held : Roots → List SettingsFile → List SettingsFile
 held done [] = []
-held done (c ∷ cs) = if is_in c.root done then held done cs else c ∷ held (done ++ c.root ∷ []) cs
+held done (c ∷ cs) = if is_some (finmap.get done c.root) then held done cs else c ∷ held (finmap.insert done c.root tt) cs
 
 -- of files in order the paths of those that don't hold, each after another of its root
-abbrev pub over : List ℕ → List SettingsFile → List (List ℕ)
+abbrev pub over : Roots → List SettingsFile → List (List ℕ)
 over done [] = []
-over done (c ∷ cs) = if is_in c.root done then c.path ∷ over done cs else over (done ++ c.root ∷ []) cs
+over done (c ∷ cs) = if is_some (finmap.get done c.root) then c.path ∷ over done cs else over (finmap.insert done c.root tt) cs
 
 abbrev pub put_files : Source → List ℕ → List SettingsFile → Layers → Layers
 put_files source root [] layers = layers
@@ -52,10 +57,10 @@ tell_files source root [] = []
 tell_files source root (c ∷ cs) = text_errors c.path source root c.text ++ tell_files source root cs
 
 abbrev pub files_after : Source → List ℕ → List SettingsFile → Layers → Layers
-files_after source root changes layers = put_files source root (held [] (by_path changes)) layers
+files_after source root changes layers = put_files source root (held finmap.empty (by_path changes)) layers
 
 abbrev pub files_errors : Source → List ℕ → List SettingsFile → List ConfigError
-files_errors source root changes = tell_files source root (held [] (by_path changes))
+files_errors source root changes = tell_files source root (held finmap.empty (by_path changes))
 
 -- the first pair of a root holds
 abbrev pub put_first : Parents → ℕ × ℕ → Parents
@@ -106,7 +111,7 @@ errors_after root c =
 
 -- the paths of the changed files that don't hold, since a smaller path of their root and kind does: the workspace files', then the crate files'
 unfoldable pub passed_over : ConfigChange → List (List ℕ)
-passed_over c = over [] (by_path c.workspace_toml) ++ over [] (by_path c.crate_toml)
+passed_over c = over finmap.empty (by_path c.workspace_toml) ++ over finmap.empty (by_path c.crate_toml)
 
 -- no value is set
 unfoldable pub no_settings : SettingsData

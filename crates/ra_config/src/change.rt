@@ -1,9 +1,9 @@
 // A change of settings.
-ghost use Rattle.std.specs.Prelude.{◌≡◌, ◌++◌, ◌↔◌, [], IfOk, OnOk, IsTrue};
+ghost use Rattle.std.specs.Prelude.{◌≡◌, ◌++◌, ◌↔◌, IfOk, OnOk, IsTrue};
+ghost use Rattle.std.specs.FinMap as map;
 ghost use Rattle.ra_settings.specs.Layers.{layer_of, errors_of};
 ghost use Rattle.ra_config.specs.Order.{by_path};
 ghost use Rattle.ra_config.specs.Change.{after, over, passed_over, errors_after, put_first, parents_of, parents_after, HasChanged, text_layer, text_errors, files_after, files_errors, tree_in, client_after, client_errors, user_after, user_errors, held, put_files, tell_files};
-ghost use Rattle.ra_config.specs.Search.{is_in};
 
 use crate::settings::{Files, Parents, Settings, SettingsParts};
 use docs_vfs::VfsPath;
@@ -91,7 +91,7 @@ pub(crate) fn read_files(
         (λ files. files ≡ files_after source root_path.now changes before.now) }
     ensures errors { OnOk result (errors.new
         ≡ errors.old ++ files_errors source root_path.now changes) }
-    ensures passed { OnOk result (passed.new ≡ passed.old ++ over [] (by_path changes)) }
+    ensures passed { OnOk result (passed.new ≡ passed.old ++ over map.empty (by_path changes)) }
 {
     let changes = sort(changes)?;
     read_sorted(
@@ -116,25 +116,26 @@ fn read_sorted(
     passed: &mut Items<VfsPath>,
 ) -> Result<Files, AllocError>
     ensures files { IfOk result
-        (λ files. files ≡ put_files source root_path.now (held [] changes.now) before.now) }
+        (λ files. files ≡ put_files source root_path.now (held map.empty changes.now) before.now) }
     ensures errors { OnOk result (errors.new
-        ≡ errors.old ++ tell_files source root_path.now (held [] changes.now)) }
-    ensures passed { OnOk result (passed.new ≡ passed.old ++ over [] changes.now) }
+        ≡ errors.old ++ tell_files source root_path.now (held map.empty changes.now)) }
+    ensures passed { OnOk result (passed.new ≡ passed.old ++ over map.empty changes.now) }
 {
     if changes.is_empty() {
         return before.clone();
     }
     let mut layers = before.copy_layers()?;
-    let mut done = Items::new(alloc);
+    let mut done = ByNumber::new(alloc);
     for change in changes {
-        if is_in(change.root, done.as_slice()) {
+        let root = u64::from(change.root);
+        if done.contains(root) {
             passed.push(change.path.clone()?)?;
             continue;
         }
         let place = Text::from_str(alloc, change.path.as_str())?;
         let layer = read_text_layer(alloc, source, &place, root_path, &change.text, errors)?;
-        layers.insert(u64::from(change.root), layer)?;
-        done.push(change.root)?;
+        layers.insert(root, layer)?;
+        done.insert(root, ())?;
     }
     Files::new(alloc, layers)
 }
@@ -177,17 +178,6 @@ pub fn user_after(
         }
         None => before.clone(),
     }
-}
-
-fn is_in(root: u32, roots: &[u32]) -> bool
-    ensures { result ≡ is_in root roots.now }
-{
-    for other in roots {
-        if root == *other {
-            return true;
-        }
-    }
-    false
 }
 
 /// Whether the client's or the user's values differ.

@@ -220,7 +220,7 @@ impl Config {
           discovered = with_discovered (record { project = project; buildfile = buildfile }) self.old.discovered;
         }) }
     {
-        let new = Discovered { project, buildfile };
+        let new = Discovered::new(alloc, project, buildfile)?;
         let discovered: &Items<Discovered> = &self.discovered;
         let discovered = with_discovered(alloc, new, discovered)?;
         self.discovered = Arc::new(alloc, discovered)?;

@@ -7,12 +7,49 @@ use docs_vfs::VfsPath;
 use plain::{Copied, Items, Json, Text};
 use ra_settings::{LinkedProject, join};
 use std::alloc::{AllocError, Global};
+use std::marker::Model;
+use std::sync::Arc;
 
-/// A project that a command found, and the file by which it was found.
-#[derive(Debug, Drop)]
+/// A project that a command found, and the file by which it was found. A clone shares the project.
+#[derive(Drop)]
 pub struct Discovered {
-    pub project: Json,
-    pub buildfile: Text,
+    project: Arc<Json, Global>,
+    buildfile: Text,
+}
+
+impl Model for Discovered {
+    ghost use Rattle.std.specs.Coded.{codes};
+    ghost use Rattle.plain.specs.Code.{data_code};
+    ghost use Rattle.ra_config.specs.Projects.{DiscoveredData};
+
+    ghost Value = { DiscoveredData };
+
+    ghost coded = { Prim.hlevel (codes, data_code) };
+
+    ghost view = { λ d. record { project = d.project.value; buildfile = d.buildfile } };
+}
+
+impl Discovered {
+    pub fn new(alloc: Global, project: Json, buildfile: Text) -> Result<Discovered, AllocError>
+        ensures { IfOk result (λ d. d ≡ record { project = project; buildfile = buildfile }) }
+    {
+        Ok(Discovered {
+            project: Arc::new(alloc, project)?,
+            buildfile,
+        })
+    }
+
+    pub fn project(&self) -> &Json
+        ensures { result.now ≡ self.now.project }
+    {
+        &self.project
+    }
+
+    pub fn buildfile(&self) -> &Text
+        ensures { result.now ≡ self.now.buildfile }
+    {
+        &self.buildfile
+    }
 }
 
 impl Clone for Discovered {
@@ -33,13 +70,13 @@ impl Copied for Discovered {
 fn is_of(discovered: &Discovered, buildfile: &str) -> bool
     ensures { result ≡ bytes_eq discovered.now.buildfile buildfile.now }
 {
-    discovered.buildfile.as_str() == buildfile
+    discovered.buildfile().as_str() == buildfile
 }
 
 fn newer(new: &Discovered, old: &Discovered) -> Result<Discovered, AllocError>
     ensures { IfOk result (λ d. d ≡ newer new.now old.now) }
 {
-    if is_of(old, new.buildfile.as_str()) {
+    if is_of(old, new.buildfile().as_str()) {
         new.clone()
     } else {
         old.clone()
@@ -75,7 +112,7 @@ pub(crate) fn with_discovered(
 ) -> Result<Items<Discovered>, AllocError>
     ensures { IfOk result (λ made. made ≡ with_discovered new list.now) }
 {
-    if is_any_of(list.as_slice(), new.buildfile.as_str()) {
+    if is_any_of(list.as_slice(), new.buildfile().as_str()) {
         return replaced(alloc, &new, list.as_slice());
     }
     let mut made = list.clone()?;
@@ -99,9 +136,9 @@ fn as_project(alloc: Global, discovered: &Discovered) -> Result<LinkedProject, A
     ensures { IfOk result (λ p. p ≡ as_project discovered.now) }
 {
     let mut buildfiles = Items::new(alloc);
-    buildfiles.push(discovered.buildfile.clone()?)?;
+    buildfiles.push(discovered.buildfile().clone()?)?;
     Ok(LinkedProject::InlineProjectJson {
-        project: discovered.project.clone()?,
+        project: discovered.project().clone()?,
         buildfiles,
     })
 }
