@@ -1,4 +1,7 @@
 // The words of the command line.
+ghost use Rattle.std.specs.Prelude.{◌≡◌};
+ghost use Rattle.ra_serve.specs.Words.{asked_by};
+
 use plain::{Items, Text};
 use std::alloc::AllocError;
 use std::env;
@@ -35,7 +38,10 @@ pub enum CommandLine {
     NotText,
 }
 
-fn understood(words: Items<Text>) -> CommandLine {
+/// What words ask for.
+fn understood(words: Items<Text>) -> CommandLine
+    ensures { result ≡ asked_by words }
+{
     match words.as_slice() {
         [word] if word.as_str() == "--help" => CommandLine::Help,
         [word] if word.as_str() == "--version" => CommandLine::Version,

@@ -1,5 +1,5 @@
 // Standard input as a source.
-ghost use Rattle.std.specs.Prelude.{◌≤◌, length, None, IfOk};
+ghost use Rattle.std.specs.Prelude.{◌≡◌, ◌≤◌, length, None, IfOk};
 
 use plain::Bytes;
 use session_port::{HostError, Source};
@@ -15,7 +15,10 @@ pub struct StandardInput<R: Read + Drop> {
 }
 
 impl<R: Read + Drop> StandardInput<R> {
-    pub fn new(alloc: Global, reader: R) -> Self {
+    pub fn new(alloc: Global, reader: R) -> Self
+        ensures reader { result.reader ≡ reader }
+        ensures faults { result.faults ≡ 0 }
+    {
         StandardInput {
             alloc,
             reader,

@@ -1,5 +1,5 @@
 // Standard output as a sink.
-ghost use Rattle.std.specs.Prelude.{None};
+ghost use Rattle.std.specs.Prelude.{◌≡◌, None};
 
 use session_port::{HostError, Sink};
 use std::io::Write;
@@ -12,7 +12,10 @@ pub struct StandardOutput<W: Write + Drop> {
 }
 
 impl<W: Write + Drop> StandardOutput<W> {
-    pub fn new(writer: W) -> Self {
+    pub fn new(writer: W) -> Self
+        ensures writer { result.writer ≡ writer }
+        ensures faults { result.faults ≡ 0 }
+    {
         StandardOutput { writer, faults: 0 }
     }
 }
