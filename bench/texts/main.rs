@@ -187,6 +187,25 @@ fn report(name: &str, start: Instant, text: &str) {
     println!("{name}: {} bytes, {}", text.len(), digest(text));
 }
 
+/// A text of one line of ASCII, with a wide character in front of it.
+fn long_line(len: u32) -> String {
+    let mut text = String::from("é");
+    for _ in 0..len / 20 {
+        text.push_str("let value = other+1;");
+    }
+    text.push('\n');
+    text
+}
+
+/// Letters that come one by one, each to a text whose index was built.
+fn type_letters(name: &str, mut text: String, places: &[(u32, u32)]) {
+    let start = Instant::now();
+    for (line, character) in places {
+        text = apply(&text, &[letter(*line, *character)]);
+    }
+    report(name, start, &text);
+}
+
 fn main() {
     let full = std::env::args().any(|word| word == "full");
     let (edits, rows) = if full { (10_000u32, 2_236_963) } else { (50, 1000) };
@@ -203,6 +222,14 @@ fn main() {
         .collect();
     let start = Instant::now();
     report("scattered edits", start, &apply(&text, &scattered));
+    let ones: Vec<(u32, u32)> = (0..edits / 10).map(|k| (k * 7919 % (edits / 10), 4)).collect();
+    type_letters("letters one by one", text, &ones);
+    let len = if full { 1_000_000 } else { 1000 };
+    let along: Vec<Change> = (0..edits / 10).map(|k| letter(0, k * 7919 % len)).collect();
+    let start = Instant::now();
+    report("edits of one long line", start, &apply(&long_line(len), &along));
+    let ones: Vec<(u32, u32)> = (0..edits / 10).map(|k| (0, k * 7919 % len)).collect();
+    type_letters("letters one by one in one long line", long_line(len), &ones);
     for (name, end) in [("lines that end with LF", "\n"), ("lines that end with CR LF", "\r\n")] {
         let text = lines(rows, end);
         let start = Instant::now();

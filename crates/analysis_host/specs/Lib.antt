@@ -5,3 +5,4 @@ pub mod SnapshotData
 pub mod Versions
 pub mod Codes
 pub mod FromProto
+pub mod Costs

@@ -1,14 +1,17 @@
 // The world that changes: each change makes a new one, and those that were given out stay as they are.
-ghost use Rattle.std.specs.Prelude.{◌≡◌, All, IfOk, option_copied};
+ghost use Rattle.std.specs.Prelude.{◌≡◌, ◌<◌, ◌+◌, length, All, IfOk, OnErr, option_copied};
 ghost use Rattle.std.specs.FinMap as map;
-ghost use Rattle.analysis_host.specs.HostData.{new_host, changed, Changes, Fits};
+ghost use Rattle.analysis_host.specs.HostData.{new_host, new_host_at, changed, Changes, Fits};
+ghost use Rattle.analysis_host.specs.Costs.{AreQuick};
 ghost use Rattle.analysis_host.specs.declared.host.WorldFault.TheVariants.{NoMemory as OutOfMemory};
 
 use crate::world::World;
 use docs_vfs::VfsPath;
 use plain::{Items, Text};
+use shared_map::Steps;
 use std::alloc::{AllocError, Global};
-use std::marker::Model;
+use std::marker::{Brand, Model};
+use std::sync::ledger::{Blank, Ledger};
 use text_core::TextIndex;
 
 /// A file's new text, or that it has none.
@@ -65,10 +68,17 @@ impl AnalysisHost {
     pub fn new(alloc: Global) -> Result<AnalysisHost, AllocError>
         ensures { IfOk result (λ host. host ≡ new_host) }
     {
+        AnalysisHost::new_at(alloc, 0)
+    }
+
+    /// No texts, where this many revisions were used.
+    pub fn new_at(alloc: Global, used: u64) -> Result<AnalysisHost, AllocError>
+        ensures { IfOk result (λ host. host ≡ new_host_at used) }
+    {
         Ok(AnalysisHost {
             alloc,
             world: World::new(alloc)?,
-            revision: 0,
+            revision: used,
         })
     }
 
@@ -99,16 +109,45 @@ impl AnalysisHost {
         self.world.index(path)
     }
 
-    /// Makes one change, and so a new revision. A text has at most 4,294,967,295 bytes. After want of memory the
-    /// host is spent.
+    /// Makes one change, and so a new revision. A text has at most 4,294,967,295 bytes.
     pub fn apply_change(&mut self, change: Change) -> Result<(), WorldFault>
         requires { All Fits change.files }
-        ensures { Changes result (changed change.files self.old) self.old self.new }
+        ensures ok { Changes result (changed change.files self.old) self.old self.new }
+        ensures err { OnErr result (self.new ≡ self.old) }
+    {
+        self.apply_uncounted::<Brand>(change, Blank::new(1))
+    }
+
+    /// The same where nobody counts the steps.
+    fn apply_uncounted<L: Ledger>(&mut self, change: Change, blank: Blank) -> Result<(), WorldFault>
+        requires name { blank.name ≡ L.name }
+        requires parts { blank.parts ≡ L.parts }
+        requires some { 0 < L.parts }
+        requires fits { All Fits change.files }
+        ensures ok { Changes result (changed change.files self.old) self.old self.new }
+        ensures err { OnErr result (self.new ≡ self.old) }
+    {
+        let mut steps = Steps::<L>::new(blank);
+        self.apply_counted(change, &mut steps)
+    }
+
+    /// As `apply_change`. Each step is one node of the table of texts that is read.
+    #[tactic(auto, using(crate::proofs::Counting::nothing_done))]
+    pub fn apply_counted<L: Ledger>(
+        &mut self,
+        change: Change,
+        steps: &mut Steps<L>,
+    ) -> Result<(), WorldFault>
+        requires { All Fits change.files }
+        ensures ok { Changes result (changed change.files self.old) self.old self.new }
+        ensures err { OnErr result (self.new ≡ self.old) }
+        ensures cost { let count = length change.files in
+            AreQuick count (map.len self.old.world.texts + count) steps.old steps.new }
     {
         if self.revision == u64::MAX {
             return Err(WorldFault::Exhausted);
         }
-        self.world = self.world.with_files(self.alloc, change.files)?;
+        self.world = self.world.with_files(self.alloc, change.files, steps)?;
         self.revision += 1;
         Ok(())
     }

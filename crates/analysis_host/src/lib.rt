@@ -8,10 +8,9 @@ mod cancel;
 mod file_places;
 mod from_proto;
 mod host;
+mod path_map;
 mod shared_text;
 mod snapshot;
-#[cfg(test)]
-mod tests;
 mod versions;
 mod world;
 
@@ -21,6 +20,7 @@ pub use cancel::{Cancel, Never};
 pub use file_places::{FilePosition, FileRange, ProtoFault, file_position, file_range};
 pub use from_proto::{AssistKind, assist_kind, columns, position_of, range_of};
 pub use host::{AnalysisHost, Change, FileChange, WorldFault};
+pub use path_map::{PathMap, TextTree};
 pub use shared_text::SharedText;
 pub use snapshot::{GlobalStateSnapshot, SnapshotParts};
 pub use versions::Versions;

@@ -1,23 +1,24 @@
 // The versions of the open documents at one moment.
-ghost use Rattle.std.specs.Prelude.{◌≡◌, IfOk, option_copied};
+ghost use Rattle.std.specs.Prelude.{◌≡◌, ◌<◌, IfOk};
 ghost use Rattle.std.specs.FinMap as map;
 ghost use Rattle.analysis_host.specs.Versions.{with_version};
 
-use docs_vfs::{ByPath, VfsPath};
+use crate::path_map::PathMap;
+use docs_vfs::VfsPath;
 use plain::Copied;
+use shared_map::Steps;
 use std::alloc::{AllocError, Global};
-use std::marker::Model;
-use std::sync::Arc;
+use std::marker::{Brand, Model};
+use std::sync::ledger::{Blank, Ledger};
 
 /// The version of each path that is open. The map never changes, and its clones share it.
 #[derive(Drop)]
 pub struct Versions {
-    versions: Arc<ByPath<i32>, Global>,
+    versions: PathMap<i32>,
 }
 
 impl Model for Versions {
     ghost use Rattle.std.specs.Prelude.{ℤ};
-    ghost use Rattle.std.specs.Arc.{arc_value};
     ghost use Rattle.std.specs.Coded.{coded_ℕ, coded_ℤ, coded_list};
     ghost use Rattle.std.specs.FinMap as map;
     ghost use Rattle.docs_vfs.specs.Paths.{path_cmp};
@@ -26,7 +27,26 @@ impl Model for Versions {
 
     ghost coded = { map.code (coded_list coded_ℕ) coded_ℤ };
 
-    ghost view = { λ v. arc_value v.versions };
+    ghost view = { λ v. v.versions };
+}
+
+/// The map with that path set, or without it, where nobody counts the steps.
+fn set_uncounted<L: Ledger>(
+    versions: &PathMap<i32>,
+    path: VfsPath,
+    version: Option<i32>,
+    blank: Blank,
+) -> Result<PathMap<i32>, AllocError>
+    requires name { blank.name ≡ L.name }
+    requires parts { blank.parts ≡ L.parts }
+    requires some { 0 < L.parts }
+    ensures { IfOk result (λ new. new ≡ with_version path version versions.now) }
+{
+    let mut steps = Steps::<L>::new(blank);
+    match version {
+        Some(version) => versions.set(path, Some(version), &mut steps),
+        None => versions.set(path, None, &mut steps),
+    }
 }
 
 impl Versions {
@@ -34,38 +54,27 @@ impl Versions {
         ensures { IfOk result (λ versions. versions ≡ map.empty) }
     {
         Ok(Versions {
-            versions: Arc::new(alloc, ByPath::new(alloc))?,
+            versions: PathMap::new(alloc),
         })
     }
 
     pub fn get(&self, path: &VfsPath) -> Option<i32>
         ensures { result ≡ map.get self.now path.now }
     {
-        let versions: &ByPath<i32> = &self.versions;
-        versions.get(path).copied()
+        self.versions.get(path).copied()
     }
 
-    /// The map with that path set, or without it.
+    /// The map with that path set, or without it. It shares with this one all nodes but those on the way to the path.
     pub fn set(
         &self,
-        alloc: Global,
+        _alloc: Global,
         path: VfsPath,
         version: Option<i32>,
     ) -> Result<Versions, AllocError>
         ensures { IfOk result (λ versions. versions ≡ with_version path version self.now) }
     {
-        let present: &ByPath<i32> = &self.versions;
-        let mut versions = present.clone()?;
-        match version {
-            Some(version) => {
-                versions.insert(path, version)?;
-            }
-            None => {
-                versions.remove(&path);
-            }
-        }
         Ok(Versions {
-            versions: Arc::new(alloc, versions)?,
+            versions: set_uncounted::<Brand>(&self.versions, path, version, Blank::new(1))?,
         })
     }
 }
@@ -75,7 +84,7 @@ impl Clone for Versions {
 
     fn clone(&self) -> Result<Versions, AllocError> {
         Ok(Versions {
-            versions: Arc::try_clone(&self.versions)?,
+            versions: self.versions.clone()?,
         })
     }
 }

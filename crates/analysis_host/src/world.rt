@@ -1,26 +1,29 @@
 // The texts of a workspace at one moment.
-ghost use Rattle.std.specs.Prelude.{◌≡◌, All, IfOk, option_copied};
+ghost use Rattle.std.specs.Prelude.{◌≡◌, ◌+◌, length, All, IfOk, option_copied};
 ghost use Rattle.std.specs.FinMap as map;
+ghost use Rattle.shared_map.specs.Costs.{IsQuick};
 ghost use Rattle.analysis_host.specs.SnapshotData.{empty_world};
 ghost use Rattle.analysis_host.specs.HostData.{with_files, with_text, Fits};
+ghost use Rattle.analysis_host.specs.Costs.{AreQuick};
 
 use crate::host::FileChange;
+use crate::path_map::TextTree;
 use crate::shared_text::SharedText;
-use docs_vfs::{ByPath, VfsPath};
+use docs_vfs::VfsPath;
 use plain::{Copied, Items};
+use shared_map::Steps;
 use std::alloc::{AllocError, Global};
 use std::marker::Model;
-use std::sync::Arc;
+use std::sync::ledger::Ledger;
 use text_core::TextIndex;
 
 /// A world, which never changes. Its clones share all texts.
 #[derive(Drop)]
 pub struct World {
-    texts: Arc<ByPath<SharedText>, Global>,
+    texts: TextTree,
 }
 
 impl Model for World {
-    ghost use Rattle.std.specs.Arc.{arc_value};
     ghost use Rattle.analysis_host.specs.SnapshotData.{WorldData};
 
     ghost Value = { WorldData };
@@ -29,28 +32,26 @@ impl Model for World {
 
     ghost coded = { world_code };
 
-    ghost view = { λ w. record { texts = arc_value w.texts } };
+    ghost view = { λ w. record { texts = w.texts } };
 }
 
-// Sets or takes away one text.
-fn set_text(
+/// The texts with one file's text set, or taken away.
+#[tactic(auto, using(crate::proofs::Counting::at_rest))]
+fn set_text<L: Ledger>(
     alloc: Global,
-    texts: &mut ByPath<SharedText>,
+    texts: &TextTree,
     file: FileChange,
-) -> Result<(), AllocError>
+    steps: &mut Steps<L>,
+) -> Result<TextTree, AllocError>
     requires { Fits file }
-    ensures { IfOk result (λ _. texts.new ≡ with_text file.path file.text texts.old) }
+    ensures ok { IfOk result (λ new. new ≡ with_text file.path file.text texts.now) }
+    ensures cost { IsQuick (map.len texts.now) steps.old steps.new }
 {
     let FileChange { path, text } = file;
     match text {
-        Some(text) => {
-            texts.insert(path, SharedText::new(alloc, text)?)?;
-        }
-        None => {
-            texts.remove(&path);
-        }
+        Some(text) => texts.set(path, Some(SharedText::new(alloc, text)?), steps),
+        None => texts.set(path, None, steps),
     }
-    Ok(())
 }
 
 impl World {
@@ -59,7 +60,7 @@ impl World {
         ensures { IfOk result (λ world. world ≡ empty_world) }
     {
         Ok(World {
-            texts: Arc::new(alloc, ByPath::new(alloc))?,
+            texts: TextTree::new(alloc),
         })
     }
 
@@ -77,27 +78,29 @@ impl World {
     pub fn index(&self, path: &VfsPath) -> Option<&TextIndex>
         ensures { option_copied result ≡ map.get self.now.texts path.now }
     {
-        let texts: &ByPath<SharedText> = &self.texts;
-        match texts.get(path) {
+        match self.texts.get(path) {
             Some(text) => Some(text.index()),
             None => None,
         }
     }
 
-    /// The world with these files set or taken away, one after another. The texts are shared, and the table of
-    /// their paths is copied.
-    pub fn with_files(&self, alloc: Global, files: Items<FileChange>) -> Result<World, AllocError>
+    /// The world with these files set or taken away, one after another. It shares with this one all texts and all of
+    /// the table of their paths but the nodes on the way to these files. Each step is one such node that is read.
+    pub fn with_files<L: Ledger>(
+        &self,
+        alloc: Global,
+        files: Items<FileChange>,
+        steps: &mut Steps<L>,
+    ) -> Result<World, AllocError>
         requires { All Fits files }
-        ensures { IfOk result (λ world. world ≡ record { texts = with_files files self.now.texts }) }
+        ensures ok { IfOk result (λ world. world ≡ record { texts = with_files files self.now.texts }) }
+        ensures cost { AreQuick (length files) (map.len self.now.texts + length files) steps.old steps.new }
     {
-        let present: &ByPath<SharedText> = &self.texts;
-        let mut texts = present.clone()?;
+        let mut texts = self.texts.clone()?;
         for file in files.into_vec() {
-            set_text(alloc, &mut texts, file)?;
+            texts = set_text(alloc, &texts, file, steps)?;
         }
-        Ok(World {
-            texts: Arc::new(alloc, texts)?,
-        })
+        Ok(World { texts })
     }
 }
 
@@ -106,7 +109,7 @@ impl Clone for World {
 
     fn clone(&self) -> Result<World, AllocError> {
         Ok(World {
-            texts: Arc::try_clone(&self.texts)?,
+            texts: self.texts.clone()?,
         })
     }
 }

@@ -1,4 +1,4 @@
-// Fills a table of files with 100,000 paths, changes some, reads URLs, finds roots, and times it on standard error.
+// Fills a table of files with 100,000 paths, changes some, reads URLs, finds roots and their parents, and times it on standard error.
 #![tactic(auto)]
 
 use docs_vfs::{FileTable, Root, SourceRoots, VfsPath, path_of_url};
@@ -21,7 +21,7 @@ fn scattered(turn: u32) -> u64 {
 
 /// The text of the path with a number, after these words.
 fn text_of(alloc: Global, front: &str, number: u64) -> Result<String, AllocError> {
-    let folder = number % 100;
+    let folder = number % 500;
     format!(in alloc; "{front}/w/crates/part_{folder}/src/file_{number}.rs")
 }
 
@@ -91,11 +91,15 @@ fn root_at(alloc: Global, text: &str) -> Result<Root, AllocError> {
     })
 }
 
-/// A root for each of the 100 folders.
-fn hundred_roots(alloc: Global) -> Result<SourceRoots, AllocError> {
+/// A root for each of the 500 folders, and one for the tests in each.
+fn thousand_roots(alloc: Global) -> Result<SourceRoots, AllocError> {
     let mut roots = Items::new(alloc);
-    for folder in 0..100u32 {
+    for folder in 0..500u32 {
         let text = format!(in alloc; "/w/crates/part_{folder}")?;
+        roots.push(root_at(alloc, text.as_str())?)?;
+    }
+    for folder in 0..500u32 {
+        let text = format!(in alloc; "/w/crates/part_{folder}/tests")?;
         roots.push(root_at(alloc, text.as_str())?)?;
     }
     Ok(SourceRoots::new(roots))
@@ -106,12 +110,17 @@ fn find_roots(alloc: Global, roots: &SourceRoots) -> Result<u64, AllocError> {
     let mut count = 0u64;
     for turn in 0..NAMES {
         if let Some(path) = path_of(alloc, scattered(turn))? {
-            if roots.root_of(&path) < 100 {
+            if roots.root_of(&path) < 1_000 {
                 count = count.wrapping_add(1);
             }
         }
     }
     Ok(count)
+}
+
+/// Counts the roots that have a parent.
+fn find_parents(roots: &SourceRoots) -> Result<u64, AllocError> {
+    Ok(roots.parent_map()?.len() as u64)
 }
 
 /// Prints what was counted, and the time since the start on standard error.
@@ -153,9 +162,11 @@ fn names(rt: &HostRuntime) -> io::Result<()> {
     let alloc = rt.alloc();
     let start = Instant::now(rt)?;
     told(rt, "URLs read", read_urls(alloc)?, &start)?;
-    let roots = hundred_roots(alloc)?;
+    let roots = thousand_roots(alloc)?;
     let start = Instant::now(rt)?;
-    told(rt, "roots found", find_roots(alloc, &roots)?, &start)
+    told(rt, "roots found", find_roots(alloc, &roots)?, &start)?;
+    let start = Instant::now(rt)?;
+    told(rt, "parents found", find_parents(&roots)?, &start)
 }
 
 fn main(rt: HostRuntime) -> io::Result<()> {

@@ -9,9 +9,8 @@ use docs_vfs::VfsPath;
 use plain::{Bytes, Items, Json};
 use ra_config::Config;
 use session::{SessionError, main_loop};
-use session_port::{
-    Host, HostEvent, HostileHost, JobResult, JobValue, MemorySink, Sink, TaskBody, TaskMsg,
-};
+use session_peers::{HostileHost, MemorySink};
+use session_port::{Host, HostEvent, JobResult, JobValue, Sink, TaskBody, TaskMsg};
 use small_analysis::SmallAnalysis;
 use std::alloc::{AllocError, Global};
 use std::io;

@@ -1,4 +1,4 @@
-// Changes many settings files at once, reads settings along a path of roots, and adds discovered projects, with the times on
+// Changes many settings files at once and one among many, reads settings along a path of roots, and adds discovered projects, with the times on
 // standard error. The word `full` takes 1,000 and 10,000 of each.
 #![tactic(auto)]
 
@@ -82,6 +82,31 @@ fn change(rt: &HostRuntime, config: &Config, count: u32) -> io::Result<Config> {
     Ok(applied.config)
 }
 
+/// Changes the file of one crate, ten times from the same settings.
+fn change_one(rt: &HostRuntime, config: &Config) -> io::Result<()> {
+    let alloc = rt.alloc();
+    let start = Instant::now(rt)?;
+    let mut refused = 0u32;
+    for _turn in 0..10 {
+        let mut files = Items::new(alloc);
+        if let Some(file) = settings_file(alloc, "a", 0, "diagnostics.enable = true\n")? {
+            files.push(file)?;
+        }
+        let change = ConfigChange {
+            client: None,
+            user: None,
+            workspace_toml: Items::new(alloc),
+            crate_toml: files,
+            parents: None,
+        };
+        if !config.apply_change(alloc, change)?.errors.is_empty() {
+            refused = refused.wrapping_add(1);
+        }
+    }
+    told(rt, "changes of one file", 10, &start)?;
+    println!(rt; "  refused: {refused}")
+}
+
 /// Reads a setting at each root: one that its file sets, and one that no file on its path may set.
 fn look(rt: &HostRuntime, config: &Config, count: u32) -> io::Result<()> {
     let mut off = 0u32;
@@ -123,6 +148,7 @@ fn run(rt: &HostRuntime, count: u32) -> io::Result<()> {
         return Ok(());
     };
     let mut config = change(rt, &Config::new(alloc, root, 4)?, count)?;
+    change_one(rt, &config)?;
     look(rt, &config, count)?;
     discover(rt, &mut config, count / 10)
 }

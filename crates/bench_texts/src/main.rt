@@ -1,16 +1,18 @@
-// Edits texts by one list of changes and normalises line ends, and times both on standard error. The word `full` takes the
+// Edits texts by lists of changes and normalises line ends, and times both on standard error. The word `full` takes the
 // full sizes.
 #![tactic(auto)]
 
-ghost use Rattle.std.specs.Prelude.{◌<◌, ◌≤◌, length};
+ghost use Rattle.std.specs.Prelude.{◌≡◌, ◌<◌, ◌≤◌, length};
 
 use plain::{Items, Text};
 use std::alloc::{AllocError, Global};
+use std::marker::Brand;
+use std::sync::ledger::{Blank, Ledger};
 use std::time::{Duration, Instant};
 use std::{env, io};
 use text_core::{
-    ContentChange, LineEndings, Position, PositionEncoding, Range, TextIndex, WideEncoding,
-    apply_document_changes, edit_document,
+    ContentChange, LineEndings, Position, PositionEncoding, Range, Steps, TextIndex, WideEncoding,
+    apply_document_changes, edit_with_steps,
 };
 
 const UTF16: PositionEncoding = PositionEncoding::Wide(WideEncoding::Utf16);
@@ -97,50 +99,83 @@ fn normalize(rt: &HostRuntime, name: &str, text: Text) -> io::Result<()> {
     report(rt, name, start, after.as_str())
 }
 
-/// How long edits took, and the indices of the texts that they left.
-#[derive(Drop)]
-struct Spent {
-    edits: Duration,
-    indices: Duration,
-}
-
-/// One letter more, and the index of the text with it.
-fn type_letter(
+/// One letter more, and the text with its lines.
+fn type_letter<L: Ledger>(
     rt: &HostRuntime,
     index: TextIndex,
-    line: u32,
-    spent: &mut Spent,
-) -> io::Result<TextIndex> {
+    place: Position,
+    spent: &mut Duration,
+    blank: Blank,
+) -> io::Result<TextIndex>
+    requires name { blank.name ≡ L.name }
+    requires parts { blank.parts ≡ L.parts }
+    requires some { 0 < L.parts }
+{
     let alloc = rt.alloc();
+    let mut steps = Steps::<L>::new(blank);
     let mut changes = Items::new(alloc);
-    changes.push(letter(alloc, line, 4)?)?;
+    changes.push(letter(alloc, place.line, place.character)?)?;
     let start = Instant::now(rt)?;
-    let edited = edit_document(alloc, UTF16, &index, changes)?;
-    spent.edits = spent.edits.saturating_add(start.elapsed(rt)?);
-    let start = Instant::now(rt)?;
-    let index = TextIndex::from_text(alloc, edited.text)?;
-    spent.indices = spent.indices.saturating_add(start.elapsed(rt)?);
-    Ok(index)
+    let edited = edit_with_steps(alloc, UTF16, &index, changes, &mut steps)?;
+    *spent = spent.saturating_add(start.elapsed(rt)?);
+    Ok(edited.changed.unwrap_or(index))
 }
 
-/// Letters that come one by one, each to a text with its index.
-fn type_letters(rt: &HostRuntime, text: Text, count: u32) -> io::Result<()> {
+/// Letters that come one by one, each to a text with its lines.
+fn type_letters(rt: &HostRuntime, name: Text, text: Text, places: Vec<Position>) -> io::Result<()> {
     if text.len() > u32::MAX as usize {
         return Ok(());
     }
     let mut index = TextIndex::from_text(rt.alloc(), text)?;
-    let mut spent = Spent {
-        edits: Duration::ZERO,
-        indices: Duration::ZERO,
-    };
-    for k in 0..count {
-        index = type_letter(rt, index, k.wrapping_mul(7919) % count, &mut spent)?;
+    let mut spent = Duration::ZERO;
+    for place in places {
+        let next = type_letter::<Brand>(rt, index, place, &mut spent, Blank::new(1))?;
+        index = next;
     }
-    let (edits, indices) = (spent.edits.as_micros(), spent.indices.as_micros());
-    eprintln!(rt; "letters one by one: {edits} microseconds for edits, {indices} for indices")?;
+    let micros = spent.as_micros();
+    let name = name.as_str();
+    eprintln!(rt; "{name}: {micros} microseconds")?;
     let len = index.len();
     let sum = digest(index.text());
-    println!(rt; "letters one by one: {len} bytes, {sum}")
+    println!(rt; "{name}: {len} bytes, {sum}")
+}
+
+/// A text of one line of ASCII, with a wide character in front of it.
+fn long_line(alloc: Global, len: u32) -> Result<Text, AllocError> {
+    let mut text = String::from_str(alloc, "é")?;
+    for _ in 0..len / 20 {
+        text.push_str("let value = other+1;")?;
+    }
+    text.push('\n')?;
+    Ok(Text::from_string(text))
+}
+
+/// Places of letters that come one by one, at the lines of a text or along its first.
+fn places(alloc: Global, count: u32, along: Option<u32>) -> Result<Vec<Position>, AllocError> {
+    let mut places = Vec::new(alloc);
+    for k in 0..count {
+        let step = k.wrapping_mul(7919);
+        places.push(match along {
+            None => Position {
+                line: step % count,
+                character: 4,
+            },
+            Some(len) => Position {
+                line: 0,
+                character: step.checked_rem(len).unwrap_or(0),
+            },
+        })?;
+    }
+    Ok(places)
+}
+
+/// Letters along a line, by one list.
+fn along(alloc: Global, places: &[Position]) -> Result<Items<ContentChange>, AllocError> {
+    let mut changes = Items::new(alloc);
+    for place in places {
+        changes.push(letter(alloc, place.line, place.character)?)?;
+    }
+    Ok(changes)
 }
 
 /// Whether the full sizes are asked for.
@@ -164,7 +199,19 @@ fn main(rt: HostRuntime) -> io::Result<()> {
     edit(&rt, "falling edits", text.as_str(), falling(alloc, edits)?)?;
     let changes = scattered(alloc, edits, edits * 2)?;
     edit(&rt, "scattered edits", text.as_str(), changes)?;
-    type_letters(&rt, text, edits / 10)?;
+    let name = Text::from_str(alloc, "letters one by one")?;
+    type_letters(&rt, name, text, places(alloc, edits / 10, None)?)?;
+    let len = if rows > 1000 { 1_000_000 } else { 1000 };
+    let text = long_line(alloc, len)?;
+    let ones = places(alloc, edits / 10, Some(len))?;
+    edit(
+        &rt,
+        "edits of one long line",
+        text.as_str(),
+        along(alloc, &ones)?,
+    )?;
+    let name = Text::from_str(alloc, "letters one by one in one long line")?;
+    type_letters(&rt, name, text, ones)?;
     normalize(&rt, "lines that end with LF", lines(alloc, rows, "\n")?)?;
     normalize(
         &rt,

@@ -41,17 +41,17 @@ pushed_last : (xs : List (List ℕ)) (y : List ℕ) → slice_get (xs ++ y ∷ [
 pushed_last [] y = refl
 pushed_last (x ∷ xs) y = pushed_last xs y
 
-abbrev place_in : ℕ → List (List ℕ) → ℕ → Option (List ℕ)
+abbrev pub place_in : ℕ → List (List ℕ) → ℕ → Option (List ℕ)
 place_in first paths n = cond (nat_lt n first) None (slice_get paths (n - first))
 
-found_at : (first n : ℕ) (paths : List (List ℕ)) (q : List ℕ) → place_in first paths n ≡ Some q → (first ≤ n) × (slice_get paths (n - first) ≡ Some q)
+pub found_at : (first n : ℕ) (paths : List (List ℕ)) (q : List ℕ) → place_in first paths n ≡ Some q → (first ≤ n) × (slice_get paths (n - first) ≡ Some q)
 found_at first n paths q is =
     ⊎_elim
     (λ below. absurd (none-some q (sym (cond-true _ _ _ below) ∙ is)))
     (λ from. (grind (arith, nat_tests), sym (cond-false _ _ _ from) ∙ is))
     (cases_Bool (nat_lt n first))
 
-place_at : (first n : ℕ) (paths : List (List ℕ)) (q : List ℕ) → first ≤ n → slice_get paths (n - first) ≡ Some q → place_in first paths n ≡ Some q
+pub place_at : (first n : ℕ) (paths : List (List ℕ)) (q : List ℕ) → first ≤ n → slice_get paths (n - first) ≡ Some q → place_in first paths n ≡ Some q
 place_at first n paths q from is = cond-false (nat_lt n first) None (slice_get paths (n - first)) (grind (arith, nat_tests)) ∙ is
 
 -- ---- a put
@@ -144,7 +144,7 @@ put_new t path kept u put numbered none is_next paths =
       order = paths ∙ sym (cond-false _ _ _ (ap is_some none));
     }
 
-put_numbers : (t : Files) (path : List ℕ) (kept : Kept) (u : Files) → IsNumbered t → Put t path kept u → KeepsNumbers t path u
+pub put_numbers : (t : Files) (path : List ℕ) (kept : Kept) (u : Files) → IsNumbered t → Put t path kept u → KeepsNumbers t path u
 put_numbers t path kept u numbered put =
     ⊎_elim
     (λ (old, paths). put_old t path kept u put numbered old paths)

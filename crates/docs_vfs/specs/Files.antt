@@ -1,5 +1,5 @@
 -- The table of files: the numbers of paths, what is kept of each, and what was there at the last take.
-use Rattle.std.specs.Prelude.{◌≡◌, ℕ, Bool, true, false, ◌||◌, ◌+◌, ◌-◌, nat_le, nat_lt, List, [], ◌∷◌, ◌++◌, length, slice_get, bytes_eq, Option, Some, None, is_some, Result, Ok, Err, if◌then◌else◌}
+use Rattle.std.specs.Prelude.{◌≡◌, ℕ, Bool, true, false, not, ◌||◌, ◌+◌, ◌-◌, nat_le, nat_lt, List, [], ◌∷◌, ◌++◌, length, slice_get, bytes_eq, Option, Some, None, is_some, Result, Ok, Err, if◌then◌else◌}
 use Rattle.std.specs.List.{filter_map}
 use Rattle.std.specs.FinMap as map
 use Rattle.docs_vfs.specs.Paths.{path_cmp}
@@ -102,6 +102,12 @@ number_in t path None =
 abbrev pub with_number : Files → List ℕ → Result (Files × FileId) TableFault
 with_number t path = number_in t path (map.get t.rows path)
 
+-- the path has or would get this number, and it is the next one where the path has none
+abbrev pub NumberIs : Files → List ℕ → FileId → Bool → Type 0
+NumberIs t path file next =
+    (with_number t path ≡ Ok (record t { paths = if next then t.paths ++ path ∷ [] else t.paths }, file))
+    × (next ≡ not (is_some (map.get t.rows path)))
+
 -- ---- the calls
 
 -- what was there is kept once
@@ -134,10 +140,10 @@ set_in t path contents =
 abbrev pub mark_in : Files → List ℕ → Result Files TableFault
 mark_in t path = if is_marked (kept_at t path) then Ok t else put_in t path Excluded
 
--- a full table is left as it was; without memory nothing is said
+-- a table that is full or without memory is left as it was
 abbrev pub FailsAs : {A : Type 0} → TableFault → Result A TableFault → Files → Files → Type 0
 FailsAs Full expected old new = (expected ≡ Err Full) × (new ≡ old)
-FailsAs NoMemory expected old new = Unit {0}
+FailsAs NoMemory expected old new = new ≡ old
 
 -- the call made the expected table
 abbrev pub Meets : {A : Type 0} → Result A TableFault → Result Files TableFault → Files → Files → Type 0

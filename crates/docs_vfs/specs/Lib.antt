@@ -1,8 +1,11 @@
 pub mod Documents
 pub mod FileLaws
+pub mod FileRuns
 pub mod FileUrls
 pub mod Files
+pub mod Fronts
 pub mod Lent
 pub mod Paths
+pub mod Resolve
 pub mod RootLaws
 pub mod Roots

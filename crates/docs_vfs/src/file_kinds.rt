@@ -57,7 +57,7 @@ pub struct FileWas {
 pub enum TableFault {
     /// The path needs a number, and 4,294,967,295 were given. The table is as it was.
     Full,
-    /// The allocator had no memory. The table is only to be dropped.
+    /// The allocator had no memory. The table is as it was.
     NoMemory,
 }
 

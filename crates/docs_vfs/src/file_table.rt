@@ -1,8 +1,10 @@
-ghost use Rattle.std.specs.Prelude.{◌≡◌, ◌++◌, ◌+◌, OnOk, IfOk, is_some, option_to_list};
+ghost use Rattle.std.specs.Prelude.{◌≡◌, ◌++◌, ◌∷◌, [], ◌+◌, OnOk, OnErr, IfOk, IfErr, Err, None, is_some, not, option_to_list, if◌then◌else◌};
 ghost use Rattle.std.specs.Option.{option_copied};
 ghost use Rattle.std.specs.FinMap as map;
 ghost use Rattle.std.specs.List.{filter_map};
-ghost use Rattle.docs_vfs.specs.Files.{new_files, contents_of, kept_of, kept_in, is_marked, contents_at, same_contents, with_number, before_of, put_in, set_in, mark_in, path_at, exists_in, file_id_of, kind_between, change_of, changes, Meets, Gives};
+ghost use Rattle.docs_vfs.specs.Files.{new_files, contents_of, kept_of, kept_in, is_marked, contents_at, same_contents, with_number, before_of, put_in, set_in, mark_in, path_at, exists_in, file_id_of, kind_between, change_of, changes, NumberIs, Meets, Gives};
+ghost use Rattle.docs_vfs.specs.FileLaws.{IsNumbered, IsDifference};
+ghost use Rattle.docs_vfs.specs.declared.file_kinds.TableFault.TheVariants.{Full};
 
 use crate::by_path::ByPath;
 use crate::file_kinds::{
@@ -13,6 +15,10 @@ use crate::shared_bytes::SharedBytes;
 use plain::{Bytes, Items};
 use std::alloc::{AllocError, Global};
 use std::marker::Model;
+use std::mem;
+
+/// At most this many numbers are given.
+const MOST_FILES: u128 = 4_294_967_295;
 
 /// The files by path: their numbers, and their contents or marks, now and at the last take.
 #[derive(Drop)]
@@ -26,6 +32,7 @@ pub struct FileTable {
 
 impl Model for FileTable {
     ghost use Rattle.docs_vfs.specs.Files.{Files};
+    ghost use Rattle.docs_vfs.specs.FileLaws.{IsNumbered};
     ghost use Rattle.std.specs.Coded.{codes};
     ghost use Rattle.std.specs.FinMap as map;
 
@@ -34,6 +41,8 @@ impl Model for FileTable {
     ghost coded = { Prim.hlevel (codes, map.code) };
 
     ghost view = { λ t. record { first = t.first; paths = t.paths; rows = t.rows; before = t.before } };
+
+    ghost invariant = { λ t. IsNumbered (record { first = t.first; paths = t.paths; rows = t.rows; before = t.before }) };
 }
 
 /// Whether a path is marked.
@@ -57,20 +66,6 @@ fn contents_of_row(row: Option<&FileRow>) -> Option<&SharedBytes>
     match row {
         None => None,
         Some(row) => match &row.kept {
-            Kept::Contents(bytes) => Some(bytes),
-            Kept::Excluded => None,
-            Kept::Nothing => None,
-        },
-    }
-}
-
-/// The contents that were kept.
-fn into_contents(row: Option<FileRow>) -> Option<SharedBytes>
-    ensures { result ≡ contents_of (kept_in row) }
-{
-    match row {
-        None => None,
-        Some(row) => match row.kept {
             Kept::Contents(bytes) => Some(bytes),
             Kept::Excluded => None,
             Kept::Nothing => None,
@@ -136,10 +131,11 @@ fn push_change(
 ) -> Result<(), AllocError>
     ensures { OnOk result (list.new ≡ list.old ++ option_to_list (change_of rows.now (path, was.now))) }
 {
-    match kind_between(&was.contents, contents_of_row(rows.get(&path))) {
+    let now = contents_of_row(rows.get(&path));
+    match kind_between(&was.contents, now) {
         None => Ok(()),
         Some(kind) => {
-            let contents = share(contents_of_row(rows.get(&path)))?;
+            let contents = share(now)?;
             list.push(ChangedFile {
                 file: was.file,
                 path,
@@ -168,6 +164,77 @@ fn drain_changes(
     }
 }
 
+/// Keeps what was there at the last take, unless the path was touched since.
+fn touch(
+    before: &mut ByPath<FileWas>,
+    path: &VfsPath,
+    was: FileWas,
+    is_touched: bool,
+) -> Result<(), AllocError>
+    requires { is_touched ≡ is_some (map.get before.old path.now) }
+    ensures ok { OnOk result (before.new ≡ before_of before.old path.now was) }
+    ensures err { OnErr result (before.new ≡ before.old) }
+{
+    if is_touched {
+        return Ok(());
+    }
+    before.insert(path.clone()?, was)?;
+    Ok(())
+}
+
+/// Forgets what was kept of a path that wasn't touched before.
+fn untouch(before: &mut ByPath<FileWas>, path: &VfsPath, is_touched: bool)
+    ensures { before.new ≡ (if is_touched then before.old else map.remove before.old path.now) }
+{
+    if !is_touched {
+        before.remove(path);
+    }
+}
+
+/// Keeps a row of a path that has none, and the path behind those that have numbers. Without memory all stays.
+#[tactic(auto, using(crate::proofs::TableLemmas::undone_by))]
+fn put_next_row(
+    paths: &mut Items<VfsPath>,
+    rows: &mut ByPath<FileRow>,
+    path: &VfsPath,
+    row: FileRow,
+) -> Result<(), AllocError>
+    requires { map.get rows.old path.now ≡ None }
+    ensures ok { OnOk result ((paths.new ≡ paths.old ++ path.now ∷ []) × (rows.new ≡ map.insert rows.old path.now row)) }
+    ensures err { OnErr result ((paths.new ≡ paths.old) × (rows.new ≡ rows.old)) }
+{
+    let numbered = path.clone()?;
+    rows.insert(path.clone()?, row)?;
+    match paths.push(numbered) {
+        Ok(()) => Ok(()),
+        Err(_) => {
+            rows.remove(path);
+            Err(AllocError)
+        }
+    }
+}
+
+/// Keeps a row of a path, which is added to the paths where its number is the next one. Without memory all stays.
+#[tactic(auto, using(crate::proofs::TableLemmas::no_row))]
+fn put_row(
+    paths: &mut Items<VfsPath>,
+    rows: &mut ByPath<FileRow>,
+    path: &VfsPath,
+    row: FileRow,
+    is_next: bool,
+) -> Result<(), AllocError>
+    requires { is_next ≡ not (is_some (map.get rows.old path.now)) }
+    ensures ok { OnOk result ((paths.new ≡ (if is_next then paths.old ++ path.now ∷ [] else paths.old))
+        × (rows.new ≡ map.insert rows.old path.now row)) }
+    ensures err { OnErr result ((paths.new ≡ paths.old) × (rows.new ≡ rows.old)) }
+{
+    if is_next {
+        return put_next_row(paths, rows, path, row);
+    }
+    rows.insert(path.clone()?, row)?;
+    Ok(())
+}
+
 impl FileTable {
     /// A table without files.
     pub fn new(alloc: Global) -> FileTable
@@ -177,6 +244,7 @@ impl FileTable {
     }
 
     /// A table without files, as if this many numbers were given already.
+    #[tactic(auto, using(crate::proofs::NumberLaws::none_numbered))]
     pub fn new_at(alloc: Global, used: u32) -> FileTable
         ensures { result ≡ new_files used }
     {
@@ -228,43 +296,48 @@ impl FileTable {
         }
     }
 
-    /// The number that a path has, or the next one, which it gets.
-    fn number_for(&mut self, path: &VfsPath) -> Result<FileId, TableFault>
-        ensures { Gives result (with_number self.old path.now) self.old self.new }
+    /// The number that a path has or would get, and whether it is the next one.
+    fn number_for(&self, path: &VfsPath) -> Result<(FileId, bool), TableFault>
+        ensures ok { IfOk result (λ n. NumberIs self.now path.now n.0 n.1) }
+        ensures err { IfErr result (λ e. (e ≡ Full) × (with_number self.now path.now ≡ Err Full)) }
     {
         if let Some(row) = self.rows.get(path) {
-            return Ok(row.file);
+            return Ok((row.file, false));
         }
         let given = self.first as u128 + self.paths.len() as u128;
-        if given >= 4_294_967_295 {
+        if given >= MOST_FILES {
             return Err(TableFault::Full);
         }
-        self.paths.push(path.clone()?)?;
-        Ok(FileId(given as u32))
-    }
-
-    /// Keeps what was there at the last take, unless it is kept already.
-    fn keep_before(&mut self, path: VfsPath, was: FileWas) -> Result<(), AllocError>
-        ensures { OnOk result (self.new ≡ record self.old { before = before_of self.old.before path was }) }
-    {
-        if !self.before.contains(&path) {
-            self.before.insert(path, was)?;
-        }
-        Ok(())
+        Ok((FileId(given as u32), true))
     }
 
     /// Keeps this of a path.
-    fn put(&mut self, path: VfsPath, kept: Kept) -> Result<(), TableFault>
-        ensures { Meets result (put_in self.old path kept) self.old self.new }
+    #[tactic(auto, using(crate::proofs::TableLemmas::parts))]
+    fn put(&mut self, path: &VfsPath, kept: Kept) -> Result<(), TableFault>
+        ensures { Meets result (put_in self.old path.now kept) self.old self.new }
     {
-        let file = self.number_for(&path)?;
-        let old = self.rows.insert(path.clone()?, FileRow { file, kept })?;
-        let was = FileWas {
-            file,
-            contents: into_contents(old),
-        };
-        self.keep_before(path, was)?;
-        Ok(())
+        let (file, is_next) = self.number_for(path)?;
+        let contents = share(contents_of_row(self.rows.get(path)))?;
+        let is_touched = self.before.contains(path);
+        touch(
+            &mut self.before,
+            path,
+            FileWas { file, contents },
+            is_touched,
+        )?;
+        match put_row(
+            &mut self.paths,
+            &mut self.rows,
+            path,
+            FileRow { file, kept },
+            is_next,
+        ) {
+            Ok(()) => Ok(()),
+            Err(_) => {
+                untouch(&mut self.before, path, is_touched);
+                Err(TableFault::NoMemory)
+            }
+        }
     }
 
     /// Sets the contents at a path, or takes them away, and answers whether that is a change. A marked path
@@ -281,7 +354,7 @@ impl FileTable {
             return Ok(false);
         }
         let kept = keep(self.alloc, contents)?;
-        self.put(path, kept)?;
+        self.put(&path, kept)?;
         Ok(true)
     }
 
@@ -292,16 +365,26 @@ impl FileTable {
         if is_marked_row(self.rows.get(&path)) {
             return Ok(());
         }
-        self.put(path, Kept::Excluded)
+        self.put(&path, Kept::Excluded)
     }
 
-    /// What became of the files since the last take, in the order of their paths.
+    /// What became of the files since the last take, in the order of their paths. Without memory that is forgotten.
+    #[tactic(auto, using(crate::proofs::ChangeLaws::is_difference, crate::proofs::NumberLaws::taken_numbered))]
     pub fn take_changes(&mut self) -> Result<Items<ChangedFile>, AllocError>
         ensures list { IfOk result (λ list. list ≡ changes self.old) }
-        ensures now { OnOk result (self.new ≡ record self.old { before = map.empty }) }
+        ensures difference { IfOk result (λ list. IsDifference self.old list) }
+        ensures now { self.new ≡ record self.old { before = map.empty } }
     {
+        let mut before = mem::replace(&mut self.before, ByPath::new(self.alloc));
         let mut list = Items::new(self.alloc);
-        drain_changes(&mut list, &self.rows, &mut self.before)?;
+        drain_changes(&mut list, &self.rows, &mut before)?;
         Ok(list)
+    }
+
+    /// Numbers and paths are inverse.
+    pub fn numbers_are_inverse(&self)
+        ensures { IsNumbered self.now }
+    {
+        let _ = &self.paths;
     }
 }

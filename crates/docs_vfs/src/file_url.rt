@@ -6,12 +6,11 @@ ghost use Rattle.percent_encoding.specs.AsciiSet.{should_percent_encode};
 ghost use Rattle.docs_vfs.specs.declared.file_url.TheConstants.{ESCAPED};
 ghost use Rattle.docs_vfs.specs.Paths.{is_slash};
 ghost use Rattle.std.specs.Str.{is_utf8};
-ghost use Rattle.docs_vfs.specs.FileUrls.{is_escaped, max_url, url_of, path_of, path_of_parts, path_of_segments, url_segments, decoded_segments, is_text_segment, joined, begins_with_drive, Answers, LacksText};
+ghost use Rattle.docs_vfs.specs.FileUrls.{is_escaped, max_url, url_of, path_of, path_of_parts, path_of_segments, url_segments, decoded_segments, is_text_segment, joined, begins_with_drive, fault_by, decode_fault_by, Answers, LacksText};
 ghost use Rattle.docs_vfs.specs.declared.file_url.UrlFault.TheVariants.{NoMemory, NotFile};
-ghost use Rattle.url.specs.Parser.{IsOutOfRoom};
 
 use crate::path::VfsPath;
-use crate::path_text::is_segment_text;
+use crate::path_text::{has_slash_text, is_segment_text};
 use percent_encoding::{
     AsciiSet, CONTROLS, DecodeError, ascii_set, percent_decode, percent_encode,
 };
@@ -62,6 +61,16 @@ impl From<AllocError> for UrlFault {
 /// A URL has at most this many bytes.
 pub const MAX_URL: usize = 67_108_864;
 
+/// What an error of the decoder says: no UTF-8, or no memory.
+fn decode_fault_of(e: &DecodeError) -> UrlFault
+    ensures { result ≡ decode_fault_by e.now }
+{
+    match e {
+        DecodeError::Utf8(_) => UrlFault::NotText,
+        DecodeError::OutOfMemory => UrlFault::NoMemory,
+    }
+}
+
 /// What a part of a URL's path decodes to.
 fn decode_part(alloc: Global, part: &str) -> Result<Text, UrlFault>
     ensures ok { IfOk result (λ text. text ≡ percent_decode part.now) }
@@ -69,16 +78,8 @@ fn decode_part(alloc: Global, part: &str) -> Result<Text, UrlFault>
 {
     match percent_decode(part.as_bytes()).decode_utf8(alloc) {
         Ok(text) => Ok(Text::from_string(text.into_owned(alloc)?)),
-        Err(DecodeError::Utf8(_)) => Err(UrlFault::NotText),
-        Err(DecodeError::OutOfMemory) => Err(UrlFault::NoMemory),
+        Err(e) => Err(decode_fault_of(&e)),
     }
-}
-
-/// Whether a text holds a slash.
-fn has_slash_text(text: &str) -> bool
-    ensures { result ≡ list_any is_slash text.now }
-{
-    text.as_bytes().iter().any(|b| *b == b'/')
 }
 
 /// Whether a decoded segment may stand in a path.
@@ -131,12 +132,12 @@ fn path_of_url_parts(alloc: Global, url: &Url) -> Result<VfsPath, UrlFault>
         return Err(UrlFault::HasHost);
     }
     let text = text_of_path(alloc, url.path())?;
-    Ok(VfsPath::from_text(text))
+    Ok(VfsPath::from_string(text.into_string())?)
 }
 
 /// What an error of the parser says: no room, or no URL.
 fn fault_of(e: ParseError) -> UrlFault
-    ensures { (result ≡ NoMemory) ⊎ ((result ≡ NotFile) × (IsOutOfRoom e → ⊥)) }
+    ensures { result ≡ fault_by e }
 {
     match e {
         ParseError::OutOfMemory | ParseError::Overflow => UrlFault::NoMemory,

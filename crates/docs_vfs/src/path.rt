@@ -1,4 +1,4 @@
-ghost use Rattle.std.specs.Prelude.{◌==◌, ◌≡◌, length, true, nat_eq, refl, Some, IfOk, IsUtf8};
+ghost use Rattle.std.specs.Prelude.{◌==◌, ◌≡◌, length, true, nat_eq, refl, Some, IfOk, IsUtf8, codes, string_bytes};
 ghost use Rattle.std.specs.Option.{option_copied, option_and_then};
 ghost use Rattle.std.specs.Ordering.{nat_cmp};
 ghost use Rattle.std.specs.Hash as fed;
@@ -7,39 +7,56 @@ ghost use Rattle.std.specs.Cmp.{partial_equiv_from_equiv};
 ghost use Rattle.std.specs.Cmp.Rules.{hashing};
 ghost use Rattle.std.proofs.Common.{rules};
 ghost use Rattle.docs_vfs.specs.Paths.{is_path, path_from, name_of, extension_of, parent_of, is_within};
+ghost use Rattle.docs_vfs.specs.Resolve.{below, is_name, resolve};
 
 use crate::path_text::{begins_with_folder_text, cut_at_last_slash, extension_text, is_path_text};
-use plain::{Copied, Text, Told};
+use crate::relative::{
+    EmptySegments, front_text, is_name_text, push_segment, walk_from, whole_text,
+};
+use plain::{Copied, Told};
 use std::alloc::{AllocError, Global};
 use std::cmp::Ordering;
 use std::fmt;
 use std::hash::{Hash, Hasher};
 use std::marker::Model;
+use std::sync::Arc;
 
-/// The path of a file: `/`, or segments that each follow a `/`.
+/// The path of a file: `/`, or segments that each follow a `/`. Clones share its text.
 #[derive(Drop)]
 pub struct VfsPath {
-    text: Text,
+    text: Arc<String, Global>,
 }
 
 impl Model for VfsPath {
-    ghost use Rattle.std.specs.Prelude.{◌≡◌, ℕ, List, true};
+    ghost use Rattle.std.specs.Prelude.{◌≡◌, ℕ, List, true, string_bytes};
+    ghost use Rattle.std.specs.Arc.{arc_value};
     ghost use Rattle.docs_vfs.specs.Paths.{is_path};
 
     ghost Value = { List ℕ };
 
-    ghost view = { λ p. p.text };
+    ghost view = { λ p. string_bytes (arc_value p.text) };
 
-    ghost invariant = { λ p. is_path p.text ≡ true };
+    ghost invariant = { λ p. is_path (string_bytes (arc_value p.text)) ≡ true };
 }
 
 impl VfsPath {
     /// A text that is a path.
-    pub(crate) fn from_text(text: Text) -> VfsPath
-        requires { is_path text ≡ true }
-        ensures { result ≡ text }
+    pub(crate) fn from_string(text: String) -> Result<VfsPath, AllocError>
+        requires { is_path (string_bytes text) ≡ true }
+        ensures { IfOk result (λ path. path ≡ string_bytes text) }
     {
-        VfsPath { text }
+        let alloc = *text.allocator();
+        Ok(VfsPath {
+            text: Arc::new(alloc, text)?,
+        })
+    }
+
+    /// A copy of a text that is a path.
+    fn from_str(alloc: Global, text: &str) -> Result<VfsPath, AllocError>
+        requires { is_path text.now ≡ true }
+        ensures { IfOk result (λ path. path ≡ text.now) }
+    {
+        VfsPath::from_string(String::from_str(alloc, text)?)
     }
 
     /// The path with this text, or none where the text is no path.
@@ -49,9 +66,28 @@ impl VfsPath {
         if !is_path_text(text) {
             return Ok(None);
         }
-        Ok(Some(VfsPath {
-            text: Text::from_str(alloc, text)?,
-        }))
+        Ok(Some(VfsPath::from_str(alloc, text)?))
+    }
+
+    /// The path `/`.
+    #[tactic(auto, unfolding(crate::specs::Paths::is_path))]
+    pub fn root(alloc: Global) -> Result<VfsPath, AllocError>
+        ensures { IfOk result (λ path. path ≡ codes "/") }
+    {
+        VfsPath::from_str(alloc, "/")
+    }
+
+    /// Whether a text may be one segment of a path.
+    pub fn is_name(text: &str) -> bool
+        ensures { result ≡ is_name text.now }
+    {
+        is_name_text(text)
+    }
+
+    /// The allocator that the text was made with.
+    fn alloc(&self) -> Global {
+        let text: &String = &self.text;
+        *text.allocator()
     }
 
     pub fn as_str(&self) -> &str
@@ -59,7 +95,8 @@ impl VfsPath {
         ensures path { is_path self.now ≡ true }
         ensures utf8 { IsUtf8 self.now }
     {
-        self.text.as_str()
+        let text: &String = &self.text;
+        text.as_str()
     }
 
     /// Whether this is `/`.
@@ -96,11 +133,33 @@ impl VfsPath {
         }
         match cut_at_last_slash(self.as_str()) {
             None => Ok(None),
-            Some((folder, _name)) => {
-                if folder.is_empty() {
-                    VfsPath::new(alloc, "/")
+            Some((folder, _name)) => Ok(Some(VfsPath::from_str(alloc, whole_text(folder))?)),
+        }
+    }
+
+    /// The path with one segment more.
+    pub fn join(&self, segment: &str) -> Result<VfsPath, AllocError>
+        requires { is_name segment.now ≡ true }
+        ensures { IfOk result (λ path. path ≡ below self.now segment.now) }
+    {
+        let mut text = String::from_str(self.alloc(), front_text(self.as_str()))?;
+        push_segment(&mut text, segment)?;
+        VfsPath::from_string(text)
+    }
+
+    /// The path that a text is: taken from `/` where it begins with a slash, else from this path, with `.` and
+    /// `..` resolved. None where it leads above `/`, or has a segment that can't stand in a path.
+    #[tactic(auto, unfolding(crate::specs::Resolve::resolve, crate::specs::Paths::is_path))]
+    pub fn resolve(&self, text: &str, empty: EmptySegments) -> Result<Option<VfsPath>, AllocError>
+        ensures { IfOk result (λ path. path ≡ resolve empty self.now text.now) }
+    {
+        match text.strip_prefix('/') {
+            None => walk_from(self.alloc(), self.as_str(), text, empty),
+            Some(rest) => {
+                if rest.is_empty() {
+                    Ok(Some(VfsPath::root(self.alloc())?))
                 } else {
-                    VfsPath::new(alloc, folder)
+                    walk_from(self.alloc(), "/", rest, empty)
                 }
             }
         }
@@ -119,7 +178,7 @@ impl Clone for VfsPath {
 
     fn clone(&self) -> Result<VfsPath, AllocError> {
         Ok(VfsPath {
-            text: self.text.clone()?,
+            text: Arc::try_clone(&self.text)?,
         })
     }
 }

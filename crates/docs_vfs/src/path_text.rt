@@ -17,6 +17,13 @@ fn has_nul_text(text: &str) -> bool
     text.as_bytes().iter().any(|b| *b == 0)
 }
 
+/// Whether a text holds a slash.
+pub(crate) fn has_slash_text(text: &str) -> bool
+    ensures { result ≡ list_any is_slash text.now }
+{
+    text.as_bytes().iter().any(|b| *b == b'/')
+}
+
 /// Whether a text may stand between two slashes of a path.
 pub(crate) fn is_segment_text(text: &str) -> bool
     ensures { result ≡ is_segment text.now }

@@ -38,6 +38,7 @@ const MOST_ROOTS: usize = 4_294_967_295;
 /// The roots of a workspace.
 #[derive(Drop)]
 pub struct SourceRoots {
+    alloc: Global,
     roots: Items<Root>,
 }
 
@@ -238,8 +239,10 @@ impl SourceRoots {
         ensures { result ≡ take most_roots roots }
     {
         let mut roots = roots.into_vec();
+        let alloc = *roots.allocator();
         roots.truncate(MOST_ROOTS);
         SourceRoots {
+            alloc,
             roots: Items::from_vec(roots),
         }
     }
@@ -263,12 +266,13 @@ impl SourceRoots {
             None => false,
         }
     }
+
     /// Each local root that has a parent, with its parent: the local root with the longest include that is a
     /// proper prefix of one of its includes.
-    pub fn parent_map(&self, alloc: Global) -> Result<Items<(u32, u32)>, AllocError>
+    pub fn parent_map(&self) -> Result<Items<(u32, u32)>, AllocError>
         ensures { IfOk result (λ list. list ≡ parent_map self.now) }
     {
-        parent_pairs(alloc, self.roots.as_slice())
+        parent_pairs(self.alloc, self.roots.as_slice())
     }
 }
 
@@ -277,6 +281,7 @@ impl Clone for SourceRoots {
 
     fn clone(&self) -> Result<SourceRoots, AllocError> {
         Ok(SourceRoots {
+            alloc: self.alloc,
             roots: self.roots.clone()?,
         })
     }

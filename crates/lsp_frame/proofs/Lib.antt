@@ -9,6 +9,7 @@ pub mod Streams
 pub mod Turns
 pub mod Written
 pub mod Bodies
-pub mod Rows
 pub mod InStep
+pub mod Above
+pub mod Rows
 pub mod Readings

@@ -1,5 +1,5 @@
 -- Two trees as the requests that are pending.
-use Rattle.std.proofs.Common.{◌≡◌, ℕ, List, [], Bool, true, false, cond, Option, None, Some, refl, sym, ap, ◌∙◌, Ordering}
+use Rattle.std.proofs.Common.{◌≡◌, ℕ, List, [], Bool, true, false, cond, Option, None, Some, refl, sym, ap, subst, ◌∙◌, Ordering}
 use Rattle.std.specs.Map.{lookup}
 use Rattle.std.specs.Ordering.{nat_cmp, eq_by_cmp}
 use Rattle.std.specs.Cmp.{IsTotalOrder, Equal-is, nat_cmp_total}
@@ -8,7 +8,9 @@ use Rattle.std.specs.FinMap as map
 use Rattle.plain.proofs.Mapped.{get-view, view-update}
 use Rattle.lsp_frame.specs.declared.message.RequestId.{RequestId}
 use Rattle.lsp_frame.specs.Ids.{id_cmp, id_cmp_total, id_cmp-IsAntisymmetric}
-use Rattle.lsp_frame.specs.Pending.{Pending, none_pending, id_of, ticket_of, registered, without, completed, closed}
+use Rattle.lsp_frame.specs.Indexed.{Index, InStep}
+use Rattle.lsp_frame.specs.Pending.{Pending, AreDistinct, IsAbove, none_pending, id_of, ticket_of, registered, completed, closed}
+use Rattle.lsp_frame.proofs.InStep.{InStep-distinct, index-finds, none-InStep, inserted-InStep, removed-InStep, free_above, closed-is}
 
 module _ {K V : Type 0} {R : K → K → Ordering} (total : IsTotalOrder R) (same : map.IsAntisymmetric R) where
   -- a tree that answers as the old one does but at one key
@@ -44,59 +46,66 @@ Ids = List (ℕ × RequestId)
 abbrev pub Tickets : Type 0
 Tickets = List (RequestId × ℕ)
 
--- the requests of two trees
-abbrev pub pending_of : Ids → Tickets → Pending
-pending_of ids tickets = record { ids = map.from_entries ids; tickets = map.from_entries tickets }
+abbrev same_tickets : map.IsAntisymmetric nat_cmp
+same_tickets = map.nat_cmp-IsAntisymmetric
 
-pub id_of-view : (ids : Ids) (tickets : Tickets) (p : Pending) (ticket : ℕ) → pending_of ids tickets ≡ p → lookup (is_at (nat_cmp ticket)) ids ≡ id_of ticket p
-id_of-view ids tickets p ticket is = sym (get-view nat_cmp_total ids ticket) ∙ ap (id_of ticket) is
+-- the requests of a tree, and the tickets of the other
+abbrev pub pending_of : Ids → Pending
+pending_of ids = map.from_entries ids
 
-pub ticket_of-view : (ids : Ids) (tickets : Tickets) (p : Pending) (id : RequestId) → pending_of ids tickets ≡ p → lookup (is_at (id_cmp id)) tickets ≡ ticket_of id p
-ticket_of-view ids tickets p id is = sym (get-view id_cmp_total tickets id) ∙ ap (ticket_of id) is
+abbrev pub index_of : Tickets → Index
+index_of tickets = map.from_entries tickets
 
-pub none-view : (ids : Ids) (tickets : Tickets) → ids ≡ [] → tickets ≡ [] → pending_of ids tickets ≡ none_pending
+pub none-view : (ids : Ids) → ids ≡ [] → pending_of ids ≡ none_pending
 unfolding none_pending
-none-view ids tickets none nothing = rw (none, nothing) refl
+none-view ids none = rw none refl
 
-module _ (ids new_ids : Ids) (tickets new_tickets : Tickets) (p : Pending) (is : pending_of ids tickets ≡ p) (ticket : ℕ) (id : RequestId) where
-  pub registered-view : AnswersBut nat_cmp_total map.nat_cmp-IsAntisymmetric new_ids ids ticket (Some id) → AnswersBut id_cmp_total id_cmp-IsAntisymmetric new_tickets tickets id (Some ticket)
-      → pending_of new_ids new_tickets ≡ registered ticket id p
-  unfolding registered
-  registered-view by_ticket by_id = rw (← is) (λ i. record {
-    ids = view-inserted nat_cmp_total map.nat_cmp-IsAntisymmetric new_ids ids ticket id by_ticket i;
-    tickets = view-inserted id_cmp_total id_cmp-IsAntisymmetric new_tickets tickets id ticket by_id i;
-  })
+pub none-kept : (ids : Ids) (tickets : Tickets) → ids ≡ [] → tickets ≡ [] → InStep (pending_of ids) (index_of tickets)
+none-kept ids tickets none nothing = rw (none, nothing) none-InStep
 
-  pub without-view : AnswersBut nat_cmp_total map.nat_cmp-IsAntisymmetric new_ids ids ticket None → AnswersBut id_cmp_total id_cmp-IsAntisymmetric new_tickets tickets id None
-      → pending_of new_ids new_tickets ≡ without ticket id p
-  unfolding without
-  without-view by_ticket by_id = rw (← is) (λ i. record {
-    ids = view-removed nat_cmp_total map.nat_cmp-IsAntisymmetric new_ids ids ticket by_ticket i;
-    tickets = view-removed id_cmp_total id_cmp-IsAntisymmetric new_tickets tickets id by_id i;
-  })
+module _ (ids : Ids) (p : Pending) (is : pending_of ids ≡ p) where
+  pub id_of-view : (ticket : ℕ) → lookup (is_at (nat_cmp ticket)) ids ≡ id_of ticket p
+  id_of-view ticket = sym (get-view nat_cmp_total ids ticket) ∙ ap (id_of ticket) is
 
--- one tree that answers as before
-pub same_ids : (ids new_ids : Ids) (tickets : Tickets) (p : Pending) → pending_of ids tickets ≡ p → (ticket : ℕ) (w : Option RequestId) → lookup (is_at (nat_cmp ticket)) ids ≡ w
-    → AnswersBut nat_cmp_total map.nat_cmp-IsAntisymmetric new_ids ids ticket w → pending_of new_ids tickets ≡ p
-same_ids ids new_ids tickets p is ticket w at updates = ap (λ m. record { ids = m; tickets = map.from_entries tickets }) (view-same nat_cmp_total map.nat_cmp-IsAntisymmetric new_ids ids ticket w at updates) ∙ is
+  -- a ticket above all is in no tree
+  pub free-view : (ticket : ℕ) → IsAbove ticket p → lookup (is_at (nat_cmp ticket)) ids ≡ None
+  free-view ticket above = id_of-view ticket ∙ free_above ticket p above
 
-pub same_tickets : (ids : Ids) (tickets new_tickets : Tickets) (p : Pending) → pending_of ids tickets ≡ p → (id : RequestId) (w : Option ℕ) → lookup (is_at (id_cmp id)) tickets ≡ w
-    → AnswersBut id_cmp_total id_cmp-IsAntisymmetric new_tickets tickets id w → pending_of ids new_tickets ≡ p
-same_tickets ids tickets new_tickets p is id w at updates = ap (λ m. record { ids = map.from_entries ids; tickets = m }) (view-same id_cmp_total id_cmp-IsAntisymmetric new_tickets tickets id w at updates) ∙ is
+  module _ (new_ids : Ids) (ticket : ℕ) where
+    pub registered-view : (id : RequestId) → AnswersBut nat_cmp_total same_tickets new_ids ids ticket (Some id) → pending_of new_ids ≡ registered ticket id p
+    unfolding registered
+    registered-view id by_ticket = rw (← is) (view-inserted nat_cmp_total same_tickets new_ids ids ticket id by_ticket)
 
--- what is closed, by what was found
-pub completed-some : (ticket : ℕ) (id : RequestId) (p : Pending) → id_of ticket p ≡ Some id → completed ticket p ≡ without ticket id p
-unfolding completed
-completed-some ticket id p is = rw is refl
+    pub completed-view : AnswersBut nat_cmp_total same_tickets new_ids ids ticket None → pending_of new_ids ≡ completed ticket p
+    unfolding completed
+    completed-view by_ticket = rw (← is) (view-removed nat_cmp_total same_tickets new_ids ids ticket by_ticket)
 
-pub completed-none : (ticket : ℕ) (p : Pending) → id_of ticket p ≡ None → completed ticket p ≡ p
-unfolding completed
-completed-none ticket p is = rw is refl
+  module _ (tickets : Tickets) (kept : InStep (pending_of ids) (index_of tickets)) where
+    pub ticket_of-view : (id : RequestId) → lookup (is_at (id_cmp id)) tickets ≡ ticket_of id p
+    ticket_of-view id = sym (get-view id_cmp_total tickets id) ∙ index-finds (pending_of ids) (index_of tickets) id kept ∙ ap (ticket_of id) is
 
-pub closed-some : (ticket : ℕ) (id : RequestId) (p : Pending) → ticket_of id p ≡ Some ticket → closed id p ≡ without ticket id p
-unfolding closed
-closed-some ticket id p is = rw is refl
+    pub distinct-view : AreDistinct p
+    distinct-view = subst AreDistinct is (InStep-distinct (pending_of ids) (index_of tickets) kept)
 
+    -- a ticket and an id were put into the trees
+    module _ (new_ids : Ids) (new_tickets : Tickets) (ticket : ℕ) (id : RequestId) where
+      pub entered-kept : AnswersBut nat_cmp_total same_tickets new_ids ids ticket (Some id) → AnswersBut id_cmp_total id_cmp-IsAntisymmetric new_tickets tickets id (Some ticket)
+          → IsAbove ticket p → ticket_of id p ≡ None → InStep (pending_of new_ids) (index_of new_tickets)
+      entered-kept by_ticket by_id above new =
+          rw (view-inserted nat_cmp_total same_tickets new_ids ids ticket id by_ticket, view-inserted id_cmp_total id_cmp-IsAntisymmetric new_tickets tickets id ticket by_id)
+          (inserted-InStep ticket id (pending_of ids) (index_of tickets) (ap (id_of ticket) is ∙ free_above ticket p above) (ap (ticket_of id) is ∙ new) kept)
+
+      -- and taken out of them
+      pub left-kept : AnswersBut nat_cmp_total same_tickets new_ids ids ticket None → AnswersBut id_cmp_total id_cmp-IsAntisymmetric new_tickets tickets id None
+          → id_of ticket p ≡ Some id → InStep (pending_of new_ids) (index_of new_tickets)
+      left-kept by_ticket by_id has =
+          rw (view-removed nat_cmp_total same_tickets new_ids ids ticket by_ticket, view-removed id_cmp_total id_cmp-IsAntisymmetric new_tickets tickets id by_id)
+          (removed-InStep ticket id (pending_of ids) (index_of tickets) (ap (id_of ticket) is ∙ has) kept)
+
+-- a tree that answers as before
+pub ids-as_before : (ids new_ids : Ids) (ticket : ℕ) → lookup (is_at (nat_cmp ticket)) ids ≡ None → AnswersBut nat_cmp_total same_tickets new_ids ids ticket None → pending_of new_ids ≡ pending_of ids
+ids-as_before ids new_ids ticket none updates = view-same nat_cmp_total same_tickets new_ids ids ticket None none updates
+
+-- where nothing is found, nothing is closed
 pub closed-none : (id : RequestId) (p : Pending) → ticket_of id p ≡ None → closed id p ≡ p
-unfolding closed
-closed-none id p is = rw is refl
+closed-none id p none = closed-is id p None none

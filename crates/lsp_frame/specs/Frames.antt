@@ -12,9 +12,13 @@ use Rattle.lsp_frame.specs.Header.{body_size}
 abbrev pub empty_line : List ℕ
 empty_line = 13 ∷ 10 ∷ 13 ∷ 10 ∷ []
 
--- the bytes in which a header ends, with its empty line
+-- a header ends within so many bytes, with its empty line
+abbrev pub header_limit : ℕ
+header_limit = 4096
+
+-- these bytes
 unfoldable pub window : List ℕ → List ℕ
-window bytes = take 4096 bytes
+window bytes = take header_limit bytes
 
 -- a body of this size begins here
 abbrev pub sized : ℕ → Option ℕ → Head
@@ -23,7 +27,7 @@ sized start (Some size) = Body start (start + size)
 
 -- what the header says, given the place of its empty line
 unfoldable pub head_at : List ℕ → Option ℕ → Head
-head_at bytes None = if nat_lt (length bytes) 4096 then Open else Broken
+head_at bytes None = if nat_lt (length bytes) header_limit then Open else Broken
 head_at bytes (Some place) = sized (place + 4) (body_size (take place bytes))
 
 -- what the header at the front of some bytes says

@@ -8,4 +8,5 @@ pub mod Reader
 pub mod Kept
 pub mod Ids
 pub mod Pending
+pub mod Indexed
 pub mod Pieces

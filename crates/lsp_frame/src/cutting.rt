@@ -1,7 +1,7 @@
 // The first frame of a byte string.
 ghost use Rattle.std.specs.Prelude.{◌≡◌, ◌+◌, ◌≤◌, length, IfSome, None, Some};
 ghost use Rattle.lsp_frame.specs.Find.{place_of};
-ghost use Rattle.lsp_frame.specs.Frames.{empty_line, window, head_of, cut_at, cut_of, NoneBelow, LiesWithin};
+ghost use Rattle.lsp_frame.specs.Frames.{empty_line, header_limit, window, head_of, cut_at, cut_of, NoneBelow, LiesWithin};
 
 use crate::frame::{Cut, Head};
 use crate::header::read_body_size;
@@ -14,7 +14,7 @@ pub const HEADER_LIMIT: usize = 4096;
 fn header_window(bytes: &[u8]) -> &[u8]
     ensures is { result.now ≡ window bytes.now }
     ensures within { length result.now ≤ length bytes.now }
-    ensures limit { length result.now ≤ 4096 }
+    ensures limit { length result.now ≤ header_limit }
 {
     if bytes.len() < HEADER_LIMIT {
         bytes
@@ -28,7 +28,7 @@ fn find_empty_line(bytes: &[u8], from: usize) -> Option<usize>
     requires within { from ≤ length (window bytes.now) }
     requires none { NoneBelow bytes.now from }
     ensures place { result ≡ place_of empty_line (window bytes.now) }
-    ensures limit { IfSome result (λ k. k + 4 ≤ 4096) }
+    ensures limit { IfSome result (λ k. k + 4 ≤ header_limit) }
     ensures within { IfSome result (λ k. k + 4 ≤ length bytes.now) }
 {
     let window = header_window(bytes);

@@ -1,34 +1,47 @@
 // The requests that wait for an answer.
-ghost use Rattle.std.specs.Prelude.{◌≡◌, ℕ, None, Some, IsSome, is_some, IfOk, OnOk, OnErr};
+ghost use Rattle.std.specs.Prelude.{◌≡◌, ◌↔◌, ℕ, None, Some, is_some, IfOk, OnOk, OnErr};
 ghost use Rattle.std.specs.Option.{option_copied};
 ghost use Rattle.std.specs.Ordering.{nat_cmp};
+ghost use Rattle.std.specs.FinMap as map;
 ghost use Rattle.std.specs.BTreeMap.{get, Updates};
 ghost use Rattle.lsp_frame.specs.Ids.{id_cmp};
 ghost use Rattle.lsp_frame.specs.declared.message.RequestId.{RequestId};
-ghost use Rattle.lsp_frame.specs.Pending.{Pending, InStep, none_pending, id_of, ticket_of, is_pending, registered, completed, closed};
+ghost use Rattle.lsp_frame.specs.Pending.{Pending, AreDistinct, IsAbove, Registers, none_pending, id_of, ticket_of, is_pending, registered, completed, closed};
 
 use crate::message::RequestId;
+use plain::NoMemory;
 use std::alloc::{AllocError, Global};
 use std::collections::BTreeMap;
 use std::marker::Model;
 
-/// The requests that wait for an answer, found by our ticket and by the client's id.
+/// What came of a request that is to wait.
+#[derive(Clone, Copy, Debug, PartialEq, Eq)]
+pub enum Registered {
+    New,
+    /// A request of its id waits already, under this ticket.
+    AlreadyPending(u64),
+}
+
+/// The requests that wait for an answer: tickets of ours, and the client's id of each. No two have one id.
 #[derive(Drop)]
 pub struct Incoming {
     ids: BTreeMap<u64, RequestId>,
+    // The same by id.
     tickets: BTreeMap<RequestId, u64>,
 }
 
 impl Model for Incoming {
     ghost use Rattle.std.specs.FinMap as map;
-    ghost use Rattle.lsp_frame.specs.Ids.{id_cmp};
+    ghost use Rattle.lsp_frame.specs.Indexed.{InStep};
     ghost use Rattle.lsp_frame.specs.Pending.{Pending, pending_code};
 
     ghost Value = { Pending };
 
     ghost coded = { pending_code };
 
-    ghost view = { λ a. record { ids = map.from_entries a.ids.entries; tickets = map.from_entries a.tickets.entries } };
+    ghost view = { λ a. map.from_entries a.ids.entries };
+
+    ghost invariant = { λ a. InStep (map.from_entries a.ids.entries) (map.from_entries a.tickets.entries) };
 }
 
 impl Incoming {
@@ -42,16 +55,10 @@ impl Incoming {
         }
     }
 
-    /// Whether a request of this id waits.
-    pub fn has_id(&self, id: &RequestId) -> bool
-        ensures { result ≡ is_pending id.now self.now }
-    {
-        self.ticket_of(id).is_some()
-    }
-
-    /// The ticket of an id.
+    /// The ticket of an id. No other has it.
     pub fn ticket_of(&self, id: &RequestId) -> Option<u64>
-        ensures { result ≡ ticket_of id.now self.now }
+        ensures value { result ≡ ticket_of id.now self.now }
+        ensures distinct { AreDistinct self.now }
     {
         self.tickets.get(id).copied()
     }
@@ -63,6 +70,13 @@ impl Incoming {
         self.ids.get(&ticket)
     }
 
+    /// Whether a request of this id waits.
+    pub fn has_id(&self, id: &RequestId) -> bool
+        ensures { result ≡ is_pending id.now self.now }
+    {
+        self.ticket_of(id).is_some()
+    }
+
     /// Whether the request of this ticket waits.
     pub fn is_pending(&self, ticket: u64) -> bool
         ensures { result ≡ is_some (id_of ticket self.now) }
@@ -70,20 +84,22 @@ impl Incoming {
         self.id_of(ticket).is_some()
     }
 
-    /// Takes a request in, under a ticket.
-    pub fn register(&mut self, ticket: u64, id: RequestId) -> Result<(), AllocError>
-        ensures ok { OnOk result (self.new ≡ registered ticket id self.old) }
+    /// Takes a request in, under a ticket, unless one of its id waits. Its method is not kept.
+    pub fn register(
+        &mut self,
+        ticket: u64,
+        id: RequestId,
+        _method: &str,
+    ) -> Result<Registered, NoMemory>
+        requires { IsAbove ticket self.old }
+        ensures ok { IfOk result (Registers ticket id self.old self.new) }
         ensures err { OnErr result (self.new ≡ self.old) }
     {
-        let before = put_id(&mut self.ids, ticket, &id)?;
-        match put_ticket(&mut self.tickets, id, ticket) {
-            Ok(()) => {
-                drop(before);
-                Ok(())
-            }
-            Err(error) => {
-                put_back(&mut self.ids, ticket, before);
-                Err(error)
+        match self.ticket_of(&id) {
+            Some(other) => Ok(Registered::AlreadyPending(other)),
+            None => {
+                enter(&mut self.ids, &mut self.tickets, ticket, id)?;
+                Ok(Registered::New)
             }
         }
     }
@@ -92,6 +108,7 @@ impl Incoming {
     pub fn complete(&mut self, ticket: u64) -> Option<RequestId>
         ensures value { result ≡ id_of ticket self.old }
         ensures after { self.new ≡ completed ticket self.old }
+        ensures by_id { (id : RequestId) → id_of ticket self.old ≡ Some id → self.new ≡ closed id self.old }
     {
         let id = self.ids.remove(&ticket)?;
         self.tickets.remove(&id);
@@ -109,18 +126,37 @@ impl Incoming {
     }
 }
 
-/// Gives a ticket an id, and answers the one that it had.
-fn put_id(
+/// Gives a ticket that has none an id, in both trees.
+fn enter(
     ids: &mut BTreeMap<u64, RequestId>,
+    tickets: &mut BTreeMap<RequestId, u64>,
     ticket: u64,
-    id: &RequestId,
-) -> Result<Option<RequestId>, AllocError>
-    ensures before { IfOk result (λ before. before ≡ get nat_cmp ids.old ticket) }
+    id: RequestId,
+) -> Result<(), AllocError>
+    requires { get nat_cmp ids.old ticket ≡ None }
+    ensures ids { OnOk result (Updates nat_cmp ids.old ids.new ticket (Some id)) }
+    ensures tickets { OnOk result (Updates id_cmp tickets.old tickets.new id (Some ticket)) }
+    ensures same_ids { OnErr result (map.from_entries {R = nat_cmp} ids.new.entries ≡ map.from_entries ids.old.entries) }
+    ensures same_tickets { OnErr result (tickets.new.entries ≡ tickets.old.entries) }
+{
+    put_id(ids, ticket, &id)?;
+    match put_ticket(tickets, id, ticket) {
+        Ok(()) => Ok(()),
+        Err(error) => {
+            ids.remove(&ticket);
+            Err(error)
+        }
+    }
+}
+
+/// Gives a ticket a copy of an id.
+fn put_id(ids: &mut BTreeMap<u64, RequestId>, ticket: u64, id: &RequestId) -> Result<(), AllocError>
     ensures ok { OnOk result (Updates nat_cmp ids.old ids.new ticket (Some id.now)) }
     ensures err { OnErr result (ids.new.entries ≡ ids.old.entries) }
 {
     let id = id.clone()?;
-    Ok(ids.insert(ticket, id)?)
+    ids.insert(ticket, id)?;
+    Ok(())
 }
 
 /// Gives an id a ticket.
@@ -136,28 +172,15 @@ fn put_ticket(
     Ok(())
 }
 
-/// Gives a ticket that is there the id that it had before, or takes it out.
-fn put_back(ids: &mut BTreeMap<u64, RequestId>, ticket: u64, before: Option<RequestId>)
-    requires { IsSome (get nat_cmp ids.old ticket) }
-    ensures { Updates nat_cmp ids.old ids.new ticket before }
-{
-    match before {
-        Some(id) => {
-            let _ = ids.insert(ticket, id);
-        }
-        None => {
-            ids.remove(&ticket);
-        }
-    }
-}
-
-/// Tickets and ids stay in step, and then a request is closed by either alike.
-pub fn pending_stays_in_step()
-    ensures none { InStep none_pending }
-    ensures registered { (ticket : ℕ) (id : RequestId) (p : Pending) → id_of ticket p ≡ None
-        → ticket_of id p ≡ None → InStep p → InStep (registered ticket id p) }
-    ensures completed { (ticket : ℕ) (p : Pending) → InStep p → InStep (completed ticket p) }
-    ensures closed { (id : RequestId) (p : Pending) → InStep p → InStep (closed id p) }
-    ensures alike { (ticket : ℕ) (id : RequestId) (p : Pending) → InStep p
+/// No two that are pending have one id, whatever comes and goes, and so a request is closed by its ticket and by its id alike.
+pub fn pending_stays_distinct()
+    ensures none { AreDistinct none_pending }
+    ensures registered { (ticket : ℕ) (id : RequestId) (p : Pending) → ticket_of id p ≡ None
+        → AreDistinct p → AreDistinct (registered ticket id p) }
+    ensures completed { (ticket : ℕ) (p : Pending) → AreDistinct p → AreDistinct (completed ticket p) }
+    ensures closed { (id : RequestId) (p : Pending) → AreDistinct p → AreDistinct (closed id p) }
+    ensures found { (ticket : ℕ) (id : RequestId) (p : Pending) → AreDistinct p
+        → (id_of ticket p ≡ Some id) ↔ (ticket_of id p ≡ Some ticket) }
+    ensures alike { (ticket : ℕ) (id : RequestId) (p : Pending) → AreDistinct p
         → id_of ticket p ≡ Some id → completed ticket p ≡ closed id p }
 {}

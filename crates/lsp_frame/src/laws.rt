@@ -1,9 +1,16 @@
 // Laws of streams of frames, for the proofs of those who read and write them.
-ghost use Rattle.std.specs.Prelude.{◌≡◌, ◌+◌, ◌≤◌, ◌++◌, ℕ, List, length};
+ghost use Rattle.std.specs.Prelude.{◌≡◌, ◌≢◌, ◌+◌, ◌≤◌, ◌++◌, ℕ, List, length};
 ghost use Rattle.lsp_frame.specs.Frames.{cut_of, frame, rest, first_and, frames_from, frames_on, rest_bytes, rest_place};
+ghost use Rattle.lsp_frame.specs.Header.{size_limit};
 ghost use Rattle.lsp_frame.specs.Written.{header_for, frame_for};
 
 use crate::frame::Cut;
+
+/// What was judged of the first frame stays, whatever follows: no bytes mend a bad one, and a whole one ends where it did.
+pub fn judged_frames_stay()
+    ensures { (bytes more : List ℕ) → cut_of bytes ≢ Cut.NeedMore
+        → cut_of (bytes ++ more) ≡ cut_of bytes }
+{}
 
 /// The frames of a stream are the first one and those of the bytes after it.
 pub fn frames_go_on()
@@ -28,9 +35,9 @@ pub fn frames_end()
 
 /// A written frame is cut as this frame, whatever follows it, where its body is within the limit.
 pub fn written_frames_are_cut()
-    ensures cut { (body more : List ℕ) → length body ≤ 67108864 → cut_of (frame_for body ++ more)
+    ensures cut { (body more : List ℕ) → length body ≤ size_limit → cut_of (frame_for body ++ more)
         ≡ Cut.Frame (length (header_for (length body))) (length (frame_for body)) }
-    ensures frames { (at : ℕ) (body more : List ℕ) → length body ≤ 67108864
+    ensures frames { (at : ℕ) (body more : List ℕ) → length body ≤ size_limit
         → frames_from at (frame_for body ++ more)
         ≡ frame at body (frames_from (at + length (frame_for body)) more) }
 {}

@@ -18,12 +18,10 @@ pub use cutting::cut;
 pub use fault::FrameFault;
 pub use frame::Cut;
 pub use header::fields_are_lines;
-pub use incoming::{Incoming, pending_stays_in_step};
-pub use laws::{any_cutting, frames_end, frames_go_on, written_frames_are_cut};
+pub use incoming::{Incoming, Registered, pending_stays_distinct};
+pub use laws::{any_cutting, frames_end, frames_go_on, judged_frames_stay, written_frames_are_cut};
 pub use message::{Message, Notification, Request, RequestId, Response, ResponseError};
 pub use pieces::{Reading, read_pieces};
+pub use plain::NoMemory;
 pub use reader::FrameReader;
 pub use writing::write_message;
-
-#[cfg(test)]
-mod tests;

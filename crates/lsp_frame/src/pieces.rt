@@ -7,7 +7,7 @@ use crate::fault::FrameFault;
 use crate::frame::Cut;
 use crate::message::Message;
 use crate::reader::FrameReader;
-use plain::Items;
+use plain::{Items, NoMemory};
 use std::alloc::{AllocError, Global};
 
 /// The messages of a stream up to its first fault, and that fault.
@@ -44,7 +44,7 @@ fn take_messages(
 }
 
 /// The messages of the stream that comes in these pieces. They are those of the whole stream, however it was cut.
-pub fn read_pieces(alloc: Global, pieces: &[Vec<u8>]) -> Result<Reading, AllocError>
+pub fn read_pieces(alloc: Global, pieces: &[Vec<u8>]) -> Result<Reading, NoMemory>
     requires { length (stream_of pieces.now) < 2 ^ 64 }
     ensures { IfOk result (λ r. r ≡ reading_of (frames_from 0 (stream_of pieces.now))) }
 {

@@ -1,6 +1,7 @@
 // A reader that is fed a stream in pieces, and gives the messages of its frames.
 ghost use Rattle.std.specs.Prelude.{◌≡◌, ◌+◌, ◌-◌, ◌<◌, ◌≤◌, ◌^◌, ◌↔◌, ◌++◌, [], ℕ, List, true, false, length, drop, slice_range, IsTrue, IfOk, IfErr, IfNone, IfSome, OnOk, OnErr, Ok, Err, None, vec_len};
-ghost use Rattle.lsp_frame.specs.Frames.{head_of, cut_of, LiesWithin};
+ghost use Rattle.lsp_frame.specs.Frames.{header_limit, head_of, cut_of, LiesWithin};
+ghost use Rattle.lsp_frame.specs.Header.{size_limit};
 ghost use Rattle.lsp_frame.specs.Kept.{Knows};
 ghost use Rattle.lsp_frame.specs.Reader.{Reader, fed, is_faulty, fault_of, GivesMessage, FaultIs};
 
@@ -9,6 +10,7 @@ use crate::fault::FrameFault;
 use crate::frame::{Cut, Head};
 use crate::message::Message;
 use crate::reading::read_body;
+use plain::NoMemory;
 use std::alloc::{AllocError, Global};
 use std::marker::Model;
 
@@ -69,7 +71,7 @@ fn compact(buf: &mut Vec<u8>, start: usize) -> usize
     if start < live {
         return start;
     }
-    buf.rotate_left(start);
+    buf.copy_within(start.., 0);
     buf.truncate(live);
     0
 }
@@ -139,13 +141,21 @@ impl FrameReader {
 
     /// Whether bytes of an unfinished frame are held.
     pub fn mid_frame(&self) -> bool
-        ensures { IsTrue result ↔ (0 < length self.now.held) }
+        ensures { IsTrue result ↔ ((0 < length self.now.held) × (cut_of self.now.held ≡ Cut.NeedMore)) }
     {
-        self.held() > 0
+        self.held() > 0 && self.first_frame() == Cut::NeedMore
+    }
+
+    /// What the next frame is, by what has come of it.
+    fn first_frame(&self) -> Cut
+        ensures { result ≡ cut_of self.now.held }
+    {
+        let known = find_header(tail(&self.buf, self.start), self.known);
+        cut_at(self.held(), known.head)
     }
 
     /// Takes the next piece of the stream.
-    pub fn feed(&mut self, bytes: &[u8]) -> Result<(), AllocError>
+    pub fn feed(&mut self, bytes: &[u8]) -> Result<(), NoMemory>
         requires { self.old.place + length self.old.held + length bytes.now < 2 ^ 64 }
         ensures ok { OnOk result (self.new ≡ fed self.old bytes.now) }
         ensures err { OnErr result (self.new ≡ self.old) }
@@ -214,7 +224,7 @@ impl FrameReader {
             → (result ≡ Err (fault_of self.old)) × (self.new ≡ self.old) }
 
         // What is held back is bounded, and each message takes some of it.
-        ensures bound { IfOk result (λ o. IfNone o (length self.new.held ≤ 67112959)) }
+        ensures bound { IfOk result (λ o. IfNone o (length self.new.held < header_limit + size_limit)) }
         ensures shorter { IfOk result (λ o. IfSome o (λ _. length self.new.held < length self.old.held)) }
     {
         match self.look() {

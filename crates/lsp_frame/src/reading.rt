@@ -1,10 +1,15 @@
 // The message that a body is.
 ghost use Rattle.std.specs.Prelude.{◌≡◌, IfOk, Some, None, option_map};
+ghost use Rattle.std.specs.Result.{result_ok};
 ghost use Rattle.lsp_frame.specs.Rules.{message_of, members_message, id_of, optional_id, error_object, optional_error, error_of, params_of, call_of, response_of};
 
 use crate::message::{Message, Notification, Request, RequestId, Response, ResponseError};
 use plain::{Json, Members, Text};
 use std::alloc::{AllocError, Global};
+
+/// A body that is no message.
+#[derive(Clone, Copy)]
+struct NoMessage;
 
 /// The message that a body is, or none.
 #[tactic(auto, unfolding(crate::specs::Rules::message_of))]
@@ -58,9 +63,9 @@ fn params_from(mut members: Members) -> Json
 fn response_from(id: Json, mut members: Members) -> Option<Message>
     ensures { result ≡ response_of id members }
 {
-    let id = optional_id_from(id)?;
+    let id = optional_id_from(id).ok()?;
     let result = members.take("result");
-    let error = error_from(members.take("error"))?;
+    let error = error_from(members.take("error")).ok()?;
     Some(Message::Response(Response { id, result, error }))
 }
 
@@ -76,21 +81,27 @@ impl RequestId {
     }
 }
 
-fn optional_id_from(json: Json) -> Option<Option<RequestId>>
-    ensures { result ≡ optional_id json }
+fn optional_id_from(json: Json) -> Result<Option<RequestId>, NoMessage>
+    ensures { result_ok result ≡ optional_id json }
 {
     if json.is_null() {
-        return Some(None);
+        return Ok(None);
     }
-    Some(Some(RequestId::from_json(json)?))
+    match RequestId::from_json(json) {
+        Some(id) => Ok(Some(id)),
+        None => Err(NoMessage),
+    }
 }
 
-fn error_from(json: Option<Json>) -> Option<Option<ResponseError>>
-    ensures { result ≡ error_of json }
+fn error_from(json: Option<Json>) -> Result<Option<ResponseError>, NoMessage>
+    ensures { result_ok result ≡ error_of json }
 {
     match json {
-        Some(json) if !json.is_null() => Some(Some(error_object_from(json.into_members()?)?)),
-        _ => Some(None),
+        Some(json) if !json.is_null() => match json.into_members().and_then(error_object_from) {
+            Some(error) => Ok(Some(error)),
+            None => Err(NoMessage),
+        },
+        _ => Ok(None),
     }
 }
 

@@ -6,6 +6,7 @@ ghost use Rattle.lsp_frame.specs.Written.{header_for, frame_for, body_of, AreWri
 use crate::encoding::encode;
 use crate::message::Message;
 use itoa::Buffer;
+use plain::NoMemory;
 use std::alloc::{AllocError, Global};
 
 /// The header of a body of this many bytes.
@@ -37,11 +38,11 @@ fn write_frame(alloc: Global, body: &[u8], into: &mut Vec<u8>) -> Result<(), All
     }
 }
 
-/// Appends the frame of a message.
-pub fn write_message(message: &Message, into: &mut Vec<u8>) -> Result<(), AllocError>
-    requires { AreWritable message.now }
-    ensures ok { OnOk result (into.new.items ≡ into.old.items ++ frame_for (body_of message.now)) }
-    ensures reads_back { OnOk result (message_of (body_of message.now) ≡ Some message.now) }
+/// Appends the frame of a message. Its values go into the body as they are, and the body is copied once.
+pub fn write_message(message: Message, into: &mut Vec<u8>) -> Result<(), NoMemory>
+    requires { AreWritable message }
+    ensures ok { OnOk result (into.new.items ≡ into.old.items ++ frame_for (body_of message)) }
+    ensures reads_back { OnOk result (message_of (body_of message) ≡ Some message) }
     ensures err { OnErr result (into.new.items ≡ into.old.items) }
 {
     let alloc = *into.allocator();

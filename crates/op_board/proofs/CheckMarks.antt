@@ -20,14 +20,14 @@ use Rattle.op_board.specs.Board.{has_some}
 use Rattle.op_board.specs.Checks.{Packages, Checks, listed, list_in, new_package, add_entry, renewed, add_to, package_or_new, packages_or_none, older_than, drops_at, mark_package, drop_package, forget, drop_in, sift}
 use Rattle.op_board.specs.Acts.{Act, after}
 use Rattle.op_board.specs.Acts.Act.{Counts, Gives, Clears, Adds, Forgets, ForgetsIn, ForgetsOlder, ForgetsOlderIn, ForgetsAll, Takes}
-use Rattle.op_board.specs.Runs.{same_file, stored, is_marked}
+use Rattle.op_board.specs.Runs.{same_file, stored}
 use Rattle.op_board.specs.CheckRuns.{same_id, same_name, package_in, package_at, listed_in}
 use Rattle.op_board.specs.Changes.{Place, said, Differs, Changes, ChangedSince}
 use Rattle.op_board.specs.Changes.Place.{OfPass, OfPackage}
 use Rattle.op_board.proofs.PackageOrder.{package_total, package_same}
 use Rattle.op_board.proofs.RowLemmas.{AllRows, found_any, any_found, each_row}
 use Rattle.op_board.proofs.SoundRows.{Sound, package_mark, any_says, packages_mark, any_lost, dropped_mark, checks_mark, new_sound, added_sound}
-use Rattle.op_board.proofs.MarkRuns.{differ, changes, given_marks, clears_mark, marked_if, and_true}
+use Rattle.op_board.proofs.MarkRuns.{is_marked, differ, changes, given_marks, clears_mark, marked_if, and_true}
 use Rattle.op_board.proofs.PackageRuns.{no_more, put_list, put_listed, dropped, id_is, name_is, same_checks, forget_at, drop_at, sift_at, add_at, or_none_at, lists_are}
 
 -- ---- every package is sound
@@ -338,15 +338,15 @@ module _ (file : FileId) where
         → list_in file (cond {A = CheckPackage × Marked} k (p, m) (
           record {
             generation = p.generation;
-            lists = map.insert p.lists e.file.0 (record { file = e.file; list = list_in e.file p ++ e.diagnostic ∷ [] });
+            lists = map.insert p.lists e.file.0 (list_in e.file p ++ e.diagnostic ∷ []);
             fixes = p.fixes ++ option_to_list e.fix;
           },
           n,
         )).0 ≡ list_in file p ++ cond (same_file file e.file && not k) (e.diagnostic ∷ []) []
     known_list true p m n = sym (ap (λ b. list_in file p ++ cond b (e.diagnostic ∷ []) []) (and_right (same_file file e.file) false refl) ∙ no_more (list_in file p))
     known_list false p m n =
-        ap listed (put_list p.lists e.file.0 file.0 (record { file = e.file; list = list_in e.file p ++ e.diagnostic ∷ [] }))
-        ∙ put_listed (same_file file e.file) e.file (list_in e.file p) e.diagnostic (map.get p.lists file.0) (λ here. ap (λ q. listed (map.get p.lists q)) (sym (eqb-true file.0 e.file.0 here)))
+        ap listed (put_list p.lists e.file.0 file.0 (list_in e.file p ++ e.diagnostic ∷ []))
+        ∙ put_listed (same_file file e.file) (list_in e.file p) e.diagnostic (map.get p.lists file.0) (λ here. ap (λ q. listed (map.get p.lists q)) (sym (eqb-true file.0 e.file.0 here)))
         ∙ ap (λ b. list_in file p ++ cond b (e.diagnostic ∷ []) []) (and_true (same_file file e.file))
 
     renewed_list : (t : Bool) (p : CheckPackage) (m n : Marked)

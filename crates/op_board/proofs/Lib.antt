@@ -1,5 +1,6 @@
 pub mod CheckMarks
 pub mod PackageRuns
+pub mod Lending
 pub mod RowLemmas
 pub mod SoundRows
 pub mod MarkRuns
@@ -9,3 +10,4 @@ pub mod QueueLaws
 pub mod Rooms
 pub mod RangeOrder
 pub mod Taken
+pub mod Takes

@@ -15,11 +15,15 @@ use Rattle.op_board.specs.Marked.{Marked, mark, mark_if}
 use Rattle.op_board.specs.Board.{Board, Lists, list_of, differs, is_accepted, set_list, clear_list, clear_stored, has_some, lists_of, with_lists}
 use Rattle.op_board.specs.Acts.{Act, after}
 use Rattle.op_board.specs.Acts.Act.{Gives, Clears}
-use Rattle.op_board.specs.Runs.{same_file, accepts, last_list, stored, is_marked}
+use Rattle.op_board.specs.Runs.{same_file, accepts, last_list, stored}
 use Rattle.op_board.proofs.NativeRuns.{accepts_is, stored_is}
 
 abbrev pub differ : List Diagnostic → List Diagnostic → Bool
 differ old new = not (pointwise same_diagnostic old new)
+
+-- whether a file is marked
+abbrev pub is_marked : FileId → Board → Bool
+is_marked file b = is_some (map.get b.marked file.0)
 
 -- whether an act changes what is stored of the file, by either pass
 abbrev pub changes : FileId → Act → List Act → Bool
@@ -28,15 +32,15 @@ changes file act before =
 
 -- ---- one mark
 
-mark_at : (f : FileId) (m : Marked) (q : ℕ) → map.get (mark f m) q ≡ cond (nat_eq q f.0) (Some f) (map.get m q)
-mark_at f m q = map.get-insert nat_cmp_total m f.0 f q ∙ ap (λ b. cond b (Some f) (map.get m q)) (unsigned_tied q f.0)
+mark_at : (f : FileId) (m : Marked) (q : ℕ) → map.get (mark f m) q ≡ cond (nat_eq q f.0) (Some tt) (map.get m q)
+mark_at f m q = map.get-insert nat_cmp_total m f.0 tt q ∙ ap (λ b. cond b (Some tt) (map.get m q)) (unsigned_tied q f.0)
 
-some_by : (here : Bool) (f : FileId) (o : Option FileId) → is_some (cond here (Some f) o) ≡ (here || is_some o)
-some_by true f o = refl
-some_by false f o = refl
+some_by : (here : Bool) (o : Option (Unit {0})) → is_some (cond here (Some tt) o) ≡ (here || is_some o)
+some_by true o = refl
+some_by false o = refl
 
 pub marked_by : (f : FileId) (m : Marked) (q : ℕ) → is_some (map.get (mark f m) q) ≡ (nat_eq q f.0 || is_some (map.get m q))
-marked_by f m q = ap is_some (mark_at f m q) ∙ some_by (nat_eq q f.0) f (map.get m q)
+marked_by f m q = ap is_some (mark_at f m q) ∙ some_by (nat_eq q f.0) (map.get m q)
 
 pub and_true : (b : Bool) → b ≡ (b && true)
 and_true true = refl

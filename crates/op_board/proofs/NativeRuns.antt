@@ -1,5 +1,5 @@
 -- What is stored of a file and pass after a run.
-use Rattle.std.proofs.Common.{◌≡◌, ℕ, ◌+◌, ◌≤◌, Bool, true, false, ◌&&◌, List, [], ◌∷◌, refl, ap, sym, ◌∙◌, arith}
+use Rattle.std.proofs.Common.{◌≡◌, ℕ, ◌+◌, ◌≤◌, Bool, true, false, ◌&&◌, List, [], ◌∷◌, ◌++◌, refl, ap, sym, ◌∙◌, arith}
 use Rattle.std.specs.Prelude.{Option, None, Some, cond, nat_eq, nat_le}
 use Rattle.std.specs.List.{list_all}
 use Rattle.std.specs.Ordering.{nat_cmp}
@@ -14,7 +14,7 @@ use Rattle.op_board.specs.declared.pass_list.PassList.{PassList}
 use Rattle.op_board.specs.Diagnostics.{in_order}
 use Rattle.op_board.specs.Marked.{Marked, mark_if}
 use Rattle.op_board.specs.Board.{Board, Lists, list_of, differs, is_recent, is_above, is_accepted, set_list, clear_list, clear_stored, lists_of, with_lists, set_lists, set_native}
-use Rattle.op_board.specs.Acts.{Act, step, after, gives_each}
+use Rattle.op_board.specs.Acts.{Act, step, steps, after, gives}
 use Rattle.op_board.specs.Acts.Act.{Counts, Gives, Clears, Adds, Forgets, ForgetsIn, ForgetsOlder, ForgetsOlderIn, ForgetsAll, Takes}
 use Rattle.op_board.specs.Runs.{same_pass, same_file, last_generation, cleared_mark, above, fits, accepted, accepts, last_list, stored}
 
@@ -304,15 +304,20 @@ with_own : (p : Pass) (b : Board) → with_lists p (lists_of p b, b.marked) b �
 with_own Syntax b = refl
 with_own Semantic b = refl
 
-pub gives_each_is : (p : Pass) (g : ℕ) (given : List (FileId × List Diagnostic)) (run : List Act)
-    → set_native p g given (after run) ≡ after (gives_each p g given run)
-gives_each_is p g [] run = with_own p (after run)
-gives_each_is p g (x ∷ more) run =
-    let b = after run in
+pub gives_is : (p : Pass) (g : ℕ) (given : List (FileId × List Diagnostic)) (run : List Act) (start : Board)
+    → set_native p g given (steps run start) ≡ steps (gives p g given run) start
+gives_is p g [] run start = with_own p (steps run start)
+gives_is p g (x ∷ more) run start =
+    let b = steps run start in
     let first = set_list (map.get b.cleared x.0.0) g x.0 x.1 (lists_of p b, b.marked) in
     let c = with_lists p first b in
     sym (
     (λ i. with_lists p (set_lists (cleared_with p first.0 first.1 b i) g more (with_both p first b i)) c)
     ∙ with_twice p first (set_lists b.cleared g more first) b
     )
-    ∙ gives_each_is p g more (Gives p g x.0 x.1 ∷ run)
+    ∙ gives_is p g more (Gives p g x.0 x.1 ∷ run) start
+
+-- a run after a run
+pub continued : (more run : List Act) (start : Board) → steps more (steps run start) ≡ steps (more ++ run) start
+continued [] run start = refl
+continued (act ∷ more) run start = ap (step act) (continued more run start)

@@ -1,7 +1,7 @@
 -- What the board has of a package of a check after a run.
 use Rattle.std.proofs.Common.{◌≡◌, ℕ, ◌<◌, ◌≤◌, Bool, true, false, ◌&&◌, ◌||◌, List, [], ◌∷◌, ◌++◌, refl, ap, sym, subst, ◌∙◌, arith}
-use Rattle.std.specs.Prelude.{T, max, Option, None, Some, cond, nat_eq, nat_lt, option_to_list}
-use Rattle.std.specs.List.{list_any}
+use Rattle.std.specs.Prelude.{T, max, not, Option, None, Some, cond, nat_eq, nat_lt, option_to_list}
+use Rattle.std.specs.List.{list_any, filter}
 use Rattle.std.specs.Ordering.{nat_cmp}
 use Rattle.std.specs.Cmp.{nat_cmp_total, unsigned_tied}
 use Rattle.std.specs.FinMap as map
@@ -12,13 +12,12 @@ use Rattle.docs_vfs.specs.declared.file_kinds.FileId.{FileId}
 use Rattle.op_board.specs.declared.diagnostic.Diagnostic.{Diagnostic}
 use Rattle.op_board.specs.declared.check_package.CheckPackage.{CheckPackage}
 use Rattle.op_board.specs.declared.check_package.CheckEntry.{CheckEntry}
-use Rattle.op_board.specs.declared.check_package.FileList.{FileList}
 use Rattle.op_board.specs.declared.diagnostic.Pass.{Pass}
 use Rattle.op_board.specs.declared.diagnostic.Pass.TheVariants.{Syntax, Semantic}
 use Rattle.op_board.specs.Diagnostics.{same_diagnostic, diagnostic_told}
 use Rattle.op_board.specs.Packages.{package_cmp}
 use Rattle.op_board.specs.Marked.{Marked}
-use Rattle.op_board.specs.Checks.{Packages, Checks, mark_package, listed, list_in, new_package, add_entry, renewed, add_to, package_or_new, packages_or_none, add_check, older_than, drops_at, kept, drop_package, forget, drop_in, sift}
+use Rattle.op_board.specs.Checks.{Packages, Checks, mark_package, listed, list_in, new_package, add_entry, renewed, add_to, package_or_new, packages_or_none, add_check, older_than, drops_at, kept, with_left, drop_package, forget, drop_in, sift}
 use Rattle.op_board.specs.Acts.{Act, step, after}
 use Rattle.op_board.specs.Acts.Act.{Counts, Gives, Clears, Adds, Forgets, ForgetsIn, ForgetsOlder, ForgetsOlderIn, ForgetsAll, Takes}
 use Rattle.op_board.specs.Board.{Board}
@@ -122,13 +121,13 @@ record Says (p : CheckPackage) (generation : ℕ) (es : List CheckEntry) : Type 
   lists : (file : FileId) → list_in file p ≡ said_of file (as_told es)
   fixes : p.fixes ≡ fixes_told (as_told es)
 
-pub put_list : (lists : map.FinMap nat_cmp FileList) (k q : ℕ) (v : FileList) → map.get (map.insert lists k v) q ≡ cond (nat_eq q k) (Some v) (map.get lists q)
+pub put_list : (lists : map.FinMap nat_cmp (List Diagnostic)) (k q : ℕ) (v : List Diagnostic) → map.get (map.insert lists k v) q ≡ cond (nat_eq q k) (Some v) (map.get lists q)
 put_list lists k q v = map.get-insert nat_cmp_total lists k v q ∙ ap (λ b. cond b (Some v) (map.get lists q)) (unsigned_tied q k)
 
-pub put_listed : (here : Bool) (f : FileId) (old : List Diagnostic) (d : Diagnostic) (o : Option FileList) → (here ≡ true → old ≡ listed o)
-    → listed (cond here (Some (record { file = f; list = old ++ d ∷ [] })) o) ≡ listed o ++ cond here (d ∷ []) []
-put_listed true f old d o is = ap (λ l. l ++ d ∷ []) (is refl)
-put_listed false f old d o is = sym (no_more (listed o))
+pub put_listed : (here : Bool) (old : List Diagnostic) (d : Diagnostic) (o : Option (List Diagnostic)) → (here ≡ true → old ≡ listed o)
+    → listed (cond here (Some (old ++ d ∷ [])) o) ≡ listed o ++ cond here (d ∷ []) []
+put_listed true old d o is = ap (λ l. l ++ d ∷ []) (is refl)
+put_listed false old d o is = sym (no_more (listed o))
 
 add_says : (e : CheckEntry) (p : CheckPackage) (m : Marked) (g : ℕ) (es : List CheckEntry) → Says p g es → Says (add_entry e (p, m)).0 g (e ∷ es)
 add_says e p m g es k =
@@ -147,8 +146,8 @@ add_says e p m g es k =
     record {
       generation_is = k.generation_is;
       lists = λ file.
-          ap listed (put_list p.lists e.file.0 file.0 (record { file = e.file; list = list_in e.file p ++ e.diagnostic ∷ [] }))
-          ∙ put_listed (same_file file e.file) e.file (list_in e.file p) e.diagnostic (map.get p.lists file.0)
+          ap listed (put_list p.lists e.file.0 file.0 (list_in e.file p ++ e.diagnostic ∷ []))
+          ∙ put_listed (same_file file e.file) (list_in e.file p) e.diagnostic (map.get p.lists file.0)
           (λ here. ap (λ q. listed (map.get p.lists q)) (sym (eqb-true file.0 e.file.0 here)))
           ∙ ap (λ l. l ++ cond (same_file file e.file) (e.diagnostic ∷ []) []) (k.lists file)
           ∙ sym (said_more file (as_told es) (e ∷ []))
@@ -232,48 +231,45 @@ abbrev pub dropped : (CheckPackage → Bool) → Option CheckPackage → Option 
 dropped drops None = None
 dropped drops (Some p) = cond (drops p) None (Some p)
 
--- the rows of a map that a test doesn't drop
-abbrev kept_or : (CheckPackage → Bool) → Option CheckPackage → Option CheckPackage → Option CheckPackage
-kept_or drops None other = other
-kept_or drops (Some p) other = cond (drops p) other (Some p)
+keep_row : (drops : CheckPackage → Bool) (q : Option (List ℕ)) (row : Option (List ℕ) × CheckPackage) (rest : List (Option (List ℕ) × CheckPackage)) (found : Option CheckPackage) (t here : Bool)
+    → drops row.1 ≡ t → same_name q row.0 ≡ here → map.find package_cmp q rest ≡ dropped drops found → (here ≡ true → found ≡ None)
+    → map.find package_cmp q (cond (not t) (row ∷ rest) rest) ≡ dropped drops (cond here (Some row.1) found)
+keep_row drops q row rest found true true is at more none = more ∙ ap (dropped drops) (none refl) ∙ sym (cond-true _ _ _ is)
+keep_row drops q row rest found true false is at more none = more
+keep_row drops q row rest found false true is at more none = cond-true _ _ _ at ∙ sym (cond-false _ _ _ is)
+keep_row drops q row rest found false false is at more none = cond-false _ _ _ at ∙ more
 
-put_kept : (drop here : Bool) (q : Option (List ℕ)) (row : Option (List ℕ) × CheckPackage) (acc : Packages) → same_name q row.0 ≡ here
-    → map.get (cond drop acc (map.insert acc row.0 row.1)) q ≡ cond here (cond drop (map.get acc q) (Some row.1)) (map.get acc q)
-put_kept true true q row acc is = refl
-put_kept true false q row acc is = refl
-put_kept false true q row acc is = map.get-insert package_total acc row.0 row.1 q ∙ cond-true _ _ _ is
-put_kept false false q row acc is = map.get-insert package_total acc row.0 row.1 q ∙ cond-false _ _ _ is
-
-kept_row : (drops : CheckPackage → Bool) (here : Bool) (p : CheckPackage) (other : Option CheckPackage) (found : Option CheckPackage) → (here ≡ true → found ≡ None)
-    → kept_or drops found (cond here (cond (drops p) other (Some p)) other) ≡ kept_or drops (cond here (Some p) found) other
-kept_row drops true p other found none = ap (λ o. kept_or drops o (cond (drops p) other (Some p))) (none refl)
-kept_row drops false p other found none = refl
-
-kept_is : (drops : CheckPackage → Bool) (q : Option (List ℕ)) (rows : List (Option (List ℕ) × CheckPackage)) (acc : Packages) → T (map.is_sorted package_cmp rows)
-    → map.get (kept drops rows acc) q ≡ kept_or drops (map.find package_cmp q rows) (map.get acc q)
-kept_is drops q [] acc up = refl
-kept_is drops q (row ∷ rows) acc up =
-    kept_is drops q rows (cond (drops row.1) acc (map.insert acc row.0 row.1)) (back (below_all package_cmp row.0 rows) _ up)
-    ∙ ap (kept_or drops (map.find package_cmp q rows)) (put_kept (drops row.1) (same_name q row.0) q row acc refl)
-    ∙ kept_row drops (same_name q row.0) row.1 (map.get acc q) (map.find package_cmp q rows)
+kept_rows : (drops : CheckPackage → Bool) (q : Option (List ℕ)) (rows : List (Option (List ℕ) × CheckPackage)) → T (map.is_sorted package_cmp rows)
+    → map.find package_cmp q (filter (λ row. not (drops row.1)) rows) ≡ dropped drops (map.find package_cmp q rows)
+kept_rows drops q [] up = refl
+kept_rows drops q (row ∷ rows) up =
+    keep_row drops q row (filter (λ row. not (drops row.1)) rows) (map.find package_cmp q rows) (drops row.1) (same_name q row.0) refl refl
+    (kept_rows drops q rows (back (below_all package_cmp row.0 rows) _ up))
     (λ here. none_below package_cmp q rows (subst (λ k. T (below_all package_cmp k rows)) (sym (name_is q row.0 here)) (front _ _ up)))
 
-kept_or_none : (drops : CheckPackage → Bool) (o : Option CheckPackage) → kept_or drops o None ≡ dropped drops o
-kept_or_none drops None = refl
-kept_or_none drops (Some p) = refl
-
-kept_at : (drops : CheckPackage → Bool) (q : Option (List ℕ)) (packages : Packages) → map.get (kept drops (map.entries packages) map.empty) q ≡ dropped drops (map.get packages q)
+kept_at : (drops : CheckPackage → Bool) (q : Option (List ℕ)) (packages : Packages) → map.get (kept drops packages) q ≡ dropped drops (map.get packages q)
 kept_at drops q packages =
-    kept_is drops q (map.entries packages) map.empty (map.entries_sorted packages)
-    ∙ ap (λ o. kept_or drops o (map.get (map.empty {X = CheckPackage} {R = package_cmp}) q)) (sym (map.get-entries packages q))
-    ∙ ap (kept_or drops (map.get packages q)) (map.get-empty package_cmp q)
-    ∙ kept_or_none drops (map.get packages q)
+    map.get-from_entries package_total (filter (λ row. not (drops row.1)) (map.entries packages)) q
+    ∙ kept_rows drops q (map.entries packages) (map.entries_sorted packages)
+    ∙ ap (dropped drops) (sym (map.get-entries packages q))
 
 -- ---- one package after an act
 
 module _ (id : ℕ) (name : Option (List ℕ)) where
   put_at : (checks : Checks) (i : ℕ) (packages : Packages) → package_at id name (map.insert checks i packages) ≡ cond (same_id id i) (map.get packages name) (package_at id name checks)
   put_at checks i packages = ap (package_in name) (map.get-insert nat_cmp_total checks i packages id) ∙ in_by (same_id id i) name packages (map.get checks id)
+
+  left_by : (none : Bool) (checks : Checks) (i : ℕ) (packages : Packages) → nat_eq (map.len packages) 0 ≡ none
+      → package_at id name (cond none (map.remove checks i) (map.insert checks i packages)) ≡ cond (same_id id i) (map.get packages name) (package_at id name checks)
+  left_by true checks i packages is =
+      ap (package_in name) (map.get-remove nat_cmp_total checks i id)
+      ∙ out_by (same_id id i) name (map.get checks id)
+      ∙ ap (λ o. cond (same_id id i) o (package_at id name checks))
+      (sym (ap (λ (m : Packages). map.get m name) (map.empty_of_len packages (eqb-true _ _ is)) ∙ map.get-empty package_cmp name))
+  left_by false checks i packages is = put_at checks i packages
+
+  left_at : (checks : Checks) (i : ℕ) (packages : Packages) → package_at id name (with_left i packages checks) ≡ cond (same_id id i) (map.get packages name) (package_at id name checks)
+  left_at checks i packages = left_by (nat_eq (map.len packages) 0) checks i packages refl
 
   -- where a check has nothing, neither has the package
   nothing_here : (i : ℕ) (checks : Checks) → map.get checks i ≡ None → same_id id i ≡ true → package_at id name checks ≡ None
@@ -332,7 +328,7 @@ module _ (id : ℕ) (name : Option (List ℕ)) where
       → package_at id name (drop_in drops i n o (checks, m)).0 ≡ cond (same_id id i && same_name name n) (dropped drops (package_at id name checks)) (package_at id name checks)
   drop_at drops i n None checks m is = second_none (same_id id i) (same_name name n) drops _ (nothing_here i checks is)
   drop_at drops i n (Some packages) checks m is =
-      put_at checks i (drop_package drops n (map.get packages n) (packages, m)).0
+      left_at checks i (drop_package drops n (map.get packages n) (packages, m)).0
       ∙ ap (λ o. cond (same_id id i) o (package_at id name checks)) (drop_one drops n (map.get packages n) packages m refl)
       ∙ both_drop (same_id id i) (same_name name n) drops (map.get packages name) (package_at id name checks) (in_check i packages checks is)
 
@@ -344,7 +340,7 @@ module _ (id : ℕ) (name : Option (List ℕ)) where
       → package_at id name (sift drops i o (checks, m)).0 ≡ cond (same_id id i) (dropped drops (package_at id name checks)) (package_at id name checks)
   sift_at drops i None checks m is = drop_none (same_id id i) drops _ (nothing_here i checks is)
   sift_at drops i (Some packages) checks m is =
-      put_at checks i (kept drops (map.entries packages) map.empty)
+      left_at checks i (kept drops packages)
       ∙ ap (λ o. cond (same_id id i) o (package_at id name checks)) (kept_at drops name packages)
       ∙ one_drop (same_id id i) drops (map.get packages name) (package_at id name checks) (in_check i packages checks is)
 

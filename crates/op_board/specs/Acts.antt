@@ -30,7 +30,7 @@ pub data Act : Type 0 where
   -- the marks are taken
   Takes : Act
 
--- what an act does to the board, in the words of the calls' contracts
+-- what an act does to the board
 abbrev pub step : Act → Board → Board
 step Counts b = record b { generation = b.generation + 1 }
 step (Gives pass generation file list) b = set_native pass generation ((file, list) ∷ []) b
@@ -43,12 +43,16 @@ step (ForgetsOlderIn id name generation) b = with_checks (clear_one (drops_at (S
 step ForgetsAll b = clear_all_checks b
 step Takes b = record b { marked = map.empty }
 
+-- after a run that begins at this board
+abbrev pub steps : List Act → Board → Board
+steps [] b = b
+steps (act ∷ before) b = step act (steps before b)
+
 -- the board after a run
 abbrev pub after : List Act → Board
-after [] = new_board
-after (act ∷ before) = step act (after before)
+after run = steps run new_board
 
 -- a run that goes on with a list for each of these files, one after another
-abbrev pub gives_each : Pass → ℕ → List (FileId × List Diagnostic) → List Act → List Act
-gives_each pass generation [] run = run
-gives_each pass generation (given ∷ more) run = gives_each pass generation more (Gives pass generation given.0 given.1 ∷ run)
+abbrev pub gives : Pass → ℕ → List (FileId × List Diagnostic) → List Act → List Act
+gives pass generation [] run = run
+gives pass generation (given ∷ more) run = gives pass generation more (Gives pass generation given.0 given.1 ∷ run)

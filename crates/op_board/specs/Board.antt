@@ -51,9 +51,10 @@ differs old new = not (pointwise same_diagnostic old new)
 -- after a list was given for a file
 abbrev pub set_list : Option ℕ → ℕ → FileId → List Diagnostic → Lists × Marked → Lists × Marked
 set_list cleared generation file list (lists, marked) =
-    cond (is_accepted cleared (map.get lists file.0) generation)
-    (map.insert lists file.0 (record { accepted = generation; list = in_order list }), mark_if (differs (list_of (map.get lists file.0)) (in_order list)) file marked)
-    (lists, marked)
+    cond (is_accepted cleared (map.get lists file.0) generation) (
+      map.insert lists file.0 (record { accepted = generation; list = in_order list }),
+      mark_if (differs (list_of (map.get lists file.0)) (in_order list)) file marked,
+    ) (lists, marked)
 
 -- after a list was given for each of these files, one after another
 abbrev pub set_lists : map.FinMap nat_cmp ℕ → ℕ → List (FileId × List Diagnostic) → Lists × Marked → Lists × Marked
@@ -99,7 +100,7 @@ abbrev pub with_checks : Checks × Marked → Board → Board
 with_checks (checks, marked) b = record b { checks = checks; marked = marked }
 
 abbrev pub clear_all_checks : Board → Board
-clear_all_checks b = record b { checks = map.empty; marked = mark_checks (map.entries b.checks) b.marked }
+clear_all_checks b = record b { checks = map.empty; marked = mark_checks (map.values b.checks) b.marked }
 
 abbrev pub diagnostics_of : FileId → Board → List Diagnostic
 diagnostics_of file b =

@@ -1,5 +1,8 @@
 -- When a list of the board changed, told by the acts alone: those of the passes, and those of each package of a check.
-use Rattle.std.specs.Prelude.{◌≢◌, ◌⊎◌, ℕ, List, [], ◌∷◌, Option}
+use Rattle.std.specs.Prelude.{◌≡◌, ◌≢◌, ◌↔◌, ◌⊎◌, ℕ, List, [], ◌∷◌, Option, None, Some, map}
+use Rattle.std.specs.List.{Contains}
+use Rattle.std.specs.List.Sorted.{IsStrictlySortedBy}
+use Rattle.std.specs.Ordering.{nat_cmp}
 use Rattle.docs_vfs.specs.declared.file_kinds.FileId.{FileId}
 use Rattle.op_board.specs.declared.diagnostic.Diagnostic.{Diagnostic}
 use Rattle.op_board.specs.declared.diagnostic.Pass.{Pass}
@@ -33,3 +36,15 @@ abbrev pub ChangedSince : FileId → List Act → Type 0
 ChangedSince file [] = ⊥
 ChangedSince file (Takes ∷ before) = ⊥
 ChangedSince file (act ∷ before) = Changes file act before ⊎ ChangedSince file before
+
+-- the files that a take answers
+abbrev pub files_in : Option (List FileId) → List FileId
+files_in None = []
+files_in (Some files) = files
+
+-- a take after a run answers exactly the files with a list that changed since the last take, by strictly rising numbers,
+-- and none where there is none
+pub record ListsChanges (answer : Option (List FileId)) (run : List Act) : Type 0 where
+  pub changed : (file : FileId) → Contains (files_in answer) file ↔ ChangedSince file run
+  pub rising : IsStrictlySortedBy nat_cmp (map (λ file. file.0) (files_in answer))
+  pub none : (answer ≡ None) ↔ ((file : FileId) → ChangedSince file run → ⊥)

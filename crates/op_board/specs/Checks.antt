@@ -1,6 +1,6 @@
 -- The lists of checks, by the number of a check and by package, and in the order in which they came.
-use Rattle.std.specs.Prelude.{ℕ, Bool, true, List, [], ◌∷◌, ◌++◌, Option, None, Some, cond, nat_lt, option_to_list}
-use Rattle.std.specs.List.{list_any, flat_map}
+use Rattle.std.specs.Prelude.{ℕ, Bool, true, not, List, [], ◌∷◌, ◌++◌, Option, None, Some, cond, nat_eq, nat_lt, option_to_list}
+use Rattle.std.specs.List.{list_any, filter, flat_map}
 use Rattle.std.specs.Ordering.{nat_cmp}
 use Rattle.std.specs.FinMap as map
 use Rattle.docs_vfs.specs.declared.file_kinds.FileId.{FileId}
@@ -8,9 +8,8 @@ use Rattle.op_board.specs.declared.diagnostic.Diagnostic.{Diagnostic}
 use Rattle.op_board.specs.declared.diagnostic.CheckFix.{CheckFix}
 use Rattle.op_board.specs.declared.check_package.CheckPackage.{CheckPackage}
 use Rattle.op_board.specs.declared.check_package.CheckEntry.{CheckEntry}
-use Rattle.op_board.specs.declared.check_package.FileList.{FileList}
 use Rattle.op_board.specs.Diagnostics.{same_diagnostic}
-use Rattle.op_board.specs.Marked.{Marked, mark}
+use Rattle.op_board.specs.Marked.{Marked, mark, mark_all}
 use Rattle.op_board.specs.Packages.{package_cmp}
 
 abbrev pub Packages : Type 0
@@ -21,9 +20,9 @@ Checks = map.FinMap nat_cmp Packages
 
 -- ---- reading
 
-abbrev pub listed : Option FileList → List Diagnostic
+abbrev pub listed : Option (List Diagnostic) → List Diagnostic
 listed None = []
-listed (Some row) = row.list
+listed (Some list) = list
 
 -- what a package says of a file
 abbrev pub list_in : FileId → CheckPackage → List Diagnostic
@@ -47,20 +46,16 @@ all_fixes checks = flat_map fixes_in (map.values checks)
 
 -- ---- marks of all files that lose an entry
 
-abbrev pub mark_rows : List (ℕ × FileList) → Marked → Marked
-mark_rows [] m = m
-mark_rows (row ∷ rows) m = mark_rows rows (mark row.1.file m)
-
 abbrev pub mark_package : CheckPackage → Marked → Marked
-mark_package p m = mark_rows (map.entries p.lists) m
+mark_package p m = mark_all (map.keys p.lists) m
 
-abbrev pub mark_packages : List (Option (List ℕ) × CheckPackage) → Marked → Marked
+abbrev pub mark_packages : List CheckPackage → Marked → Marked
 mark_packages [] m = m
-mark_packages (row ∷ rows) m = mark_packages rows (mark_package row.1 m)
+mark_packages (p ∷ more) m = mark_packages more (mark_package p m)
 
-abbrev pub mark_checks : List (ℕ × Packages) → Marked → Marked
+abbrev pub mark_checks : List Packages → Marked → Marked
 mark_checks [] m = m
-mark_checks (row ∷ rows) m = mark_checks rows (mark_packages (map.entries row.1) m)
+mark_checks (packages ∷ more) m = mark_checks more (mark_packages (map.values packages) m)
 
 -- ---- adding
 
@@ -73,7 +68,7 @@ add_entry e (p, m) =
     cond (list_any (same_diagnostic e.diagnostic) (list_in e.file p)) (p, m) (
       record {
         generation = p.generation;
-        lists = map.insert p.lists e.file.0 (record { file = e.file; list = list_in e.file p ++ e.diagnostic ∷ [] });
+        lists = map.insert p.lists e.file.0 (list_in e.file p ++ e.diagnostic ∷ []);
         fixes = p.fixes ++ option_to_list e.fix;
       },
       mark e.file m,
@@ -117,13 +112,16 @@ drops_at None p = true
 drops_at (Some generation) p = older_than generation p
 
 -- the packages that a test doesn't drop
-abbrev pub kept : (CheckPackage → Bool) → List (Option (List ℕ) × CheckPackage) → Packages → Packages
-kept drops [] packages = packages
-kept drops (row ∷ rows) packages = kept drops rows (cond (drops row.1) packages (map.insert packages row.0 row.1))
+abbrev pub kept : (CheckPackage → Bool) → Packages → Packages
+kept drops packages = map.from_entries (filter (λ row. not (drops row.1)) (map.entries packages))
 
-abbrev pub mark_dropped : (CheckPackage → Bool) → List (Option (List ℕ) × CheckPackage) → Marked → Marked
+abbrev pub mark_dropped : (CheckPackage → Bool) → List CheckPackage → Marked → Marked
 mark_dropped drops [] m = m
-mark_dropped drops (row ∷ rows) m = mark_dropped drops rows (cond (drops row.1) (mark_package row.1 m) m)
+mark_dropped drops (p ∷ more) m = mark_dropped drops more (cond (drops p) (mark_package p m) m)
+
+-- a check of which no package is left is forgotten
+abbrev pub with_left : ℕ → Packages → Checks → Checks
+with_left id packages checks = cond (nat_eq (map.len packages) 0) (map.remove checks id) (map.insert checks id packages)
 
 abbrev pub drop_package : (CheckPackage → Bool) → Option (List ℕ) → Option CheckPackage → Packages × Marked → Packages × Marked
 drop_package drops name None both = both
@@ -132,7 +130,7 @@ drop_package drops name (Some p) (packages, m) = cond (drops p) (map.remove pack
 -- a whole check, which is forgotten
 abbrev pub forget : ℕ → Option Packages → Checks × Marked → Checks × Marked
 forget id None both = both
-forget id (Some packages) (checks, m) = (map.remove checks id, mark_packages (map.entries packages) m)
+forget id (Some packages) (checks, m) = (map.remove checks id, mark_packages (map.values packages) m)
 
 abbrev pub clear_id : ℕ → Checks × Marked → Checks × Marked
 clear_id id (checks, m) = forget id (map.get checks id) (checks, m)
@@ -142,7 +140,7 @@ abbrev pub drop_in : (CheckPackage → Bool) → ℕ → Option (List ℕ) → O
 drop_in drops id name None both = both
 drop_in drops id name (Some packages) (checks, m) =
     let dropped = drop_package drops name (map.get packages name) (packages, m) in
-    (map.insert checks id dropped.0, dropped.1)
+    (with_left id dropped.0 checks, dropped.1)
 
 abbrev pub clear_one : (CheckPackage → Bool) → ℕ → Option (List ℕ) → Checks × Marked → Checks × Marked
 clear_one drops id name (checks, m) = drop_in drops id name (map.get checks id) (checks, m)
@@ -151,7 +149,7 @@ clear_one drops id name (checks, m) = drop_in drops id name (map.get checks id) 
 abbrev pub sift : (CheckPackage → Bool) → ℕ → Option Packages → Checks × Marked → Checks × Marked
 sift drops id None both = both
 sift drops id (Some packages) (checks, m) =
-    (map.insert checks id (kept drops (map.entries packages) map.empty), mark_dropped drops (map.entries packages) m)
+    (with_left id (kept drops packages) checks, mark_dropped drops (map.values packages) m)
 
 abbrev pub clear_older : ℕ → ℕ → Checks × Marked → Checks × Marked
 clear_older id generation (checks, m) = sift (older_than generation) id (map.get checks id) (checks, m)

@@ -48,7 +48,14 @@ related_told x y =
 
 pub diagnostic_told : (x y : Diagnostic) → Decides (same_diagnostic x y) (x ≡ y)
 diagnostic_told x y =
-    Decides-like _ (λ h i. record { range = h.0.0.0.0.0 i; severity = h.0.0.0.0.1 i; code = h.0.0.0.1 i; source = h.0.0.1 i; message = h.0.1 i; related = h.1 i })
+    Decides-like _ (λ h i. record {
+      range = h.0.0.0.0.0 i;
+      severity = h.0.0.0.0.1 i;
+      code = h.0.0.0.1 i;
+      source = h.0.0.1 i;
+      message = h.0.1 i;
+      related = h.1 i;
+    })
     (λ e. (
       (
         (((ap (λ (x : Diagnostic). x.range) e, ap (λ (x : Diagnostic). x.severity) e), ap (λ (x : Diagnostic). x.code) e), ap (λ (x : Diagnostic). x.source) e),
@@ -56,7 +63,8 @@ diagnostic_told x y =
       ),
       ap (λ (x : Diagnostic). x.related) e,
     ))
-    (Decides-and _ _ (Decides-and _ _ (Decides-and _ _ (Decides-and _ _ (Decides-and _ _ (range_told x.range y.range) (option_told unsigned_Decides x.severity y.severity))
+    (Decides-and _ _ (Decides-and _ _ (Decides-and _ _ (Decides-and _ _
+    (Decides-and _ _ (range_told x.range y.range) (option_told unsigned_Decides x.severity y.severity))
     (option_told bytes_decides x.code y.code)) (option_told bytes_decides x.source y.source)) (bytes_decides x.message y.message))
     (pointwise_decides related_told x.related y.related))
 

@@ -1,5 +1,5 @@
 -- Runs of a queue of one operation: what its calls did, one act after another. A run has its last act first.
-use Rattle.std.specs.Prelude.{◌≡◌, ℕ, ◌+◌, true, false, List, [], ◌∷◌, ◌++◌, Some, cond, option_to_list}
+use Rattle.std.specs.Prelude.{◌≡◌, ℕ, ◌+◌, true, false, List, [], ◌∷◌, ◌++◌, Option, None, Some, cond, option_to_list}
 use Rattle.op_board.specs.Queue.{Queue, new_queue, starts, after_start}
 
 pub data QueueAct (A O : Type 0) : Type 0 where
@@ -10,7 +10,7 @@ pub data QueueAct (A O : Type 0) : Type 0 where
   -- the operation in progress ends
   Ends : O → QueueAct A O
 
--- what an act does to the queue, in the words of the calls' contracts
+-- what an act does to the queue
 abbrev pub queue_step : {A O : Type 0} → QueueAct A O → Queue A O → Queue A O
 queue_step (Requests request) q = record q { waiting = Some request }
 queue_step Starts q = after_start q
@@ -37,6 +37,12 @@ abbrev pub ended : {A O : Type 0} → List (QueueAct A O) → ℕ
 ended [] = 0
 ended (Ends output ∷ before) = ended before + 1
 ended (act ∷ before) = ended before
+
+-- what the last operation that ended came to
+abbrev pub last_output : {A O : Type 0} → List (QueueAct A O) → Option O
+last_output [] = None
+last_output (Ends output ∷ before) = Some output
+last_output (act ∷ before) = last_output before
 
 -- how many operations are in progress: none or one
 abbrev pub running : {A O : Type 0} → Queue A O → ℕ

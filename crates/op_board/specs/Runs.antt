@@ -1,13 +1,11 @@
 -- What a run of the board leaves of a file and pass, told by its acts alone.
-use Rattle.std.specs.Prelude.{ℕ, ◌+◌, Bool, true, false, ◌&&◌, is_some, List, [], ◌∷◌, Option, None, Some, cond, nat_eq, nat_lt, nat_le}
+use Rattle.std.specs.Prelude.{ℕ, ◌+◌, Bool, true, false, ◌&&◌, List, [], ◌∷◌, Option, None, Some, cond, nat_eq, nat_lt, nat_le}
 use Rattle.std.specs.List.{list_all}
-use Rattle.std.specs.FinMap as map
 use Rattle.docs_vfs.specs.declared.file_kinds.FileId.{FileId}
 use Rattle.op_board.specs.declared.diagnostic.Diagnostic.{Diagnostic}
 use Rattle.op_board.specs.declared.diagnostic.Pass.{Pass}
 use Rattle.op_board.specs.declared.diagnostic.Pass.TheVariants.{Syntax, Semantic}
 use Rattle.op_board.specs.Diagnostics.{in_order}
-use Rattle.op_board.specs.Board.{Board}
 use Rattle.op_board.specs.Acts.{Act}
 use Rattle.op_board.specs.Acts.Act.{Counts, Gives, Clears}
 
@@ -63,7 +61,3 @@ last_list pass file (act ∷ before) = last_list pass file before
 -- what is stored
 abbrev pub stored : Pass → FileId → List Act → List Diagnostic
 stored pass file run = in_order (last_list pass file run)
-
--- whether a file is marked
-abbrev pub is_marked : FileId → Board → Bool
-is_marked file b = is_some (map.get b.marked file.0)

@@ -1,9 +1,12 @@
-ghost use Rattle.std.specs.Prelude.{◌≡◌, ◌+◌, ◌<◌, ◌++◌, None, Some, OnOk, IfOk};
+ghost use Rattle.std.specs.Prelude.{◌≡◌, ◌+◌, ◌<◌, ◌++◌, [], OnOk, IfOk};
 ghost use Rattle.std.specs.FinMap as map;
-ghost use Rattle.op_board.specs.Board.{new_board, set_native, clear_pass, clear_native, with_checks, clear_all_checks, list_of, diagnostics_of};
-ghost use Rattle.op_board.specs.Checks.{add_check, clear_id, clear_one, clear_older, drops_at, all_fixes};
+ghost use Rattle.op_board.specs.Acts.{step, steps, gives};
+ghost use Rattle.op_board.specs.Acts.Act.{Counts, Clears, Adds, Forgets, ForgetsIn, ForgetsOlder, ForgetsOlderIn, ForgetsAll, Takes};
+ghost use Rattle.op_board.specs.Board.{new_board, set_native, clear_pass, list_of, diagnostics_of};
+ghost use Rattle.op_board.specs.Checks.{all_fixes};
 ghost use Rattle.op_board.specs.Marked.{taken};
 
+use crate::by_file::ByFile;
 use crate::by_id::ById;
 use crate::check_package::{CheckEntry, push_all};
 use crate::checks::{Checks, add_check, all_fixes, push_checks};
@@ -12,7 +15,7 @@ use crate::diagnostic::{CheckFix, Diagnostic, Pass};
 use crate::marks::Marks;
 use crate::pass_list::{PassList, clear_list, set_lists};
 use docs_vfs::FileId;
-use plain::{ByNumber, Items, Text};
+use plain::{Items, Text};
 use std::alloc::{AllocError, Global};
 use std::marker::Model;
 
@@ -22,9 +25,9 @@ use std::marker::Model;
 pub struct DiagnosticCollection {
     alloc: Global,
     generation: u64,
-    syntax: ByNumber<PassList>,
-    semantic: ByNumber<PassList>,
-    cleared: ByNumber<u64>,
+    syntax: ByFile<PassList>,
+    semantic: ByFile<PassList>,
+    cleared: ByFile<u64>,
     checks: Checks,
     marks: Marks,
 }
@@ -45,12 +48,12 @@ impl Model for DiagnosticCollection {
 /// Adds what a pass says of a file to a list.
 fn push_native(
     into: &mut Items<Diagnostic>,
-    lists: &ByNumber<PassList>,
+    lists: &ByFile<PassList>,
     file: FileId,
 ) -> Result<(), AllocError>
     ensures { OnOk result (into.new ≡ into.old ++ list_of (map.get lists.now file.0)) }
 {
-    match lists.get(u64::from(file.0)) {
+    match lists.get(file) {
         None => Ok(()),
         Some(stored) => push_all(into, &stored.list),
     }
@@ -64,9 +67,9 @@ impl DiagnosticCollection {
         DiagnosticCollection {
             alloc,
             generation: 0,
-            syntax: ByNumber::new(alloc),
-            semantic: ByNumber::new(alloc),
-            cleared: ByNumber::new(alloc),
+            syntax: ByFile::new(alloc),
+            semantic: ByFile::new(alloc),
+            cleared: ByFile::new(alloc),
             checks: ById::new(alloc),
             marks: Marks::new(alloc),
         }
@@ -76,14 +79,13 @@ impl DiagnosticCollection {
     pub fn next_generation(&mut self) -> u64
         requires { self.old.generation < u64.MAX }
         ensures value { result ≡ self.old.generation + 1 }
-        ensures after { self.new ≡ record self.old { generation = self.old.generation + 1 } }
+        ensures after { self.new ≡ step Counts self.old }
     {
         self.generation += 1;
         self.generation
     }
 
-    /// Stores the lists that are accepted, each sorted by start and end, and marks the files whose lists change.
-    pub fn set_native_diagnostics(
+    fn set_pass(
         &mut self,
         pass: Pass,
         generation: u64,
@@ -109,6 +111,19 @@ impl DiagnosticCollection {
         }
     }
 
+    /// Stores the lists that are accepted, each sorted by start and end, and marks the files whose lists change.
+    pub fn set_native_diagnostics(
+        &mut self,
+        pass: Pass,
+        generation: u64,
+        lists: Items<(FileId, Items<Diagnostic>)>,
+    ) -> Result<(), AllocError>
+        ensures { OnOk result (self.new ≡ steps (gives pass generation lists []) self.old) }
+    {
+        self.set_pass(pass, generation, lists)?;
+        Ok(())
+    }
+
     fn clear_pass(&mut self, pass: Pass, file: FileId) -> Result<(), AllocError>
         ensures { OnOk result (self.new ≡ clear_pass pass file self.old) }
     {
@@ -120,12 +135,11 @@ impl DiagnosticCollection {
 
     /// Empties both lists of a file. From now on it takes only lists of generations that are still to be given.
     pub fn clear_native_for(&mut self, file: FileId) -> Result<(), AllocError>
-        ensures { OnOk result (self.new ≡ clear_native file self.old) }
+        ensures { OnOk result (self.new ≡ step (Clears file) self.old) }
     {
         self.clear_pass(Pass::Syntax, file)?;
         self.clear_pass(Pass::Semantic, file)?;
-        self.cleared.insert(u64::from(file.0), self.generation)?;
-        Ok(())
+        self.cleared.insert(file, self.generation)
     }
 
     /// Adds a diagnostic of a check, and its fix, and marks its file. A diagnostic of an older generation than its
@@ -134,13 +148,13 @@ impl DiagnosticCollection {
         &mut self,
         id: u64,
         generation: u64,
-        name: Option<Text>,
+        package: Option<Text>,
         file: FileId,
         diagnostic: Diagnostic,
         fix: Option<CheckFix>,
     ) -> Result<(), AllocError>
-        ensures { OnOk result (self.new ≡ with_checks (add_check id generation name
-            (record { file = file; diagnostic = diagnostic; fix = fix }) (self.old.checks, self.old.marked)) self.old) }
+        ensures { OnOk result (self.new
+            ≡ step (Adds id generation «package» (record { file = file; diagnostic = diagnostic; fix = fix })) self.old) }
     {
         let entry = CheckEntry {
             file,
@@ -153,64 +167,59 @@ impl DiagnosticCollection {
             &mut self.marks,
             id,
             generation,
-            name,
+            package,
             entry,
         )
     }
 
     /// Forgets a check, and marks the files that lose an entry.
     pub fn clear_check(&mut self, id: u64) -> Result<(), AllocError>
-        ensures { OnOk result (self.new ≡ with_checks (clear_id id (self.old.checks, self.old.marked)) self.old) }
+        ensures { OnOk result (self.new ≡ step (Forgets id) self.old) }
     {
         clear_id(&mut self.checks, &mut self.marks, id)
     }
 
     /// Forgets a package of a check, and marks the files that lose an entry.
-    pub fn clear_check_for_package(&mut self, id: u64, name: Option<Text>) -> Result<(), AllocError>
-        ensures { OnOk result (self.new
-            ≡ with_checks (clear_one (drops_at None) id name (self.old.checks, self.old.marked)) self.old) }
+    pub fn clear_check_for_package(
+        &mut self,
+        id: u64,
+        package: Option<Text>,
+    ) -> Result<(), AllocError>
+        ensures { OnOk result (self.new ≡ step (ForgetsIn id «package») self.old) }
     {
-        clear_one(&mut self.checks, &mut self.marks, id, name, None)
+        clear_one(&mut self.checks, &mut self.marks, id, &package, None)
     }
 
     /// Forgets the packages of a check whose generations are older than this, and marks the files that lose an entry.
     pub fn clear_check_older_than(&mut self, id: u64, generation: u64) -> Result<(), AllocError>
-        ensures { OnOk result (self.new
-            ≡ with_checks (clear_older id generation (self.old.checks, self.old.marked)) self.old) }
+        ensures { OnOk result (self.new ≡ step (ForgetsOlder id generation) self.old) }
     {
-        clear_older(
-            self.alloc,
-            &mut self.checks,
-            &mut self.marks,
-            id,
-            generation,
-        )
+        clear_older(&mut self.checks, &mut self.marks, id, generation)
     }
 
     /// Forgets a package of a check if its generation is older than this, and marks the files that lose an entry.
     pub fn clear_check_older_than_for_package(
         &mut self,
         id: u64,
-        name: Option<Text>,
+        package: Option<Text>,
         generation: u64,
     ) -> Result<(), AllocError>
-        ensures { OnOk result (self.new
-            ≡ with_checks (clear_one (drops_at (Some generation)) id name (self.old.checks, self.old.marked)) self.old) }
+        ensures { OnOk result (self.new ≡ step (ForgetsOlderIn id «package» generation) self.old) }
     {
         clear_one(
             &mut self.checks,
             &mut self.marks,
             id,
-            name,
+            &package,
             Some(generation),
         )
     }
 
     /// Forgets all checks, and marks the files that lose an entry.
     pub fn clear_check_all(&mut self) -> Result<(), AllocError>
-        ensures { OnOk result (self.new ≡ clear_all_checks self.old) }
+        ensures { OnOk result (self.new ≡ step ForgetsAll self.old) }
     {
-        clear_checks(&mut self.checks, &mut self.marks)
+        clear_checks(self.alloc, &mut self.checks, &mut self.marks)
     }
 
     /// What is said of a file: by the passes, syntax first, and then by the checks in the order of their numbers and
@@ -235,7 +244,7 @@ impl DiagnosticCollection {
     /// The files whose lists changed since the last take, in order, or none where there are none.
     pub fn take_changes(&mut self) -> Option<Items<FileId>>
         ensures value { result ≡ taken self.old.marked }
-        ensures after { self.new ≡ record self.old { marked = map.empty } }
+        ensures after { self.new ≡ step Takes self.old }
     {
         self.marks.take()
     }

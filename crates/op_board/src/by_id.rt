@@ -1,7 +1,9 @@
-ghost use Rattle.std.specs.Prelude.{◌≡◌, ◌∷◌, [], OnOk, MatchOption};
+ghost use Rattle.std.specs.Prelude.{◌≡◌, OnOk};
+ghost use Rattle.std.specs.Borrow.{sem};
 ghost use Rattle.std.specs.Map.Iter.{ShowsInOrder, deref};
-ghost use Rattle.std.specs.Option.{option_copied};
+ghost use Rattle.std.specs.Option.{option_copied, option_copied_mut};
 ghost use Rattle.std.specs.FinMap as map;
+ghost use Rattle.op_board.specs.Lent.{lends_of_id};
 
 use std::alloc::{AllocError, Global};
 use std::collections::BTreeMap;
@@ -35,6 +37,20 @@ impl<V> ById<V> {
         }
     }
 
+    pub fn get(&self, id: u64) -> Option<&V>
+        ensures { option_copied result ≡ map.get self.now id }
+    {
+        self.rows.get(&id)
+    }
+
+    /// The value of a check, to be changed in its place.
+    pub fn get_mut(&mut self, id: u64) -> Option<&mut V>
+        ensures* writes_back { sem 𝓛 (lends_of_id V.row self.entry id result) }
+        ensures value { option_copied_mut result ≡ map.get self.old id }
+    {
+        self.rows.get_mut(&id)
+    }
+
     /// The values in the order of the numbers.
     pub fn values(&self) -> Values<'_, u64, V>
         ensures rest { result ≡ map.values self.now }
@@ -52,19 +68,11 @@ impl<V> ById<V> {
         Ok(())
     }
 
-    pub fn remove(&mut self, id: u64) -> Option<V>
-        ensures value { result ≡ map.get self.old id }
-        ensures map { self.new ≡ map.remove self.old id }
+    pub fn remove(&mut self, id: u64)
+    where
+        V: Drop,
+        ensures { self.new ≡ map.remove self.old id }
     {
-        self.rows.remove(&id)
-    }
-
-    /// Takes the lowest number out, with its value.
-    pub fn pop_first(&mut self) -> Option<(u64, V)>
-        ensures { MatchOption result ((map.entries self.old ≡ []) × (map.entries self.new ≡ []))
-            (λ first. map.entries self.old ≡ first ∷ map.entries self.new) }
-    {
-        let _in_order = self.rows.iter();
-        self.rows.pop_first()
+        let _ = self.rows.remove(&id);
     }
 }

@@ -1,8 +1,13 @@
-ghost use Rattle.std.specs.Prelude.{◌≡◌, ◌∷◌, [], OnOk, MatchOption};
+ghost use Rattle.std.specs.Prelude.{◌≡◌, OnOk, nat_eq};
+ghost use Rattle.std.specs.Borrow.{sem};
 ghost use Rattle.std.specs.Map.Iter.{ShowsInOrder, deref};
-ghost use Rattle.std.specs.Option.{option_copied};
+ghost use Rattle.std.specs.Option.{option_copied, option_copied_mut};
 ghost use Rattle.std.specs.FinMap as map;
+ghost use Rattle.op_board.specs.Checks.{older_than, kept};
+ghost use Rattle.op_board.specs.Lent.{lends_of_package};
 
+use crate::check_package::CheckPackage;
+use crate::clearing::is_older;
 use plain::Text;
 use std::alloc::{AllocError, Global};
 use std::collections::BTreeMap;
@@ -36,6 +41,26 @@ impl<V> ByPackage<V> {
         }
     }
 
+    pub fn is_empty(&self) -> bool
+        ensures { result ≡ nat_eq (map.len self.now) 0 }
+    {
+        self.rows.len() == 0
+    }
+
+    pub fn get(&self, name: &Option<Text>) -> Option<&V>
+        ensures { option_copied result ≡ map.get self.now name.now }
+    {
+        self.rows.get(name)
+    }
+
+    /// The value of a package, to be changed in its place.
+    pub fn get_mut(&mut self, name: &Option<Text>) -> Option<&mut V>
+        ensures* writes_back { sem 𝓛 (lends_of_package V.row self.entry name.now result) }
+        ensures value { option_copied_mut result ≡ map.get self.old name.now }
+    {
+        self.rows.get_mut(name)
+    }
+
     /// The values in the order of their packages.
     pub fn values(&self) -> Values<'_, Option<Text>, V>
         ensures rest { result ≡ map.values self.now }
@@ -53,19 +78,20 @@ impl<V> ByPackage<V> {
         Ok(())
     }
 
-    pub fn remove(&mut self, name: &Option<Text>) -> Option<V>
-        ensures value { result ≡ map.get self.old name.now }
-        ensures map { self.new ≡ map.remove self.old name.now }
+    pub fn remove(&mut self, name: &Option<Text>)
+    where
+        V: Drop,
+        ensures { self.new ≡ map.remove self.old name.now }
     {
-        self.rows.remove(name)
+        let _ = self.rows.remove(name);
     }
+}
 
-    /// Takes the first package out, with its value.
-    pub fn pop_first(&mut self) -> Option<(Option<Text>, V)>
-        ensures { MatchOption result ((map.entries self.old ≡ []) × (map.entries self.new ≡ []))
-            (λ first. map.entries self.old ≡ first ∷ map.entries self.new) }
+impl ByPackage<CheckPackage> {
+    /// Keeps the packages that are of this generation or newer.
+    pub fn drop_older(&mut self, generation: u64)
+        ensures { self.new ≡ kept (older_than generation) self.old }
     {
-        let _in_order = self.rows.iter();
-        self.rows.pop_first()
+        self.rows.retain(|_package, row| !is_older(row, generation));
     }
 }

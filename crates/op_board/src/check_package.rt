@@ -2,29 +2,22 @@ ghost use Rattle.std.specs.Prelude.{◌≡◌, ◌++◌, ◌∷◌, [], OnOk, op
 ghost use Rattle.std.specs.List.{list_any};
 ghost use Rattle.std.specs.Option.{option_copied};
 ghost use Rattle.std.specs.FinMap as map;
-ghost use Rattle.op_board.specs.Checks.{listed, list_in, fixes_of, mark_rows, mark_package, new_package, add_entry, renewed, add_to};
+ghost use Rattle.op_board.specs.Checks.{listed, list_in, fixes_of, mark_package, new_package, add_entry, renewed, add_to};
 ghost use Rattle.op_board.specs.Diagnostics.{same_diagnostic};
 
+use crate::by_file::ByFile;
 use crate::diagnostic::{CheckFix, Diagnostic};
 use crate::marks::Marks;
 use docs_vfs::FileId;
-use plain::{ByNumber, Items};
+use plain::Items;
 use std::alloc::{AllocError, Global};
-use std::mem;
 
-/// What a package of a check says of a file, in the order in which it came. There is something in the list.
-#[derive(Drop)]
-pub struct FileList {
-    pub file: FileId,
-    pub list: Items<Diagnostic>,
-}
-
-/// What a check says of a package: its newest generation, the lists by file, and the fixes in the order in which they
-/// came.
+/// What a check says of a package: its newest generation, the lists by file, and the fixes, both in the order in which
+/// they came. There is something in each list.
 #[derive(Drop)]
 pub struct CheckPackage {
     pub generation: u64,
-    pub lists: ByNumber<FileList>,
+    pub lists: ByFile<Items<Diagnostic>>,
     pub fixes: Items<CheckFix>,
 }
 
@@ -42,28 +35,19 @@ pub(crate) fn new_package(alloc: Global, generation: u64) -> CheckPackage
 {
     CheckPackage {
         generation,
-        lists: ByNumber::new(alloc),
+        lists: ByFile::new(alloc),
         fixes: Items::new(alloc),
     }
 }
 
-/// Marks all files that have a list.
-fn mark_rows(mut lists: ByNumber<FileList>, marks: &mut Marks) -> Result<(), AllocError>
-    ensures { OnOk result (marks.new ≡ mark_rows (map.entries lists) marks.old) }
+/// Marks the files of which a package says something.
+pub(crate) fn mark_package(row: &CheckPackage, marks: &mut Marks) -> Result<(), AllocError>
+    ensures { OnOk result (marks.new ≡ mark_package row.now marks.old) }
 {
-    'rows: loop {
-        match lists.pop_first() {
-            None => return Ok(()),
-            Some((_key, row)) => marks.mark(row.file)?,
-        }
+    for number in row.lists.numbers() {
+        marks.mark(FileId(*number))?;
     }
-}
-
-/// Drops a package, and marks its files.
-pub(crate) fn mark_package(row: CheckPackage, marks: &mut Marks) -> Result<(), AllocError>
-    ensures { OnOk result (marks.new ≡ mark_package row marks.old) }
-{
-    mark_rows(row.lists, marks)
+    Ok(())
 }
 
 /// Whether a diagnostic stands in a list.
@@ -78,39 +62,32 @@ fn contains(list: &Items<Diagnostic>, diagnostic: &Diagnostic) -> bool
     false
 }
 
-fn is_known(row: Option<&FileList>, diagnostic: &Diagnostic) -> bool
-    ensures { result ≡ list_any (same_diagnostic diagnostic.now) (listed (option_copied row.entry)) }
+fn is_known(list: Option<&Items<Diagnostic>>, diagnostic: &Diagnostic) -> bool
+    ensures { result ≡ list_any (same_diagnostic diagnostic.now) (listed (option_copied list.entry)) }
 {
-    match row {
+    match list {
         None => false,
-        Some(row) => contains(&row.list, diagnostic),
-    }
-}
-
-fn list_or_new(alloc: Global, row: Option<FileList>) -> Items<Diagnostic>
-    ensures { result ≡ listed row }
-{
-    match row {
-        None => Items::new(alloc),
-        Some(row) => row.list,
+        Some(list) => contains(list, diagnostic),
     }
 }
 
 /// Adds a diagnostic at the end of its file's list.
 fn push_diagnostic(
     alloc: Global,
-    lists: &mut ByNumber<FileList>,
+    lists: &mut ByFile<Items<Diagnostic>>,
     file: FileId,
     diagnostic: Diagnostic,
 ) -> Result<(), AllocError>
-    ensures { OnOk result (lists.new ≡ map.insert lists.old file.0
-        (record { file = file; list = listed (map.get lists.old file.0) ++ diagnostic ∷ [] })) }
+    ensures { OnOk result (lists.new
+        ≡ map.insert lists.old file.0 (listed (map.get lists.old file.0) ++ diagnostic ∷ [])) }
 {
-    let key = u64::from(file.0);
-    let mut list = list_or_new(alloc, lists.remove(key));
+    if let Some(list) = lists.get_mut(file) {
+        list.push(diagnostic)?;
+        return Ok(());
+    }
+    let mut list = Items::new(alloc);
     list.push(diagnostic)?;
-    lists.insert(key, FileList { file, list })?;
-    Ok(())
+    lists.insert(file, list)
 }
 
 fn push_fix(fixes: &mut Items<CheckFix>, fix: Option<CheckFix>) -> Result<(), AllocError>
@@ -131,7 +108,7 @@ fn add_entry(
 ) -> Result<(), AllocError>
     ensures { OnOk result ((row.new, marks.new) ≡ add_entry entry (row.old, marks.old)) }
 {
-    let known = row.lists.get(u64::from(entry.file.0));
+    let known = row.lists.get(entry.file);
     if is_known(known, &entry.diagnostic) {
         return Ok(());
     }
@@ -150,8 +127,8 @@ fn renew(
     ensures { OnOk result ((row.new, marks.new) ≡ renewed generation (row.old, marks.old)) }
 {
     if row.generation < generation {
-        let old = mem::replace(row, new_package(alloc, generation));
-        mark_package(old, marks)?;
+        mark_package(row, marks)?;
+        *row = new_package(alloc, generation);
     }
     Ok(())
 }
@@ -181,9 +158,9 @@ pub(crate) fn push_list(
 ) -> Result<(), AllocError>
     ensures { OnOk result (into.new ≡ into.old ++ list_in file row.now) }
 {
-    match row.lists.get(u64::from(file.0)) {
+    match row.lists.get(file) {
         None => Ok(()),
-        Some(found) => push_all(into, &found.list),
+        Some(list) => push_all(into, list),
     }
 }
 

@@ -1,6 +1,5 @@
 ghost use Rattle.std.specs.Prelude.{◌≡◌, ◌++◌, OnOk, IfOk};
-ghost use Rattle.std.specs.FinMap as map;
-ghost use Rattle.op_board.specs.Checks.{package_or_new, packages_or_none, add_in, add_check, lists_in, checks_of, fixes_in, all_fixes};
+ghost use Rattle.op_board.specs.Checks.{add_in, add_check, lists_in, checks_of, fixes_in, all_fixes};
 
 use crate::by_id::ById;
 use crate::by_package::ByPackage;
@@ -17,24 +16,6 @@ pub type Packages = ByPackage<CheckPackage>;
 /// What all checks say.
 pub type Checks = ById<Packages>;
 
-fn package_or_new(alloc: Global, generation: u64, row: Option<CheckPackage>) -> CheckPackage
-    ensures { result ≡ package_or_new generation row }
-{
-    match row {
-        None => new_package(alloc, generation),
-        Some(row) => row,
-    }
-}
-
-fn packages_or_none(alloc: Global, packages: Option<Packages>) -> Packages
-    ensures { result ≡ packages_or_none packages }
-{
-    match packages {
-        None => ByPackage::new(alloc),
-        Some(packages) => packages,
-    }
-}
-
 /// Adds an entry to its package.
 fn add_in(
     alloc: Global,
@@ -47,13 +28,15 @@ fn add_in(
     ensures { OnOk result ((packages.new, marks.new)
         ≡ add_in generation name entry (packages.old, marks.old)) }
 {
-    let mut row = package_or_new(alloc, generation, packages.remove(&name));
+    if let Some(row) = packages.get_mut(&name) {
+        return add_to(alloc, row, marks, generation, entry);
+    }
+    let mut row = new_package(alloc, generation);
     add_to(alloc, &mut row, marks, generation, entry)?;
-    packages.insert(name, row)?;
-    Ok(())
+    packages.insert(name, row)
 }
 
-/// Adds an entry to its package of a check.
+/// Adds an entry to its package of a check. A check that is there stays in its place, also where memory runs out.
 pub(crate) fn add_check(
     alloc: Global,
     checks: &mut Checks,
@@ -66,10 +49,12 @@ pub(crate) fn add_check(
     ensures { OnOk result ((checks.new, marks.new)
         ≡ add_check id generation name entry (checks.old, marks.old)) }
 {
-    let mut packages = packages_or_none(alloc, checks.remove(id));
+    if let Some(packages) = checks.get_mut(id) {
+        return add_in(alloc, packages, marks, generation, name, entry);
+    }
+    let mut packages = ByPackage::new(alloc);
     add_in(alloc, &mut packages, marks, generation, name, entry)?;
-    checks.insert(id, packages)?;
-    Ok(())
+    checks.insert(id, packages)
 }
 
 fn push_lists(

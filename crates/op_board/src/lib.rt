@@ -2,6 +2,7 @@
 #![tactic(auto)]
 
 mod board;
+mod by_file;
 mod by_id;
 mod by_package;
 mod check_package;
@@ -12,13 +13,11 @@ mod laws;
 mod marks;
 mod op_queue;
 mod pass_list;
-#[cfg(test)]
-mod tests;
 
 pub use board::DiagnosticCollection;
 pub use diagnostic::{CheckFix, Diagnostic, Pass, Related};
 pub use laws::{
-    changed_files_are_marked, one_operation_runs, packages_say_the_newest,
+    calls_continue_a_run, changed_files_are_marked, one_operation_runs, packages_say_the_newest,
     the_last_accepted_list_is_stored,
 };
 pub use op_queue::OpQueue;

@@ -1,10 +1,11 @@
 ghost use Rattle.std.specs.Prelude.{◌≡◌, ◌+◌, ◌<◌, ◌≤◌, ◌++◌, ◌∷◌, [], OnOk};
 ghost use Rattle.std.specs.Vec.{vec_len, vec_capacity};
 ghost use Rattle.std.specs.FinMap as map;
-ghost use Rattle.op_board.specs.Marked.{mark, mark_if, files_in, taken};
+ghost use Rattle.op_board.specs.Marked.{mark, mark_if, files_at, taken};
 
+use crate::by_file::ByFile;
 use docs_vfs::FileId;
-use plain::{ByNumber, Items};
+use plain::Items;
 use std::alloc::{AllocError, Global};
 use std::marker::Model;
 use std::mem;
@@ -12,7 +13,7 @@ use std::mem;
 /// The files that are marked, and a list with room for them, so that a take needs no memory.
 #[derive(Drop)]
 pub struct Marks {
-    files: ByNumber<FileId>,
+    files: ByFile<()>,
     room: Vec<FileId>,
 }
 
@@ -42,17 +43,13 @@ fn push(list: &mut Vec<FileId>, file: FileId)
     let _ = list.push(file);
 }
 
-/// Moves the files into the list, in order.
-fn drain(list: &mut Vec<FileId>, files: &mut ByNumber<FileId>)
-    requires { vec_len list.old + map.len files.old ≤ vec_capacity list.old }
-    ensures list { list.new.items ≡ list.old.items ++ files_in (map.entries files.old) }
-    ensures files { files.new ≡ map.empty }
+/// Adds the files to a list that has room for them, in order.
+fn push_files(list: &mut Vec<FileId>, files: &ByFile<()>)
+    requires { vec_len list.old + map.len files.now ≤ vec_capacity list.old }
+    ensures { list.new.items ≡ list.old.items ++ files_at (map.keys files.now) }
 {
-    'files: loop {
-        match files.pop_first() {
-            None => return,
-            Some((_key, file)) => push(list, file),
-        }
+    for number in files.numbers() {
+        push(list, FileId(*number));
     }
 }
 
@@ -61,7 +58,7 @@ impl Marks {
         ensures { result ≡ map.empty }
     {
         Marks {
-            files: ByNumber::new(alloc),
+            files: ByFile::new(alloc),
             room: Vec::new(alloc),
         }
     }
@@ -69,13 +66,11 @@ impl Marks {
     pub fn mark(&mut self, file: FileId) -> Result<(), AllocError>
         ensures { OnOk result (self.new ≡ mark file self.old) }
     {
-        let key = u64::from(file.0);
-        if self.files.contains(key) {
-            self.files.insert(key, file)?;
+        if self.files.contains(file) {
             return Ok(());
         }
         self.room.push(file)?;
-        self.files.insert(key, file)?;
+        self.files.insert(file, ())?;
         Ok(())
     }
 
@@ -97,9 +92,10 @@ impl Marks {
             return None;
         }
         let alloc = *self.room.allocator();
+        let files = mem::replace(&mut self.files, ByFile::new(alloc));
         let mut list = mem::replace(&mut self.room, Vec::new(alloc));
         list.clear();
-        drain(&mut list, &mut self.files);
+        push_files(&mut list, &files);
         Some(Items::from_vec(list))
     }
 }

@@ -1,6 +1,8 @@
-ghost use Rattle.std.specs.Prelude.{◌≡◌, is_some, Some, None, true, false};
+ghost use Rattle.std.specs.Prelude.{◌≡◌, is_some, true};
 ghost use Rattle.std.specs.Option.{option_copied, option_map};
-ghost use Rattle.op_board.specs.Queue.{new_queue, starts, after_start};
+ghost use Rattle.op_board.specs.Queue.{new_queue, starts};
+ghost use Rattle.op_board.specs.QueueRuns.{queue_step};
+ghost use Rattle.op_board.specs.QueueRuns.QueueAct.{Requests, Starts, Ends};
 
 use plain::Text;
 use std::marker::Model;
@@ -38,7 +40,7 @@ impl<Args: Drop, Output: Drop> OpQueue<Args, Output> {
 
     /// Asks for an operation, for this cause.
     pub fn request_op(&mut self, cause: Text, args: Args)
-        ensures { self.new ≡ record self.old { waiting = Some (cause, args) } }
+        ensures { self.new ≡ queue_step (Requests (cause, args)) self.old }
     {
         self.waiting = Some((cause, args));
     }
@@ -46,7 +48,7 @@ impl<Args: Drop, Output: Drop> OpQueue<Args, Output> {
     /// Starts the operation that waits, unless one is in progress.
     pub fn should_start_op(&mut self) -> Option<(Text, Args)>
         ensures value { result ≡ starts self.old }
-        ensures after { self.new ≡ after_start self.old }
+        ensures after { self.new ≡ queue_step Starts self.old }
     {
         if self.in_progress {
             return None;
@@ -59,7 +61,7 @@ impl<Args: Drop, Output: Drop> OpQueue<Args, Output> {
     /// Keeps what the operation in progress came to, which it ends.
     pub fn op_completed(&mut self, output: Output)
         requires { self.old.in_progress ≡ true }
-        ensures { self.new ≡ record { waiting = self.old.waiting; in_progress = false; last = Some output } }
+        ensures { self.new ≡ queue_step (Ends output) self.old }
     {
         self.in_progress = false;
         self.last = Some(output);

@@ -4,10 +4,11 @@ ghost use Rattle.std.specs.FinMap as map;
 ghost use Rattle.op_board.specs.Board.{list_of, is_recent, is_above, is_accepted, differs, has_some, set_list, set_lists, clear_list};
 ghost use Rattle.op_board.specs.Marked.{mark_if};
 
+use crate::by_file::ByFile;
 use crate::diagnostic::{Diagnostic, sort};
 use crate::marks::Marks;
 use docs_vfs::FileId;
-use plain::{ByNumber, Items};
+use plain::Items;
 use std::alloc::{AllocError, Global};
 
 /// A file's list of one pass, and the highest generation that was accepted.
@@ -54,7 +55,7 @@ fn differs(stored: Option<&PassList>, list: &Items<Diagnostic>) -> bool
 
 /// Stores a list, if it is accepted, and marks the file if the list isn't the one that was stored.
 fn set_list(
-    lists: &mut ByNumber<PassList>,
+    lists: &mut ByFile<PassList>,
     marks: &mut Marks,
     cleared: Option<&u64>,
     generation: u64,
@@ -64,8 +65,7 @@ fn set_list(
     ensures { OnOk result ((lists.new, marks.new)
         ≡ set_list (option_copied cleared.entry) generation file list (lists.old, marks.old)) }
 {
-    let key = u64::from(file.0);
-    let stored = lists.get(key);
+    let stored = lists.get(file);
     if !is_accepted(cleared, stored, generation) {
         return Ok(());
     }
@@ -73,20 +73,19 @@ fn set_list(
     let is_new = differs(stored, &list);
     marks.mark_if(is_new, file)?;
     lists.insert(
-        key,
+        file,
         PassList {
             accepted: generation,
             list,
         },
-    )?;
-    Ok(())
+    )
 }
 
 /// Stores each list that is accepted.
 pub(crate) fn set_lists(
-    lists: &mut ByNumber<PassList>,
+    lists: &mut ByFile<PassList>,
     marks: &mut Marks,
-    cleared: &ByNumber<u64>,
+    cleared: &ByFile<u64>,
     generation: u64,
     given: Items<(FileId, Items<Diagnostic>)>,
 ) -> Result<(), AllocError>
@@ -94,7 +93,7 @@ pub(crate) fn set_lists(
         ≡ set_lists cleared.now generation given (lists.old, marks.old)) }
 {
     for (file, list) in given.into_vec() {
-        let last = cleared.get(u64::from(file.0));
+        let last = cleared.get(file);
         set_list(lists, marks, last, generation, file, list)?;
     }
     Ok(())
@@ -103,21 +102,19 @@ pub(crate) fn set_lists(
 /// Empties the list of a file, and marks the file if there was something in it.
 pub(crate) fn clear_list(
     alloc: Global,
-    lists: &mut ByNumber<PassList>,
+    lists: &mut ByFile<PassList>,
     marks: &mut Marks,
     file: FileId,
 ) -> Result<(), AllocError>
     ensures { OnOk result ((lists.new, marks.new) ≡ clear_list file (lists.old, marks.old)) }
 {
-    let key = u64::from(file.0);
-    match lists.get(key) {
+    match lists.get(file) {
         None => Ok(()),
         Some(stored) => {
             let accepted = stored.accepted;
             marks.mark_if(!stored.list.is_empty(), file)?;
             let list = Items::new(alloc);
-            lists.insert(key, PassList { accepted, list })?;
-            Ok(())
+            lists.insert(file, PassList { accepted, list })
         }
     }
 }

@@ -1,3 +1,4 @@
 pub mod InitialLaws
 pub mod SearchLaws
 pub mod PathEnds
+pub mod ProjectLaws

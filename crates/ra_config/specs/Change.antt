@@ -4,7 +4,6 @@ use Rattle.std.specs.FinMap as finmap
 use Rattle.std.specs.Ordering.{nat_cmp}
 use Rattle.serde_json.specs.Data.{Data, object, no_members}
 use Rattle.ra_settings.specs.declared.error.ConfigError.{ConfigError}
-use Rattle.ra_settings.specs.declared.value.Reason.{Reason}
 use Rattle.ra_settings.specs.declared.layer.Source.{Source}
 use Rattle.ra_config.specs.declared.change.SettingsFile.{SettingsFile}
 use Rattle.ra_config.specs.declared.change.ConfigChange.{ConfigChange}
@@ -23,8 +22,12 @@ abbrev pub layer_in : Source → List ℕ → Option Data → Values
 layer_in source root None = nothing_set
 layer_in source root (Some d) = layer_of source root d
 
+-- the error of a text that is no TOML
+abbrev pub not_toml : List ℕ → ConfigError
+not_toml place = record { place = place; key = []; reason = codes "not TOML" }
+
 abbrev pub errors_in : List ℕ → Source → List ℕ → Option Data → List ConfigError
-errors_in place source root None = record { place = place; key = []; reason = Reason.NotToml } ∷ []
+errors_in place source root None = not_toml place ∷ []
 errors_in place source root (Some d) = errors_of place source root d ROWS
 
 -- what a text sets, and its errors

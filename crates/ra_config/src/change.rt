@@ -1,14 +1,15 @@
 // A change of settings.
-ghost use Rattle.std.specs.Prelude.{◌≡◌, ◌++◌, ◌↔◌, IfOk, OnOk, IsTrue};
+ghost use Rattle.std.specs.Prelude.{◌≡◌, ◌++◌, ◌↔◌, [], ◌∷◌, IfOk, OnOk, IsTrue};
 ghost use Rattle.std.specs.FinMap as map;
-ghost use Rattle.ra_settings.specs.Layers.{layer_of, errors_of};
+ghost use Rattle.ra_settings.specs.Layers.{nothing_set};
+ghost use Rattle.ra_settings.specs.declared.layer.Source.{Source};
 ghost use Rattle.ra_config.specs.Order.{by_path};
-ghost use Rattle.ra_config.specs.Change.{after, over, passed_over, errors_after, put_first, parents_of, parents_after, HasChanged, text_layer, text_errors, files_after, files_errors, tree_in, client_after, client_errors, user_after, user_errors, held, put_files, tell_files};
+ghost use Rattle.ra_config.specs.Change.{after, over, passed_over, errors_after, put_first, parents_of, parents_after, HasChanged, text_layer, text_errors, not_toml, files_after, files_errors, tree_in, client_after, client_errors, user_after, user_errors, held, put_files, tell_files};
 
 use crate::settings::{Files, Parents, Settings, SettingsParts};
 use docs_vfs::VfsPath;
 use plain::{ByNumber, Items, Json, Members, Text};
-use ra_settings::{ConfigError, Layer, Reason, Source, toml_tree};
+use ra_settings::{ConfigError, Layer, ReadLayer, Reason, Source, toml_tree};
 use std::alloc::{AllocError, Global};
 
 /// A changed settings file of a root; without a text it was deleted.
@@ -33,7 +34,7 @@ pub struct ConfigChange {
 }
 
 /// The files, stably sorted by path.
-pub(crate) fn sort(files: Items<SettingsFile>) -> Result<Items<SettingsFile>, AllocError>
+fn sort(files: Items<SettingsFile>) -> Result<Items<SettingsFile>, AllocError>
     ensures { IfOk result (λ sorted. sorted ≡ by_path files) }
 {
     let mut files = files.into_vec();
@@ -41,31 +42,49 @@ pub(crate) fn sort(files: Items<SettingsFile>) -> Result<Items<SettingsFile>, Al
     Ok(Items::from_vec(files))
 }
 
+/// One list after another.
+fn append<T: Drop>(list: Items<T>, more: Items<T>) -> Result<Items<T>, AllocError>
+    ensures { IfOk result (λ all. all ≡ list ++ more) }
+{
+    let mut all = list.into_vec();
+    all.append(&mut more.into_vec())?;
+    Ok(Items::from_vec(all))
+}
+
 /// The layer of a TOML text, or of none.
 #[tactic(auto, unfolding(crate::specs::Change::text_layer, crate::specs::Change::text_errors))]
-pub fn read_text_layer(
+fn read_text_layer(
     alloc: Global,
     source: Source,
     place: &Text,
     root: &VfsPath,
     text: &Option<Text>,
-    errors: &mut Items<ConfigError>,
-) -> Result<Layer, AllocError>
-    ensures layer { IfOk result (λ l. l ≡ text_layer source root.now text.now) }
-    ensures errors { OnOk result (errors.new
-        ≡ errors.old ++ text_errors place.now source root.now text.now) }
+) -> Result<ReadLayer, AllocError>
+    ensures layer { IfOk result (λ read. read.layer ≡ text_layer source root.now text.now) }
+    ensures errors { IfOk result
+        (λ read. read.errors ≡ text_errors place.now source root.now text.now) }
 {
     match tree_in(alloc, text)? {
-        Some(tree) => Layer::read(alloc, source, place, root, tree.as_value(), errors),
-        None => {
-            errors.push(ConfigError {
-                place: place.clone()?,
-                key: Text::new(alloc),
-                reason: Reason::NotToml,
-            })?;
-            Layer::empty(alloc)
-        }
+        Some(tree) => Layer::read(alloc, source, place, root, tree.as_value()),
+        None => no_toml(alloc, place),
     }
+}
+
+/// Nothing, and the error of a text that is no TOML.
+fn no_toml(alloc: Global, place: &Text) -> Result<ReadLayer, AllocError>
+    ensures layer { IfOk result (λ read. read.layer ≡ nothing_set) }
+    ensures errors { IfOk result (λ read. read.errors ≡ not_toml place.now ∷ []) }
+{
+    let mut errors = Items::new(alloc);
+    errors.push(ConfigError {
+        place: place.clone()?,
+        key: Text::new(alloc),
+        reason: Text::from_str(alloc, Reason::NotToml.as_str())?,
+    })?;
+    Ok(ReadLayer {
+        layer: Layer::empty(alloc)?,
+        errors,
+    })
 }
 
 fn tree_in(alloc: Global, text: &Option<Text>) -> Result<Option<Json>, AllocError>
@@ -77,32 +96,30 @@ fn tree_in(alloc: Global, text: &Option<Text>) -> Result<Option<Json>, AllocErro
     }
 }
 
+/// What changed files come to.
+#[derive(Drop)]
+struct ReadFiles {
+    files: Files,
+    errors: Items<ConfigError>,
+    passed_over: Items<VfsPath>,
+}
+
 /// The layers after changed files: of those of one root the smallest path holds.
-pub(crate) fn read_files(
+fn read_files(
     alloc: Global,
     source: Source,
     root_path: &VfsPath,
     before: &Files,
     changes: Items<SettingsFile>,
-    errors: &mut Items<ConfigError>,
-    passed: &mut Items<VfsPath>,
-) -> Result<Files, AllocError>
+) -> Result<ReadFiles, AllocError>
     ensures files { IfOk result
-        (λ files. files ≡ files_after source root_path.now changes before.now) }
-    ensures errors { OnOk result (errors.new
-        ≡ errors.old ++ files_errors source root_path.now changes) }
-    ensures passed { OnOk result (passed.new ≡ passed.old ++ over map.empty (by_path changes)) }
+        (λ read. read.files ≡ files_after source root_path.now changes before.now) }
+    ensures errors { IfOk result
+        (λ read. read.errors ≡ files_errors source root_path.now changes) }
+    ensures passed { IfOk result (λ read. read.passed_over ≡ over map.empty (by_path changes)) }
 {
     let changes = sort(changes)?;
-    read_sorted(
-        alloc,
-        source,
-        root_path,
-        before,
-        changes.as_slice(),
-        errors,
-        passed,
-    )
+    read_sorted(alloc, source, root_path, before, changes.as_slice())
 }
 
 /// The same of files in order: of those of one root the first holds.
@@ -112,71 +129,89 @@ fn read_sorted(
     root_path: &VfsPath,
     before: &Files,
     changes: &[SettingsFile],
-    errors: &mut Items<ConfigError>,
-    passed: &mut Items<VfsPath>,
-) -> Result<Files, AllocError>
+) -> Result<ReadFiles, AllocError>
     ensures files { IfOk result
-        (λ files. files ≡ put_files source root_path.now (held map.empty changes.now) before.now) }
-    ensures errors { OnOk result (errors.new
-        ≡ errors.old ++ tell_files source root_path.now (held map.empty changes.now)) }
-    ensures passed { OnOk result (passed.new ≡ passed.old ++ over map.empty changes.now) }
+        (λ read. read.files ≡ put_files source root_path.now (held map.empty changes.now) before.now) }
+    ensures errors { IfOk result
+        (λ read. read.errors ≡ tell_files source root_path.now (held map.empty changes.now)) }
+    ensures passed { IfOk result (λ read. read.passed_over ≡ over map.empty changes.now) }
 {
+    let mut errors = Items::new(alloc);
+    let mut passed_over = Items::new(alloc);
     if changes.is_empty() {
-        return before.clone();
+        return Ok(ReadFiles {
+            files: before.clone()?,
+            errors,
+            passed_over,
+        });
     }
     let mut layers = before.copy_layers()?;
     let mut done = ByNumber::new(alloc);
     for change in changes {
         let root = u64::from(change.root);
         if done.contains(root) {
-            passed.push(change.path.clone()?)?;
+            passed_over.push(change.path.clone()?)?;
             continue;
         }
         let place = Text::from_str(alloc, change.path.as_str())?;
-        let layer = read_text_layer(alloc, source, &place, root_path, &change.text, errors)?;
-        layers.insert(root, layer)?;
+        let read = read_text_layer(alloc, source, &place, root_path, &change.text)?;
+        errors = append(errors, read.errors)?;
+        layers.insert(root, read.layer)?;
         done.insert(root, ())?;
     }
-    Files::new(alloc, layers)
+    Ok(ReadFiles {
+        files: Files::new(alloc, layers)?,
+        errors,
+        passed_over,
+    })
+}
+
+/// A layer that stays.
+fn kept(alloc: Global, before: &Layer) -> Result<ReadLayer, AllocError>
+    ensures layer { IfOk result (λ read. read.layer ≡ before.now) }
+    ensures errors { IfOk result (λ read. read.errors ≡ []) }
+{
+    Ok(ReadLayer {
+        layer: before.clone()?,
+        errors: Items::new(alloc),
+    })
 }
 
 /// The client's layer after a change.
-pub fn client_after(
+fn client_after(
     alloc: Global,
     root: &VfsPath,
     change: &Option<Json>,
     before: &Layer,
-    errors: &mut Items<ConfigError>,
-) -> Result<Layer, AllocError>
-    ensures layer { IfOk result (λ l. l ≡ client_after root.now change.now before.now) }
-    ensures errors { OnOk result (errors.new ≡ errors.old ++ client_errors root.now change.now) }
+) -> Result<ReadLayer, AllocError>
+    ensures layer { IfOk result (λ read. read.layer ≡ client_after root.now change.now before.now) }
+    ensures errors { IfOk result (λ read. read.errors ≡ client_errors root.now change.now) }
 {
     match change {
         Some(tree) => {
             let place = Text::from_str(alloc, "client")?;
-            Layer::read(alloc, Source::Client, &place, root, tree.as_value(), errors)
+            Layer::read(alloc, Source::Client, &place, root, tree.as_value())
         }
-        None => before.clone(),
+        None => kept(alloc, before),
     }
 }
 
 /// The user's layer after a change.
-pub fn user_after(
+fn user_after(
     alloc: Global,
     root: &VfsPath,
     change: &Option<Text>,
     before: &Layer,
-    errors: &mut Items<ConfigError>,
-) -> Result<Layer, AllocError>
-    ensures layer { IfOk result (λ l. l ≡ user_after root.now change.now before.now) }
-    ensures errors { OnOk result (errors.new ≡ errors.old ++ user_errors root.now change.now) }
+) -> Result<ReadLayer, AllocError>
+    ensures layer { IfOk result (λ read. read.layer ≡ user_after root.now change.now before.now) }
+    ensures errors { IfOk result (λ read. read.errors ≡ user_errors root.now change.now) }
 {
     match change {
         Some(_) => {
             let place = Text::from_str(alloc, "user")?;
-            read_text_layer(alloc, Source::User, &place, root, change, errors)
+            read_text_layer(alloc, Source::User, &place, root, change)
         }
-        None => before.clone(),
+        None => kept(alloc, before),
     }
 }
 
@@ -221,22 +256,154 @@ fn parents_after(
     }
 }
 
+/// What a change brings, read.
+#[derive(Drop)]
+struct ReadChange {
+    client: ReadLayer,
+    user: ReadLayer,
+    workspaces: ReadFiles,
+    crates: ReadFiles,
+    parents: Parents,
+}
+
+/// The errors that a change brings, by where they come from.
+#[derive(Drop)]
+struct ReadErrors {
+    client: Items<ConfigError>,
+    user: Items<ConfigError>,
+    workspaces: Items<ConfigError>,
+    crates: Items<ConfigError>,
+}
+
+impl ReadErrors {
+    /// The client's, then the user's, the workspace files' and the crate files'.
+    fn in_order(self) -> Result<Items<ConfigError>, AllocError>
+        ensures { IfOk result
+            (λ all. all ≡ self.client ++ self.user ++ self.workspaces ++ self.crates) }
+    {
+        let ReadErrors {
+            client,
+            user,
+            workspaces,
+            crates,
+        } = self;
+        let files = append(workspaces, crates)?;
+        let from_user = append(user, files)?;
+        append(client, from_user)
+    }
+}
+
+/// A change that is read, in its parts.
+#[derive(Drop)]
+struct Parted {
+    parts: SettingsParts,
+    errors: ReadErrors,
+    workspaces_over: Items<VfsPath>,
+    crates_over: Items<VfsPath>,
+}
+
+impl ReadChange {
+    /// What is set, and what is to be told.
+    fn part(self) -> Parted
+        ensures client { result.parts.client ≡ self.client.layer }
+        ensures user { result.parts.user ≡ self.user.layer }
+        ensures workspaces { result.parts.workspaces ≡ self.workspaces.files }
+        ensures crates { result.parts.crates ≡ self.crates.files }
+        ensures parents { result.parts.parents ≡ self.parents }
+        ensures errors { result.errors ≡ record {
+          client = self.client.errors;
+          user = self.user.errors;
+          workspaces = self.workspaces.errors;
+          crates = self.crates.errors;
+        } }
+        ensures workspaces_over { result.workspaces_over ≡ self.workspaces.passed_over }
+        ensures crates_over { result.crates_over ≡ self.crates.passed_over }
+    {
+        let ReadChange {
+            client,
+            user,
+            workspaces,
+            crates,
+            parents,
+        } = self;
+        let ReadLayer {
+            layer: client,
+            errors: client_errors,
+        } = client;
+        let ReadLayer {
+            layer: user,
+            errors: user_errors,
+        } = user;
+        let ReadFiles {
+            files: workspaces,
+            errors: workspace_errors,
+            passed_over: workspaces_over,
+        } = workspaces;
+        let ReadFiles {
+            files: crates,
+            errors: crate_errors,
+            passed_over: crates_over,
+        } = crates;
+        Parted {
+            parts: SettingsParts {
+                client,
+                user,
+                workspaces,
+                crates,
+                parents,
+            },
+            errors: ReadErrors {
+                client: client_errors,
+                user: user_errors,
+                workspaces: workspace_errors,
+                crates: crate_errors,
+            },
+            workspaces_over,
+            crates_over,
+        }
+    }
+}
+
+/// Settings after a change, and what is to be told of it.
+#[derive(Drop)]
+pub(crate) struct ChangedSettings {
+    pub(crate) settings: Settings,
+    pub(crate) errors: Items<ConfigError>,
+    /// Whether the client's or the user's values changed.
+    pub(crate) changed: bool,
+    pub(crate) passed_over: Items<VfsPath>,
+}
+
 impl Settings {
-    /// The settings after a change, and whether the client's or the user's values changed. The errors
-    /// of the values that it brings are told, and the paths of the files that don't hold.
-    #[tactic(auto, unfolding(crate::specs::Change::after, crate::specs::Change::errors_after, crate::specs::Change::passed_over))]
-    pub fn after(
+    /// Reads what a change brings.
+    fn read_change(
         &self,
         alloc: Global,
         root: &VfsPath,
         change: ConfigChange,
-        errors: &mut Items<ConfigError>,
-        passed: &mut Items<VfsPath>,
-    ) -> Result<(Settings, bool), AllocError>
-        ensures settings { IfOk result (λ r. r.0 ≡ after root.now change self.now) }
-        ensures errors { OnOk result (errors.new ≡ errors.old ++ errors_after root.now change) }
-        ensures passed { OnOk result (passed.new ≡ passed.old ++ passed_over change) }
-        ensures truth { IfOk result (λ r. IsTrue r.1 ↔ HasChanged r.0 self.now) }
+    ) -> Result<ReadChange, AllocError>
+        ensures client { IfOk result
+            (λ r. r.client.layer ≡ client_after root.now change.client self.now.client) }
+        ensures client_errors { IfOk result
+            (λ r. r.client.errors ≡ client_errors root.now change.client) }
+        ensures user { IfOk result
+            (λ r. r.user.layer ≡ user_after root.now change.user self.now.user) }
+        ensures user_errors { IfOk result
+            (λ r. r.user.errors ≡ user_errors root.now change.user) }
+        ensures workspaces { IfOk result (λ r. r.workspaces.files
+            ≡ files_after Source.WorkspaceFile root.now change.workspace_toml self.now.workspaces) }
+        ensures workspace_errors { IfOk result (λ r. r.workspaces.errors
+            ≡ files_errors Source.WorkspaceFile root.now change.workspace_toml) }
+        ensures workspaces_over { IfOk result (λ r. r.workspaces.passed_over
+            ≡ over map.empty (by_path change.workspace_toml)) }
+        ensures crates { IfOk result (λ r. r.crates.files
+            ≡ files_after Source.CrateFile root.now change.crate_toml self.now.crates) }
+        ensures crate_errors { IfOk result (λ r. r.crates.errors
+            ≡ files_errors Source.CrateFile root.now change.crate_toml) }
+        ensures crates_over { IfOk result (λ r. r.crates.passed_over
+            ≡ over map.empty (by_path change.crate_toml)) }
+        ensures parents { IfOk result
+            (λ r. r.parents ≡ parents_after change.parents self.now.parents) }
     {
         let ConfigChange {
             client,
@@ -245,38 +412,54 @@ impl Settings {
             crate_toml,
             parents,
         } = change;
-        let client = client_after(alloc, root, &client, self.client(), errors)?;
-        let user = user_after(alloc, root, &user, self.user(), errors)?;
+        let client = client_after(alloc, root, &client, self.client())?;
+        let user = user_after(alloc, root, &user, self.user())?;
         let workspaces = read_files(
             alloc,
             Source::WorkspaceFile,
             root,
             self.workspaces(),
             workspace_toml,
-            errors,
-            passed,
         )?;
-        let crates = read_files(
-            alloc,
-            Source::CrateFile,
-            root,
-            self.crates(),
-            crate_toml,
-            errors,
-            passed,
-        )?;
+        let crates = read_files(alloc, Source::CrateFile, root, self.crates(), crate_toml)?;
         let parents = parents_after(alloc, &parents, self.parents())?;
-        let settings = Settings::from_parts(
-            alloc,
-            SettingsParts {
-                client,
-                user,
-                workspaces,
-                crates,
-                parents,
-            },
-        );
+        Ok(ReadChange {
+            client,
+            user,
+            workspaces,
+            crates,
+            parents,
+        })
+    }
+
+    /// The settings after a change, and what is to be told of it.
+    #[tactic(auto, unfolding(crate::specs::Change::after, crate::specs::Change::errors_after, crate::specs::Change::passed_over))]
+    pub(crate) fn after(
+        &self,
+        alloc: Global,
+        root: &VfsPath,
+        change: ConfigChange,
+    ) -> Result<ChangedSettings, AllocError>
+        ensures settings { IfOk result (λ r. r.settings ≡ after root.now change self.now) }
+        ensures errors { IfOk result (λ r. r.errors ≡ errors_after root.now change) }
+        ensures passed { IfOk result (λ r. r.passed_over ≡ passed_over change) }
+        ensures truth { IfOk result (λ r. IsTrue r.changed ↔ HasChanged r.settings self.now) }
+    {
+        let Parted {
+            parts,
+            errors,
+            workspaces_over,
+            crates_over,
+        } = self.read_change(alloc, root, change)?.part();
+        let settings = Settings::of_parts(self.defaults().clone()?, parts);
+        let errors = errors.in_order()?;
+        let passed_over = append(workspaces_over, crates_over)?;
         let changed = is_changed(&settings, self);
-        Ok((settings, changed))
+        Ok(ChangedSettings {
+            settings,
+            errors,
+            changed,
+            passed_over,
+        })
     }
 }

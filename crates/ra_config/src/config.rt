@@ -1,18 +1,19 @@
-ghost use Rattle.std.specs.Prelude.{◌≡◌, ◌↔◌, ◌++◌, IsTrue, IfOk, OnOk};
+ghost use Rattle.std.specs.Prelude.{◌≡◌, ◌↔◌, ◌++◌, None, IsTrue, IfOk, OnOk, OnErr};
 ghost use Rattle.ra_config.specs.Projects.{with_discovered, without};
 ghost use Rattle.ra_config.specs.Change.{after, errors_after, passed_over, HasChanged};
-ghost use Rattle.ra_config.specs.Config.{config_at, projects_of};
+ghost use Rattle.ra_config.specs.Config.{config_at, projects_of, roots_used, HaveSameSources};
+ghost use Rattle.ra_config.specs.Search.{setting};
 
 use crate::capabilities::Capabilities;
 use crate::change::ConfigChange;
 use crate::projects::{
-    Discovered, push_discovered, push_linked, push_manifests, push_roots, remove_root,
-    with_discovered,
+    Discovered, are_same_discovered, are_same_paths, push_discovered, push_linked, push_manifests,
+    remove_root, with_discovered,
 };
 use crate::settings::Settings;
 use docs_vfs::VfsPath;
 use plain::{Copied, Items, Json, Text};
-use ra_settings::{ConfigErrors, Layer, LinkedProject};
+use ra_settings::{ConfigErrors, Layer, LinkedProject, Row};
 use std::alloc::{AllocError, Global};
 use std::marker::Model;
 use std::sync::Arc;
@@ -34,7 +35,7 @@ pub struct Applied {
 #[derive(Drop)]
 pub struct Config {
     root_path: VfsPath,
-    workspace_roots: Items<VfsPath>,
+    workspace_roots: Vec<VfsPath>,
     threads: u32,
     capabilities: Capabilities,
     settings: Settings,
@@ -54,7 +55,7 @@ impl Model for Config {
 
     ghost view = { λ c. record {
       root_path = c.root_path;
-      workspace_roots = c.workspace_roots;
+      workspace_roots = c.workspace_roots.items;
       threads = c.threads;
       capabilities = c.capabilities;
       settings = c.settings;
@@ -67,7 +68,7 @@ impl Config {
     pub fn new(alloc: Global, root: VfsPath, threads: u32) -> Result<Config, AllocError>
         ensures { IfOk result (λ config. config ≡ config_at root threads) }
     {
-        let mut workspace_roots = Items::new(alloc);
+        let mut workspace_roots = Vec::new(alloc);
         workspace_roots.push(root.clone()?)?;
         Ok(Config {
             root_path: root,
@@ -100,7 +101,7 @@ impl Config {
     }
 
     /// What is set.
-    pub fn settings(&self) -> &Settings
+    pub(crate) fn settings(&self) -> &Settings
         ensures { result.now ≡ self.now.settings }
     {
         &self.settings
@@ -135,7 +136,7 @@ impl Config {
         } = self;
         Config {
             root_path,
-            workspace_roots,
+            workspace_roots: workspace_roots.into_vec(),
             threads,
             capabilities,
             settings: settings.with_client(client),
@@ -151,36 +152,29 @@ impl Config {
         ensures truth { IfOk result (λ r. IsTrue r.changed ↔ HasChanged r.config.settings self.now.settings) }
         ensures passed { IfOk result (λ r. r.passed_over ≡ passed_over change) }
     {
-        let mut errors = Items::new(alloc);
-        let mut passed_over = Items::new(alloc);
-        let (settings, changed) = self.settings.after(
-            alloc,
-            &self.root_path,
-            change,
-            &mut errors,
-            &mut passed_over,
-        )?;
+        let changed = self.settings.after(alloc, &self.root_path, change)?;
         let config = Config {
             root_path: self.root_path.clone()?,
             workspace_roots: self.workspace_roots.clone()?,
             threads: self.threads,
             capabilities: self.capabilities,
-            settings,
+            settings: changed.settings,
             discovered: self.discovered.clone()?,
         };
         Ok(Applied {
             config,
-            errors: ConfigErrors::new(alloc, errors)?,
-            changed,
-            passed_over,
+            errors: ConfigErrors::new(alloc, changed.errors)?,
+            changed: changed.changed,
+            passed_over: changed.passed_over,
         })
     }
 
     /// Adds roots of workspaces after those that are there.
     pub fn add_workspaces(&mut self, paths: Items<VfsPath>) -> Result<(), AllocError>
-        ensures { OnOk result (self.new ≡ record self.old { workspace_roots = self.old.workspace_roots ++ paths }) }
+        ensures ok { OnOk result (self.new ≡ record self.old { workspace_roots = self.old.workspace_roots ++ paths }) }
+        ensures err { OnErr result (self.new ≡ self.old) }
     {
-        push_roots(&mut self.workspace_roots, paths)
+        self.workspace_roots.append(&mut paths.into_vec())
     }
 
     /// Takes the first root of a workspace out that is equal.
@@ -208,6 +202,45 @@ impl Config {
         Ok(projects)
     }
 
+    fn discovered(&self) -> &[Discovered]
+        ensures { result.now ≡ self.now.discovered }
+    {
+        let discovered: &Items<Discovered> = &self.discovered;
+        discovered.as_slice()
+    }
+
+    /// The roots whose manifests are the projects.
+    fn roots_used(&self) -> &[VfsPath]
+        ensures { result.now ≡ roots_used self.now }
+    {
+        if self.linked_projects().is_empty() && self.discovered().is_empty() {
+            self.workspace_roots()
+        } else {
+            &[]
+        }
+    }
+
+    /// Whether a row has the same value in both, at no root.
+    pub fn is_same_at(&self, other: &Config, row: Row) -> bool
+        ensures { IsTrue result
+            ↔ (setting row None self.now.settings ≡ setting row None other.now.settings) }
+    {
+        let (one, two) = (self.settings.get(row, None), other.settings.get(row, None));
+        one.is_same(two)
+    }
+
+    /// Whether the projects of both come from the same: what is linked, what was discovered, and where
+    /// there is neither, the roots of the workspaces.
+    #[tactic(auto, using(crate::proofs::ProjectLaws::same_projects))]
+    pub fn has_same_projects(&self, other: &Config) -> bool
+        ensures same { IsTrue result ↔ HaveSameSources self.now other.now }
+        ensures projects { IsTrue result → projects_of self.now ≡ projects_of other.now }
+    {
+        self.is_same_at(other, Row::LinkedProjects)
+            && are_same_discovered(self.discovered(), other.discovered())
+            && are_same_paths(self.roots_used(), other.roots_used())
+    }
+
     /// Adds a project that the command found by a file. Of one file the newer project takes the older
     /// one's place.
     pub fn add_discovered_project_from_command(
@@ -216,9 +249,10 @@ impl Config {
         project: Json,
         buildfile: Text,
     ) -> Result<(), AllocError>
-        ensures { OnOk result (self.new ≡ record self.old {
+        ensures ok { OnOk result (self.new ≡ record self.old {
           discovered = with_discovered (record { project = project; buildfile = buildfile }) self.old.discovered;
         }) }
+        ensures err { OnErr result (self.new ≡ self.old) }
     {
         let new = Discovered::new(alloc, project, buildfile)?;
         let discovered: &Items<Discovered> = &self.discovered;

@@ -17,7 +17,7 @@ use std::alloc::{AllocError, Global};
 use thiserror::Error;
 
 /// Why a session has no settings.
-#[derive(Clone, Copy, Debug, PartialEq, Eq, Error)]
+#[derive(Clone, Copy, Debug, PartialEq, Eq, PartialOrd, Ord, Hash, Error)]
 pub enum ConfigFault {
     #[error("neither a workspace folder nor the root names a path")]
     NoRoot,
@@ -105,9 +105,8 @@ fn client_layer(alloc: Global, root: &VfsPath, params: &Value) -> Result<Layer, 
 {
     match params.get("initializationOptions") {
         Some(tree) => {
-            let mut errors = Items::new(alloc);
             let place = Text::new(alloc);
-            Layer::read(alloc, Source::Client, &place, root, tree, &mut errors)
+            Ok(Layer::read(alloc, Source::Client, &place, root, tree)?.layer)
         }
         None => Layer::empty(alloc),
     }

@@ -1,10 +1,10 @@
 // The projects that a session works on, and the roots of its workspaces.
-ghost use Rattle.std.specs.Prelude.{◌≡◌, ◌++◌, map, bytes_eq, IfOk, OnOk, option_to_list};
+ghost use Rattle.std.specs.Prelude.{◌≡◌, ◌↔◌, ◌++◌, IsTrue, map, bytes_eq, IfOk, OnOk, option_to_list};
 ghost use Rattle.std.specs.List.{list_any, position};
 ghost use Rattle.ra_config.specs.Projects.{newer, with_discovered, as_project, manifest, manifests, without};
 
 use docs_vfs::VfsPath;
-use plain::{Copied, Items, Json, Text};
+use plain::{Copied, Items, Json, Text, is_same};
 use ra_settings::{LinkedProject, join};
 use std::alloc::{AllocError, Global};
 use std::marker::Model;
@@ -12,7 +12,7 @@ use std::sync::Arc;
 
 /// A project that a command found, and the file by which it was found. A clone shares the project.
 #[derive(Drop)]
-pub struct Discovered {
+pub(crate) struct Discovered {
     project: Arc<Json, Global>,
     buildfile: Text,
 }
@@ -65,6 +65,42 @@ impl Clone for Discovered {
 
 impl Copied for Discovered {
     ghost copies = { λ x y h. h };
+}
+
+fn is_same_discovered(a: &Discovered, b: &Discovered) -> bool
+    ensures { IsTrue result ↔ (a.now ≡ b.now) }
+{
+    a.project().is_same(b.project()) && is_same(a.buildfile(), b.buildfile())
+}
+
+/// Whether the same projects were discovered.
+pub(crate) fn are_same_discovered(a: &[Discovered], b: &[Discovered]) -> bool
+    ensures { IsTrue result ↔ (a.now ≡ b.now) }
+{
+    if a.len() != b.len() {
+        return false;
+    }
+    for (x, y) in a.iter().zip(b) {
+        if !is_same_discovered(x, y) {
+            return false;
+        }
+    }
+    true
+}
+
+/// Whether the paths are the same.
+pub(crate) fn are_same_paths(a: &[VfsPath], b: &[VfsPath]) -> bool
+    ensures { IsTrue result ↔ (a.now ≡ b.now) }
+{
+    if a.len() != b.len() {
+        return false;
+    }
+    for (x, y) in a.iter().zip(b) {
+        if !is_same(x, y) {
+            return false;
+        }
+    }
+    true
 }
 
 fn is_of(discovered: &Discovered, buildfile: &str) -> bool
@@ -202,22 +238,10 @@ fn place_of(roots: &[VfsPath], path: &VfsPath) -> Option<usize>
 
 /// Takes the first root that is equal out.
 #[tactic(auto, unfolding(crate::specs::Projects::without))]
-pub(crate) fn remove_root(roots: &mut Items<VfsPath>, path: &VfsPath)
-    ensures { roots.new ≡ without path.now roots.old }
+pub(crate) fn remove_root(roots: &mut Vec<VfsPath>, path: &VfsPath)
+    ensures { roots.new.items ≡ without path.now roots.old.items }
 {
     if let Some(at) = place_of(roots.as_slice(), path) {
         roots.remove(at);
     }
-}
-
-pub(crate) fn push_roots(
-    roots: &mut Items<VfsPath>,
-    paths: Items<VfsPath>,
-) -> Result<(), AllocError>
-    ensures { OnOk result (roots.new ≡ roots.old ++ paths) }
-{
-    for path in paths.into_vec() {
-        roots.push(path)?;
-    }
-    Ok(())
 }

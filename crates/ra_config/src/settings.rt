@@ -1,22 +1,21 @@
 // What is set, by where it comes from, and how a value is searched.
-ghost use Rattle.std.specs.Prelude.{◌≡◌, [], option_to_list, Some, None, IfSome, IfOk};
+ghost use Rattle.std.specs.Prelude.{◌≡◌, option_to_list, IfSome, IfOk};
 ghost use Rattle.std.specs.Option.{option_copied};
 ghost use Rattle.std.specs.FinMap as map;
 ghost use Rattle.ra_settings.specs.Facts.{facts_of};
 ghost use Rattle.ra_settings.specs.Values.{kind_of};
-ghost use Rattle.ra_settings.specs.declared.value.CargoFeatures.{CargoFeatures};
 ghost use Rattle.ra_config.specs.Change.{no_settings};
-ghost use Rattle.ra_config.specs.Search.{parent_of, layers_at, layers_of, roots_from, path, first_in};
+ghost use Rattle.ra_config.specs.Search.{parent_of, layers_at, layers_of, roots_from, path, first_in, setting};
 
-use plain::{ByNumber, Items};
-use ra_settings::{CargoFeatures, Layer, Row, SettingValue};
+use plain::ByNumber;
+use ra_settings::{Defaults, Layer, Row, SettingValue};
 use std::alloc::{AllocError, Global};
 use std::marker::Model;
 use std::sync::Arc;
 
 /// The files of one kind, by root. A clone shares them.
 #[derive(Drop)]
-pub struct Files {
+pub(crate) struct Files {
     layers: Arc<ByNumber<Layer>, Global>,
 }
 
@@ -36,7 +35,7 @@ impl Model for Files {
 }
 
 impl Files {
-    pub fn new(alloc: Global, layers: ByNumber<Layer>) -> Result<Files, AllocError>
+    pub(crate) fn new(alloc: Global, layers: ByNumber<Layer>) -> Result<Files, AllocError>
         ensures { IfOk result (λ files. files ≡ layers) }
     {
         Ok(Files {
@@ -45,7 +44,7 @@ impl Files {
     }
 
     /// The layers, to change.
-    pub fn copy_layers(&self) -> Result<ByNumber<Layer>, AllocError>
+    pub(crate) fn copy_layers(&self) -> Result<ByNumber<Layer>, AllocError>
         ensures { IfOk result (λ layers. layers ≡ self.now) }
     {
         let layers: &ByNumber<Layer> = &self.layers;
@@ -53,7 +52,7 @@ impl Files {
     }
 
     /// The layer of a root.
-    pub fn get(&self, root: u32) -> Option<&Layer>
+    pub(crate) fn get(&self, root: u32) -> Option<&Layer>
         ensures { option_copied result ≡ map.get self.now root }
     {
         self.layers.get(u64::from(root))
@@ -72,7 +71,7 @@ impl Clone for Files {
 
 /// The parent of each root that has one. A clone shares them.
 #[derive(Drop)]
-pub struct Parents {
+pub(crate) struct Parents {
     parents: Arc<ByNumber<u32>, Global>,
 }
 
@@ -90,7 +89,7 @@ impl Model for Parents {
 }
 
 impl Parents {
-    pub fn new(alloc: Global, parents: ByNumber<u32>) -> Result<Parents, AllocError>
+    pub(crate) fn new(alloc: Global, parents: ByNumber<u32>) -> Result<Parents, AllocError>
         ensures { IfOk result (λ made. made ≡ parents) }
     {
         Ok(Parents {
@@ -98,13 +97,13 @@ impl Parents {
         })
     }
 
-    pub fn len(&self) -> usize
+    pub(crate) fn len(&self) -> usize
         ensures { result ≡ map.len self.now }
     {
         self.parents.len()
     }
 
-    pub fn get(&self, root: u32) -> Option<u32>
+    pub(crate) fn get(&self, root: u32) -> Option<u32>
         ensures { result ≡ parent_of self.now root }
     {
         match self.parents.get(u64::from(root)) {
@@ -126,30 +125,27 @@ impl Clone for Parents {
 
 /// What is set. Clones share the values.
 #[derive(Drop)]
-pub struct Settings {
+pub(crate) struct Settings {
     client: Layer,
     user: Layer,
     workspaces: Files,
     crates: Files,
     parents: Parents,
-    // What `cargo.features` is where nothing is set.
-    no_features: CargoFeatures,
+    defaults: Defaults,
 }
 
 /// The parts of settings.
 #[derive(Drop)]
-pub struct SettingsParts {
-    pub client: Layer,
-    pub user: Layer,
-    pub workspaces: Files,
-    pub crates: Files,
-    pub parents: Parents,
+pub(crate) struct SettingsParts {
+    pub(crate) client: Layer,
+    pub(crate) user: Layer,
+    pub(crate) workspaces: Files,
+    pub(crate) crates: Files,
+    pub(crate) parents: Parents,
 }
 
 impl Model for Settings {
-    ghost use Rattle.std.specs.Prelude.{◌≡◌, []};
     ghost use Rattle.std.specs.Coded.{codes};
-    ghost use Rattle.ra_settings.specs.declared.value.CargoFeatures.{CargoFeatures};
     ghost use Rattle.ra_config.specs.Search.{SettingsData};
     ghost use Rattle.ra_settings.specs.contracts.layer.Layer as layer_row;
     ghost use Rattle.ra_config.specs.contracts.settings.Files as files_row;
@@ -166,12 +162,10 @@ impl Model for Settings {
       crates = s.crates;
       parents = s.parents;
     } };
-
-    ghost invariant = { λ s. s.no_features ≡ CargoFeatures.Selected [] };
 }
 
 impl Settings {
-    pub fn from_parts(alloc: Global, parts: SettingsParts) -> Settings
+    pub(crate) fn of_parts(defaults: Defaults, parts: SettingsParts) -> Settings
         ensures { result ≡ record {
           client = parts.client;
           user = parts.user;
@@ -193,18 +187,18 @@ impl Settings {
             workspaces,
             crates,
             parents,
-            no_features: CargoFeatures::Selected(Items::new(alloc)),
+            defaults,
         }
     }
 
     /// Nothing is set.
     #[tactic(auto, unfolding(crate::specs::Change::no_settings))]
-    pub fn new(alloc: Global) -> Result<Settings, AllocError>
+    pub(crate) fn new(alloc: Global) -> Result<Settings, AllocError>
         ensures { IfOk result (λ settings. settings ≡ no_settings) }
     {
         let none = Layer::empty(alloc)?;
-        Ok(Settings::from_parts(
-            alloc,
+        Ok(Settings::of_parts(
+            Defaults::new(alloc)?,
             SettingsParts {
                 client: none.clone()?,
                 user: none,
@@ -224,7 +218,7 @@ impl Settings {
             workspaces,
             crates,
             parents,
-            no_features,
+            defaults,
             ..
         } = self;
         Settings {
@@ -233,49 +227,59 @@ impl Settings {
             workspaces,
             crates,
             parents,
-            no_features,
+            defaults,
         }
     }
 
-    pub fn client(&self) -> &Layer
+    pub(crate) fn client(&self) -> &Layer
         ensures { result.now ≡ self.now.client }
     {
         &self.client
     }
 
-    pub fn user(&self) -> &Layer
+    pub(crate) fn user(&self) -> &Layer
         ensures { result.now ≡ self.now.user }
     {
         &self.user
     }
 
-    pub fn workspaces(&self) -> &Files
+    pub(crate) fn workspaces(&self) -> &Files
         ensures { result.now ≡ self.now.workspaces }
     {
         &self.workspaces
     }
 
-    pub fn crates(&self) -> &Files
+    pub(crate) fn crates(&self) -> &Files
         ensures { result.now ≡ self.now.crates }
     {
         &self.crates
     }
 
-    pub fn parents(&self) -> &Parents
+    pub(crate) fn parents(&self) -> &Parents
         ensures { result.now ≡ self.now.parents }
     {
         &self.parents
     }
 
-    pub(crate) fn no_features(&self) -> &CargoFeatures
-        ensures { result.now ≡ CargoFeatures.Selected [] }
+    pub(crate) fn defaults(&self) -> &Defaults {
+        &self.defaults
+    }
+
+    /// The value of a row at a root: the first on its search path, else its default.
+    #[tactic(auto, unfolding(crate::specs::Search::setting))]
+    pub(crate) fn get(&self, row: Row, root: Option<u32>) -> &SettingValue
+        ensures value { result.now ≡ setting row root self.now }
+        ensures kind { kind_of result.now ≡ kind_of (facts_of row).default }
     {
-        &self.no_features
+        match self.find(row, root) {
+            Some(value) => value,
+            None => self.defaults.get(row),
+        }
     }
 
     /// The value that holds for a row at a root, where one is set.
     #[tactic(auto, using(crate::proofs::SearchLaws::path_found))]
-    pub fn find(&self, row: Row, root: Option<u32>) -> Option<&SettingValue>
+    fn find(&self, row: Row, root: Option<u32>) -> Option<&SettingValue>
         ensures value { option_copied result ≡ first_in row (path root self.now) }
         ensures kind { IfSome result (λ v. kind_of v.now ≡ kind_of (facts_of row).default) }
     {
@@ -330,7 +334,7 @@ impl Clone for Settings {
             workspaces: self.workspaces.clone()?,
             crates: self.crates.clone()?,
             parents: self.parents.clone()?,
-            no_features: self.no_features.clone()?,
+            defaults: self.defaults.clone()?,
         })
     }
 }

@@ -2,27 +2,16 @@
 #![tactic(auto)]
 
 mod command_line;
-#[cfg(test)]
-mod edits;
-mod logging_host;
-#[cfg(test)]
-mod scripts;
-mod standard_input;
-mod standard_output;
-#[cfg(test)]
-mod tests;
 
 use command_line::{CommandLine, HELP, VERSION, read_words};
-use logging_host::LoggingHost;
 use plain::{Items, Text};
 use server::{BAD_WORDS, serve, status_text};
-use session_port::InlineHost;
+use session_peers::InlineHost;
 use small_analysis::SmallAnalysis;
-use standard_input::StandardInput;
-use standard_output::StandardOutput;
 use std::alloc::AllocError;
 use std::io;
 use std::process::ExitCode;
+use stdio::{LoggingHost, StandardInput, StandardOutput};
 
 /// The status where standard output can't be written.
 const WRITE_FAULT: u8 = 7;

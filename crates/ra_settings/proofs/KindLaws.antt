@@ -93,7 +93,7 @@ value_in-kind k root true None v p = cc
 value_in-kind k root true (Some d) v p = value_of-kind k (read k root d) v (read-kind k root d) p
 
 -- a layer has at each row what the row is read as
-value_at-layer : (row : Row) (source : Source) (root : List ℕ) (d : Data) → value_at row (layer_of source root d) ≡ value_in (reading source root d row)
+pub value_at-layer : (row : Row) (source : Source) (root : List ℕ) (d : Data) → value_at row (layer_of source root d) ≡ value_in (reading source root d row)
 unfolding facts_of
 value_at-layer Row.DetachedFiles source root d = refl
 value_at-layer _ source root d = refl

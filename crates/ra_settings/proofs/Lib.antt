@@ -1,1 +1,3 @@
 pub mod KindLaws
+pub mod RowLaws
+pub mod PathLaws

@@ -1,8 +1,10 @@
 pub mod Paths
+pub mod PathLaws
 pub mod Values
 pub mod Facts
 pub mod Find
 pub mod Read
 pub mod Layers
+pub mod RowLaws
 pub mod Toml
 pub mod Shown

@@ -1,5 +1,6 @@
 -- A TOML text as the JSON value that the rows are read from. A float or a date stands as a float, which no setting takes.
-use Rattle.std.specs.Prelude.{ℕ, List, [], ◌∷◌, Option, option_map}
+use Rattle.std.specs.Prelude.{ℕ, Bool, List, [], ◌∷◌, nat_eq, Option, None, option_map, if◌then◌else◌}
+use Rattle.std.specs.List.{starts_with}
 use Rattle.serde_json.specs.Data.{Data, boolean, number, string, array, object, float, Members, no_members, put}
 use Rattle.serde_json.specs.Find.{of_integer}
 use Rattle.serde_json.specs.View.{items_of}
@@ -29,5 +30,10 @@ abbrev mutual
   members_of made toml.no_members = made
   members_of made (toml.member k d ms) = members_of (put k (tree_of d) made) ms
 
+-- the text begins with a byte order mark
+abbrev pub has_mark : List ℕ → Bool
+has_mark text = starts_with nat_eq text (239 ∷ 187 ∷ 191 ∷ [])
+
+-- the tree of a text; one with a byte order mark is no TOML here
 abbrev pub toml_tree : List ℕ → Option Data
-toml_tree text = option_map (λ ms. object (members_of no_members ms)) (parse_document text)
+toml_tree text = if has_mark text then None else option_map (λ ms. object (members_of no_members ms)) (parse_document text)

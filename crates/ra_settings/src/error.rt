@@ -16,7 +16,8 @@ pub struct ConfigError {
     pub place: Text,
     /// The name of the setting; empty where the whole text is no TOML.
     pub key: Text,
-    pub reason: Reason,
+    /// `wrong type`, `unknown value` or `not TOML`.
+    pub reason: Text,
 }
 
 /// The errors of a change, in order. Their text is made once, since showing them takes no memory.
@@ -46,7 +47,8 @@ impl ConfigErrors {
         Ok(ConfigErrors { errors, text })
     }
 
-    pub fn as_slice(&self) -> &[ConfigError]
+    /// The errors, in order.
+    pub fn entries(&self) -> &[ConfigError]
         ensures { result.now ≡ self.now }
     {
         self.errors.as_slice()

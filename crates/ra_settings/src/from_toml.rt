@@ -3,7 +3,7 @@ ghost use Rattle.std.specs.Prelude.{◌≡◌, IfOk, map};
 ghost use Rattle.serde_json.specs.Data.{no_members};
 ghost use Rattle.serde_json.specs.View.{view as json_view};
 ghost use Rattle.toml.specs.View.{view, items_view, table_view};
-ghost use Rattle.ra_settings.specs.Toml.{tree_of, list_of, members_of, toml_tree, no_setting};
+ghost use Rattle.ra_settings.specs.Toml.{tree_of, list_of, members_of, toml_tree, has_mark, no_setting};
 
 use plain::{Json, Members, Text};
 use serde_json::Value as JsonValue;
@@ -19,10 +19,20 @@ fn no_setting() -> Json
     Json::new(JsonValue::from(NO_SETTING))
 }
 
-/// The tree of a TOML text, or none where it is no TOML.
+/// Whether a text begins with a byte order mark.
+fn has_mark(text: &str) -> bool
+    ensures { result ≡ has_mark text.now }
+{
+    text.as_bytes().starts_with(&[0xEF, 0xBB, 0xBF])
+}
+
+/// The tree of a TOML text, or none where it is no TOML. Here one with a byte order mark is none.
 pub fn toml_tree(alloc: Global, text: &str) -> Result<Option<Json>, AllocError>
     ensures { IfOk result (λ tree. tree ≡ toml_tree text.now) }
 {
+    if has_mark(text) {
+        return Ok(None);
+    }
     match toml::table_from_str(alloc, text) {
         Ok(table) => Ok(Some(members_of(alloc, &table)?.into_json())),
         Err(error) if error.is_memory() => Err(AllocError),

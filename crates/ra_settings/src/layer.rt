@@ -18,7 +18,7 @@ use std::marker::Model;
 use std::sync::Arc;
 
 /// Where settings come from.
-#[derive(Clone, Copy, Debug)]
+#[derive(Clone, Copy, Debug, PartialEq, Eq, PartialOrd, Ord, Hash)]
 pub enum Source {
     Client,
     User,
@@ -51,6 +51,13 @@ pub struct Layer {
     values: Arc<Items<Option<SettingValue>>, Global>,
 }
 
+/// What a source sets, and the errors of the values that it doesn't set.
+#[derive(Drop)]
+pub struct ReadLayer {
+    pub layer: Layer,
+    pub errors: Items<ConfigError>,
+}
+
 impl Model for Layer {
     ghost use Rattle.std.specs.Prelude.{List, Option};
     ghost use Rattle.ra_settings.specs.declared.value.SettingValue.{SettingValue};
@@ -68,23 +75,24 @@ impl Model for Layer {
 }
 
 impl Layer {
-    /// The layer that a tree of settings is, and the errors of what it refuses.
+    /// What a source sets by a tree of settings, and the errors of what it refuses.
     pub fn read(
         alloc: Global,
         source: Source,
         place: &Text,
         root: &VfsPath,
         tree: &Value,
-        errors: &mut Items<ConfigError>,
-    ) -> Result<Layer, AllocError>
-        ensures layer { IfOk result (λ l. l ≡ layer_of source root.now (view tree.now)) }
-        ensures errors { OnOk result (errors.new
-            ≡ errors.old ++ errors_of place.now source root.now (view tree.now) ROWS) }
+    ) -> Result<ReadLayer, AllocError>
+        ensures layer { IfOk result (λ read. read.layer ≡ layer_of source root.now (view tree.now)) }
+        ensures errors { IfOk result (λ read. read.errors
+            ≡ errors_of place.now source root.now (view tree.now) ROWS) }
     {
-        let values = read_rows(alloc, source, place, root, tree, &ROWS, errors)?;
-        Ok(Layer {
+        let mut errors = Items::new(alloc);
+        let values = read_rows(alloc, source, place, root, tree, &ROWS, &mut errors)?;
+        let layer = Layer {
             values: Arc::new(alloc, values)?,
-        })
+        };
+        Ok(ReadLayer { layer, errors })
     }
 
     pub(crate) fn as_slice(&self) -> &[Option<SettingValue>]
@@ -204,7 +212,7 @@ fn judge(
             errors.push(ConfigError {
                 place: place.clone()?,
                 key: row.name(alloc)?,
-                reason,
+                reason: Text::from_str(alloc, reason.as_str())?,
             })?;
             Ok(None)
         }

@@ -35,7 +35,7 @@ fn top(alloc: Global) -> Result<VfsPath, AllocError>
     }
 }
 
-/// One part more: `.` stays, and `..` goes up.
+/// One part more: `.` stays, `..` goes up, and any other that isn't empty is the next segment.
 fn step(alloc: Global, path: &VfsPath, part: &str) -> Result<Option<VfsPath>, AllocError>
     ensures { IfOk result (λ next. next ≡ step path.now part.now) }
 {
@@ -43,6 +43,8 @@ fn step(alloc: Global, path: &VfsPath, part: &str) -> Result<Option<VfsPath>, Al
         Ok(Some(path.clone()?))
     } else if part == ".." {
         path.parent(alloc)
+    } else if part.is_empty() {
+        Ok(None)
     } else {
         VfsPath::new(alloc, join(alloc, path, part)?.as_str())
     }

@@ -1,12 +1,14 @@
 ghost use Rattle.std.specs.Prelude.{◌≡◌, map, IfOk};
-ghost use Rattle.ra_settings.specs.Values.{kind_of};
+ghost use Rattle.ra_settings.specs.Values.{kind_of, default_of};
 ghost use Rattle.ra_settings.specs.Facts.{facts_of, name_of, dotted};
 
+use crate::default_value::DefaultValue;
+use crate::value::{FilesWatcher, InvocationStrategy};
 use plain::Text;
 use std::alloc::{AllocError, Global};
 
 /// A setting.
-#[derive(Clone, Copy, Debug)]
+#[derive(Clone, Copy, Debug, PartialEq, Eq, PartialOrd, Ord, Hash)]
 pub enum Row {
     LinkedProjects,
     DetachedFiles,
@@ -36,7 +38,7 @@ pub enum Row {
 }
 
 /// Which files may hold a row.
-#[derive(Clone, Copy, Debug)]
+#[derive(Clone, Copy, Debug, PartialEq, Eq, PartialOrd, Ord, Hash)]
 pub enum Scope {
     /// No settings file of a root.
     Global,
@@ -47,7 +49,7 @@ pub enum Scope {
 }
 
 /// Which values a row has.
-#[derive(Clone, Copy, Debug)]
+#[derive(Clone, Copy, Debug, PartialEq, Eq, PartialOrd, Ord, Hash)]
 pub enum Kind {
     Truth,
     Text,
@@ -68,10 +70,11 @@ pub enum Kind {
 /// What the table says of a row.
 #[derive(Clone, Copy)]
 pub struct Facts {
-    pub place: usize,
+    /// What its name's parts are.
     pub path: &'static [&'static str],
     pub scope: Scope,
     pub kind: Kind,
+    pub default: DefaultValue,
 }
 
 /// The rows, in the order of the table.
@@ -103,93 +106,133 @@ pub const ROWS: [Row; 25] = [
     Row::WorkspaceDiscoverConfig,
 ];
 
-fn at(place: usize, path: &'static [&'static str], scope: Scope, kind: Kind) -> Facts
-    ensures place { result.place ≡ place }
+fn at(path: &'static [&'static str], scope: Scope, default: DefaultValue) -> Facts
     ensures path { result.path.now ≡ path.now }
     ensures scope { result.scope ≡ scope }
-    ensures kind { result.kind ≡ kind }
+    ensures kind { result.kind ≡ kind_of (default_of default) }
+    ensures default { default_of result.default ≡ default_of default }
 {
     Facts {
-        place,
         path,
         scope,
-        kind,
+        kind: default.kind(),
+        default,
     }
 }
 
 impl Row {
     #[tactic(auto, unfolding(crate::specs::Facts::facts_of))]
     pub fn facts(self) -> Facts
-        ensures place { result.place ≡ (facts_of self).place }
         ensures path { map (λ p. p.now) result.path.now ≡ (facts_of self).path }
         ensures scope { result.scope ≡ (facts_of self).scope }
         ensures kind { result.kind ≡ kind_of (facts_of self).default }
+        ensures default { default_of result.default ≡ (facts_of self).default }
     {
         match self {
-            Row::LinkedProjects => at(0, &["linkedProjects"], Scope::Global, Kind::Projects),
-            Row::DetachedFiles => at(1, &["detachedFiles"], Scope::Global, Kind::Paths),
-            Row::FilesExclude => at(2, &["files", "exclude"], Scope::Global, Kind::Paths),
-            Row::FilesWatcher => at(3, &["files", "watcher"], Scope::Global, Kind::Watcher),
-            Row::CargoAutoreload => at(4, &["cargo", "autoreload"], Scope::Global, Kind::Truth),
+            Row::LinkedProjects => at(&["linkedProjects"], Scope::Global, DefaultValue::NoProjects),
+            Row::DetachedFiles => at(&["detachedFiles"], Scope::Global, DefaultValue::NoPaths),
+            Row::FilesExclude => at(&["files", "exclude"], Scope::Global, DefaultValue::NoPaths),
+            Row::FilesWatcher => at(
+                &["files", "watcher"],
+                Scope::Global,
+                DefaultValue::Watcher(FilesWatcher::Client),
+            ),
+            Row::CargoAutoreload => at(
+                &["cargo", "autoreload"],
+                Scope::Global,
+                DefaultValue::Truth(true),
+            ),
             Row::CargoBuildScriptsEnable => at(
-                5,
                 &["cargo", "buildScripts", "enable"],
                 Scope::Workspace,
-                Kind::Truth,
+                DefaultValue::Truth(true),
             ),
             Row::CargoBuildScriptsRebuildOnSave => at(
-                6,
                 &["cargo", "buildScripts", "rebuildOnSave"],
                 Scope::Workspace,
-                Kind::Truth,
+                DefaultValue::Truth(true),
             ),
-            Row::CargoExtraEnv => at(7, &["cargo", "extraEnv"], Scope::Workspace, Kind::Env),
-            Row::CargoFeatures => at(8, &["cargo", "features"], Scope::Workspace, Kind::Features),
-            Row::CargoAllTargets => at(9, &["cargo", "allTargets"], Scope::Workspace, Kind::Truth),
-            Row::CargoTarget => at(10, &["cargo", "target"], Scope::Workspace, Kind::TextOrNull),
-            Row::CfgSetTest => at(11, &["cfg", "setTest"], Scope::Workspace, Kind::Truth),
-            Row::CheckOnSave => at(12, &["checkOnSave"], Scope::Workspace, Kind::Truth),
-            Row::CheckCommand => at(13, &["check", "command"], Scope::Workspace, Kind::Text),
-            Row::CheckWorkspace => at(14, &["check", "workspace"], Scope::Workspace, Kind::Truth),
+            Row::CargoExtraEnv => at(
+                &["cargo", "extraEnv"],
+                Scope::Workspace,
+                DefaultValue::NoVariables,
+            ),
+            Row::CargoFeatures => at(
+                &["cargo", "features"],
+                Scope::Workspace,
+                DefaultValue::NoFeatures,
+            ),
+            Row::CargoAllTargets => at(
+                &["cargo", "allTargets"],
+                Scope::Workspace,
+                DefaultValue::Truth(true),
+            ),
+            Row::CargoTarget => at(&["cargo", "target"], Scope::Workspace, DefaultValue::NoText),
+            Row::CfgSetTest => at(
+                &["cfg", "setTest"],
+                Scope::Workspace,
+                DefaultValue::Truth(true),
+            ),
+            Row::CheckOnSave => at(
+                &["checkOnSave"],
+                Scope::Workspace,
+                DefaultValue::Truth(true),
+            ),
+            Row::CheckCommand => at(
+                &["check", "command"],
+                Scope::Workspace,
+                DefaultValue::Text("check"),
+            ),
+            Row::CheckWorkspace => at(
+                &["check", "workspace"],
+                Scope::Workspace,
+                DefaultValue::Truth(true),
+            ),
             Row::CheckInvocationStrategy => at(
-                15,
                 &["check", "invocationStrategy"],
                 Scope::Workspace,
-                Kind::Strategy,
+                DefaultValue::Strategy(InvocationStrategy::PerWorkspace),
             ),
             Row::CheckOverrideCommand => at(
-                16,
                 &["check", "overrideCommand"],
                 Scope::Workspace,
-                Kind::TextsOrNull,
+                DefaultValue::NoTexts,
             ),
             Row::CachePrimingEnable => at(
-                17,
                 &["cachePriming", "enable"],
                 Scope::Global,
-                Kind::Truth,
+                DefaultValue::Truth(true),
             ),
             Row::CachePrimingNumThreads => at(
-                18,
                 &["cachePriming", "numThreads"],
                 Scope::Global,
-                Kind::Small,
+                DefaultValue::Small(0),
             ),
-            Row::DiagnosticsEnable => at(19, &["diagnostics", "enable"], Scope::Local, Kind::Truth),
-            Row::ProcMacroEnable => at(20, &["procMacro", "enable"], Scope::Global, Kind::Truth),
+            Row::DiagnosticsEnable => at(
+                &["diagnostics", "enable"],
+                Scope::Local,
+                DefaultValue::Truth(true),
+            ),
+            Row::ProcMacroEnable => at(
+                &["procMacro", "enable"],
+                Scope::Global,
+                DefaultValue::Truth(true),
+            ),
             Row::ProcMacroAttributesEnable => at(
-                21,
                 &["procMacro", "attributes", "enable"],
                 Scope::Global,
-                Kind::Truth,
+                DefaultValue::Truth(true),
             ),
-            Row::ProcMacroIgnored => at(22, &["procMacro", "ignored"], Scope::Local, Kind::Lists),
-            Row::NumThreads => at(23, &["numThreads"], Scope::Global, Kind::Threads),
+            Row::ProcMacroIgnored => at(
+                &["procMacro", "ignored"],
+                Scope::Local,
+                DefaultValue::NoLists,
+            ),
+            Row::NumThreads => at(&["numThreads"], Scope::Global, DefaultValue::NoThreads),
             Row::WorkspaceDiscoverConfig => at(
-                24,
                 &["workspace", "discoverConfig"],
                 Scope::Global,
-                Kind::Discover,
+                DefaultValue::NoDiscover,
             ),
         }
     }

@@ -148,19 +148,15 @@ fn same_project(a: &LinkedProject, b: &LinkedProject) -> bool
 fn same_projects(a: &[LinkedProject], b: &[LinkedProject]) -> bool
     ensures { IsTrue result ↔ (a.now ≡ b.now) }
 {
-    match a {
-        [] => b.is_empty(),
-        [x, xs @ ..] => match b {
-            [] => false,
-            [y, ys @ ..] => {
-                if same_project(x, y) {
-                    same_projects(xs, ys)
-                } else {
-                    false
-                }
-            }
-        },
+    if a.len() != b.len() {
+        return false;
     }
+    for (x, y) in a.iter().zip(b) {
+        if !same_project(x, y) {
+            return false;
+        }
+    }
+    true
 }
 
 fn same_value(a: &Option<SettingValue>, b: &Option<SettingValue>) -> bool

@@ -1,4 +1,4 @@
-ghost use Rattle.std.specs.Prelude.{◌≡◌};
+ghost use Rattle.std.specs.Prelude.{◌≡◌, IfOk};
 ghost use Rattle.std.specs.Option.{option_copied};
 ghost use Rattle.ra_settings.specs.declared.row.Kind.{Kind};
 ghost use Rattle.ra_settings.specs.Values.{kind_of};
@@ -8,14 +8,14 @@ use plain::{Copied, Items, Json, Text};
 use std::alloc::AllocError;
 
 /// Who watches files.
-#[derive(Clone, Copy, Debug, PartialEq, Eq)]
+#[derive(Clone, Copy, Debug, PartialEq, Eq, PartialOrd, Ord, Hash)]
 pub enum FilesWatcher {
     Client,
     Server,
 }
 
 /// How a check is run: for each workspace, or once for all.
-#[derive(Clone, Copy, Debug, PartialEq, Eq)]
+#[derive(Clone, Copy, Debug, PartialEq, Eq, PartialOrd, Ord, Hash)]
 pub enum InvocationStrategy {
     PerWorkspace,
     Once,
@@ -68,7 +68,7 @@ pub enum SettingValue {
 }
 
 /// Why a value is refused.
-#[derive(Clone, Copy, Debug, PartialEq, Eq)]
+#[derive(Clone, Copy, Debug, PartialEq, Eq, PartialOrd, Ord, Hash)]
 pub enum Reason {
     WrongType,
     UnknownValue,
@@ -258,5 +258,55 @@ impl Clone for LinkedProject {
 }
 
 impl Copied for LinkedProject {
+    ghost copies = { λ x y h. h };
+}
+
+impl Clone for DiscoverConfig {
+    ghost is_clone = { λ config copy. copy ≡ config };
+
+    fn clone(&self) -> Result<DiscoverConfig, AllocError> {
+        Ok(DiscoverConfig {
+            command: self.command.clone()?,
+            progress_label: self.progress_label.clone()?,
+            files_to_watch: self.files_to_watch.clone()?,
+        })
+    }
+}
+
+impl Copied for DiscoverConfig {
+    ghost copies = { λ x y h. h };
+}
+
+/// A copy of a value, where there is one.
+fn copy_of<T: Copied>(value: &Option<T>) -> Result<Option<T>, AllocError>
+    ensures { IfOk result (λ copy. copy ≡ value.now) }
+{
+    value.clone()
+}
+
+impl Clone for SettingValue {
+    ghost is_clone = { λ value copy. copy ≡ value };
+
+    fn clone(&self) -> Result<SettingValue, AllocError> {
+        Ok(match self {
+            SettingValue::Truth(truth) => SettingValue::Truth(*truth),
+            SettingValue::Text(text) => SettingValue::Text(text.clone()?),
+            SettingValue::TextOrNull(text) => SettingValue::TextOrNull(copy_of(text)?),
+            SettingValue::TextsOrNull(texts) => SettingValue::TextsOrNull(copy_of(texts)?),
+            SettingValue::Watcher(watcher) => SettingValue::Watcher(*watcher),
+            SettingValue::Strategy(strategy) => SettingValue::Strategy(*strategy),
+            SettingValue::Paths(paths) => SettingValue::Paths(paths.clone()?),
+            SettingValue::Projects(projects) => SettingValue::Projects(projects.clone()?),
+            SettingValue::Features(features) => SettingValue::Features(features.clone()?),
+            SettingValue::Env(env) => SettingValue::Env(env.clone()?),
+            SettingValue::Lists(lists) => SettingValue::Lists(lists.clone()?),
+            SettingValue::Small(n) => SettingValue::Small(*n),
+            SettingValue::Threads(threads) => SettingValue::Threads(*threads),
+            SettingValue::Discover(config) => SettingValue::Discover(copy_of(config)?),
+        })
+    }
+}
+
+impl Copied for SettingValue {
     ghost copies = { λ x y h. h };
 }

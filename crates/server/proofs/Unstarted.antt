@@ -5,8 +5,8 @@ use Rattle.session_model.specs.Headline.{EndsByCause}
 use Rattle.session_model.specs.Meaning.{Meaning}
 use Rattle.session_model.specs.Run.{Told, empty_reader, IsRun}
 use Rattle.session_model.specs.declared.fault.SessionError.TheVariants.{NoMemory}
-use Rattle.session_model.proofs.Answered.{run-answered}
-use Rattle.session_model.proofs.Causes.{run-caused, run-complete}
+use Rattle.session_laws.proofs.Answered.{run-answered}
+use Rattle.session_laws.proofs.Causes.{run-caused, run-complete}
 use Rattle.session.proofs.Advancing.{run-none}
 use Rattle.server.specs.Serving.{RanSession, session_config}
 use Rattle.server.specs.Status.{status_of}
@@ -18,6 +18,7 @@ unstarted meaning told honest HostFailed SinkFailed =
     record {
       outcome = Err NoMemory;
       status_is = refl;
+      run = run;
       end = end;
       complete = run-complete ⊤ empty_reader told.given told.given HostFailed SinkFailed (Err NoMemory) end (λ e. absurd cc) (λ e. absurd cc);
       headline = run-answered ⊤ meaning session_config empty_reader told told honest (Err NoMemory) run;

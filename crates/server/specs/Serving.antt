@@ -3,7 +3,7 @@ use Rattle.std.specs.Prelude.{◌≡◌, ℕ, List, [], ◌∷◌, Bool, true, f
 use Rattle.ra_config.specs.Config.{ConfigData, config_at}
 use Rattle.session_model.specs.Headline.{IsAnswered, EndsByCause, IsComplete}
 use Rattle.session_model.specs.Meaning.{Meaning}
-use Rattle.session_model.specs.Run.{Told, empty_reader}
+use Rattle.session_model.specs.Run.{Told, IsRun, empty_reader}
 use Rattle.session_model.specs.Texts.{same_text}
 use Rattle.session_model.specs.declared.fault.SessionError.{SessionError}
 use Rattle.server.specs.Status.{bad_words, status_of}
@@ -18,11 +18,12 @@ is_session (word ∷ other ∷ words) = false
 abbrev pub session_config : ConfigData
 session_config = config_at (codes "/w") 4
 
--- a session was run: the status is its end, which has its cause in the events; over a good input it is a good one, where neither the host nor the
--- sink has failed; and the record is as it should be
+-- a session was run: its turns are the machine's; the status is its end, which has its cause in the events; over a good input it is a good one,
+-- where neither the host nor the sink has failed; and the record is as it should be
 pub record RanSession (meaning : Meaning) (old new : Told) (honest : Bool) (HostFailed SinkFailed : Type 0) (status : ℕ) : Type 0 where
   pub outcome : Result ⊤ SessionError
   pub status_is : status ≡ status_of outcome
+  pub run : IsRun meaning session_config empty_reader old new honest outcome
   pub end : EndsByCause empty_reader old.given new.given outcome
   pub complete : IsComplete empty_reader old.given new.given HostFailed SinkFailed outcome
   pub headline : IsAnswered meaning session_config empty_reader old new honest outcome

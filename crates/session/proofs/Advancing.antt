@@ -16,8 +16,8 @@ use Rattle.session_model.specs.declared.fault.SessionError.{SessionError}
 use Rattle.session_model.specs.declared.fault.SessionError.TheVariants.{NoMemory}
 use Rattle.session_model.specs.declared.input.Input.{Input}
 use Rattle.session_model.specs.declared.input.Input.TheVariants.{Start}
-use Rattle.session_model.proofs.Counted.{IsLater, steps-fewer}
-use Rattle.session_model.proofs.Stretches.{stretch-turn, stretch-fed, stretch-none, given-none}
+use Rattle.session_laws.proofs.Counted.{IsLater, steps-fewer}
+use Rattle.session_laws.proofs.Stretches.{stretch-turn, stretch-fed, stretch-none, given-none}
 use Rattle.session.specs.Looping.{Goes, Advances, TurnDone, Done}
 use Rattle.session.specs.Reading.{course_from}
 use Rattle.session.specs.declared.run.Turned.{Turned}

@@ -14,7 +14,7 @@ use Rattle.session_model.specs.State.{State}
 use Rattle.session_model.specs.declared.fault.SessionError.{SessionError}
 use Rattle.session_model.specs.declared.fault.SessionError.TheVariants.{ClientExited, BadFrame, BadMessage, HostFault, WriteFault, Exhausted, NoMemory}
 use Rattle.session_model.specs.declared.input.Input.{Input}
-use Rattle.session_model.proofs.Stretches.{grown-nil}
+use Rattle.session_laws.proofs.Stretches.{grown-nil}
 use Rattle.session.specs.Looping.{TurnDone, BreaksOffTurn, IsFeedError, IsHostError}
 
 -- nothing was told

@@ -1,5 +1,3 @@
 pub mod Advancing
 pub mod Endings
 pub mod Feeding
-pub mod Writable
-pub mod Units

@@ -3,8 +3,8 @@ ghost use Rattle.std.specs.Prelude.{◌≡◌, IfOk};
 ghost use Rattle.session.specs.Reading.{IsNext};
 ghost use Rattle.session_model.specs.Course.{is_exit};
 
-use crate::methods::is_name;
 use lsp_frame::{FrameFault, FrameReader, Message};
+use session_state::is_name;
 use std::alloc::AllocError;
 
 /// What the bytes held give next.

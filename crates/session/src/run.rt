@@ -11,15 +11,14 @@ ghost use Rattle.session_model.specs.Meets.{Meets};
 ghost use Rattle.session_model.specs.Run.{IsRun, empty_reader, told_of, host_error_of, write_error_of, turn_error_of, fed_bytes};
 ghost use Rattle.session.specs.Looping.{Advances, TurnDone, IsHostError, IsFeedError};
 
-use crate::global_state::GlobalState;
 use crate::reading::{Coming, next_message};
-use crate::turn_out::TurnOut;
 use analysis_host::Analysis;
 use lsp_frame::FrameReader;
 use plain::{Bytes, Items};
 use ra_config::Config;
 use session_model::{Counter, Event, Input, SessionError, TurnError};
 use session_port::{Command, Host, HostError, HostEvent, Sink};
+use session_state::{GlobalState, TurnOut};
 use std::alloc::Global;
 
 // Whether the run goes on.
@@ -93,7 +92,7 @@ fn run_turn<H: Host<A>, S: Sink, A: Analysis>(
     if let Err(error) = take_input(input, state, analysis, &mut out) {
         return Err(turn_error(error));
     }
-    let bytes = out.bytes(alloc)?;
+    let bytes = out.take_bytes(alloc)?;
     if let Err(error) = sink.put_turn(&bytes) {
         return Err(write_error(error));
     }

@@ -3,7 +3,6 @@ pub mod Changing
 pub mod Codes
 pub mod Course
 pub mod Headline
-pub mod Invariant
 pub mod Machine
 pub mod Meaning
 pub mod Meets

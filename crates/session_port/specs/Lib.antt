@@ -1,11 +1,4 @@
-pub mod Codes
-pub mod Coming
-pub mod Framed
 pub mod Honest
-pub mod Inline
 pub mod Jobs
-pub mod Memory
 pub mod Record
-pub mod Results
 pub mod Runs
-pub mod Script

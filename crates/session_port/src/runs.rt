@@ -3,10 +3,10 @@ ghost use Rattle.std.specs.Prelude.{◌≡◌, ◌≤◌, ◌<◌, true, None, S
 ghost use Rattle.analysis_host.specs.Polls.{HasPolled};
 ghost use Rattle.session_port.specs.Jobs.{plain_result};
 ghost use Rattle.session_port.specs.Honest.{IsResultOf};
-ghost use Rattle.session_port.specs.Runs.{IfCancelled, IsUncancelled, UnlessNoMemory};
+ghost use Rattle.session_port.specs.Runs.{IfCancelled, UnlessNoMemory};
 
 use crate::job::{Job, JobResult, JobValue};
-use analysis_host::{Analysis, Answer, Cancel, Never, Outcome};
+use analysis_host::{Analysis, Answer, Cancel, Outcome};
 use std::alloc::AllocError;
 
 /// Runs a job: its result on its snapshot, unless a poll says that it is out of date.
@@ -28,17 +28,6 @@ pub fn run_job<A: Analysis, C: Cancel>(job: &Job, analysis: &A, cancel: &mut C) 
         Ok(result) => result,
         Err(AllocError) => JobResult::NoMemory,
     }
-}
-
-/// The result of a job that nothing cancels.
-pub(crate) fn result_of<A: Analysis>(job: &Job, analysis: &A) -> JobResult
-    ensures is { IsResultOf A.answer job.now result }
-    ensures uncancelled { IsUncancelled result }
-    ensures plain { plain_result result ≡ true }
-{
-    // A revision fits 64 bits.
-    let _revision = job.snapshot.revision();
-    run_job(job, analysis, &mut Never::new())
 }
 
 fn query<A: Analysis, C: Cancel>(

@@ -2,5 +2,4 @@ pub mod BracketLemmas
 pub mod Laws
 pub mod LineLemmas
 pub mod ListLemmas
-pub mod PlaceLemmas
 pub mod RunLemmas

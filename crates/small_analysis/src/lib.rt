@@ -9,7 +9,5 @@ mod names;
 mod offsets;
 mod params;
 mod small;
-#[cfg(test)]
-mod tests;
 
 pub use small::SmallAnalysis;

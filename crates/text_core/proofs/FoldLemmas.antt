@@ -10,7 +10,7 @@ use Rattle.std.proofs.lemmas.Bool.Decides.{nat_tests}
 use Rattle.text_core.specs.declared.position.PositionEncoding.{PositionEncoding}
 use Rattle.text_core.specs.declared.position.Range.{Range}
 use Rattle.text_core.specs.declared.change.ContentChange.{ContentChange}
-use Rattle.text_core.specs.Changes.{fits, edited, changed, changed_at, admitted, document}
+use Rattle.text_core.specs.Changes.{fits, edited, changed, changed_at, admitted, document, IsOther}
 use Rattle.text_core.specs.Rebuilds.{Progress, begun, is_past, refreshed, after_edit, with_edit, progress_at, progressed, rebuilds}
 use Rattle.text_core.specs.Skips.{is_skipped_at, is_skipped, all_ranged, some_skipped, skips}
 use Rattle.text_core.specs.Whole.{is_whole, HaveRanges, StandsLast, Begins, taken}
@@ -220,6 +220,13 @@ fold_more e limit p xs i c lt here h =
     let split : drop i xs ≡ c ∷ drop (i + 1) xs = drop_more xs i c lt ∙ ap (λ d. d ∷ drop (i + 1) xs) here in
     subst (λ l. (taken e limit p c).rebuilds ≤ (fold (taken e limit) p l).rebuilds) (sym split) later
 
+-- one change of a list
+pub fold_step : (e : PositionEncoding) (limit : ℕ) (p next : Progress) (xs : List ContentChange) (i : ℕ) (c : ContentChange) → i < length xs → get_or xs i c ≡ c → next ≡ taken e limit p c
+    → fold (taken e limit) next (drop (i + 1) xs) ≡ fold (taken e limit) p (drop i xs)
+fold_step e limit p next xs i c lt here same =
+    let split : drop i xs ≡ c ∷ drop (i + 1) xs = drop_more xs i c lt ∙ ap (λ d. d ∷ drop (i + 1) xs) here in
+    ap (λ q. fold (taken e limit) q (drop (i + 1) xs)) same ∙ sym (ap (fold (taken e limit) p) split)
+
 whole_fits : (limit : ℕ) (c : ContentChange) → is_whole limit c ≡ true → length c.text ≤ limit
 whole_fits limit c h =
     let fit : fits limit c.text ≡ true = and_second (is_none c.range) (fits limit c.text) h in
@@ -268,3 +275,11 @@ document_of e limit contents xs ys same = ap (λ l. (fold (taken e limit) (begun
 
 pub skips_of : (e : PositionEncoding) (limit : ℕ) (contents : List ℕ) (xs ys : List ContentChange) → ys ≡ xs → (fold (taken e limit) (begun contents) ys).skipped ≡ skips e limit contents xs
 skips_of e limit contents xs ys same = ap (λ l. (fold (taken e limit) (begun contents) l).skipped) same ∙ sym (skips_are e limit contents xs)
+
+pub rebuilds_of : (e : PositionEncoding) (limit : ℕ) (contents : List ℕ) (xs ys : List ContentChange) → ys ≡ xs → (fold (taken e limit) (begun contents) ys).rebuilds ≡ rebuilds e limit contents xs
+rebuilds_of e limit contents xs ys same = ap (λ l. (fold (taken e limit) (begun contents) l).rebuilds) same ∙ sym (rebuilds_are e limit contents xs)
+
+-- the text that is another one, or else the old one
+pub other_or : (old new : List ℕ) (changed : Option (List ℕ)) → IsOther old new changed → unwrap_or changed old ≡ new
+other_or old new None same = sym same
+other_or old new (Some text) other = other.0

@@ -1,10 +1,13 @@
+pub mod ColumnLemmas
 pub mod EditLemmas
+pub mod EndLemmas
 pub mod EveryTwo
 pub mod FoldLemmas
 pub mod HashLemmas
 pub mod KeptLemmas
 pub mod LineEndLemmas
 pub mod LineLemmas
+pub mod MovedLemmas
 pub mod PlaceLemmas
 pub mod StartLemmas
 pub mod TellLemmas

@@ -1,6 +1,6 @@
 -- What a place of a position is: in its line, and between whole characters.
 use Rattle.std.proofs.Common.{◌≡◌, ℕ, zero, suc, ◌+◌, ◌-◌, ◌<◌, ◌≤◌, Bool, true, false, not, ◌&&◌, ◌==◌, List, [], ◌∷◌, length, drop, get_or, Option, Some, None, refl, ap, sym, subst, ◌∙◌, arith, inl, inr, ⊎_elim, add-one}
-use Rattle.std.specs.Prelude.{◌⊎◌, nat_le, slice_range, slice_index}
+use Rattle.std.specs.Prelude.{IfSome, ◌⊎◌, nat_le, slice_range, slice_index}
 use Rattle.std.specs.Option.{option_map, unwrap_or}
 use Rattle.std.specs.Str.{IsUtf8, IsCharBoundary}
 use Rattle.std.proofs.lemmas.Bool.{cases_Bool, cases_lt, cond-true, cond-false}
@@ -39,6 +39,10 @@ past_whole e column (b ∷ rest) n h =
     (λ u. let none : None ≡ Some n = sym (cond-false _ _ _ u) ∙ sym left ∙ h in cc)
     (cases_Bool (column == 0 && not (is_inside b))))
     (cases_Bool (nat_le (units e b) column))
+
+pub past-within : (e : PositionEncoding) (column : ℕ) (line : List ℕ) (o : Option ℕ) → o ≡ past_units e column line → IfSome o (λ n. n ≤ length line)
+past-within e column line None h = tt
+past-within e column line (Some n) h = (past_whole e column line n (sym h)).0
 
 -- the byte before the start of a line that isn't the first is LF
 pub line_start-after_lf : (line : ℕ) (text : List ℕ) (k : ℕ) → line_start (suc line) text ≡ Some k

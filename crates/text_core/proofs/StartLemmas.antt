@@ -9,54 +9,54 @@ use Rattle.std.proofs.lemmas.Option.{slice_get_cases}
 use Rattle.std.proofs.lemmas.List.Elements.{All-nil, All-cons, All-same}
 use Rattle.memchr.specs.Find.{places, places_from, is_byte}
 use Rattle.text_core.specs.Positions.{ends_line, line_start, line_end, line_span}
-use Rattle.text_core.specs.Starts.{line_starts}
+use Rattle.text_core.specs.Starts.{line_starts, starts_in}
 use Rattle.text_core.proofs.LineLemmas.{further, further-zero}
 
 none_some : {A : Type 0} (x : A) → None ≡ Some x → ⊥
 none_some x p = cc
 
--- the places after each LF, by a walk over the text
-abbrev marks : ℕ → List ℕ → List ℕ
-marks at [] = []
-marks at (b ∷ rest) = cond (ends_line b) ((at + 1) ∷ marks (at + 1) rest) (marks (at + 1) rest)
-
-marks_places : (text : List ℕ) (i n : ℕ) → i + n ≡ length text → map (λ n. n + 1) (places_from (is_byte 10) text i n) ≡ marks i (drop i text)
+-- the places of LF, each one further and as far on as the part begins
+pub starts_in_places : (text : List ℕ) (at i n : ℕ) → i + n ≡ length text → map (λ k. at + k + 1) (places_from (is_byte 10) text i n) ≡ starts_in (at + i) (drop i text)
 unfolding places_from
-marks_places text i zero all = sym (ap (marks i) (drop_all i text (omega arith)))
-marks_places text i (suc n) all =
-    let rest = marks_places text (i + 1) n (omega arith) in
-    let step = at_drop_more (marks i) text i 0 (omega arith) in
+starts_in_places text at i zero all = sym (ap (starts_in (at + i)) (drop_all i text (omega arith)))
+starts_in_places text at i (suc n) all =
+    let next : at + (i + 1) ≡ at + i + 1 = omega arith in
+    let rest = starts_in_places text at (i + 1) n (omega arith) ∙ ap (λ k. starts_in k (drop (i + 1) text)) next in
+    let step = at_drop_more (starts_in (at + i)) text i 0 (omega arith) in
     ⊎_elim
-    (λ t. ap (map (λ n. n + 1)) (cond-true _ _ _ t) ∙ ap (λ l. (i + 1) ∷ l) rest ∙ sym (step ∙ cond-true _ _ _ t))
-    (λ f. ap (map (λ n. n + 1)) (cond-false _ _ _ f) ∙ rest ∙ sym (step ∙ cond-false _ _ _ f))
+    (λ t. ap (map (λ k. at + k + 1)) (cond-true _ _ _ t) ∙ ap (λ l. (at + i + 1) ∷ l) rest ∙ sym (step ∙ cond-true _ _ _ t))
+    (λ f. ap (map (λ k. at + k + 1)) (cond-false _ _ _ f) ∙ rest ∙ sym (step ∙ cond-false _ _ _ f))
     (cases_Bool (ends_line (get_or text i 0)))
+
+-- the places of all LF of a part
+pub places_start : (text : List ℕ) (at : ℕ) → map (λ k. at + k + 1) (places (is_byte 10) text) ≡ starts_in at text
+places_start text at =
+    let all : length text - 0 ≡ length text = omega arith in
+    let here : at + 0 ≡ at = omega arith in
+    ap (λ n. map (λ k. at + k + 1) (places_from (is_byte 10) text 0 n)) all ∙ starts_in_places text at 0 (length text) (omega arith) ∙ ap (λ k. starts_in k text) here
 
 further_more : (at : ℕ) (o : Option ℕ) → further (at + 1) o ≡ further at (further 1 o)
 further_more at None = refl
 further_more at (Some n) = ap Some (omega arith)
 
-get_marks : (text : List ℕ) (at line : ℕ) → slice_get (marks at text) line ≡ further at (line_start (suc line) text)
-get_marks [] at line = refl
-get_marks (b ∷ rest) at zero = ⊎_elim
+get_starts_in : (text : List ℕ) (at line : ℕ) → slice_get (starts_in at text) line ≡ further at (line_start (suc line) text)
+get_starts_in [] at line = refl
+get_starts_in (b ∷ rest) at zero = ⊎_elim
     (λ t. ap (λ l. slice_get l zero) (cond-true _ _ _ t) ∙ sym (ap (λ o. further at (further 1 o)) (cond-true _ _ _ t)))
-    (λ f. ap (λ l. slice_get l zero) (cond-false _ _ _ f) ∙ get_marks rest (at + 1) zero ∙ further_more at (line_start (suc zero) rest)
+    (λ f. ap (λ l. slice_get l zero) (cond-false _ _ _ f) ∙ get_starts_in rest (at + 1) zero ∙ further_more at (line_start (suc zero) rest)
     ∙ sym (ap (λ o. further at (further 1 o)) (cond-false _ _ _ f)))
     (cases_Bool (ends_line b))
-get_marks (b ∷ rest) at (suc line) = ⊎_elim
-    (λ t. ap (λ l. slice_get l (suc line)) (cond-true _ _ _ t) ∙ get_marks rest (at + 1) line ∙ further_more at (line_start (suc line) rest)
+get_starts_in (b ∷ rest) at (suc line) = ⊎_elim
+    (λ t. ap (λ l. slice_get l (suc line)) (cond-true _ _ _ t) ∙ get_starts_in rest (at + 1) line ∙ further_more at (line_start (suc line) rest)
     ∙ sym (ap (λ o. further at (further 1 o)) (cond-true _ _ _ t)))
-    (λ f. ap (λ l. slice_get l (suc line)) (cond-false _ _ _ f) ∙ get_marks rest (at + 1) (suc line) ∙ further_more at (line_start (suc (suc line)) rest)
+    (λ f. ap (λ l. slice_get l (suc line)) (cond-false _ _ _ f) ∙ get_starts_in rest (at + 1) (suc line) ∙ further_more at (line_start (suc (suc line)) rest)
     ∙ sym (ap (λ o. further at (further 1 o)) (cond-false _ _ _ f)))
     (cases_Bool (ends_line b))
 
 pub get_starts : (text : List ℕ) (line : ℕ) → slice_get (line_starts text) line ≡ line_start line text
 unfolding line_starts
 get_starts text zero = refl
-get_starts text (suc line) =
-    let all : length text - 0 ≡ length text = omega arith in
-    ap (λ n. slice_get (map (λ n. n + 1) (places_from (is_byte 10) text 0 n)) line) all
-    ∙ ap (λ l. slice_get l line) (marks_places text 0 (length text) (omega arith))
-    ∙ get_marks text 0 line ∙ further-zero (line_start (suc line) text)
+get_starts text (suc line) = get_starts_in text 0 line ∙ further-zero (line_start (suc line) text)
 
 places_within : (text : List ℕ) (i n : ℕ) → i + n ≤ length text → All (λ k. k < length text) (places_from (is_byte 10) text i n)
 unfolding places_from
@@ -75,12 +75,12 @@ lf_count : List ℕ → ℕ
 lf_count [] = 0
 lf_count (b ∷ rest) = cond (ends_line b) (1 + lf_count rest) (lf_count rest)
 
-length_marks : (text : List ℕ) (at : ℕ) → length (marks at text) ≡ lf_count text
+length_starts_in : (text : List ℕ) (at : ℕ) → length (starts_in at text) ≡ lf_count text
 unfolding lf_count
-length_marks [] at = refl
-length_marks (b ∷ rest) at = ⊎_elim
-    (λ t. ap length (cond-true _ _ _ t) ∙ omega (arith, length_marks rest (at + 1)) ∙ sym (cond-true _ _ _ t))
-    (λ f. ap length (cond-false _ _ _ f) ∙ length_marks rest (at + 1) ∙ sym (cond-false _ _ _ f))
+length_starts_in [] at = refl
+length_starts_in (b ∷ rest) at = ⊎_elim
+    (λ t. ap length (cond-true _ _ _ t) ∙ omega (arith, length_starts_in rest (at + 1)) ∙ sym (cond-true _ _ _ t))
+    (λ f. ap length (cond-false _ _ _ f) ∙ length_starts_in rest (at + 1) ∙ sym (cond-false _ _ _ f))
     (cases_Bool (ends_line b))
 
 lf_count_by : (text : List ℕ) → lf_count text ≡ count_by ends_line text
@@ -91,9 +91,7 @@ lf_count_by text = is_count_by lf_count ends_line refl (λ x xs. refl) text
 pub length-line_starts : (text : List ℕ) → length (line_starts text) ≡ count_by ends_line text + 1
 unfolding line_starts
 length-line_starts text =
-    let all : length text - 0 ≡ length text = omega arith in
-    let places = ap (λ n. length (map (λ n. n + 1) (places_from (is_byte 10) text 0 n))) all ∙ ap length (marks_places text 0 (length text) (omega arith)) in
-    let count : length (map (λ n. n + 1) (places_from (is_byte 10) text 0 (length text - 0))) ≡ count_by ends_line text = places ∙ length_marks text 0 ∙ lf_count_by text in
+    let count : length (starts_in 0 text) ≡ count_by ends_line text = length_starts_in text 0 ∙ lf_count_by text in
     omega (arith, count)
 
 -- a right list knows all lines
@@ -116,11 +114,6 @@ line-within line text start stop h = ⊎_elim
     let none : line_span line text ≡ None = ap (option_map (λ n. (n, line_end line text))) (sym (get_starts text line) ∙ past.1) in
     absurd (none_some _ (sym none ∙ h)))
     (slice_get_cases (line_starts text) line).1
-
--- the start of the first line, and of the lines after the places of LF
-pub starts_are : (text : List ℕ) → 0 ∷ map (λ n. n + 1) (places (is_byte 10) text) ≡ line_starts text
-unfolding line_starts
-starts_are text = refl
 
 pub some_inj : (x y : ℕ) → Some x ≡ Some y → x ≡ y
 some_inj x y p = cc

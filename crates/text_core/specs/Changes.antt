@@ -1,5 +1,5 @@
 -- A text after a list of changes: each is made on the whole text that the changes before it leave.
-use Rattle.std.specs.Prelude.{ℕ, nat_le, Bool, List, length, if◌then◌else◌, Option, Some, None, Result, Ok, Err}
+use Rattle.std.specs.Prelude.{◌≡◌, ◌≢◌, ℕ, nat_le, Bool, List, length, if◌then◌else◌, Option, Some, None, Result, Ok, Err}
 use Rattle.std.specs.Option.{unwrap_or}
 use Rattle.std.specs.List.{fold, filter, replace_range}
 use Rattle.text_core.specs.declared.position.PositionEncoding.{PositionEncoding}
@@ -39,3 +39,8 @@ admitted limit changes = filter (λ change. fits limit change.text) changes
 -- the text after a list of changes. What stands before the last change without a range doesn't matter
 unfoldable pub document : PositionEncoding → ℕ → List ℕ → List ContentChange → List ℕ
 document encoding limit contents changes = fold (changed encoding limit) contents (admitted limit changes)
+
+-- a new text where it is another one than the old, else none
+abbrev pub IsOther : List ℕ → List ℕ → Option (List ℕ) → Type 0
+IsOther old new None = new ≡ old
+IsOther old new (Some text) = (text ≡ new) × (new ≢ old)

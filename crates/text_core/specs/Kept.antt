@@ -4,7 +4,6 @@ use Rattle.text_core.specs.Positions.{line_start}
 use Rattle.text_core.specs.Rebuilds.{Progress}
 use Rattle.text_core.specs.Starts.{line_starts}
 use Rattle.text_core.specs.declared.draft.Draft.{Draft}
-use Rattle.text_core.specs.declared.editing.EditedText.{EditedText}
 
 -- a line at which no later edit was made
 abbrev pub IsKnown : Option ℕ → ℕ → Type 0
@@ -24,12 +23,13 @@ pub record IsNewDraft (draft : Draft) : Type 0 where
   pub starts : draft.starts.items ≡ line_starts (string_bytes draft.text)
   pub least : draft.least ≡ None
   pub skipped : draft.skipped ≡ false
+  pub ends : draft.ends ≡ None
 
--- the end of a progress: its text, which is within the limit, and whether an edit was skipped
-pub record IsEdited (limit : ℕ) (end : Progress) (edited : EditedText) : Type 0 where
-  pub text : edited.text ≡ end.text
-  pub skipped : edited.skipped ≡ end.skipped
-  pub fits : length edited.text ≤ limit
+-- what the changes of a list leave, which is within the limit
+pub record IsMade (limit : ℕ) (end : Progress) (draft : Draft) : Type 0 where
+  pub text : string_bytes draft.text ≡ end.text
+  pub skipped : draft.skipped ≡ end.skipped
+  pub fits : length (string_bytes draft.text) ≤ limit
 
 -- a draft and the rebuilds so far
 abbrev pub progress : Draft → ℕ → Progress

@@ -1,6 +1,9 @@
 pub mod Positions
 pub mod Same
+pub mod Columns
 pub mod Starts
+pub mod Ends
+pub mod Runs
 pub mod Changes
 pub mod Rebuilds
 pub mod Skips
@@ -9,4 +12,3 @@ pub mod Whole
 pub mod LineEnds
 pub mod Edits
 pub mod Hashed
-pub mod Examples

@@ -1,40 +1,52 @@
 // A text that is edited, with the line starts that are kept over the edits.
-ghost use Rattle.std.specs.Prelude.{◌≡◌, ◌<◌, ◌≤◌, ◌^◌, ℕ, length, false, OnOk, IfOk, string_bytes};
+ghost use Rattle.std.specs.Prelude.{◌≡◌, ◌<◌, ◌≤◌, ◌^◌, ℕ, List, length, false, OnOk, IfOk, string_bytes};
 ghost use Rattle.text_core.specs.Changes.{edited};
 ghost use Rattle.text_core.specs.Rebuilds.{is_past, refreshed, after_edit, with_edit};
 ghost use Rattle.text_core.specs.Kept.{IsKeptIn, IsNewDraft, progress};
+ghost use Rattle.text_core.specs.Ends.{ComesFrom};
 
+use crate::ends::{Ends, ends_after};
 use crate::offsets::range_of;
 use crate::position::{PositionEncoding, Range};
 use crate::starts::find_starts;
 use crate::steps::Steps;
-use plain::Text;
 use std::alloc::{AllocError, Global};
 use std::sync::ledger::Ledger;
 
-/// A text, the starts of its lines up to the least line at which an edit was made, that line, and whether an edit was
-/// skipped.
+/// A text, the starts of its lines up to the least line at which an edit was made, that line, whether an edit was skipped,
+/// and how much of the first text no edit touched.
 #[derive(Drop)]
 pub(crate) struct Draft {
     pub(crate) text: String,
     pub(crate) starts: Vec<u32>,
     pub(crate) least: Option<u32>,
     pub(crate) skipped: bool,
+    pub(crate) ends: Option<Ends>,
+}
+
+/// A text as a draft begins with, with room for so many bytes more.
+pub(crate) fn copy_with_room(alloc: Global, text: &str, room: usize) -> Result<String, AllocError>
+    ensures { IfOk result (λ copy. string_bytes copy ≡ text.now) }
+{
+    let mut copy = String::with_capacity(alloc, text.len().saturating_add(room))?;
+    copy.push_str(text)?;
+    Ok(copy)
 }
 
 /// A draft of a text.
-pub(crate) fn new_draft(alloc: Global, text: Text) -> Result<Draft, AllocError>
-    requires { length text < 2 ^ 32 }
+pub(crate) fn new_draft(alloc: Global, text: String) -> Result<Draft, AllocError>
+    requires { length (string_bytes text) < 2 ^ 32 }
     ensures new { IfOk result IsNewDraft }
-    ensures text { IfOk result (λ draft. string_bytes draft.text ≡ text) }
+    ensures text { IfOk result (λ draft. string_bytes draft.text ≡ string_bytes text) }
 {
     let mut starts = Vec::new(alloc);
-    find_starts(&mut starts, text.as_str().as_bytes())?;
+    find_starts(&mut starts, text.as_bytes())?;
     Ok(Draft {
-        text: text.into_string(),
+        text,
         starts,
         least: None,
         skipped: false,
+        ends: None,
     })
 }
 
@@ -61,6 +73,9 @@ fn refresh<L: Ledger>(
     ensures progress { let start = progress draft.old steps.old in
         OnOk result (progress draft.new steps.new ≡ refreshed range start) }
     ensures most { steps.new ≤ (refreshed range (progress draft.old steps.old)).rebuilds }
+    ensures least { steps.old ≤ steps.new }
+    ensures from { OnOk result ((before : List ℕ) →
+        ComesFrom before (string_bytes draft.old.text) draft.old.ends → ComesFrom before (string_bytes draft.new.text) draft.new.ends) }
 {
     if is_past(range, draft.least) {
         steps.tick();
@@ -84,12 +99,15 @@ fn replace(
     ensures kept { OnOk result (IsKeptIn limit draft.new) }
     ensures progress { let next = edited encoding limit (string_bytes draft.old.text) range new_text.now in
         OnOk result ((n : ℕ) → progress draft.new n ≡ after_edit range.start.line (progress draft.old n) next) }
+    ensures from { OnOk result ((before : List ℕ) →
+        ComesFrom before (string_bytes draft.old.text) draft.old.ends → ComesFrom before (string_bytes draft.new.text) draft.new.ends) }
 {
     let Ok((start, end)) = range_of(encoding, draft.text.as_str(), &draft.starts, range) else {
         draft.skipped = true;
         return Ok(());
     };
     if draft.text.len() - (end - start) + new_text.len() <= limit as usize {
+        draft.ends = Some(ends_after(draft.ends, start, draft.text.len() - end));
         draft.text.replace_range(start..end, new_text)?;
         draft.least = Some(range.start.line);
     } else {
@@ -114,7 +132,11 @@ pub(crate) fn edit<L: Ledger>(
         OnOk result (progress draft.new steps.new ≡ with_edit encoding limit range new_text.now start) }
     ensures most { let start = progress draft.old steps.old in
         steps.new ≤ (with_edit encoding limit range new_text.now start).rebuilds }
+    ensures least { steps.old ≤ steps.new }
+    ensures from { OnOk result ((before : List ℕ) →
+        ComesFrom before (string_bytes draft.old.text) draft.old.ends → ComesFrom before (string_bytes draft.new.text) draft.new.ends) }
 {
     refresh(draft, range, limit, steps)?;
-    replace(draft, encoding, range, new_text, limit)
+    replace(draft, encoding, range, new_text, limit)?;
+    Ok(())
 }

@@ -1,14 +1,15 @@
 // A text after a list of changes.
 ghost use Rattle.std.specs.Prelude.{◌≡◌, ◌+◌, ◌<◌, ◌≤◌, ◌^◌, ℕ, List, length, drop, None, OnOk, IfOk, IfSome, IsNone, string_bytes, false};
 ghost use Rattle.std.specs.List.{fold};
-ghost use Rattle.text_core.specs.Changes.{document};
+ghost use Rattle.text_core.specs.Changes.{document, IsOther};
+ghost use Rattle.text_core.specs.Ends.{ComesFrom};
 ghost use Rattle.text_core.specs.Rebuilds.{begun, rebuilds};
 ghost use Rattle.text_core.specs.Skips.{skips};
-ghost use Rattle.text_core.specs.Kept.{IsKeptIn, IsNewDraft, IsEdited, progress};
+ghost use Rattle.text_core.specs.Kept.{IsKeptIn, IsNewDraft, IsMade, progress};
 ghost use Rattle.text_core.specs.Whole.{is_whole, HaveRanges, IsLastWhole, Begins, taken};
 
 use crate::change::ContentChange;
-use crate::draft::{Draft, edit, new_draft};
+use crate::draft::{Draft, copy_with_room, edit, new_draft};
 use crate::position::PositionEncoding;
 use crate::steps::Steps;
 use crate::text_index::TextIndex;
@@ -22,6 +23,15 @@ use std::sync::ledger::{Blank, Ledger};
 #[derive(Drop)]
 pub struct EditedText {
     pub text: Text,
+    /// Whether an edit could not be made, after the last change that is the whole text.
+    pub skipped: bool,
+}
+
+/// What a list of changes makes of a document.
+#[derive(Drop)]
+pub struct EditedDocument {
+    /// The text with its lines, where it is another one than before.
+    pub changed: Option<TextIndex>,
     /// Whether an edit could not be made, after the last change that is the whole text.
     pub skipped: bool,
 }
@@ -62,6 +72,9 @@ fn take_change<L: Ledger>(
         OnOk result (progress draft.new steps.new ≡ taken encoding limit start change.now) }
     ensures most { let start = progress draft.old steps.old in
         steps.new ≤ (taken encoding limit start change.now).rebuilds }
+    ensures least { steps.old ≤ steps.new }
+    ensures from { OnOk result ((before : List ℕ) →
+        ComesFrom before (string_bytes draft.old.text) draft.old.ends → ComesFrom before (string_bytes draft.new.text) draft.new.ends) }
 {
     if change.text.len() > limit as usize {
         return Ok(());
@@ -87,6 +100,9 @@ fn take_changes<L: Ledger>(
         OnOk result (progress draft.new steps.new ≡ fold (taken encoding limit) start changes.now) }
     ensures most { let start = progress draft.old steps.old in
         steps.new ≤ (fold (taken encoding limit) start changes.now).rebuilds }
+    ensures least { steps.old ≤ steps.new }
+    ensures from { OnOk result ((before : List ℕ) →
+        ComesFrom before (string_bytes draft.old.text) draft.old.ends → ComesFrom before (string_bytes draft.new.text) draft.new.ends) }
 {
     for change in changes {
         take_change(draft, encoding, change, limit, steps)?;
@@ -94,58 +110,61 @@ fn take_changes<L: Ledger>(
     Ok(())
 }
 
-/// What a draft becomes by changes none of which is the whole text.
+/// Makes changes none of which is the whole text on a new draft.
 fn edit_draft<L: Ledger>(
-    mut draft: Draft,
+    draft: &mut Draft,
     encoding: PositionEncoding,
     changes: &[ContentChange],
     limit: u32,
     steps: &mut Steps<L>,
-) -> Result<EditedText, AllocError>
-    requires new { IsNewDraft draft }
-    requires fits { length (string_bytes draft.text) ≤ limit }
+) -> Result<(), AllocError>
+    requires new { IsNewDraft draft.old }
+    requires fits { length (string_bytes draft.old.text) ≤ limit }
     requires ranged { HaveRanges limit changes.now }
-    ensures edited { let end = fold (taken encoding limit) (begun (string_bytes draft.text)) changes.now in
-        IfOk result (IsEdited limit end) }
-    ensures steps { let end = fold (taken encoding limit) (begun (string_bytes draft.text)) changes.now in
+    ensures made { let end = fold (taken encoding limit) (begun (string_bytes draft.old.text)) changes.now in
+        OnOk result (IsMade limit end draft.new) }
+    ensures from { OnOk result (ComesFrom (string_bytes draft.old.text) (string_bytes draft.new.text) draft.new.ends) }
+    ensures steps { let end = fold (taken encoding limit) (begun (string_bytes draft.old.text)) changes.now in
         OnOk result (steps.new ≡ steps.old + end.rebuilds) }
-    ensures most { let end = fold (taken encoding limit) (begun (string_bytes draft.text)) changes.now in
+    ensures most { let end = fold (taken encoding limit) (begun (string_bytes draft.old.text)) changes.now in
         steps.new ≤ steps.old + end.rebuilds }
+    ensures least { steps.old ≤ steps.new }
 {
-    take_changes(&mut draft, encoding, changes, limit, steps)?;
-    let Draft { text, skipped, .. } = draft;
-    Ok(EditedText {
-        text: Text::from_string(text),
-        skipped,
-    })
+    take_changes(draft, encoding, changes, limit, steps)?;
+    Ok(())
 }
 
 /// A text after changes none of which is the whole text.
 fn edit_text<L: Ledger>(
     alloc: Global,
     encoding: PositionEncoding,
-    text: Text,
+    text: String,
     changes: &[ContentChange],
     limit: u32,
     steps: &mut Steps<L>,
-) -> Result<EditedText, AllocError>
-    requires fits { length text ≤ limit }
+) -> Result<Text, AllocError>
+    requires fits { length (string_bytes text) ≤ limit }
     requires ranged { HaveRanges limit changes.now }
-    ensures edited { let end = fold (taken encoding limit) (begun text) changes.now in
-        IfOk result (IsEdited limit end) }
-    ensures steps { let end = fold (taken encoding limit) (begun text) changes.now in
+    ensures text { let end = fold (taken encoding limit) (begun (string_bytes text)) changes.now in
+        IfOk result (λ edited. edited ≡ end.text) }
+    ensures steps { let end = fold (taken encoding limit) (begun (string_bytes text)) changes.now in
         OnOk result (steps.new ≡ steps.old + end.rebuilds) }
-    ensures most { let end = fold (taken encoding limit) (begun text) changes.now in
+    ensures most { let end = fold (taken encoding limit) (begun (string_bytes text)) changes.now in
         steps.new ≤ steps.old + end.rebuilds }
+    ensures least { steps.old ≤ steps.new }
 {
-    if changes.is_empty() {
-        return Ok(EditedText {
-            text,
-            skipped: false,
-        });
+    let mut draft = new_draft(alloc, text)?;
+    edit_draft(&mut draft, encoding, changes, limit, steps)?;
+    Ok(Text::from_string(draft.text))
+}
+
+/// How many bytes changes insert.
+fn inserted_len(changes: &[ContentChange]) -> usize {
+    let mut len = 0usize;
+    for change in changes {
+        len = len.saturating_add(change.text.len());
     }
-    let draft = new_draft(alloc, text)?;
-    edit_draft(draft, encoding, changes, limit, steps)
+    len
 }
 
 /// The last change that is the whole text, if there is one, and from which change on the others are made.
@@ -167,21 +186,25 @@ fn begin(
     file_contents: &str,
     changes: &mut Vec<ContentChange>,
     limit: u32,
-) -> Result<(Text, usize), AllocError>
+) -> Result<(String, usize), AllocError>
     requires { length file_contents.now ≤ limit }
     ensures within { IfOk result (λ start. start.1 ≤ length changes.new.items) }
     ensures begins { IfOk result (λ start.
-        Begins limit file_contents.now changes.old.items start.0 (drop start.1 changes.new.items)) }
+        Begins limit file_contents.now changes.old.items (string_bytes start.0) (drop start.1 changes.new.items)) }
 {
     match whole_text(alloc, changes, limit) {
-        Some(start) => Ok(start),
-        None => Ok((Text::from_str(alloc, file_contents)?, 0)),
+        Some((text, from)) => Ok((text.into_string(), from)),
+        None => {
+            let room = inserted_len(&*changes);
+            Ok((copy_with_room(alloc, file_contents, room)?, 0))
+        }
     }
 }
 
 /// The text after a list of changes, each made on the text that the ones before it leave. Dropped are changes whose
 /// own text passes the limit. A change without a range is the whole text. One whose range has no place, or whose
-/// result would pass the limit, is skipped. Each time the index of lines is built anew is a step.
+/// result would pass the limit, is skipped. The steps counted are exactly the rebuilds of the index of lines that is kept
+/// over the changes.
 pub fn apply_with_limit<L: Ledger>(
     alloc: Global,
     encoding: PositionEncoding,
@@ -200,32 +223,32 @@ pub fn apply_with_limit<L: Ledger>(
     ensures most { let count = rebuilds encoding limit file_contents.now content_changes in
         steps.new ≤ steps.old + count }
     ensures one_each { steps.new ≤ steps.old + length content_changes }
+    ensures least { steps.old ≤ steps.new }
 {
     let mut changes = content_changes.into_vec();
     let (text, from) = begin(alloc, file_contents, &mut changes, limit)?;
     let edited = edit_text(alloc, encoding, text, &changes[from..], limit, steps)?;
-    Ok(edited.text)
+    Ok(edited)
 }
 
 /// The same where nobody counts the steps.
 fn edit_uncounted<L: Ledger>(
     alloc: Global,
     encoding: PositionEncoding,
-    text: Text,
+    text: String,
     changes: &[ContentChange],
-    limit: u32,
     blank: Blank,
-) -> Result<EditedText, AllocError>
+) -> Result<Text, AllocError>
     requires name { blank.name ≡ L.name }
     requires parts { blank.parts ≡ L.parts }
     requires some { 0 < L.parts }
-    requires fits { length text ≤ limit }
-    requires ranged { HaveRanges limit changes.now }
-    ensures { let end = fold (taken encoding limit) (begun text) changes.now in
-        IfOk result (IsEdited limit end) }
+    requires fits { length (string_bytes text) ≤ u32.MAX }
+    requires ranged { HaveRanges u32.MAX changes.now }
+    ensures { let end = fold (taken encoding u32.MAX) (begun (string_bytes text)) changes.now in
+        IfOk result (λ edited. edited ≡ end.text) }
 {
     let mut steps = Steps::<L>::new(blank);
-    edit_text(alloc, encoding, text, changes, limit, &mut steps)
+    edit_text(alloc, encoding, text, changes, u32::MAX, &mut steps)
 }
 
 /// The text after a list of changes, as `apply_with_limit` has it, with the limit of 4,294,967,295 bytes.
@@ -241,33 +264,126 @@ pub fn apply_document_changes(
 {
     let mut changes = content_changes.into_vec();
     let (text, from) = begin(alloc, file_contents, &mut changes, u32::MAX)?;
-    let rest = &changes[from..];
-    let edited = edit_uncounted::<Brand>(alloc, encoding, text, rest, u32::MAX, Blank::new(1))?;
-    Ok(edited.text)
+    let edited = edit_uncounted::<Brand>(alloc, encoding, text, &changes[from..], Blank::new(1))?;
+    Ok(edited)
 }
 
-/// An indexed text after changes none of which is the whole text.
-fn edit_indexed<L: Ledger>(
+/// A document after changes none of which is the whole text.
+fn edit_index<L: Ledger>(
     alloc: Global,
     encoding: PositionEncoding,
     index: &TextIndex,
     changes: &[ContentChange],
+    steps: &mut Steps<L>,
+) -> Result<EditedDocument, AllocError>
+    requires { HaveRanges u32.MAX changes.now }
+    ensures text { let end = fold (taken encoding u32.MAX) (begun index.now) changes.now in
+        IfOk result (λ edited. IsOther index.now end.text edited.changed) }
+    ensures skipped { let end = fold (taken encoding u32.MAX) (begun index.now) changes.now in
+        IfOk result (λ edited. edited.skipped ≡ end.skipped) }
+    ensures steps { let end = fold (taken encoding u32.MAX) (begun index.now) changes.now in
+        OnOk result (steps.new ≡ steps.old + end.rebuilds) }
+    ensures most { let end = fold (taken encoding u32.MAX) (begun index.now) changes.now in
+        steps.new ≤ steps.old + end.rebuilds }
+    ensures least { steps.old ≤ steps.new }
+{
+    if changes.is_empty() {
+        return Ok(EditedDocument {
+            changed: None,
+            skipped: false,
+        });
+    }
+    let mut draft = index.draft(alloc, inserted_len(changes))?;
+    edit_draft(&mut draft, encoding, changes, u32::MAX, steps)?;
+    let Draft {
+        text,
+        skipped,
+        ends,
+        ..
+    } = draft;
+    let changed = index.changed(alloc, text, ends)?;
+    Ok(EditedDocument { changed, skipped })
+}
+
+/// A whole text after changes none of which is the whole text, where the document had another text before.
+fn edit_whole<L: Ledger>(
+    alloc: Global,
+    encoding: PositionEncoding,
+    index: &TextIndex,
+    text: Text,
+    changes: &[ContentChange],
+    steps: &mut Steps<L>,
+) -> Result<EditedDocument, AllocError>
+    requires fits { length text < 2 ^ 32 }
+    requires ranged { HaveRanges u32.MAX changes.now }
+    ensures text { let end = fold (taken encoding u32.MAX) (begun text) changes.now in
+        IfOk result (λ edited. IsOther index.now end.text edited.changed) }
+    ensures skipped { let end = fold (taken encoding u32.MAX) (begun text) changes.now in
+        IfOk result (λ edited. edited.skipped ≡ end.skipped) }
+    ensures steps { let end = fold (taken encoding u32.MAX) (begun text) changes.now in
+        OnOk result (steps.new ≡ steps.old + end.rebuilds) }
+    ensures most { let end = fold (taken encoding u32.MAX) (begun text) changes.now in
+        steps.new ≤ steps.old + end.rebuilds }
+    ensures least { steps.old ≤ steps.new }
+{
+    let whole = TextIndex::from_text(alloc, text)?;
+    let EditedDocument { changed, skipped } = edit_index(alloc, encoding, &whole, changes, steps)?;
+    Ok(EditedDocument {
+        changed: changed.unwrap_or(whole).unless_same(index),
+        skipped,
+    })
+}
+
+/// A document after a list of changes, as `apply_with_limit` has it with the limit of 4,294,967,295 bytes, and whether one
+/// of them was skipped. The lines before the edits and behind them are taken from the index, and the text is neither
+/// searched nor compared there. Of a change that is the whole text nothing is copied.
+pub fn edit_with_steps<L: Ledger>(
+    alloc: Global,
+    encoding: PositionEncoding,
+    index: &TextIndex,
+    content_changes: Items<ContentChange>,
+    steps: &mut Steps<L>,
+) -> Result<EditedDocument, AllocError>
+    ensures text { let end = document encoding u32.MAX index.now content_changes in
+        IfOk result (λ edited. IsOther index.now end edited.changed) }
+    ensures skipped { let told = skips encoding u32.MAX index.now content_changes in
+        IfOk result (λ edited. edited.skipped ≡ told) }
+    ensures rebuilds { let count = rebuilds encoding u32.MAX index.now content_changes in
+        OnOk result (steps.new ≡ steps.old + count) }
+
+    // Also where memory runs out on the way.
+    ensures most { let count = rebuilds encoding u32.MAX index.now content_changes in
+        steps.new ≤ steps.old + count }
+    ensures least { steps.old ≤ steps.new }
+{
+    let mut changes = content_changes.into_vec();
+    match whole_text(alloc, &mut changes, u32::MAX) {
+        Some((text, from)) => { edit_whole(alloc, encoding, index, text, &changes[from..], steps) }
+        None => edit_index(alloc, encoding, index, &changes, steps),
+    }
+}
+
+/// The same where nobody counts the steps.
+fn edit_document_uncounted<L: Ledger>(
+    alloc: Global,
+    encoding: PositionEncoding,
+    index: &TextIndex,
+    content_changes: Items<ContentChange>,
     blank: Blank,
-) -> Result<EditedText, AllocError>
+) -> Result<EditedDocument, AllocError>
     requires name { blank.name ≡ L.name }
     requires parts { blank.parts ≡ L.parts }
     requires some { 0 < L.parts }
-    requires ranged { HaveRanges u32.MAX changes.now }
-    ensures { let end = fold (taken encoding u32.MAX) (begun index.now) changes.now in
-        IfOk result (IsEdited u32.MAX end) }
+    ensures text { let end = document encoding u32.MAX index.now content_changes in
+        IfOk result (λ edited. IsOther index.now end edited.changed) }
+    ensures skipped { let told = skips encoding u32.MAX index.now content_changes in
+        IfOk result (λ edited. edited.skipped ≡ told) }
 {
-    let draft = index.draft(alloc)?;
     let mut steps = Steps::<L>::new(blank);
-    edit_draft(draft, encoding, changes, u32::MAX, &mut steps)
+    edit_with_steps(alloc, encoding, index, content_changes, &mut steps)
 }
 
-/// A document after a list of changes, as `apply_document_changes` has it, and whether one of them was skipped. It takes
-/// the line starts from the index, and copies nothing of it where the last change is the whole text.
+/// The text of a document after a list of changes, as `edit_with_steps` has it.
 pub fn edit_document(
     alloc: Global,
     encoding: PositionEncoding,
@@ -280,12 +396,16 @@ pub fn edit_document(
         IfOk result (λ edited. edited.skipped ≡ told) }
     ensures within { IfOk result (λ edited. length edited.text < 2 ^ 32) }
 {
-    let mut changes = content_changes.into_vec();
-    match whole_text(alloc, &mut changes, u32::MAX) {
-        Some((text, from)) => {
-            let rest = &changes[from..];
-            edit_uncounted::<Brand>(alloc, encoding, text, rest, u32::MAX, Blank::new(1))
-        }
-        None => edit_indexed::<Brand>(alloc, encoding, index, &changes, Blank::new(1)),
-    }
+    let edited = edit_document_uncounted::<Brand>(
+        alloc,
+        encoding,
+        index,
+        content_changes,
+        Blank::new(1),
+    )?;
+    let text = index.text_after(alloc, edited.changed)?;
+    Ok(EditedText {
+        text,
+        skipped: edited.skipped,
+    })
 }

@@ -9,22 +9,24 @@ mod copies;
 mod disjoint;
 mod draft;
 mod editing;
+mod ends;
+mod laws;
 mod line_endings;
 mod offsets;
 mod position;
-#[cfg(test)]
-mod slow;
 mod starts;
 mod steps;
-#[cfg(test)]
-mod tests;
 mod text_index;
 
 pub use change::{CompletionEdit, ContentChange, TextEdit};
 pub use completion::{HashedItem, PostfixMatch, RefMode, Relevance, ReturnType, TypeMatch};
 pub use completion_hash::{completion_item_hash, equal_bytes_are_equal_items};
 pub use disjoint::all_edits_are_disjoint;
-pub use editing::{EditedText, apply_document_changes, apply_with_limit, edit_document};
+pub use editing::{
+    EditedDocument, EditedText, apply_document_changes, apply_with_limit, edit_document,
+    edit_with_steps,
+};
+pub use laws::columns_stand_behind_their_units;
 pub use line_endings::LineEndings;
 pub use position::{OffsetFault, Position, PositionEncoding, Range, WideEncoding};
 pub use steps::Steps;

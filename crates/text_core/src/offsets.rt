@@ -1,7 +1,10 @@
 // Places of positions.
-ghost use Rattle.std.specs.Prelude.{◌≡◌, ◌+◌, ◌<◌, ◌≤◌, ◌^◌, length, max, slice_get, IfSome, IfOk, unwrap_or};
+ghost use Rattle.std.specs.Prelude.{◌≡◌, ◌+◌, ◌<◌, ◌≤◌, ◌^◌, length, max, slice_get, IfSome, IfOk, IsTrue, unwrap_or};
 ghost use Rattle.std.specs.String.Boundary.{IsSplitPoint};
-ghost use Rattle.text_core.specs.Positions.{is_inside, code_units, units, past_units, line_start, line_end, line_span, place_of, range_of};
+ghost use Rattle.text_core.specs.Positions.{is_inside, code_units, past_units, line_start, line_end, line_span, place_of, range_of};
+ghost use Rattle.text_core.specs.declared.position.PositionEncoding.TheVariants.{Utf8, Wide};
+ghost use Rattle.text_core.specs.declared.position.WideEncoding.TheVariants.{Utf16};
+ghost use Rattle.text_core.specs.Runs.{IsAsciiRun};
 ghost use Rattle.text_core.specs.Starts.{KnowsLines};
 
 use crate::position::{OffsetFault, Position, PositionEncoding, Range, WideEncoding};
@@ -24,35 +27,72 @@ fn code_units(byte: u8) -> u32
     }
 }
 
-/// What a byte counts in a column.
-fn units(encoding: PositionEncoding, byte: u8) -> u32
-    ensures { result ≡ units encoding byte }
+/// How many bytes of a line stand before a column of bytes.
+#[tactic(auto, using(crate::proofs::LineLemmas::byte_steps))]
+fn past_bytes(line: &[u8], column: u32) -> Option<usize>
+    ensures { result ≡ past_units Utf8 column line.now }
 {
-    match encoding {
-        PositionEncoding::Utf8 => 1,
-        PositionEncoding::Wide(WideEncoding::Utf16) => code_units(byte),
+    let place = column as usize;
+    if line.len() <= place {
+        return Some(line.len());
     }
+    if is_inside(line[place]) {
+        return None;
+    }
+    Some(place)
 }
 
-/// How many bytes of a line stand before a column.
+/// How many bytes are tested at once.
+const BLOCK: usize = 32;
+
+/// Whether so many units stand left that a block of ASCII at a place is before the column.
+fn is_block_before(line: &[u8], i: usize, left: u32) -> bool
+    requires { i ≤ length line.now }
+    ensures { IsTrue result → IsAsciiRun line.now i 32 × (32 ≤ left) }
+{
+    BLOCK <= line.len() - i && BLOCK as u32 <= left && line[i..i + BLOCK].is_ascii()
+}
+
+/// How many bytes of a line stand before a column of UTF-16 code units. A block of ASCII is passed at once.
 #[tactic(auto, using(crate::proofs::LineLemmas::past_steps))]
-fn past_units(encoding: PositionEncoding, line: &[u8], column: u32) -> Option<usize>
-    ensures value { result ≡ past_units encoding column line.now }
-    ensures within { IfSome result (λ n. n ≤ length line.now) }
+fn past_code_units(line: &[u8], column: u32) -> Option<usize>
+    ensures { result ≡ past_units (Wide Utf16) column line.now }
 {
     let mut left = column;
-    for (i, byte) in line.iter().enumerate() {
-        let units = units(encoding, *byte);
+    let mut tested = 0;
+    let mut i = 0;
+    while i < line.len() {
+        if tested <= i {
+            if is_block_before(line, i, left) {
+                left -= BLOCK as u32;
+                i += BLOCK;
+                continue;
+            }
+            tested = i + BLOCK;
+        }
+        let units = code_units(line[i]);
         if left < units {
-            return if left == 0 && !is_inside(*byte) {
+            return if left == 0 && !is_inside(line[i]) {
                 Some(i)
             } else {
                 None
             };
         }
         left -= units;
+        i += 1;
     }
     Some(line.len())
+}
+
+/// How many bytes of a line stand before a column.
+fn past_units(encoding: PositionEncoding, line: &[u8], column: u32) -> Option<usize>
+    ensures value { result ≡ past_units encoding column line.now }
+    ensures within { IfSome result (λ n. n ≤ length line.now) }
+{
+    match encoding {
+        PositionEncoding::Utf8 => past_bytes(line, column),
+        PositionEncoding::Wide(WideEncoding::Utf16) => past_code_units(line, column),
+    }
 }
 
 /// A line's start.

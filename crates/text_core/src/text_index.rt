@@ -1,14 +1,19 @@
 // Lines of a text, and the offsets of positions in it.
-ghost use Rattle.std.specs.Prelude.{◌≡◌, ◌+◌, ◌<◌, ◌↔◌, ◌^◌, [], length, count_by, IsTrue, IfOk, IsNone, string_bytes};
+ghost use Rattle.std.specs.Prelude.{◌≡◌, ◌≢◌, ◌+◌, ◌<◌, ◌≤◌, ◌↔◌, ◌^◌, ℕ, List, [], length, count_by, IsTrue, IfOk, IsNone, string_bytes, unwrap_or};
 ghost use Rattle.std.specs.Arc.{arc_value};
+ghost use Rattle.std.specs.String.Boundary.{IsSplitPoint};
+ghost use Rattle.text_core.specs.Changes.{IsOther};
+ghost use Rattle.text_core.specs.Ends.{HasEnds, ComesFrom};
 ghost use Rattle.text_core.specs.Kept.{IsNewDraft};
 ghost use Rattle.text_core.specs.Positions.{ends_line, line_span, place_of, range_of};
+ghost use Rattle.text_core.specs.Starts.{line_starts};
 
-use crate::draft::Draft;
+use crate::draft::{Draft, copy_with_room};
+use crate::ends::Ends;
 use crate::line_endings::LineEndings;
 use crate::offsets;
 use crate::position::{OffsetFault, Position, PositionEncoding, Range};
-use crate::starts::find_starts;
+use crate::starts::{find_starts, push_moved, push_starts, starts_up_to};
 use plain::Text;
 use std::alloc::{AllocError, Global};
 use std::marker::Model;
@@ -61,18 +66,103 @@ impl TextIndex {
         self.text.as_str()
     }
 
-    /// A draft of the text, with the line starts that are known.
-    pub(crate) fn draft(&self, alloc: Global) -> Result<Draft, AllocError>
+    /// A draft of the text with room for so many bytes more, and with the line starts that are known.
+    pub(crate) fn draft(&self, alloc: Global, room: usize) -> Result<Draft, AllocError>
         ensures new { IfOk result IsNewDraft }
         ensures text { IfOk result (λ draft. string_bytes draft.text ≡ self.now) }
         ensures within { IfOk result (λ draft. length (string_bytes draft.text) < 2 ^ 32) }
     {
         Ok(Draft {
-            text: String::from_str(alloc, self.text.as_str())?,
+            text: copy_with_room(alloc, self.text.as_str(), room)?,
             starts: self.starts.to_vec(alloc)?,
             least: None,
             skipped: false,
+            ends: None,
         })
+    }
+
+    /// The starts of the lines of a text that has the ends of this one. Only what stands between them is searched.
+    fn starts_of(&self, alloc: Global, text: &[u8], ends: Ends) -> Result<Vec<u32>, AllocError>
+        requires within { length text.now < 2 ^ 32 }
+        requires ends { HasEnds self.now text.now ends }
+        ensures { IfOk result (λ starts. starts.items ≡ line_starts text.now) }
+    {
+        let old_end = self.text.len() - ends.back;
+        let end = text.len() - ends.back;
+        let front = starts_up_to(&self.starts, ends.front);
+        let back = starts_up_to(&self.starts, old_end);
+        let mut starts = Vec::with_capacity(alloc, self.starts.len())?;
+        starts.extend_from_slice(&self.starts[..front])?;
+        push_starts(&mut starts, &text[ends.front..end], ends.front)?;
+        push_moved(&mut starts, &self.starts[back..], old_end, end)?;
+        Ok(starts)
+    }
+
+    /// Whether a text that has the ends of this one is the same text. Only what stands between them is compared.
+    fn is_same(&self, text: &[u8], ends: Ends) -> bool
+        requires { HasEnds self.now text.now ends }
+        ensures { IsTrue result ↔ (text.now ≡ self.now) }
+    {
+        let old_end = self.text.len() - ends.back;
+        let end = text.len() - ends.back;
+        self.text.as_str().as_bytes()[ends.front..old_end] == text[ends.front..end]
+    }
+
+    /// The text that edits of this one left, with its lines, where it is another one.
+    pub(crate) fn changed(
+        &self,
+        alloc: Global,
+        text: String,
+        ends: Option<Ends>,
+    ) -> Result<Option<TextIndex>, AllocError>
+        requires within { length (string_bytes text) < 2 ^ 32 }
+        requires from { ComesFrom self.now (string_bytes text) ends }
+        ensures { IfOk result (IsOther self.now (string_bytes text)) }
+    {
+        let Some(ends) = ends else {
+            return Ok(None);
+        };
+        if self.is_same(text.as_bytes(), ends) {
+            return Ok(None);
+        }
+        let starts = self.starts_of(alloc, text.as_bytes(), ends)?;
+        Ok(Some(TextIndex {
+            text: Text::from_string(text),
+            starts,
+        }))
+    }
+
+    /// The text with its lines, where it is another one than that of an index.
+    pub(crate) fn unless_same(self, old: &TextIndex) -> Option<TextIndex>
+        ensures { IsOther old.now self result }
+    {
+        if self.text() == old.text() {
+            return None;
+        }
+        Some(self)
+    }
+
+    /// The text that was changed, or else a copy of this one.
+    pub(crate) fn text_after(
+        &self,
+        alloc: Global,
+        changed: Option<TextIndex>,
+    ) -> Result<Text, AllocError>
+        ensures value { IfOk result (λ text. text ≡ unwrap_or changed self.now) }
+        ensures within { IfOk result (λ text. length text < 2 ^ 32) }
+    {
+        match changed {
+            Some(changed) => Ok(changed.into_text()),
+            None => Text::from_str(alloc, self.text.as_str()),
+        }
+    }
+
+    /// The text without its lines.
+    pub fn into_text(self) -> Text
+        ensures value { result ≡ self }
+        ensures within { length result < 2 ^ 32 }
+    {
+        self.text
     }
 
     /// Where a line begins and ends, with its LF.
@@ -112,7 +202,8 @@ impl TextIndex {
         encoding: PositionEncoding,
         position: Position,
     ) -> Result<u32, OffsetFault>
-        ensures { result ≡ place_of encoding self.now position }
+        ensures value { result ≡ place_of encoding self.now position }
+        ensures split { IfOk result (IsSplitPoint self.now) }
     {
         let place = offsets::place_of(encoding, self.text.as_str(), &self.starts, position)?;
         Ok(place as u32)
@@ -124,7 +215,10 @@ impl TextIndex {
         encoding: PositionEncoding,
         range: Range,
     ) -> Result<(u32, u32), OffsetFault>
-        ensures { result ≡ range_of encoding self.now range }
+        ensures value { result ≡ range_of encoding self.now range }
+        ensures start_split { IfOk result (λ offsets. IsSplitPoint self.now offsets.0) }
+        ensures end_split { IfOk result (λ offsets. IsSplitPoint self.now offsets.1) }
+        ensures rising { IfOk result (λ offsets. offsets.0 ≤ offsets.1) }
     {
         let (start, end) = offsets::range_of(encoding, self.text.as_str(), &self.starts, range)?;
         Ok((start as u32, end as u32))
@@ -139,16 +233,20 @@ pub struct LineIndex {
     pub encoding: PositionEncoding,
 }
 
-/// The byte at which a position stands.
+/// The byte at which a position stands, between whole characters of the text.
 pub fn offset(line_index: &LineIndex, position: Position) -> Result<u32, OffsetFault>
-    ensures { result ≡ place_of line_index.now.encoding (arc_value line_index.now.index) position }
+    ensures value { result ≡ place_of line_index.now.encoding (arc_value line_index.now.index) position }
+    ensures split { IfOk result (IsSplitPoint (arc_value line_index.now.index)) }
 {
     line_index.index.place_of(line_index.encoding, position)
 }
 
-/// The bytes from which and up to which a range goes.
+/// The bytes from which and up to which a range goes, each between whole characters of the text.
 pub fn text_range(line_index: &LineIndex, range: Range) -> Result<(u32, u32), OffsetFault>
-    ensures { result ≡ range_of line_index.now.encoding (arc_value line_index.now.index) range }
+    ensures value { result ≡ range_of line_index.now.encoding (arc_value line_index.now.index) range }
+    ensures start_split { IfOk result (λ offsets. IsSplitPoint (arc_value line_index.now.index) offsets.0) }
+    ensures end_split { IfOk result (λ offsets. IsSplitPoint (arc_value line_index.now.index) offsets.1) }
+    ensures rising { IfOk result (λ offsets. offsets.0 ≤ offsets.1) }
 {
     line_index.index.range_of(line_index.encoding, range)
 }

@@ -1,24 +1,26 @@
 use Rattle.std.proofs.Common.{sym, ap, ◌∙◌}
-use Rattle.std.specs.Cmp.{nat_cmp_total}
-use Rattle.std.specs.FinMap as map
-use Rattle.op_board.specs.Checks.{drop_in, drops_at}
-use Rattle.op_board.proofs.Rooms.{remove_none, put_back}
+use Rattle.op_board.specs.Checks.{with_left, drop_in, drops_at}
+use Rattle.op_board.proofs.Lending.{on_some}
+use Rattle.op_board.proofs.Rooms.{left_none, left_some}
 use Rattle.op_board.proofs.clearing.clear_one.Goals as goal
 
-pub returns-in-None : goal.returns-in-None
-returns-in-None c =
-    let none = sym c.remove.ensures.value ∙ c.in-None.is in
-    (λ i. ((c.remove.ensures.map ∙ remove_none nat_cmp_total map.nat_cmp-IsAntisymmetric _ _ none) i, c.args.marks.now))
-    ∙ ap (λ o. drop_in (drops_at c.args.older_than) c.args.id c.args.name o (c.args.checks.now, c.args.marks.now)) (sym none)
-
-pub returns-in_ok-insert-in-Some : goal.returns-in_ok-insert-in-Some
-returns-in_ok-insert-in-Some c =
-    let there = sym c.remove.ensures.value ∙ c.in-Some.is in
-    let whole = c.in_ok-drop_package-in-Some.ensures in
+pub returns-then-is_empty : goal.returns-then-is_empty
+returns-then-is_empty c =
+    let put = on_some c.get_mut.result c.in-Some.packages c.in-Some.is (c.get_mut.follows.holds c.drop_package.new.packages) in
+    let whole = c.in_ok-drop_package.ensures in
     let map_is =
-    c.in_ok-insert-in-Some.ensures
-    ∙ ap (λ m. map.insert m c.args.id c.drop_package.new.packages) c.remove.ensures.map
-    ∙ put_back nat_cmp_total map.nat_cmp-IsAntisymmetric _ _ _
-    ∙ ap (λ t. map.insert c.args.checks.now c.args.id t.0) whole in
+    c.remove.ensures
+    ∙ left_none c.args.checks.now _ c.args.id c.drop_package.new.packages put (sym c.is_empty.ensures ∙ c.if-is_empty.true)
+    ∙ ap (λ t. with_left c.args.id t.0 c.args.checks.now) whole in
     (λ i. (map_is i, (whole i).1))
-    ∙ ap (λ o. drop_in (drops_at c.args.older_than) c.args.id c.args.name o (c.args.checks.now, c.args.marks.now)) (sym there)
+    ∙ ap (λ o. drop_in (drops_at c.args.older_than) c.args.id c.args.name.now o (c.args.checks.now, c.args.marks.now)) c.in-Some.ensures.value
+
+pub returns-else-is_empty : goal.returns-else-is_empty
+returns-else-is_empty c =
+    let put = on_some c.get_mut.result c.in-Some.packages c.in-Some.is (c.get_mut.follows.holds c.drop_package.new.packages) in
+    let whole = c.in_ok-drop_package.ensures in
+    let map_is =
+    left_some c.args.checks.now _ c.args.id c.drop_package.new.packages put (sym c.is_empty.ensures ∙ c.if-is_empty.false)
+    ∙ ap (λ t. with_left c.args.id t.0 c.args.checks.now) whole in
+    (λ i. (map_is i, (whole i).1))
+    ∙ ap (λ o. drop_in (drops_at c.args.older_than) c.args.id c.args.name.now o (c.args.checks.now, c.args.marks.now)) c.in-Some.ensures.value

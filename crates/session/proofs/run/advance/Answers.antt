@@ -5,7 +5,7 @@ use Rattle.session_model.specs.Meaning.{meaning_of}
 use Rattle.session_model.specs.Run.{told_of, fed_bytes}
 use Rattle.session_model.specs.declared.input.Event.TheVariants.{Lsp}
 use Rattle.session_model.specs.declared.input.Input.TheVariants.{Next}
-use Rattle.session_model.proofs.Stretches.{given-none}
+use Rattle.session_laws.proofs.Stretches.{given-none}
 use Rattle.session.specs.Reading.{course_from}
 use Rattle.session.proofs.Endings.{ends-order, breaks_at_once}
 use Rattle.session.proofs.Advancing.{advances-turn}

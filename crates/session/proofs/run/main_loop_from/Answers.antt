@@ -1,5 +1,5 @@
-use Rattle.session_model.proofs.Answered.{run-answered}
-use Rattle.session_model.proofs.Causes.{run-caused, run-complete}
+use Rattle.session_laws.proofs.Answered.{run-answered}
+use Rattle.session_laws.proofs.Causes.{run-caused, run-complete}
 use Rattle.session.proofs.run.main_loop_from.Goals as goal
 
 pub returns-clause-headline : goal.returns-clause-headline

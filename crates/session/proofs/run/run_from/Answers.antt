@@ -1,6 +1,6 @@
 use Rattle.std.proofs.Common.{rules}
 use Rattle.std.proofs.lemmas.Result.{err_from_is_err_and}
-use Rattle.session_model.proofs.Stretches.{stretch-on}
+use Rattle.session_laws.proofs.Stretches.{stretch-on}
 use Rattle.session.proofs.Advancing.{run-none, run-first, run-ends, stretch-start}
 use Rattle.session.proofs.run.run_from.Goals as goal
 

@@ -3,7 +3,7 @@ use Rattle.std.proofs.lemmas.Grind.{common_steps}
 use Rattle.session_port.specs.Record.{AreRising, spawned}
 use Rattle.session_model.specs.Meaning.{Meaning, meaning_of}
 use Rattle.session_model.specs.Run.{Turn, Steps}
-use Rattle.session_model.proofs.Rising.{steps-hand}
+use Rattle.session_laws.proofs.Rising.{steps-hand}
 use Rattle.session.proofs.run.run_turn.Goals as goal
 
 pub order-requires : goal.order-requires

@@ -5,7 +5,7 @@ use Rattle.session_model.specs.Meaning.{meaning_of}
 use Rattle.session_model.specs.Run.{told_of, fed_bytes}
 use Rattle.session_model.specs.declared.input.Event.TheVariants.{Task}
 use Rattle.session_model.specs.declared.input.Input.TheVariants.{Next}
-use Rattle.session_model.proofs.Courses.{course-event, course-fed, course-empty}
+use Rattle.session_laws.proofs.Courses.{course-event, course-fed, course-empty}
 use Rattle.session.specs.Reading.{course_from}
 use Rattle.session.proofs.Endings.{ends-next}
 use Rattle.session.proofs.Advancing.{advances-turn, advances-fed}

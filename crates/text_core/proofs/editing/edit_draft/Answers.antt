@@ -1,5 +1,6 @@
-use Rattle.std.proofs.Common.{◌≡◌, ◌+◌, ℕ, Bool, false, List, length, Option, None, ap, ◌∙◌, arith, string_bytes}
+use Rattle.std.proofs.Common.{◌≡◌, ◌+◌, ℕ, Bool, false, List, Option, None, refl, ap, sym, subst, ◌∙◌, arith, string_bytes}
 use Rattle.std.specs.List.{fold}
+use Rattle.text_core.specs.Ends.{ComesFrom}
 use Rattle.text_core.specs.Rebuilds.{Progress, begun}
 use Rattle.text_core.specs.Whole.{HaveRanges, taken}
 use Rattle.text_core.specs.declared.position.PositionEncoding.{PositionEncoding}
@@ -25,34 +26,39 @@ fresh n text least skipped unedited unnoted =
 pub take_changes-requires-clause-kept : goal.take_changes-requires-clause-kept
 take_changes-requires-clause-kept g c = record {
   fits = c.requires.fits;
-  knows = λ line _. starts-know c.args.draft.starts.items (string_bytes c.args.draft.text) c.requires.new.starts line;
+  knows = λ line _. starts-know c.args.draft.now.starts.items (string_bytes c.args.draft.now.text) c.requires.new.starts line;
 }
 
 pub returns-in_err-take_changes-clause-most : goal.returns-in_err-take_changes-clause-most
 returns-in_err-take_changes-clause-most g c =
-    let start = fresh c.args.steps.now (string_bytes c.args.draft.text) c.args.draft.least c.args.draft.skipped c.requires.new.least c.requires.new.skipped in
-    let end = end_raised c.args.encoding c.args.limit c.args.steps.now _ (string_bytes c.args.draft.text) c.args.changes.now c.requires.ranged start in
+    let start = fresh c.args.steps.now (string_bytes c.args.draft.now.text) c.args.draft.now.least c.args.draft.now.skipped c.requires.new.least c.requires.new.skipped in
+    let end = end_raised c.args.encoding c.args.limit c.args.steps.now _ (string_bytes c.args.draft.now.text) c.args.changes.now c.requires.ranged start in
     omega (arith, c.in_err-take_changes.ensures.most, ap (λ (p : Progress). p.rebuilds) end)
 
-pub returns-clause-edited : goal.returns-clause-edited
-returns-clause-edited g c =
-    let start = fresh c.args.steps.now (string_bytes c.args.draft.text) c.args.draft.least c.args.draft.skipped c.requires.new.least c.requires.new.skipped in
-    let end = end_raised c.args.encoding c.args.limit c.args.steps.now _ (string_bytes c.args.draft.text) c.args.changes.now c.requires.ranged start in
+pub returns-clause-made : goal.returns-clause-made
+returns-clause-made g c =
+    let start = fresh c.args.steps.now (string_bytes c.args.draft.now.text) c.args.draft.now.least c.args.draft.now.skipped c.requires.new.least c.requires.new.skipped in
+    let end = end_raised c.args.encoding c.args.limit c.args.steps.now _ (string_bytes c.args.draft.now.text) c.args.changes.now c.requires.ranged start in
     let same = c.in_ok-take_changes.ensures.progress ∙ end in
     record {
-      text = c.from_string.ensures ∙ ap (λ (p : Progress). p.text) same;
+      text = ap (λ (p : Progress). p.text) same;
       skipped = ap (λ (p : Progress). p.skipped) same;
-      fits = omega (arith, ap length c.from_string.ensures, c.in_ok-take_changes.ensures.kept.fits);
+      fits = c.in_ok-take_changes.ensures.kept.fits;
     }
+
+pub returns-clause-from : goal.returns-clause-from
+returns-clause-from g c =
+    let text = string_bytes c.args.draft.now.text in
+    c.in_ok-take_changes.ensures.from text (subst (ComesFrom text text) (sym c.requires.new.ends) refl)
 
 pub returns-clause-steps : goal.returns-clause-steps
 returns-clause-steps g c =
-    let start = fresh c.args.steps.now (string_bytes c.args.draft.text) c.args.draft.least c.args.draft.skipped c.requires.new.least c.requires.new.skipped in
-    let end = end_raised c.args.encoding c.args.limit c.args.steps.now _ (string_bytes c.args.draft.text) c.args.changes.now c.requires.ranged start in
+    let start = fresh c.args.steps.now (string_bytes c.args.draft.now.text) c.args.draft.now.least c.args.draft.now.skipped c.requires.new.least c.requires.new.skipped in
+    let end = end_raised c.args.encoding c.args.limit c.args.steps.now _ (string_bytes c.args.draft.now.text) c.args.changes.now c.requires.ranged start in
     ap (λ (p : Progress). p.rebuilds) (c.in_ok-take_changes.ensures.progress ∙ end)
 
 pub returns-clause-most : goal.returns-clause-most
 returns-clause-most g c =
-    let start = fresh c.args.steps.now (string_bytes c.args.draft.text) c.args.draft.least c.args.draft.skipped c.requires.new.least c.requires.new.skipped in
-    let end = end_raised c.args.encoding c.args.limit c.args.steps.now _ (string_bytes c.args.draft.text) c.args.changes.now c.requires.ranged start in
+    let start = fresh c.args.steps.now (string_bytes c.args.draft.now.text) c.args.draft.now.least c.args.draft.now.skipped c.requires.new.least c.requires.new.skipped in
+    let end = end_raised c.args.encoding c.args.limit c.args.steps.now _ (string_bytes c.args.draft.now.text) c.args.changes.now c.requires.ranged start in
     omega (arith, ap (λ (p : Progress). p.rebuilds) (c.in_ok-take_changes.ensures.progress ∙ end))

@@ -3,4 +3,4 @@ use Rattle.lsp_frame.proofs.Rows.{id_of-view}
 use Rattle.lsp_frame.proofs.incoming.Incoming.id_of.Goals as goal
 
 pub returns : goal.returns
-returns c = c.get.ensures.value ∙ id_of-view _ _ _ _ c.self.view_is
+returns c = c.get.ensures.value ∙ id_of-view _ _ c.self.view_is c.args.ticket

@@ -1,13 +1,15 @@
 use Rattle.std.proofs.Common.{sym}
-use Rattle.std.specs.FinMap as map
-use Rattle.std.specs.Cmp.{nat_cmp_total}
-use Rattle.lsp_frame.proofs.Rows.{registered-view, same_ids, AnswersBut-twice}
+use Rattle.lsp_frame.proofs.Rows.{free-view, registered-view, entered-kept}
 use Rattle.lsp_frame.proofs.incoming.Incoming.register.Goals as goal
 
-pub returns-in-Ok-clause-ok : goal.returns-in-Ok-clause-ok
-returns-in-Ok-clause-ok c = registered-view _ _ _ _ _ c.self.view_is c.args.ticket c.args.id c.in_ok-before.ensures.ok.0 c.in-Ok.ensures.ok.0
+pub enter-requires : goal.enter-requires
+enter-requires c = free-view _ _ c.self.view_is c.args.ticket c.requires
 
-pub returns-in-Err-clause-err : goal.returns-in-Err-clause-err
-returns-in-Err-clause-err c =
-    let twice = AnswersBut-twice nat_cmp_total map.nat_cmp-IsAntisymmetric _ _ _ c.args.ticket _ _ c.put_back.ensures.0 c.in_ok-before.ensures.ok.0 in
-    rw c.in-Err.ensures.err (same_ids _ _ _ _ c.self.view_is c.args.ticket _ (sym c.in_ok-before.ensures.before) twice)
+pub invariant_of-self-in-None : goal.invariant_of-self-in-None
+invariant_of-self-in-None c =
+    entered-kept _ _ c.self.view_is _ c.self.invariant _ _ c.args.ticket c.args.id c.in_ok-enter-in-None.ensures.ids.0 c.in_ok-enter-in-None.ensures.tickets.0 c.requires
+    (sym c.in-None.ensures.value)
+
+pub returns-in_ok-enter-in-None-clause-ok : goal.returns-in_ok-enter-in-None-clause-ok
+returns-in_ok-enter-in-None-clause-ok c =
+    (sym c.in-None.ensures.value, registered-view _ _ c.self.view_is _ c.args.ticket c.args.id c.in_ok-enter-in-None.ensures.ids.0)

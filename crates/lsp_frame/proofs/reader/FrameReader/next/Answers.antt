@@ -1,4 +1,4 @@
-use Rattle.std.proofs.Common.{ap, sym, ◌∙◌}
+use Rattle.std.proofs.Common.{ap, arith, sym, ◌∙◌}
 use Rattle.std.proofs.lemmas.Bool.{false≢true}
 use Rattle.lsp_frame.specs.Frames.{cut_of}
 use Rattle.lsp_frame.specs.Reader.{Reader}
@@ -22,7 +22,7 @@ returns-in-NeedMore-clause-again c = λ failed.
     absurd (false≢true (sym (sound_waiting c.args.self.now (sym c.in-NeedMore.ensures.cut) c.in-NeedMore.ensures.faulty) ∙ failed))
 
 pub returns-in-NeedMore-clause-bound : goal.returns-in-NeedMore-clause-bound
-returns-in-NeedMore-clause-bound c = rw c.in-NeedMore.ensures.same (need_more_bound _ (sym c.in-NeedMore.ensures.cut))
+returns-in-NeedMore-clause-bound c = rw c.in-NeedMore.ensures.same (let most = need_more_bound c.args.self.now.held (sym c.in-NeedMore.ensures.cut) in omega (arith, most))
 
 pub returns-in_ok-take-in-Frame-clause-shorter : goal.returns-in_ok-take-in-Frame-clause-shorter
 returns-in_ok-take-in-Frame-clause-shorter c = rw (← c.in-Frame.ensures.same) (gives_shorter _ _ _ c.in_ok-take-in-Frame.ensures.message)

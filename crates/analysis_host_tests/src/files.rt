@@ -1,0 +1,149 @@
+// Files, hosts and snapshots that the tests stand on. Nothing is claimed of them but what calls require.
+ghost use Rattle.std.specs.Prelude.{All, IfOk, OnOk};
+ghost use Rattle.analysis_host.specs.HostData.{Fits};
+
+use analysis_host::{
+    AnalysisHost, Change, FileChange, GlobalStateSnapshot, SharedText, SnapshotParts, Versions,
+    World, WorldFault,
+};
+use docs_vfs::VfsPath;
+use plain::{Items, Text};
+use ra_config::Config;
+use std::alloc::Global;
+use std::sync::Arc;
+use std::test::Fail;
+
+/// A path, or a failed test.
+pub fn path_at(alloc: Global, text: &str) -> Result<VfsPath, Fail> {
+    Ok(VfsPath::new(alloc, text)?.ok_or("no path")?)
+}
+
+/// One file more, or a failed test where its text is too long for a world.
+pub fn push_file(
+    alloc: Global,
+    files: &mut Items<FileChange>,
+    path: &str,
+    text: Option<&str>,
+) -> Result<(), Fail>
+    requires { All Fits files.old }
+    ensures { OnOk result (All Fits files.new) }
+{
+    let text = match text {
+        Some(text) if text.len() > u32::MAX as usize => return Err(Fail::from("too long")),
+        Some(text) => Some(Text::from_str(alloc, text)?),
+        None => None,
+    };
+    let path = path_at(alloc, path)?;
+    files.push(FileChange { path, text })?;
+    Ok(())
+}
+
+/// The change of one file.
+pub fn files_of(alloc: Global, path: &str, text: Option<&str>) -> Result<Items<FileChange>, Fail>
+    ensures { IfOk result (All Fits) }
+{
+    let mut files = Items::new(alloc);
+    push_file(alloc, &mut files, path, text)?;
+    Ok(files)
+}
+
+/// The world with one text after another at `/w/a.rs`.
+pub fn world_of_two(alloc: Global, first: &str, second: &str) -> Result<World, Fail> {
+    let mut files = files_of(alloc, "/w/a.rs", Some(first))?;
+    push_file(alloc, &mut files, "/w/a.rs", Some(second))?;
+    let mut host = AnalysisHost::new(alloc)?;
+    done(host.apply_change(Change { files }))?;
+    Ok(host.world()?)
+}
+
+/// A change that was made, or a failed test.
+pub fn done(answer: Result<(), WorldFault>) -> Result<(), Fail> {
+    match answer {
+        Ok(()) => Ok(()),
+        Err(_) => Err(Fail::from("no change")),
+    }
+}
+
+/// A host whose last revision has this number.
+pub fn host_at(alloc: Global, used: u64) -> Result<AnalysisHost, Fail> {
+    Ok(AnalysisHost::new_at(alloc, used)?)
+}
+
+/// What the change of one file answers.
+pub fn change_file(
+    alloc: Global,
+    host: &mut AnalysisHost,
+    path: &str,
+    text: Option<&str>,
+) -> Result<Result<(), WorldFault>, Fail> {
+    let files = files_of(alloc, path, text)?;
+    Ok(host.apply_change(Change { files }))
+}
+
+/// What the change of no file answers.
+pub fn change_nothing(alloc: Global, host: &mut AnalysisHost) -> Result<(), WorldFault> {
+    let files = Items::new(alloc);
+    host.apply_change(Change { files })
+}
+
+/// The present text of a path, and the revision.
+pub fn present<'a>(host: &'a AnalysisHost, path: &VfsPath) -> (Option<&'a str>, u64) {
+    (host.text(path), host.revision())
+}
+
+/// The versions with this one at the path, or with none.
+pub fn with_version(
+    alloc: Global,
+    versions: &Versions,
+    path: &VfsPath,
+    version: Option<i32>,
+) -> Result<Versions, Fail> {
+    Ok(versions.set(alloc, path.clone()?, version)?)
+}
+
+/// The version of a path.
+pub fn version_at(versions: &Versions, path: &VfsPath) -> Option<i32> {
+    versions.get(path)
+}
+
+/// Settings as they are by default.
+fn settings(alloc: Global) -> Result<Arc<Config, Global>, Fail> {
+    let config = Config::new(alloc, path_at(alloc, "/w")?, 4)?;
+    Ok(Arc::new(alloc, config)?)
+}
+
+fn frozen(
+    world: World,
+    versions: Versions,
+    config: Arc<Config, Global>,
+    revision: u64,
+) -> GlobalStateSnapshot {
+    GlobalStateSnapshot::new(SnapshotParts {
+        world,
+        versions,
+        config,
+        revision,
+    })
+}
+
+/// Versions that say 3 at `/w/a.rs`.
+fn third_version(alloc: Global) -> Result<Versions, Fail> {
+    let versions = Versions::new(alloc)?;
+    with_version(alloc, &versions, &path_at(alloc, "/w/a.rs")?, Some(3))
+}
+
+/// A snapshot with one text, of version 3, at revision 9.
+pub fn snapshot(alloc: Global) -> Result<GlobalStateSnapshot, Fail> {
+    let config = settings(alloc)?;
+    let versions = third_version(alloc)?;
+    let world = world_of_two(alloc, "", "mod b;")?;
+    Ok(frozen(world, versions, config, 9))
+}
+
+/// A text that worlds share, or a failed test where it is too long for one.
+pub fn shared(alloc: Global, text: &str) -> Result<SharedText, Fail> {
+    if text.len() > u32::MAX as usize {
+        return Err(Fail::from("too long"));
+    }
+    Ok(SharedText::new(alloc, Text::from_str(alloc, text)?)?)
+}

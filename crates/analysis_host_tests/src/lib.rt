@@ -1,0 +1,15 @@
+//! Tests of `analysis_host`, by its public calls alone.
+#![tactic(auto)]
+
+#[cfg(test)]
+mod files;
+#[cfg(test)]
+mod places;
+#[cfg(test)]
+mod polls;
+#[cfg(test)]
+mod threads;
+#[cfg(test)]
+mod trees;
+#[cfg(test)]
+mod worlds;

@@ -1,0 +1,60 @@
+-- Which types may go to another thread, and which ones threads may share, from the lowest up. The tree in a world and
+-- in the versions leads back to itself, so the check doesn't find the types above it. It finds all others by itself.
+use denote.Param.Send.{IsSend, IsSync, view_send, view_sync, sendable}
+use denote.Param.SendFields.{declared_send, declared_sync, variants_send}
+use Rattle.std.proofs.Crossing as heap
+use Rattle.shared_map.proofs.tree.Tree.TheLaws.TheKnot as knot
+use Rattle.plain.proofs.text.Text.TheSendSync as Text
+use Rattle.docs_vfs.proofs.path.VfsPath.TheSendSync as VfsPath
+use Rattle.ra_config.proofs.config.Config.TheSendSync as Config
+use Rattle.analysis_host.proofs.shared_text.SharedText.TheSendSync as SharedText
+use Rattle.analysis_host.specs.contracts.snapshot.GlobalStateSnapshot as Snapshot
+use Rattle.analysis_host.specs.contracts.snapshot.GlobalStateSnapshot.TheInside as SnapshotInside
+use Rattle.analysis_host.specs.contracts.snapshot.SnapshotParts as SnapshotParts
+use Rattle.analysis_host.specs.contracts.versions.Versions as Versions
+use Rattle.analysis_host.specs.contracts.world.World as World
+use Rattle.session_port.proofs.command.LogCode.TheSendSync as LogCode
+use Rattle.session_port.proofs.job.JobKind.TheSendSync as JobKind
+use Rattle.session_port.proofs.job.PoolClass.TheSendSync as PoolClass
+use Rattle.session_port.specs.contracts.command.Command as Command
+use Rattle.session_port.specs.contracts.job.Job as Job
+
+ruleset trees = (SharedText.the_send, SharedText.the_sync, VfsPath.the_send, VfsPath.the_sync, heap.crosses, knot.crosses, sendable)
+
+pub world_send : IsSend World.the_row
+world_send = search trees depth 60 fits 20000
+
+pub world_sync : IsSync World.the_row
+world_sync = search trees depth 60 fits 20000
+
+pub versions_send : IsSend Versions.the_row
+versions_send = search trees depth 60 fits 20000
+
+pub versions_sync : IsSync Versions.the_row
+versions_sync = search trees depth 60 fits 20000
+
+pub parts_send : IsSend SnapshotParts.the_row
+parts_send = declared_send SnapshotParts.the_type (search (world_send, versions_send, Config.the_send, Config.the_sync, heap.Arc-send, sendable) depth 20 fits 20000)
+
+pub parts_sync : IsSync SnapshotParts.the_row
+parts_sync = declared_sync SnapshotParts.the_type (search (world_sync, versions_sync, Config.the_send, Config.the_sync, heap.Arc-sync, sendable) depth 20 fits 20000)
+
+pub snapshot_send : IsSend Snapshot.the_row
+snapshot_send = view_send SnapshotInside.the_row _ _ _ _ (declared_send SnapshotInside.the_type (search (parts_send, sendable) depth 20 fits 20000))
+
+pub snapshot_sync : IsSync Snapshot.the_row
+snapshot_sync = view_sync SnapshotInside.the_row _ _ _ _ (declared_sync SnapshotInside.the_type (search (parts_sync, sendable) depth 20 fits 20000))
+
+pub job_send : IsSend Job.the_row
+job_send = declared_send Job.the_type (search (PoolClass.the_send, JobKind.the_send, snapshot_send, sendable) depth 20 fits 20000)
+
+pub job_sync : IsSync Job.the_row
+job_sync = declared_sync Job.the_type (search (PoolClass.the_sync, JobKind.the_sync, snapshot_sync, sendable) depth 20 fits 20000)
+
+pub command_send : IsSend Command.the_row
+command_send = variants_send Command.enum (search (job_send, LogCode.the_send, Text.the_send, sendable) depth 20 fits 20000)
+
+-- for a type or a closure that holds one of these
+pub ruleset sends = (world_send, versions_send, snapshot_send, job_send, command_send, heap.Arc-send)
+
+pub ruleset syncs = (world_sync, versions_sync, snapshot_sync, job_sync, heap.Arc-sync)

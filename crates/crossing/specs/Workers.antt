@@ -1,0 +1,21 @@
+-- What is known of a worker that was started.
+use Rattle.std.specs.Prelude.{◌≡◌}
+use Rattle.analysis_host.specs.Answers.{Finding}
+use Rattle.analysis_host.specs.SnapshotData.{SnapshotData}
+use Rattle.analysis_host.specs.declared.ask.Ask.{Ask}
+use Rattle.session_port.specs.Jobs.{final_of}
+use Rattle.session_port.specs.Honest.{IsResultOf}
+use Rattle.session_port.specs.declared.event.TaskMsg.{TaskMsg}
+use Rattle.session_port.specs.declared.job.Job.{Job}
+use Rattle.crossing.specs.declared.worker.Worker.{Worker}
+use Rattle.crossing.specs.declared.worker.Worker.TheVariants.{Running, Ended}
+
+-- the message has this job's number, and brings a result of this job
+abbrev pub IsMessageOf : (SnapshotData → Ask → Finding) → Job → TaskMsg → Type 0
+IsMessageOf answer job message = (message.job ≡ job.number) × IsResultOf answer job (final_of message.body)
+
+module _ {A : Type 0} where
+  -- it promises this job's message, or has it
+  abbrev pub IsStarted : (SnapshotData → Ask → Finding) → Job → Worker A → Type 0
+  IsStarted answer job (Running handle) = handle.promise.job.value ≡ job
+  IsStarted answer job (Ended message) = IsMessageOf answer job message

@@ -1,0 +1,5 @@
+pub mod Bytes
+pub mod Posting
+pub mod Readers
+pub mod Rule
+pub mod Opens

@@ -1,0 +1,40 @@
+//! What stands in the inbox, and what a thread knows of it.
+use crate::told::Token;
+use plain::Bytes;
+use std::collections::LinkedList;
+
+/// One entry of the inbox.
+#[derive(Drop)]
+pub enum Entry {
+    /// The source as it was when the host was made.
+    Opened(Token),
+    /// A piece that the reader read.
+    Piece(Bytes),
+    /// The source has ended.
+    Ended,
+    /// The source failed, and is now this one.
+    Failed(Token),
+    /// The reader found no memory.
+    NoMemory,
+    /// The job with this number is done.
+    Done(u64),
+}
+
+/// What a pass knows. No value of it is made.
+pub struct Knows {
+    /// It is the reader's pass.
+    pub reads: bool,
+    /// It is the host's pass.
+    pub takes: bool,
+    /// Whether the reader has posted its last entry.
+    pub closed: bool,
+    /// The bytes that the source held at the start.
+    pub held: Option<LinkedList<u8>>,
+    /// The faults that it had then.
+    pub faults: u64,
+    /// The bytes that the source holds now.
+    pub left: Option<LinkedList<u8>>,
+    pub posted: LinkedList<Entry>,
+    pub taken: LinkedList<Entry>,
+    pub done: LinkedList<u64>,
+}

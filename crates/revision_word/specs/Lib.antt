@@ -1,0 +1,4 @@
+pub mod Keys
+pub mod Polled
+pub mod Seated
+pub mod Sights

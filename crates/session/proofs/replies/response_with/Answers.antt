@@ -1,5 +1,0 @@
-use Rattle.session.proofs.Writable.{value_writable}
-use Rattle.session.proofs.replies.response_with.Goals as goal
-
-pub returns-clause-writable : goal.returns-clause-writable
-returns-clause-writable c = value_writable c.args.id c.args.value c.requires

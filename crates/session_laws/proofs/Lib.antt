@@ -1,0 +1,17 @@
+pub mod Answered
+pub mod Appends
+pub mod Causes
+pub mod Counted
+pub mod Courses
+pub mod Fitting
+pub mod Handed
+pub mod Held
+pub mod Joined
+pub mod Keyed
+pub mod Orders
+pub mod Reacting
+pub mod Results
+pub mod Rising
+pub mod Rows
+pub mod Settling
+pub mod Stretches

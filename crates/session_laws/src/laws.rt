@@ -1,0 +1,43 @@
+// Laws of the definitions: of what a session reads and writes, and of the machine and the reply table.
+ghost use Rattle.std.specs.Prelude.{◌≡◌, ◌≤◌, ◌++◌, ◌∷◌, ℕ, List, map, Some};
+ghost use Rattle.lsp_frame.specs.declared.message.Message.{Message};
+ghost use Rattle.ra_config.specs.Config.{ConfigData};
+ghost use Rattle.session_port.specs.declared.event.HostEvent.{HostEvent};
+ghost use Rattle.session_port.specs.declared.event.HostEvent.TheVariants.{Bytes};
+ghost use Rattle.session_model.specs.Course.{course_of};
+ghost use Rattle.session_model.specs.Headline.{Place, beginning, place_after, reaction_of, row};
+ghost use Rattle.session_laws.specs.Invariant.{SoundAt, Stands, StepFits};
+ghost use Rattle.session_model.specs.Meaning.{Meaning};
+ghost use Rattle.session_model.specs.Run.{Turn, Runs, Steps};
+ghost use Rattle.session_model.specs.State.{State, fresh};
+ghost use Rattle.session_model.specs.Written.{AreRead, AreShort, frames_for, messages_in};
+
+/// Bytes that come are as bytes that are held: a session's course is that of its bytes, however they are cut.
+pub fn any_pieces()
+    ensures { (at : ℕ) (held : List ℕ) (byte : ℕ) (bytes : List ℕ) (events : List HostEvent)
+        → course_of at held (Bytes (byte ∷ bytes) ∷ events) ≡ course_of at (held ++ byte ∷ bytes) events }
+{}
+
+/// The messages of a turn are those that its bytes hold.
+pub fn turns_are_read()
+    ensures { (messages : List Message) → AreRead messages → AreShort messages → messages_in (frames_for messages) ≡ map Some messages }
+{}
+
+/// A turn of the machine is its row of the reply table.
+pub fn steps_are_rows()
+    ensures { (meaning : Meaning) (old : State) (turn : Turn) (new : State) → Steps meaning old turn new → StepFits meaning old turn new }
+{}
+
+/// The turn invariant holds at the beginning, and each turn that is its row, and in which the revision doesn't fall, keeps it.
+pub fn rows_keep_the_invariant()
+    ensures beginning { SoundAt beginning }
+    ensures kept { (meaning : Meaning) (config : ConfigData) (turn : Turn) (place : Place)
+        → reaction_of turn ≡ row meaning config turn.input place → place.revision ≤ (place_after turn place).revision
+        → SoundAt place → SoundAt (place_after turn place) }
+{}
+
+/// The turn invariant holds after each list of the machine's turns, and the machine stands where these lists say.
+pub fn runs_keep_the_invariant()
+    ensures { (meaning : Meaning) (config : ConfigData) (turns : List Turn) (last : State)
+        → Runs meaning (fresh config) turns last → Stands config turns last }
+{}

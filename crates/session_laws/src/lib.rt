@@ -1,0 +1,9 @@
+//! Laws over the session machine, without code: a turn is its row of the reply table, rows keep what holds between
+//! turns, and a run gives each request its answer. A changed body of the session rechecks nothing here.
+#![tactic(auto)]
+
+mod laws;
+
+pub use laws::{
+    any_pieces, rows_keep_the_invariant, runs_keep_the_invariant, steps_are_rows, turns_are_read,
+};

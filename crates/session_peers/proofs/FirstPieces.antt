@@ -1,0 +1,103 @@
+-- The first piece of the bytes that a source gives frame by frame.
+use Rattle.std.proofs.Common.{◌≡◌, ◌≢◌, ◌<◌, ◌≤◌, ◌-◌, ℕ, Bool, true, List, [], ◌++◌, length, take, drop, refl, sym, ap, subst, ◌∙◌, arith, append_assoc}
+use Rattle.std.specs.Prelude.{Option, None, Some}
+use Rattle.std.specs.FinMap as map
+use Rattle.std.proofs.lemmas.List.{append-nil, nil_from_length, take_all, take-append-drop, take-append-le}
+use Rattle.analysis_host.specs.Answers.{Finding}
+use Rattle.analysis_host.specs.SnapshotData.{SnapshotData}
+use Rattle.analysis_host.specs.declared.ask.Ask.{Ask}
+use Rattle.lsp_frame.proofs.Cuts.{cut_bounds, cut_more, need_more_bound}
+use Rattle.lsp_frame.specs.Frames.{cut_of, head_of, head_at, window}
+use Rattle.lsp_frame.specs.Find.{place_of}
+use Rattle.lsp_frame.specs.declared.frame.Cut.{Cut}
+use Rattle.lsp_frame.specs.declared.frame.Cut.TheVariants.{NeedMore, Bad, Frame}
+use Rattle.session_peers.specs.Coming.{Comes, ComesAsBytes, ComesAsEnd, source_after}
+use Rattle.session_peers.specs.Framed.{FramedData, waiting, IsRead, EndsBy, EndsPiece}
+use Rattle.session_peers.specs.Inline.{InlineData, IsFirstPiece, IsNextPiece, GivesBytes, IfBytes}
+use Rattle.session_port.specs.Jobs.{Jobs}
+use Rattle.session_port.specs.Record.{before_piece}
+use Rattle.session_port.specs.declared.event.HostEvent.{HostEvent}
+use Rattle.session_port.specs.declared.event.HostEvent.TheVariants.{Bytes, Ended, Tasks}
+
+-- while more bytes are needed each read brings the bound nearer
+pub read_nearer : (old new : FramedData) (more : Bool) (held : List ℕ) → IsRead old new more → more ≡ true → held ≡ old.held → NeedMore ≡ cut_of held
+    → 67112960 - length new.held < 67112960 - length old.held
+read_nearer old new more held read is same needs =
+    let brought : IsRead old new true = subst (IsRead old new) is read in
+    let bound : length held ≤ 67112959 = need_more_bound held (sym needs) in
+    omega (arith, brought.0, bound, ap length same)
+
+-- nothing is the beginning of a frame
+cut_nothing : cut_of [] ≡ NeedMore
+unfolding cut_of head_of head_at window place_of
+cut_nothing = refl
+
+-- where the next piece is empty nothing is held and nothing is left
+pub comes_as_end : (out : Jobs) (source : FramedData) (end : ℕ) → out ≡ map.empty → EndsPiece source end → end ≡ 0 → ComesAsEnd out source
+comes_as_end out source end idle ends zero = by_cut (cut_of source.held) refl ends
+  where
+    none : end ≡ length source.held → source.held ≡ []
+    none is = nil_from_length source.held (sym is ∙ zero)
+
+    by_cut : (c : Cut) → cut_of source.held ≡ c → EndsBy source end c → ComesAsEnd out source
+    by_cut NeedMore cut is = record { idle = idle; none = none is.0; dry = is.1 }
+    by_cut Bad cut is = let differs : Bad ≡ NeedMore = sym cut ∙ ap cut_of (none is) ∙ cut_nothing in cc
+    by_cut (Frame body_start body_end) cut is =
+        let bounds = cut_bounds source.held body_start body_end cut in absurd (omega (arith, bounds.low, bounds.order, is, zero))
+
+-- a piece, and then the bytes behind it
+before_both : (piece behind : List ℕ) (left : Option (List ℕ)) → before_piece (piece ++ behind) left ≡ before_piece piece (before_piece behind left)
+before_both piece behind None = refl
+before_both piece behind (Some left) = ap Some (append_assoc piece behind left)
+
+module _ (out : Jobs) (source : FramedData) (piece : List ℕ) (comes : ComesAsBytes out source piece) where
+  held_parted : source.held ≡ piece ++ drop (length piece) source.held
+  held_parted = sym (take-append-drop (length piece) source.held) ∙ ap (λ front. front ++ drop (length piece) source.held) (sym comes.is)
+
+  waiting_parted : waiting source ≡ before_piece piece (waiting (source_after (Bytes piece) source))
+  waiting_parted = ap (λ held. before_piece held source.left) held_parted ∙ before_both piece (drop (length piece) source.held) source.left
+
+  all_held : length piece ≡ length source.held → piece ≡ source.held
+  all_held is = comes.is ∙ take_all (length piece) source.held (omega (arith, is))
+
+  first_of : (left : List ℕ) → source.left ≡ Some left → IsFirstPiece piece (source.held ++ left) (cut_of (source.held ++ left))
+  first_of left told = by_cut (cut_of source.held) refl comes.ends
+    where
+      more : (c : Cut) → cut_of source.held ≡ c → c ≢ NeedMore → c ≡ cut_of (source.held ++ left)
+      more c cut done = sym (cut_more source.held left (λ is. done (sym cut ∙ is)) ∙ cut)
+
+      by_cut : (c : Cut) → cut_of source.held ≡ c → EndsBy source (length piece) c → IsFirstPiece piece (source.held ++ left) (cut_of (source.held ++ left))
+      by_cut NeedMore cut is =
+          let all : source.held ++ left ≡ source.held = ap (λ rest. source.held ++ rest) (is.1 left told) ∙ append-nil source.held in
+          subst (IsFirstPiece piece (source.held ++ left)) (sym (ap cut_of all ∙ cut)) (all_held is.0 ∙ sym all)
+      by_cut Bad cut is = subst (IsFirstPiece piece (source.held ++ left)) (more Bad cut (λ e. bad e)) (ap cut_of (all_held is) ∙ cut)
+        where
+          bad : Bad ≡ NeedMore → ⊥
+          bad e = cc
+      by_cut (Frame body_start body_end) cut is =
+          let bounds = cut_bounds source.held body_start body_end cut in
+          subst (IsFirstPiece piece (source.held ++ left)) (more (Frame body_start body_end) cut (λ e. frame e))
+          (comes.is ∙ ap (λ end. take end source.held) is ∙ sym (take-append-le body_end source.held left bounds.within))
+        where
+          frame : Frame body_start body_end ≡ NeedMore → ⊥
+          frame e = cc
+
+  next_of : (left : Option (List ℕ)) → source.left ≡ left → IsNextPiece piece (before_piece source.held left)
+  next_of None told = tt
+  next_of (Some left) told = first_of left told
+
+-- what comes as bytes is given as the next piece
+gives_bytes : (old new : InlineData) (out : Jobs) (source : FramedData) (piece : List ℕ) → out ≡ old.out → waiting source ≡ old.waiting → waiting (source_after (Bytes piece) source) ≡ new.waiting
+    → ComesAsBytes out source piece → GivesBytes old new piece
+gives_bytes old new out source piece same_out before after comes = record {
+  idle = sym same_out ∙ comes.idle;
+  some = comes.some;
+  parted = sym before ∙ waiting_parted out source piece comes ∙ ap (before_piece piece) after;
+  next = subst (IsNextPiece piece) before (next_of out source piece comes source.left refl);
+}
+
+pub event_bytes : (answer : SnapshotData → Ask → Finding) (event : HostEvent) (old new : InlineData) (out : Jobs) (source : FramedData) → out ≡ old.out → waiting source ≡ old.waiting
+    → waiting (source_after event source) ≡ new.waiting → Comes answer out source event → IfBytes event (GivesBytes old new)
+event_bytes answer (Bytes piece) old new out source same_out before after comes = gives_bytes old new out source piece same_out before after comes
+event_bytes answer Ended old new out source same_out before after comes = tt
+event_bytes answer (Tasks batch) old new out source same_out before after comes = tt

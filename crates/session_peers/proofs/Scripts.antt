@@ -1,0 +1,117 @@
+-- What a script gives is honest, and how its results are made one by one.
+use Rattle.std.proofs.Common.{◌≡◌, ℕ, Bool, true, false, cond, List, [], ◌∷◌, ◌++◌, refl, sym, ap, subst, ◌∙◌}
+use Rattle.std.specs.Prelude.{Option, None, Some, is_some, not}
+use Rattle.std.specs.FinMap as map
+use Rattle.std.specs.List.{AllZip}
+use Rattle.std.specs.Option.{option_map, option_to_list, unwrap_or}
+use Rattle.std.specs.Cmp.{nat_cmp_total, unsigned_tied}
+use Rattle.std.specs.Ordering.{nat_cmp, eq_by_cmp}
+use Rattle.std.proofs.lemmas.Bool.{eqb-true, ltb-true}
+use Rattle.analysis_host.specs.Answers.{Finding}
+use Rattle.analysis_host.specs.SnapshotData.{SnapshotData}
+use Rattle.analysis_host.specs.declared.ask.Ask.{Ask}
+use Rattle.session_port.specs.Honest.{AreHonest, IsHonest}
+use Rattle.session_port.specs.Jobs.{Jobs, after_message}
+use Rattle.session_peers.specs.Script.{Gift, event, results, named, left_out, can_see, stopped, gift_of, next_gift, FinishesAt, IsGift}
+use Rattle.session_port.specs.declared.event.HostEvent.{HostEvent}
+use Rattle.session_port.specs.declared.event.HostEvent.TheVariants.{Bytes, Ended, Tasks}
+use Rattle.session_port.specs.declared.event.TaskMsg.{TaskMsg}
+use Rattle.session_port.specs.declared.job.Job.{Job}
+use Rattle.session_peers.specs.declared.script.ScriptStep.{ScriptStep}
+use Rattle.session_peers.specs.declared.script.ScriptStep.TheVariants.{Give, Finish, Cancel}
+
+turned : {X : Type 0} (b : Bool) (x : Option X) → cond (not b) x None ≡ cond b None x
+turned true x = refl
+turned false x = refl
+
+-- a job is left out unless it is done
+pub get_left : (out : Jobs) (done : map.FinMap nat_cmp Bool) (number : ℕ) → map.get (left_out out done) number ≡ cond (is_some (map.get done number)) None (map.get out number)
+get_left out done number =
+    map.get-retain_keys out (λ n. not (map.contains_key done n)) number
+    (λ x tied. ap (λ n. not (map.contains_key done n)) (sym (map.nat_cmp-IsAntisymmetric number x tied)))
+    ∙ turned (is_some (map.get done number)) (map.get out number)
+
+pub left_none : (out : Jobs) → left_out out map.empty ≡ out
+left_none out = map.same_map nat_cmp_total map.nat_cmp-IsAntisymmetric _ _ (λ number.
+    get_left out map.empty number ∙ ap (λ found. cond (is_some found) None (map.get out number)) (map.get-empty nat_cmp number))
+
+-- with one more done, it is no longer left
+pub left_done : (out : Jobs) (done : map.FinMap nat_cmp Bool) (number : ℕ) → left_out out (map.insert done number true) ≡ map.remove (left_out out done) number
+left_done out done number = map.same_map nat_cmp_total map.nat_cmp-IsAntisymmetric _ _ (λ q.
+    get_left out (map.insert done number true) q
+    ∙ ap (λ found. cond (is_some found) None (map.get out q)) (map.get-insert nat_cmp_total done number true q)
+    ∙ one (eq_by_cmp nat_cmp q number) q
+    ∙ ap (λ found. cond (eq_by_cmp nat_cmp q number) None found) (sym (get_left out done q))
+    ∙ sym (map.get-remove nat_cmp_total (left_out out done) number q))
+  where
+    one : (b : Bool) (q : ℕ) → cond (is_some (cond b (Some true) (map.get done q))) None (map.get out q) ≡ cond b None (cond (is_some (map.get done q)) None (map.get out q))
+    one true q = refl
+    one false q = refl
+
+remove_absent : (out : Jobs) (number : ℕ) → map.get out number ≡ None → map.remove out number ≡ out
+remove_absent out number none = map.same_map nat_cmp_total map.nat_cmp-IsAntisymmetric _ _ (λ q.
+    map.get-remove nat_cmp_total out number q ∙ same q (eq_by_cmp nat_cmp q number) refl)
+  where
+    same : (q : ℕ) (b : Bool) → eq_by_cmp nat_cmp q number ≡ b → cond b None (map.get out q) ≡ map.get out q
+    same q true tied = sym (ap (map.get out) (eqb-true q number (sym (unsigned_tied q number) ∙ tied)) ∙ none)
+    same q false tied = refl
+
+module _ (answer : SnapshotData → Ask → Finding) where
+  -- results of the numbers that are left make the results of all
+  abbrev pub Continues : List ℕ → Jobs → List TaskMsg → List ℕ → Jobs → Type 0
+  Continues numbers out batch others left = (rest : List TaskMsg) → AllZip (FinishesAt answer) (named others left) rest → AllZip (FinishesAt answer) (named numbers out) (batch ++ rest)
+
+  pub continues_start : (numbers : List ℕ) (out left : Jobs) → left ≡ out → Continues numbers out [] numbers left
+  continues_start numbers out left is rest zip = subst (λ o. AllZip (FinishesAt answer) (named numbers o) rest) is zip
+
+  -- results of jobs that are out are honest
+  honest_named : (numbers : List ℕ) (out : Jobs) (batch : List TaskMsg) → AllZip (FinishesAt answer) (named numbers out) batch → AreHonest answer out batch
+  honest_named [] out [] zip = tt
+  honest_named [] out (message ∷ batch) zip = absurd zip
+  honest_named (number ∷ numbers) out batch zip = by_job (honest_named numbers (map.remove out number)) (map.get out number) refl batch zip
+    where
+      by_job : ((batch : List TaskMsg) → AllZip (FinishesAt answer) (named numbers (map.remove out number)) batch → AreHonest answer (map.remove out number) batch) → (found : Option Job) → map.get out number ≡ found → (batch : List TaskMsg)
+          → AllZip (FinishesAt answer) (option_to_list (option_map (λ job. (number, job)) found) ++ named numbers (map.remove out number)) batch → AreHonest answer out batch
+      by_job others None none batch zip = subst (λ o. AreHonest answer o batch) (remove_absent out number none) (others batch zip)
+      by_job others (Some job) some [] zip = absurd zip
+      by_job others (Some job) some (message ∷ batch) zip =
+          let off : after_message message out ≡ map.remove out number =
+          ap (λ b. cond b (map.remove out message.job) out) zip.0.plain ∙ ap (map.remove out) zip.0.number in (
+            record { job = job; is_out = ap (map.get out) zip.0.number ∙ some; is_result = zip.0.result },
+            subst (λ o. AreHonest answer o batch) (sym off) (others batch zip.1),
+          )
+
+  honest_stop : (found : Option Job) (out : Jobs) (number saw : ℕ) → map.get out number ≡ found → can_see found saw ≡ true → AreHonest answer out (stopped number saw ∷ [])
+  honest_stop None out number saw is sees = cc
+  honest_stop (Some job) out number saw is sees = (record { job = job; is_out = is; is_result = ltb-true _ _ sees }, tt)
+
+  honest_event : (given coming : HostEvent) (out : Jobs) → IsHonest answer out given → coming ≡ given → IsHonest answer out coming
+  honest_event given coming out honest is = subst (IsHonest answer out) (sym is) honest
+
+  some_gift : (gift other : Gift) → Some gift ≡ Some other → gift ≡ other
+  some_gift gift other is = cc
+
+  honest_gift : (out : Jobs) (step : ScriptStep) (gift : Gift) (coming : HostEvent) → gift_of out step ≡ Some gift → IsGift answer gift coming → IsHonest answer out coming
+  honest_gift out (Give (Bytes bytes)) gift coming is comes = honest_event (Bytes bytes) coming out tt (subst (λ g. IsGift answer g coming) (sym (some_gift _ _ is)) comes)
+  honest_gift out (Give Ended) gift coming is comes = honest_event Ended coming out tt (subst (λ g. IsGift answer g coming) (sym (some_gift _ _ is)) comes)
+  honest_gift out (Give (Tasks batch)) gift coming is comes = cc
+  honest_gift out (Finish numbers) gift coming is comes = by_event coming (subst (λ g. IsGift answer g coming) (sym (some_gift _ _ is)) comes)
+    where
+      by_event : (coming : HostEvent) → IsGift answer (results (named numbers out)) coming → IsHonest answer out coming
+      by_event (Bytes bytes) comes = absurd comes
+      by_event Ended comes = absurd comes
+      by_event (Tasks batch) comes = honest_named numbers out batch comes
+  honest_gift out (Cancel number saw) gift coming is comes = by_test (can_see (map.get out number) saw) refl is
+    where
+      by_test : (b : Bool) → can_see (map.get out number) saw ≡ b → cond b (Some (event (Tasks (stopped number saw ∷ [])))) None ≡ Some gift → IsHonest answer out coming
+      by_test true sees is =
+          honest_event (Tasks (stopped number saw ∷ [])) coming out (honest_stop (map.get out number) out number saw refl sees) (subst (λ g. IsGift answer g coming) (sym (some_gift _ _ is)) comes)
+      by_test false sees is = cc
+
+  pub honest_next : (out : Jobs) (steps : List ScriptStep) (coming : HostEvent) → IsGift answer (next_gift out steps).0 coming → IsHonest answer out coming
+  honest_next out [] coming comes = honest_event Ended coming out tt comes
+  honest_next out (step ∷ steps) coming comes = by_gift (honest_next out steps coming) (gift_of out step) refl comes
+    where
+      by_gift : (IsGift answer (next_gift out steps).0 coming → IsHonest answer out coming) → (found : Option Gift) → gift_of out step ≡ found → IsGift answer (unwrap_or (option_map (λ gift. (gift, steps)) found) (next_gift out steps)).0 coming → IsHonest answer out coming
+      by_gift others None none comes = others comes
+      by_gift others (Some gift) some comes = honest_gift out step gift coming some comes

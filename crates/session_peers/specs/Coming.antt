@@ -1,0 +1,59 @@
+-- The event that comes next of the jobs out and of a source that is given frame by frame, and what is left after it.
+use Rattle.std.specs.Prelude.{◌≡◌, ◌≢◌, ◌<◌, ◌≤◌, ℕ, List, [], map, length, take, drop}
+use Rattle.std.specs.FinMap as map
+use Rattle.analysis_host.specs.Answers.{Finding}
+use Rattle.analysis_host.specs.SnapshotData.{SnapshotData}
+use Rattle.analysis_host.specs.declared.ask.Ask.{Ask}
+use Rattle.session_peers.specs.Framed.{FramedData, EndsPiece}
+use Rattle.session_port.specs.Honest.{AreHonest}
+use Rattle.session_peers.specs.Inline.{IsDry}
+use Rattle.session_port.specs.Jobs.{Jobs, after_batch}
+use Rattle.session_port.specs.Runs.{AreUncancelled}
+use Rattle.session_peers.specs.Results.{JobsData}
+use Rattle.session_port.specs.declared.event.HostEvent.{HostEvent}
+use Rattle.session_port.specs.declared.event.HostEvent.TheVariants.{Bytes, Ended, Tasks}
+use Rattle.session_port.specs.declared.event.TaskMsg.{TaskMsg}
+
+-- no job is out, and this is the next piece of the bytes held
+pub record ComesAsBytes (out : Jobs) (source : FramedData) (piece : List ℕ) : Type 0 where
+  pub idle : out ≡ map.empty
+  pub some : 0 < length piece
+  pub within : length piece ≤ length source.held
+  pub is : piece ≡ take (length piece) source.held
+  pub ends : EndsPiece source (length piece)
+
+-- no job is out, and no byte is held or left
+pub record ComesAsEnd (out : Jobs) (source : FramedData) : Type 0 where
+  pub idle : out ≡ map.empty
+  pub none : source.held ≡ []
+  pub dry : IsDry source.left
+
+-- some job is out, and these are the results of all that are, and nothing stopped any
+pub record ComesAsResults (answer : SnapshotData → Ask → Finding) (out : Jobs) (batch : List TaskMsg) : Type 0 where
+  pub busy : out ≢ map.empty
+  pub honest : AreHonest answer out batch
+  pub all : after_batch batch out ≡ map.empty
+  pub numbers : map (λ message. message.job) batch ≡ map.keys out
+  pub uncancelled : AreUncancelled batch
+
+abbrev pub Comes : (SnapshotData → Ask → Finding) → Jobs → FramedData → HostEvent → Type 0
+Comes answer out source (Bytes piece) = ComesAsBytes out source piece
+Comes answer out source Ended = ComesAsEnd out source
+Comes answer out source (Tasks batch) = ComesAsResults answer out batch
+
+-- the bytes that an event takes are held
+abbrev pub IsHeld : FramedData → HostEvent → Type 0
+IsHeld source (Bytes piece) = length piece ≤ length source.held
+IsHeld source Ended = Unit {0}
+IsHeld source (Tasks batch) = Unit {0}
+
+-- what is held after an event was given
+abbrev pub source_after : HostEvent → FramedData → FramedData
+source_after (Bytes piece) source = record source { held = drop (length piece) source.held }
+source_after Ended source = source
+source_after (Tasks batch) source = source
+
+abbrev pub jobs_after : HostEvent → JobsData → JobsData
+jobs_after (Bytes piece) jobs = jobs
+jobs_after Ended jobs = jobs
+jobs_after (Tasks batch) jobs = record jobs { out = map.empty }

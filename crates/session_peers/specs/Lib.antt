@@ -1,0 +1,7 @@
+pub mod Codes
+pub mod Coming
+pub mod Framed
+pub mod Inline
+pub mod Memory
+pub mod Results
+pub mod Script

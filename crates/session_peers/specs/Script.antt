@@ -1,0 +1,112 @@
+-- What a script comes to.
+use Rattle.std.specs.Prelude.{◌≡◌, ℕ, ◌++◌, Bool, true, false, not, nat_lt, List, [], ◌∷◌, Option, None, Some, if◌then◌else◌}
+use Rattle.std.specs.FinMap as map
+use Rattle.std.specs.Ordering.{nat_cmp}
+use Rattle.std.specs.List.{AllZip}
+use Rattle.std.specs.Option.{option_map, option_to_list, unwrap_or}
+use Rattle.analysis_host.specs.Answers.{Finding}
+use Rattle.analysis_host.specs.SnapshotData.{SnapshotData}
+use Rattle.analysis_host.specs.declared.ask.Ask.{Ask}
+use Rattle.session_port.specs.Honest.{IsResultOf}
+use Rattle.session_port.specs.Jobs.{Jobs, final_of, plain_result}
+use Rattle.session_peers.specs.Memory.{CallData, no_calls}
+use Rattle.session_port.specs.Runs.{IsUncancelled}
+use Rattle.session_port.specs.declared.command.Command.{Command}
+use Rattle.session_port.specs.declared.event.HostEvent.{HostEvent}
+use Rattle.session_port.specs.declared.event.HostEvent.TheVariants.{Bytes, Ended, Tasks}
+use Rattle.session_port.specs.declared.event.TaskBody.TheVariants.{Final}
+use Rattle.session_port.specs.declared.event.TaskMsg.{TaskMsg}
+use Rattle.session_port.specs.declared.job.Job.{Job}
+use Rattle.session_port.specs.declared.job.JobResult.TheVariants.{Cancelled}
+use Rattle.session_peers.specs.declared.script.ScriptStep.{ScriptStep}
+use Rattle.session_peers.specs.declared.script.ScriptStep.TheVariants.{Give, Finish, Cancel}
+
+-- what comes next: an event as it stands, or the results of jobs, each with the number that it is out at
+pub data Gift : Type 0 where
+  event : HostEvent → Gift
+  results : List (ℕ × Job) → Gift
+
+-- the jobs out with these numbers, each once
+abbrev pub named : List ℕ → Jobs → List (ℕ × Job)
+named [] out = []
+named (number ∷ numbers) out =
+    option_to_list (option_map (λ job. (number, job)) (map.get out number)) ++ named numbers (map.remove out number)
+
+-- the jobs out but for those that are done
+abbrev pub left_out : Jobs → map.FinMap nat_cmp Bool → Jobs
+left_out out done = map.retain_keys out (λ number. not (map.contains_key done number))
+
+-- a job that is out may see a later revision
+abbrev pub can_see : Option Job → ℕ → Bool
+can_see None saw = false
+can_see (Some job) saw = nat_lt job.snapshot.revision saw
+
+-- the message that a job stopped
+abbrev pub stopped : ℕ → ℕ → TaskMsg
+stopped number saw = record { job = number; body = Final (Cancelled saw) }
+
+-- what a step gives, if anything. A made-up message is never given
+abbrev pub gift_of : Jobs → ScriptStep → Option Gift
+gift_of out (Give (Bytes bytes)) = Some (event (Bytes bytes))
+gift_of out (Give Ended) = Some (event Ended)
+gift_of out (Give (Tasks batch)) = None
+gift_of out (Finish numbers) = Some (results (named numbers out))
+gift_of out (Cancel number saw) = if can_see (map.get out number) saw then Some (event (Tasks (stopped number saw ∷ []))) else None
+
+-- the first that a script gives, with the steps after it. After its last step the end comes
+abbrev pub next_gift : Jobs → List ScriptStep → Gift × List ScriptStep
+next_gift out [] = (event Ended, [])
+next_gift out (step ∷ steps) = unwrap_or (option_map (λ gift. (gift, steps)) (gift_of out step)) (next_gift out steps)
+
+-- the first of events that are given as they are
+abbrev pub next_event : List HostEvent → HostEvent × List HostEvent
+next_event [] = (Ended, [])
+next_event (first ∷ events) = (first, events)
+
+-- a message with the result of a run that nothing stopped, whose JSON is plain
+pub record FinishesAt (answer : SnapshotData → Ask → Finding) (entry : ℕ × Job) (message : TaskMsg) : Type 0 where
+  pub number : message.job ≡ entry.0
+  pub result : IsResultOf answer entry.1 (final_of message.body)
+  pub plain : plain_result (final_of message.body) ≡ true
+  pub uncancelled : IsUncancelled (final_of message.body)
+
+abbrev pub IsGift : (SnapshotData → Ask → Finding) → Gift → HostEvent → Type 0
+IsGift answer (event given) coming = coming ≡ given
+IsGift answer (results entries) (Bytes bytes) = ⊥
+IsGift answer (results entries) Ended = ⊥
+IsGift answer (results entries) (Tasks batch) = AllZip (FinishesAt answer) entries batch
+
+-- what a step gave, if anything
+abbrev pub IsGiven : (SnapshotData → Ask → Finding) → Option Gift → Option HostEvent → Type 0
+IsGiven answer None None = Unit {0}
+IsGiven answer None (Some coming) = ⊥
+IsGiven answer (Some gift) None = ⊥
+IsGiven answer (Some gift) (Some coming) = IsGift answer gift coming
+
+-- the event is the first that the script gives, and the steps after it are left
+pub record IsNext (answer : SnapshotData → Ask → Finding) (next : Gift × List ScriptStep) (coming : HostEvent) (left : List ScriptStep) : Type 0 where
+  pub gift : IsGift answer next.0 coming
+  pub rest : left ≡ next.1
+
+-- the jobs out and the last number handed over, the steps left, the record, and the calls
+pub record ScriptData : Type 0 where
+  pub out : Jobs
+  pub handed : ℕ
+  pub steps : List ScriptStep
+  pub given : List HostEvent
+  pub taken : List (List Command)
+  pub calls : CallData
+
+abbrev pub new_script : List ScriptStep → List ℕ → ScriptData
+new_script steps fails = record { out = map.empty; handed = 0; steps = steps; given = []; taken = []; calls = no_calls fails }
+
+-- the jobs out and the last number handed over, the events left, and the record
+pub record HostileData : Type 0 where
+  pub out : Jobs
+  pub handed : ℕ
+  pub events : List HostEvent
+  pub given : List HostEvent
+  pub taken : List (List Command)
+
+abbrev pub new_hostile : List HostEvent → HostileData
+new_hostile events = record { out = map.empty; handed = 0; events = events; given = []; taken = [] }

@@ -1,0 +1,23 @@
+//! The host that runs everything on one thread, and peers in memory: hosts that follow a list, a sink and a source that
+//! fail at listed calls.
+#![tactic(auto)]
+
+mod calls;
+mod framed_source;
+mod hostile_host;
+mod inline_host;
+mod jobs_out;
+mod memory_sink;
+mod memory_source;
+mod numbered_jobs;
+mod queue;
+mod results;
+mod script;
+mod script_host;
+
+pub use hostile_host::HostileHost;
+pub use inline_host::InlineHost;
+pub use memory_sink::MemorySink;
+pub use memory_source::MemorySource;
+pub use script::ScriptStep;
+pub use script_host::ScriptHost;

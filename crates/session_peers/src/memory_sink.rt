@@ -1,0 +1,68 @@
+// A sink in memory.
+ghost use Rattle.std.specs.Prelude.{◌≡◌, ◌↔◌, [], Some, Err};
+ghost use Rattle.session_peers.specs.Memory.{no_calls, after_call, IsFailing};
+ghost use Rattle.session_port.specs.Record.{HasCause, added, after_ok};
+
+use crate::calls::Calls;
+use plain::{Bytes, Items};
+use session_port::{HostError, Sink};
+use std::alloc::Global;
+use std::marker::Model;
+
+/// Keeps each turn, and fails at the calls that are listed.
+#[derive(Drop)]
+pub struct MemorySink {
+    alloc: Global,
+    turns: Items<Bytes>,
+    calls: Calls,
+}
+
+impl Model for MemorySink {
+    ghost use Rattle.session_peers.specs.Memory.{SinkData};
+
+    ghost Value = { SinkData };
+
+    ghost view = { λ s. record { turns = s.turns; calls = s.calls } };
+}
+
+impl MemorySink {
+    /// The calls of `put_turn` with these numbers, from 1, will fail.
+    pub fn new(alloc: Global, fails: Items<u64>) -> Self
+        ensures { result ≡ record { turns = []; calls = no_calls fails } }
+    {
+        MemorySink {
+            alloc,
+            turns: Items::new(alloc),
+            calls: Calls::new(fails),
+        }
+    }
+
+    pub fn turns(&self) -> &[Bytes]
+        ensures { result.now ≡ self.now.turns }
+    {
+        self.turns.as_slice()
+    }
+}
+
+impl Sink for MemorySink {
+    ghost turns = { λ s. Some s.turns };
+
+    ghost faults = { λ s. s.calls.faults };
+
+    fn put_turn(&mut self, bytes: &[u8]) -> Result<(), HostError>
+        ensures turns { Some self.new.turns
+            ≡ after_ok result (λ _. added (Some self.old.turns) bytes.now) (Some self.old.turns) }
+        ensures cause { HasCause self.old.calls.faults self.new.calls.faults result }
+
+        // It fails at the listed calls and at no others.
+        ensures fails { (result ≡ Err HostError.Failed) ↔ IsFailing self.old.calls }
+        ensures calls { self.new.calls ≡ after_call result self.old.calls }
+    {
+        if self.calls.count() {
+            self.calls.fail();
+            return Err(HostError::Failed);
+        }
+        self.turns.push(Bytes::from_slice(self.alloc, bytes)?)?;
+        Ok(())
+    }
+}

@@ -1,0 +1,82 @@
+// A source in memory.
+ghost use Rattle.std.specs.Prelude.{◌≡◌, ◌≤◌, ◌↔◌, Some, Err, IfOk, OnErr};
+ghost use Rattle.session_peers.specs.Memory.{no_calls, after_call, longest_piece, IsFailing};
+ghost use Rattle.session_port.specs.Record.{HasCause, IsPiece};
+
+use crate::calls::Calls;
+use plain::{Bytes, Items};
+use session_port::{HostError, Source};
+use std::alloc::Global;
+use std::marker::Model;
+
+/// Gives its bytes in order, and fails at the calls that are listed.
+#[derive(Drop)]
+pub struct MemorySource {
+    alloc: Global,
+    bytes: Bytes,
+    // How many of the bytes were given.
+    given: usize,
+    calls: Calls,
+}
+
+impl Model for MemorySource {
+    ghost use Rattle.std.specs.Prelude.{◌≤◌, length, drop};
+    ghost use Rattle.session_peers.specs.Memory.{SourceData};
+
+    ghost Value = { SourceData };
+
+    ghost view = { λ s. record { left = drop s.given s.bytes; calls = s.calls } };
+
+    ghost invariant = { λ s. s.given ≤ length s.bytes };
+}
+
+impl MemorySource {
+    /// The calls of `read_piece` with these numbers, from 1, will fail.
+    pub fn new(alloc: Global, bytes: Bytes, fails: Items<u64>) -> Self
+        ensures { result ≡ record { left = bytes; calls = no_calls fails } }
+    {
+        MemorySource {
+            alloc,
+            bytes,
+            given: 0,
+            calls: Calls::new(fails),
+        }
+    }
+
+    pub fn left(&self) -> &[u8]
+        ensures { result.now ≡ self.now.left }
+    {
+        &self.bytes.as_slice()[self.given..]
+    }
+}
+
+impl Source for MemorySource {
+    ghost left = { λ s. Some s.left };
+
+    ghost faults = { λ s. s.calls.faults };
+
+    fn read_piece(&mut self, max: usize) -> Result<Option<Bytes>, HostError>
+        requires { 1 ≤ max }
+        ensures piece { IfOk result (IsPiece max (Some self.old.left) (Some self.new.left)) }
+        ensures kept { OnErr result (Some self.new.left ≡ Some self.old.left) }
+        ensures cause { HasCause self.old.calls.faults self.new.calls.faults result }
+
+        // It fails at the listed calls and at no others, and its pieces are as long as they may be.
+        ensures fails { (result ≡ Err HostError.Failed) ↔ IsFailing self.old.calls }
+        ensures longest { IfOk result (λ piece. piece ≡ longest_piece max self.old.left) }
+        ensures calls { self.new.calls ≡ after_call result self.old.calls }
+    {
+        if self.calls.count() {
+            self.calls.fail();
+            return Err(HostError::Failed);
+        }
+        let left = &self.bytes.as_slice()[self.given..];
+        if left.is_empty() {
+            return Ok(None);
+        }
+        let len = left.len().min(max);
+        let piece = Bytes::from_slice(self.alloc, &left[..len])?;
+        self.given += len;
+        Ok(Some(piece))
+    }
+}

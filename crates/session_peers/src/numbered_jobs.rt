@@ -1,0 +1,81 @@
+// Jobs out, found by their numbers.
+ghost use Rattle.std.specs.Prelude.{◌≡◌, OnOk};
+ghost use Rattle.std.specs.FinMap as map;
+ghost use Rattle.session_port.specs.Jobs.{after_batch, after_message};
+ghost use Rattle.session_port.specs.Record.{after_event, after_order, last_number, spawned};
+
+use plain::{ByNumber, Items};
+use session_port::{Command, HostEvent, Job, TaskBody, TaskMsg};
+use std::alloc::{AllocError, Global};
+
+/// The jobs out by their numbers, and the number of the last one that came.
+#[derive(Drop)]
+pub(crate) struct NumberedJobs {
+    pub out: ByNumber<Job>,
+    pub handed: u64,
+}
+
+/// Takes off the job that a message ends.
+fn end_job(out: &mut ByNumber<Job>, message: &TaskMsg)
+    ensures { out.new ≡ after_message message.now out.old }
+{
+    let TaskBody::Final(result) = &message.body;
+    if result.is_plain() {
+        out.remove(message.job);
+    }
+}
+
+/// Takes off the jobs that messages end.
+fn end_jobs(out: &mut ByNumber<Job>, batch: &[TaskMsg])
+    ensures { out.new ≡ after_batch batch.now out.old }
+{
+    for message in batch {
+        end_job(out, message);
+    }
+}
+
+impl NumberedJobs {
+    pub fn new(alloc: Global) -> Self
+        ensures { result ≡ record { out = map.empty; handed = 0 } }
+    {
+        NumberedJobs {
+            out: ByNumber::new(alloc),
+            handed: 0,
+        }
+    }
+
+    /// Takes off the jobs that an event ends.
+    pub fn let_go(&mut self, event: &HostEvent)
+        ensures { self.new ≡ record self.old { out = after_event event.now self.old.out } }
+    {
+        match event {
+            HostEvent::Bytes(_) | HostEvent::Ended => {}
+            HostEvent::Tasks(batch) => end_jobs(&mut self.out, batch.as_slice()),
+        }
+    }
+
+    fn push(&mut self, job: Job) -> Result<(), AllocError>
+        ensures { OnOk result (self.new
+            ≡ record { out = map.insert self.old.out job.number job; handed = job.number }) }
+    {
+        let number = job.number;
+        self.out.insert(number, job)?;
+        self.handed = number;
+        Ok(())
+    }
+
+    /// Takes the jobs that commands hand over.
+    pub fn take(&mut self, commands: Items<Command>) -> Result<(), AllocError>
+        ensures out { OnOk result (self.new.out ≡ after_order commands self.old.out) }
+        ensures handed { OnOk result (self.new.handed
+            ≡ last_number self.old.handed (spawned commands)) }
+    {
+        for command in commands.into_vec() {
+            match command {
+                Command::Spawn(job) => self.push(job)?,
+                Command::Revise(_) | Command::Log(..) | Command::Stop => {}
+            }
+        }
+        Ok(())
+    }
+}

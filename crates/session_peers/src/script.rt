@@ -1,0 +1,128 @@
+// The steps of a script.
+ghost use Rattle.std.specs.Prelude.{◌≡◌, [], ◌∷◌, IfOk, option_copied};
+ghost use Rattle.std.specs.FinMap as map;
+ghost use Rattle.std.specs.List.{AllZip};
+ghost use Rattle.session_peers.specs.Script.{FinishesAt, IsGiven, IsNext, can_see, gift_of, left_out, named, next_gift, stopped};
+
+use crate::queue::Queue;
+use crate::results::result_of;
+use analysis_host::Analysis;
+use plain::{ByNumber, Items};
+use session_port::{HostEvent, Job, JobResult, TaskBody, TaskMsg};
+use std::alloc::{AllocError, Global};
+
+/// A step of a script. There are no jobs but those of requests, so no step hands in the result of a host's own job.
+#[derive(Drop)]
+pub enum ScriptStep {
+    /// Gives this event. Messages of jobs are not given so, since a script is honest: the step gives nothing then.
+    Give(HostEvent),
+    /// Gives one batch, with the results of those jobs out that have these numbers, in this order and each once. It
+    /// is empty where none has.
+    Finish(Items<u64>),
+    /// Gives the message that the job with the first number stopped, since it saw the second one. It gives nothing
+    /// where the job isn't out, or that revision isn't above its snapshot's.
+    Cancel(u64, u64),
+}
+
+/// Finds a job out that was not done, and notes that it is.
+fn job_to_do<'a>(
+    out: &'a ByNumber<Job>,
+    done: &mut ByNumber<bool>,
+    number: u64,
+) -> Result<Option<&'a Job>, AllocError>
+    ensures found { IfOk result (λ job. option_copied job ≡ map.get (left_out out.now done.old) number) }
+    ensures done { IfOk result (λ _. left_out out.now done.new
+        ≡ map.remove (left_out out.now done.old) number) }
+{
+    match done.insert(number, true)? {
+        Some(_) => Ok(None),
+        None => Ok(out.get(number)),
+    }
+}
+
+/// The results of the jobs out with these numbers.
+fn results_at<A: Analysis>(
+    alloc: Global,
+    numbers: &[u64],
+    out: &ByNumber<Job>,
+    analysis: &A,
+) -> Result<Vec<TaskMsg>, AllocError>
+    ensures { IfOk result (λ batch. AllZip (FinishesAt A.answer) (named numbers.now out.now) batch.items) }
+{
+    let mut done = ByNumber::new(alloc);
+    let mut batch = Vec::new(alloc);
+    for number in numbers {
+        if let Some(job) = job_to_do(out, &mut done, *number)? {
+            batch.push(TaskMsg {
+                job: *number,
+                body: TaskBody::Final(result_of(job, analysis)),
+            })?;
+        }
+    }
+    Ok(batch)
+}
+
+/// Whether a job that is out may see a later revision.
+fn can_see(job: Option<&Job>, saw: u64) -> bool
+    ensures { result ≡ can_see (option_copied job.entry) saw }
+{
+    match job {
+        None => false,
+        Some(job) => job.snapshot.revision() < saw,
+    }
+}
+
+/// The message that a job stopped.
+fn stopped(alloc: Global, number: u64, saw: u64) -> Result<HostEvent, AllocError>
+    ensures { IfOk result (λ event. event ≡ HostEvent.Tasks (stopped number saw ∷ [])) }
+{
+    let mut batch = Items::new(alloc);
+    batch.push(TaskMsg {
+        job: number,
+        body: TaskBody::Final(JobResult::Cancelled { saw }),
+    })?;
+    Ok(HostEvent::Tasks(batch))
+}
+
+/// What a step gives, if anything.
+fn event_of<A: Analysis>(
+    alloc: Global,
+    out: &ByNumber<Job>,
+    step: ScriptStep,
+    analysis: &A,
+) -> Result<Option<HostEvent>, AllocError>
+    ensures { IfOk result (IsGiven A.answer (gift_of out.now step)) }
+{
+    match step {
+        ScriptStep::Give(HostEvent::Tasks(_)) => Ok(None),
+        ScriptStep::Give(event) => Ok(Some(event)),
+        ScriptStep::Finish(numbers) => {
+            let batch = results_at(alloc, numbers.as_slice(), out, analysis)?;
+            Ok(Some(HostEvent::Tasks(Items::from_vec(batch))))
+        }
+        ScriptStep::Cancel(number, saw) => {
+            if can_see(out.get(number), saw) {
+                Ok(Some(stopped(alloc, number, saw)?))
+            } else {
+                Ok(None)
+            }
+        }
+    }
+}
+
+/// The first that the script gives.
+pub(crate) fn coming<A: Analysis>(
+    alloc: Global,
+    out: &ByNumber<Job>,
+    steps: &mut Queue<ScriptStep>,
+    analysis: &A,
+) -> Result<HostEvent, AllocError>
+    ensures { IfOk result (λ event. IsNext A.answer (next_gift out.now steps.old) event steps.new) }
+{
+    'steps: while let Some(step) = steps.take_first() {
+        if let Some(event) = event_of(alloc, out, step, analysis)? {
+            return Ok(event);
+        }
+    }
+    Ok(HostEvent::Ended)
+}

@@ -1,0 +1,151 @@
+// An analysis that answers null, jobs for it, and events in words.
+ghost use Rattle.std.specs.Prelude.{◌≡◌, IfOk};
+ghost use Rattle.session_port.specs.Record.{AreRising, spawned};
+
+use analysis_host::{
+    Analysis, Answer, Ask, Cancel, GlobalStateSnapshot, Outcome, RowId, SnapshotParts, Versions,
+    World,
+};
+use docs_vfs::VfsPath;
+use plain::{Items, Json};
+use ra_config::Config;
+use session_port::{
+    Command, Host, HostError, HostEvent, Job, JobKind, JobResult, JobValue, PoolClass, TaskBody,
+    TaskMsg,
+};
+use std::alloc::{AllocError, Global};
+use std::sync::Arc;
+use std::test::Fail;
+
+/// Answers null to everything.
+#[derive(Drop)]
+pub struct Null;
+
+impl Analysis for Null {
+    ghost use Rattle.std.specs.Prelude.{true};
+    ghost use Rattle.serde_json.specs.Data.{null};
+    ghost use Rattle.analysis_host.specs.Answers.{answer as finding};
+    ghost use Rattle.analysis_host.specs.declared.ask.Answer.TheVariants.{Json as json_answer};
+
+    ghost decodes = { λ _ _. true };
+
+    ghost answer = { λ _ _. finding (json_answer null) };
+
+    fn decodes(&self, _row: RowId, _params: &Json) -> bool {
+        true
+    }
+
+    fn query<C: Cancel>(
+        &self,
+        _snapshot: &GlobalStateSnapshot,
+        _ask: &Ask,
+        cancel: &mut C,
+    ) -> Result<Outcome, AllocError> {
+        match cancel.poll() {
+            Some(saw) => Ok(Outcome::Cancelled { saw }),
+            None => Ok(Outcome::Value(Answer::Json(Json::null()))),
+        }
+    }
+}
+
+fn snapshot(alloc: Global) -> Result<GlobalStateSnapshot, Fail>
+    ensures { IfOk result (λ snapshot. snapshot.revision ≡ 0) }
+{
+    let root = VfsPath::new(alloc, "/w")?.ok_or("no path")?;
+    Ok(GlobalStateSnapshot::new(SnapshotParts {
+        world: World::new(alloc)?,
+        versions: Versions::new(alloc)?,
+        config: Arc::new(alloc, Config::new(alloc, root, 4)?)?,
+        revision: 0,
+    }))
+}
+
+/// A job on the first revision.
+pub fn job(alloc: Global, number: u64) -> Result<Job, Fail>
+    ensures number { IfOk result (λ job. job.number ≡ number) }
+    ensures revision { IfOk result (λ job. job.snapshot.revision ≡ 0) }
+{
+    Ok(Job {
+        number,
+        class: PoolClass::Worker,
+        kind: JobKind::Request {
+            ticket: 1,
+            row: RowId(0),
+            params: Json::null(),
+        },
+        snapshot: snapshot(alloc)?,
+    })
+}
+
+/// The commands to do the jobs 7 and 9.
+pub fn two_jobs(alloc: Global) -> Result<Items<Command>, Fail>
+    ensures { IfOk result (λ commands. AreRising 0 (spawned commands)) }
+{
+    let mut commands = Items::new(alloc);
+    commands.push(Command::Spawn(job(alloc, 7)?))?;
+    commands.push(Command::Spawn(job(alloc, 9)?))?;
+    Ok(commands)
+}
+
+/// Numbers as a list.
+pub fn numbers(alloc: Global, numbers: &[u64]) -> Result<Items<u64>, AllocError> {
+    Ok(Items::from_vec(Vec::from_slice(alloc, numbers)?))
+}
+
+/// A result in words.
+pub fn result_text(body: TaskBody) -> &'static str {
+    match body {
+        TaskBody::Final(JobResult::Value(JobValue::Json(value))) => {
+            if value.is_null() { "null" } else { "value" }
+        }
+        TaskBody::Final(JobResult::Fault { .. }) => "fault",
+        TaskBody::Final(JobResult::Cancelled { .. }) => "cancelled",
+        TaskBody::Final(JobResult::NoMemory) => "no memory",
+    }
+}
+
+fn batch_text(alloc: Global, batch: Items<TaskMsg>) -> Result<String, Fail> {
+    let mut text = String::new(alloc);
+    for message in batch.into_vec() {
+        let TaskMsg { job, body } = message;
+        let one = format!(in alloc; "{job}: {};", result_text(body))?;
+        text.push_str(one.as_str())?;
+    }
+    Ok(text)
+}
+
+fn event_text(alloc: Global, event: Result<HostEvent, HostError>) -> Result<String, Fail> {
+    match event {
+        Ok(HostEvent::Bytes(bytes)) => match String::from_utf8(bytes.into_vec()) {
+            Ok(text) => Ok(text),
+            Err(_) => Err(Fail::from("no UTF-8")),
+        },
+        Ok(HostEvent::Ended) => Ok(String::from_str(alloc, "ended")?),
+        Ok(HostEvent::Tasks(batch)) => batch_text(alloc, batch),
+        Err(_) => Ok(String::from_str(alloc, "failed")?),
+    }
+}
+
+// This call claims nothing here.
+fn next<H: Host<Null>>(host: &mut H) -> Result<HostEvent, HostError> {
+    host.next()
+}
+
+/// So many events of a host, in words.
+pub fn told<H: Host<Null>>(alloc: Global, host: &mut H, count: u32) -> Result<String, Fail> {
+    let mut all = String::new(alloc);
+    for _ in 0..count {
+        all.push_str(event_text(alloc, next(host))?.as_str())?;
+        all.push('|')?;
+    }
+    Ok(all)
+}
+
+/// How many commands each order had, in words.
+pub fn orders_text(alloc: Global, taken: &[Items<Command>]) -> Result<String, AllocError> {
+    let mut text = String::new(alloc);
+    for commands in taken {
+        text.push_str(format!(in alloc; "{}|", commands.len())?.as_str())?;
+    }
+    Ok(text)
+}

@@ -1,0 +1,3 @@
+pub mod Writable
+pub mod Units
+pub mod Tickets

@@ -1,0 +1,12 @@
+//! A session's state and its turns: what an event changes, what is answered, and which jobs are handed over.
+#![tactic(auto)]
+
+mod global_state;
+mod methods;
+mod notices;
+mod replies;
+mod turn_out;
+
+pub use global_state::GlobalState;
+pub use methods::is_name;
+pub use turn_out::TurnOut;

@@ -1,0 +1,160 @@
+// Edits that stand apart, and hashes of completions.
+use crate::support::range;
+use plain::{Items, Text};
+use std::alloc::{AllocError, Global};
+use std::test::Fail;
+use text_core::{
+    CompletionEdit, HashedItem, PostfixMatch, Range, RefMode, Relevance, ReturnType, TextEdit,
+    TypeMatch, all_edits_are_disjoint, completion_item_hash,
+};
+
+fn text_edits(alloc: Global, ranges: &[Range]) -> Result<Vec<TextEdit>, AllocError> {
+    let mut edits = Vec::new(alloc);
+    for range in ranges {
+        edits.push(TextEdit {
+            range: *range,
+            new_text: Text::new(alloc),
+        })?;
+    }
+    Ok(edits)
+}
+
+fn are_apart(
+    alloc: Global,
+    edit: CompletionEdit,
+    own: &[Range],
+    more: &[Range],
+) -> Result<bool, AllocError> {
+    all_edits_are_disjoint(
+        alloc,
+        &edit,
+        &text_edits(alloc, own)?,
+        &text_edits(alloc, more)?,
+    )
+}
+
+#[test]
+fn edits_apart(rt: HostRuntime) -> Result<(), Fail> {
+    let a = range(1, 1, 2, 2);
+    let b = range(2, 2, 3, 3);
+    let d = range(3, 3, 4, 4);
+    let point = range(1, 1, 1, 1);
+    for (edit, own, more) in [
+        (CompletionEdit::None, &[][..], &[][..]),
+        (CompletionEdit::None, &[][..], &[b, d][..]),
+        (CompletionEdit::None, &[d][..], &[b][..]),
+        (CompletionEdit::Edit(a), &[][..], &[][..]),
+        (CompletionEdit::Edit(a), &[][..], &[b][..]),
+        (CompletionEdit::Edit(point), &[point][..], &[][..]),
+    ] {
+        assert!(rt; are_apart(rt.alloc(), edit, own, more)?, "{edit:?}");
+    }
+    Ok(())
+}
+
+#[test]
+fn edits_not_apart(rt: HostRuntime) -> Result<(), Fail> {
+    let a = range(1, 1, 2, 2);
+    let b = range(2, 2, 3, 3);
+    let d = range(3, 3, 4, 4);
+    let j = range(1, 1, 5, 5);
+    let by_replace = CompletionEdit::InsertAndReplace {
+        insert: range(1, 1, 1, 3),
+        replace: a,
+    };
+    let start_apart = CompletionEdit::InsertAndReplace {
+        insert: a,
+        replace: b,
+    };
+    for (edit, own, more) in [
+        (CompletionEdit::None, &[][..], &[b, d, j][..]),
+        (CompletionEdit::None, &[a, j][..], &[][..]),
+        (CompletionEdit::Edit(a), &[j][..], &[][..]),
+        (CompletionEdit::Edit(a), &[][..], &[j][..]),
+        (start_apart, &[j][..], &[][..]),
+        (start_apart, &[][..], &[][..]),
+        (by_replace, &[range(1, 3, 1, 4)][..], &[][..]),
+    ] {
+        assert!(rt; !are_apart(rt.alloc(), edit, own, more)?, "{edit:?}");
+    }
+    Ok(())
+}
+
+const NO_RELEVANCE: Relevance = Relevance {
+    exact_name_match: false,
+    is_local: false,
+    is_name_already_imported: false,
+    requires_import: false,
+    is_private_editable: false,
+    type_match: None,
+    trait_: None,
+    postfix_match: None,
+    function: None,
+};
+
+fn keyword(alloc: Global) -> Result<HashedItem, AllocError> {
+    Ok(HashedItem {
+        is_snippet: false,
+        deprecated: false,
+        trigger_call_info: false,
+        label: Text::from_str(alloc, "ab")?,
+        detail_left: None,
+        detail_right: None,
+        kind_tag: Text::from_str(alloc, "kw")?,
+        lookup: Text::from_str(alloc, "ab")?,
+        detail: None,
+        relevance: NO_RELEVANCE,
+        ref_match: None,
+        import_to_add: Items::new(alloc),
+    })
+}
+
+#[test]
+fn hash_of_a_keyword(rt: HostRuntime) -> Result<(), Fail> {
+    let bytes =
+        b"\0\0\0\0\x02\0\0\0\0\0\0\0ab\0\0\x02\0\0\0\0\0\0\0kw\x02\0\0\0\0\0\0\0ab\0\0\0\0\0\0\0\0\0\0\0\0\0\0\0\0\0\0\0";
+    assert_eq!(rt; bytes.len(), 55);
+    let hash = completion_item_hash(&keyword(rt.alloc())?, false);
+    assert!(rt; hash == sha1::Sha1::digest(bytes));
+    Ok(())
+}
+
+#[test]
+fn hash_of_a_method(rt: HostRuntime) -> Result<(), Fail> {
+    let alloc = rt.alloc();
+    let mut imports = Items::new(alloc);
+    imports.push(Text::from_str(alloc, "a::b")?)?;
+    imports.push(Text::new(alloc))?;
+    let item = HashedItem {
+        is_snippet: true,
+        deprecated: false,
+        trigger_call_info: true,
+        label: Text::from_str(alloc, "push")?,
+        detail_left: Some(Text::from_str(alloc, "(..)")?),
+        detail_right: None,
+        kind_tag: Text::from_str(alloc, "me")?,
+        lookup: Text::from_str(alloc, "push")?,
+        detail: Some(Text::from_str(alloc, "größer")?),
+        relevance: Relevance {
+            exact_name_match: true,
+            is_local: false,
+            is_name_already_imported: true,
+            requires_import: false,
+            is_private_editable: true,
+            type_match: Some(TypeMatch::Exact),
+            trait_: Some((false, true)),
+            postfix_match: Some(PostfixMatch::NonExact),
+            function: Some((true, false, ReturnType::Builder)),
+        },
+        ref_match: Some((RefMode::Dereference, 70000)),
+        import_to_add: imports,
+    };
+    let hash = completion_item_hash(&item, true);
+    assert!(rt;
+        hash == [
+            0xb0, 0x1c, 0x99, 0xe6, 0xcf, 0x7a, 0x61, 0xed, 0xfe, 0x10, 0xa7, 0xa6, 0xa4, 0x1b,
+            0xf4, 0x76, 0xaa, 0xa9, 0xc7, 0x02,
+        ]
+    );
+    Ok(())
+}

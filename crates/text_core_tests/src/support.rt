@@ -1,0 +1,141 @@
+// What the tests share. The wrappers claim nothing of the calls that they make.
+ghost use Rattle.std.specs.Prelude.{◌≡◌, ◌<◌};
+
+use plain::{Items, Text};
+use std::alloc::{AllocError, Global};
+use std::marker::Brand;
+use std::sync::ledger::{Blank, Ledger};
+use std::test::Fail;
+use text_core::{
+    ContentChange, EditedDocument, Position, PositionEncoding, Range, Steps, TextIndex,
+    WideEncoding, apply_document_changes, apply_with_limit, edit_with_steps,
+};
+
+pub(crate) const UTF16: PositionEncoding = PositionEncoding::Wide(WideEncoding::Utf16);
+
+pub(crate) const UTF8: PositionEncoding = PositionEncoding::Utf8;
+
+pub(crate) fn at(line: u32, character: u32) -> Position {
+    Position { line, character }
+}
+
+pub(crate) fn range(a: u32, b: u32, c: u32, d: u32) -> Range {
+    Range {
+        start: at(a, b),
+        end: at(c, d),
+    }
+}
+
+pub(crate) fn edit(alloc: Global, range: Range, text: &str) -> Result<ContentChange, AllocError> {
+    Ok(ContentChange {
+        range: Some(range),
+        text: Text::from_str(alloc, text)?,
+    })
+}
+
+pub(crate) fn whole(alloc: Global, text: &str) -> Result<ContentChange, AllocError> {
+    Ok(ContentChange {
+        range: None,
+        text: Text::from_str(alloc, text)?,
+    })
+}
+
+pub(crate) fn edits(
+    alloc: Global,
+    list: &[(Range, &str)],
+) -> Result<Items<ContentChange>, AllocError> {
+    let mut changes = Items::new(alloc);
+    for (range, text) in list {
+        changes.push(edit(alloc, *range, text)?)?;
+    }
+    Ok(changes)
+}
+
+/// A text of at most 4,294,967,295 bytes after changes.
+pub(crate) fn apply(
+    alloc: Global,
+    encoding: PositionEncoding,
+    text: &str,
+    changes: Items<ContentChange>,
+) -> Result<Text, Fail> {
+    if text.len() > u32::MAX as usize {
+        return Err(Fail::from("too long"));
+    }
+    Ok(apply_document_changes(alloc, encoding, text, changes)?)
+}
+
+fn limited_on<L: Ledger>(
+    alloc: Global,
+    encoding: PositionEncoding,
+    text: Text,
+    changes: Items<ContentChange>,
+    limit: u32,
+    blank: Blank,
+) -> Result<Text, Fail>
+    requires name { blank.name ≡ L.name }
+    requires parts { blank.parts ≡ L.parts }
+    requires some { 0 < L.parts }
+{
+    if text.len() > limit as usize {
+        return Err(Fail::from("too long"));
+    }
+    let mut steps = Steps::<L>::new(blank);
+    Ok(apply_with_limit(alloc, encoding, text.as_str(), changes, limit, &mut steps)?)
+}
+
+/// A text within a limit after changes.
+pub(crate) fn limited(
+    alloc: Global,
+    encoding: PositionEncoding,
+    text: Text,
+    changes: Items<ContentChange>,
+    limit: u32,
+) -> Result<Text, Fail> {
+    limited_on::<Brand>(alloc, encoding, text, changes, limit, Blank::new(1))
+}
+
+fn document_on<L: Ledger>(
+    alloc: Global,
+    encoding: PositionEncoding,
+    index: &TextIndex,
+    changes: Items<ContentChange>,
+    blank: Blank,
+) -> Result<EditedDocument, Fail>
+    requires name { blank.name ≡ L.name }
+    requires parts { blank.parts ≡ L.parts }
+    requires some { 0 < L.parts }
+{
+    let mut steps = Steps::<L>::new(blank);
+    Ok(edit_with_steps(alloc, encoding, index, changes, &mut steps)?)
+}
+
+/// A document after changes.
+pub(crate) fn document(
+    alloc: Global,
+    encoding: PositionEncoding,
+    index: &TextIndex,
+    changes: Items<ContentChange>,
+) -> Result<EditedDocument, Fail> {
+    document_on::<Brand>(alloc, encoding, index, changes, Blank::new(1))
+}
+
+/// The index of a short text.
+pub(crate) fn indexed(alloc: Global, text: &str) -> Result<TextIndex, Fail> {
+    if text.len() > u32::MAX as usize {
+        return Err(Fail::from("too long"));
+    }
+    Ok(TextIndex::new(alloc, text)?)
+}
+
+/// Whether two indices have the same text and the same lines.
+pub(crate) fn same_lines(a: &TextIndex, b: &TextIndex) -> bool {
+    if a.text() != b.text() || a.lines() != b.lines() {
+        return false;
+    }
+    for line in 0..b.len() {
+        if a.line(line) != b.line(line) {
+            return false;
+        }
+    }
+    a.line(b.len()) == b.line(b.len())
+}
