@@ -1,9 +1,9 @@
 -- What a host, a sink and a source record.
-use Rattle.std.specs.Prelude.{◌≡◌, ◌≤◌, ◌<◌, ℕ, ◌+◌, ◌-◌, ◌^◌, min, List, [], ◌∷◌, ◌++◌, length, Option, None, Some, Result, Ok, Err, IsErrOf}
+use Rattle.std.specs.Prelude.{◌≡◌, ◌≤◌, ◌<◌, ℕ, ◌+◌, ◌-◌, ◌^◌, min, List, [], ◌∷◌, ◌++◌, length, Option, None, Some, Result, Ok, Err}
 use Rattle.std.specs.FinMap as map
 use Rattle.session_port.specs.Jobs.{Jobs, after_batch}
 use Rattle.session_port.specs.declared.cause.HostError.{HostError}
-use Rattle.session_port.specs.declared.cause.HostError.TheVariants.{Failed}
+use Rattle.session_port.specs.declared.cause.HostError.TheVariants.{Failed, NoMemory}
 use Rattle.session_port.specs.declared.command.Command.{Command}
 use Rattle.session_port.specs.declared.command.Command.TheVariants.{Spawn, Revise, Log, Stop}
 use Rattle.session_port.specs.declared.event.HostEvent.{HostEvent}
@@ -23,6 +23,28 @@ added kept x = grown kept (x ∷ [])
 abbrev pub after_ok : {T E X : Type 0} → Result T E → (T → X) → X → X
 after_ok (Ok x) f old = f x
 after_ok (Err e) f old = old
+
+-- one call of a host: it gave an event, or it took a turn's commands
+pub data HostCall : Type 0 where
+  gave : HostEvent → HostCall
+  took : List Command → HostCall
+
+-- the events that were given by calls, and the commands that were taken
+abbrev pub given_in : List HostCall → List HostEvent
+given_in [] = []
+given_in (gave event ∷ calls) = event ∷ given_in calls
+given_in (took commands ∷ calls) = given_in calls
+
+abbrev pub taken_in : List HostCall → List (List Command)
+taken_in [] = []
+taken_in (gave event ∷ calls) = taken_in calls
+taken_in (took commands ∷ calls) = commands ∷ taken_in calls
+
+-- a fact of what follows an event, which is none where it was the end
+abbrev pub UnlessEnded : HostEvent → Type 0 → Type 0
+UnlessEnded (Bytes bytes) P = P
+UnlessEnded Ended P = Unit {0}
+UnlessEnded (Tasks batch) P = P
 
 -- the jobs out after an event
 abbrev pub after_event : HostEvent → Jobs → Jobs
@@ -63,10 +85,11 @@ last_number low (job ∷ jobs) = last_number job.number jobs
 abbrev pub Rose : ℕ → ℕ → Type 0
 Rose before now = min (before + 1) (2 ^ 64 - 1) ≤ now
 
--- a count of faults never falls, and it has risen where a call failed
-pub record HasCause {T : Type 0} (before now : ℕ) (result : Result T HostError) : Type 0 where
-  pub later : before ≤ now
-  pub failed : IsErrOf result Failed → Rose before now
+-- a count of faults rises where a call fails, and stays as it is elsewhere
+abbrev pub HasCause : {T : Type 0} → ℕ → ℕ → Result T HostError → Type 0
+HasCause before now (Ok x) = now ≡ before
+HasCause before now (Err Failed) = (before ≤ now) × Rose before now
+HasCause before now (Err NoMemory) = now ≡ before
 
 -- what a source held before a piece, given the piece and what it holds now
 abbrev pub before_piece : List ℕ → Option (List ℕ) → Option (List ℕ)

@@ -1,10 +1,8 @@
 // The host, which gives events and takes commands; the sink of the written bytes; the source of the read ones.
-ghost use Rattle.std.specs.Prelude.{◌≡◌, ◌≤◌, ℕ, List, Option, IfOk, OnErr, Bool, IsTrue};
+ghost use Rattle.std.specs.Prelude.{◌≡◌, ◌≤◌, ℕ, List, Option, IfOk, OnErr, Bool, false, IsTrue};
 ghost use Rattle.session_port.specs.Jobs.{Jobs};
-ghost use Rattle.session_port.specs.Record.{HasCause, IsPiece, AreRising, last_number, added, after_ok, after_order, after_given, spawned};
+ghost use Rattle.session_port.specs.Record.{HasCause, HostCall, IsPiece, AreRising, UnlessEnded, gave, took, last_number, added, after_ok, after_order, after_given, spawned};
 ghost use Rattle.session_port.specs.Honest.{IsHonest};
-ghost use Rattle.session_port.specs.declared.command.Command.{Command};
-ghost use Rattle.session_port.specs.declared.event.HostEvent.{HostEvent};
 
 use crate::cause::HostError;
 use crate::command::Command;
@@ -12,7 +10,7 @@ use crate::event::HostEvent;
 use analysis_host::Analysis;
 use plain::{Bytes, Items};
 
-/// What a session runs on.
+/// What a session runs on. After an `Err`, and after the end, no call may be made.
 pub trait Host<A: Analysis> {
     /// The jobs that were handed over and whose result was not given, by their numbers.
     ghost out: { Self → Jobs };
@@ -26,34 +24,36 @@ pub trait Host<A: Analysis> {
     /// How often the host has failed.
     ghost faults: { Self → ℕ };
 
-    /// The events given so far, if the host tells.
-    ghost given: { Self → Option (List HostEvent) };
+    /// The calls so far that were no `Err`, in their order: the events given and the commands taken, if the host tells.
+    ghost calls: { Self → Option (List HostCall) };
 
-    /// The commands taken so far, one list for each `order`, if the host tells.
-    ghost taken: { Self → Option (List (List Command)) };
+    /// No call may be made any more.
+    ghost spent: { Self → Bool };
 
     /// The next event.
     fn next(&mut self) -> Result<HostEvent, HostError>
+        requires fresh { spent self.old ≡ false }
+        ensures fresh { IfOk result (λ event. UnlessEnded event (spent self.new ≡ false)) }
         ensures out { out self.new ≡ after_given result (out self.old) }
         ensures handed { handed self.new ≡ handed self.old }
         ensures honest_stays { honest self.new ≡ honest self.old }
         ensures honest { IfOk result (λ event. IsTrue (honest self.old) → IsHonest A.answer (out self.old) event) }
-        ensures given { given self.new ≡ after_ok result (λ event. added (given self.old) event) (given self.old) }
-        ensures taken { taken self.new ≡ taken self.old }
+        ensures calls { calls self.new ≡ after_ok result (λ event. added (calls self.old) (gave event)) (calls self.old) }
         ensures cause { HasCause (faults self.old) (faults self.new) result };
 
-    /// Takes a turn's commands. After an `Err` the host is spent.
+    /// Takes a turn's commands.
     fn order(&mut self, commands: Items<Command>) -> Result<(), HostError>
+        requires fresh { spent self.old ≡ false }
         requires rising { AreRising (handed self.old) (spawned commands) }
+        ensures fresh { IfOk result (λ _. spent self.new ≡ false) }
         ensures out { IfOk result (λ _. out self.new ≡ after_order commands (out self.old)) }
         ensures handed { IfOk result (λ _. handed self.new ≡ last_number (handed self.old) (spawned commands)) }
         ensures honest_stays { honest self.new ≡ honest self.old }
-        ensures given { given self.new ≡ given self.old }
-        ensures taken { taken self.new ≡ after_ok result (λ _. added (taken self.old) commands) (taken self.old) }
+        ensures calls { calls self.new ≡ after_ok result (λ _. added (calls self.old) (took commands)) (calls self.old) }
         ensures cause { HasCause (faults self.old) (faults self.new) result };
 }
 
-/// Where turns are written.
+/// Where turns are written. After an `Err` no call may be made.
 pub trait Sink {
     /// The bytes of each turn so far, if the sink tells.
     ghost turns: { Self → Option (List (List ℕ)) };
@@ -61,13 +61,18 @@ pub trait Sink {
     /// How often the sink has failed.
     ghost faults: { Self → ℕ };
 
+    /// No call may be made any more.
+    ghost spent: { Self → Bool };
+
     /// Writes a turn. After an `Err` a prefix of it may stand after the whole turns.
     fn put_turn(&mut self, bytes: &[u8]) -> Result<(), HostError>
+        requires fresh { spent self.old ≡ false }
+        ensures fresh { IfOk result (λ _. spent self.new ≡ false) }
         ensures turns { turns self.new ≡ after_ok result (λ _. added (turns self.old) bytes.now) (turns self.old) }
         ensures cause { HasCause (faults self.old) (faults self.new) result };
 }
 
-/// Where bytes come from.
+/// Where bytes come from. After an `Err` no call may be made.
 pub trait Source: Drop {
     /// The bytes that are left, if the source tells.
     ghost left: { Self → Option (List ℕ) };
@@ -75,9 +80,14 @@ pub trait Source: Drop {
     /// How often the source has failed.
     ghost faults: { Self → ℕ };
 
+    /// No call may be made any more.
+    ghost spent: { Self → Bool };
+
     /// The next piece, of at most `max` bytes, or the end. A failure takes nothing.
     fn read_piece(&mut self, max: usize) -> Result<Option<Bytes>, HostError>
-        requires { 1 ≤ max }
+        requires some { 1 ≤ max }
+        requires fresh { spent self.old ≡ false }
+        ensures fresh { IfOk result (λ _. spent self.new ≡ false) }
         ensures piece { IfOk result (IsPiece max (left self.old) (left self.new)) }
         ensures kept { OnErr result (left self.new ≡ left self.old) }
         ensures cause { HasCause (faults self.old) (faults self.new) result };
