@@ -13,11 +13,13 @@ pub struct Small {
 }
 
 impl Source for Small {
-    ghost use Rattle.std.specs.Prelude.{Some};
+    ghost use Rattle.std.specs.Prelude.{Some, false};
 
     ghost left = { λ s. Some s.source.left };
 
-    ghost faults = { λ s. s.source.calls.faults };
+    ghost faults = { λ s. s.source.plan.faults };
+
+    ghost spent = { λ _. false };
 
     fn read_piece(&mut self, max: usize) -> Result<Option<Bytes>, HostError> {
         self.source.read_piece(max.min(16))
