@@ -72,6 +72,9 @@ pub fn run<R: Read + Drop, W: Write + Drop, L: Log>(
         Asked::Help => print(output, HELP),
         Asked::Version => print(output, VERSION),
         Asked::Unreadable => BAD_WORDS,
-        Asked::Serve => serve_stream(alloc, words.texts(), input, output, log).unwrap_or(NO_MEMORY),
+        Asked::Serve => match serve_stream(alloc, words.texts(), input, output, log) {
+            Ok(status) => status,
+            Err(_) => NO_MEMORY,
+        },
     }
 }

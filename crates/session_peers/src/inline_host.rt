@@ -4,7 +4,7 @@ ghost use Rattle.session_peers.specs.Coming.{Comes, IsHeld, NeedsRead, source_af
 ghost use Rattle.session_peers.specs.Framed.{waiting as framed_waiting};
 ghost use Rattle.session_port.specs.Honest.{IsHonest};
 ghost use Rattle.session_peers.specs.Inline.{new_inline, waiting, IfBytes, IfTasks, IfEnded, GivesBytes, GivesResults, GivesEnd, ReadsNow};
-ghost use Rattle.session_port.specs.Record.{HasCause, AreRising, added, after_given, after_ok, after_order, gave, last_number, spawned, took};
+ghost use Rattle.session_port.specs.Record.{HasCause, AreRising, UnlessEnded, added, after_given, after_ok, after_order, gave, last_number, spawned, took};
 
 use crate::framed_source::FramedSource;
 use crate::jobs_out::JobsOut;
@@ -123,7 +123,7 @@ impl<'a, S: Source, A: Analysis> Host<A> for InlineHost<'a, S, A> {
 
     fn next(&mut self) -> Result<HostEvent, HostError>
         requires fresh { self.old.spent ≡ false }
-        ensures fresh { IfOk result (λ _. self.new.spent ≡ false) }
+        ensures fresh { IfOk result (λ event. UnlessEnded event (self.new.spent ≡ false)) }
         ensures out { self.new.out ≡ after_given result self.old.out }
         ensures handed { self.new.handed ≡ self.old.handed }
         ensures honest { IfOk result (λ event. IsTrue true → IsHonest A.answer self.old.out event) }
@@ -135,6 +135,8 @@ impl<'a, S: Source, A: Analysis> Host<A> for InlineHost<'a, S, A> {
         ensures bytes { IfOk result (λ event. IfBytes event (GivesBytes self.old self.new)) }
         ensures results { IfOk result (λ event. IfTasks event (GivesResults self.old self.new)) }
         ensures ended { IfOk result (λ event. IfEnded event (GivesEnd self.old self.new)) }
+        // It may be called again after the end too.
+        ensures fresh_at_end { IfOk result (λ _. self.new.spent ≡ false) }
         ensures kept { OnErr result (waiting self.new ≡ waiting self.old) }
         ensures failed { result ≡ Err HostError.Failed → ReadsNow self.old }
     {

@@ -2,7 +2,7 @@
 ghost use Rattle.std.specs.Prelude.{◌≡◌, ◌↔◌, true, false, Some, Err, IsTrue, IfOk, IsErrOf};
 ghost use Rattle.session_port.specs.Honest.{IsHonest};
 ghost use Rattle.session_peers.specs.Memory.{after_call, IsFailing};
-ghost use Rattle.session_port.specs.Record.{HasCause, AreRising, added, after_given, after_ok, after_order, gave, last_number, spawned, took};
+ghost use Rattle.session_port.specs.Record.{HasCause, AreRising, UnlessEnded, added, after_given, after_ok, after_order, gave, last_number, spawned, took};
 ghost use Rattle.session_peers.specs.Script.{IsNext, new_script, next_gift};
 
 use crate::fail_plan::FailPlan;
@@ -85,6 +85,7 @@ impl<'a, A: Analysis> Host<A> for ScriptHost<'a, A> {
     ghost spent = { λ _. false };
 
     fn next(&mut self) -> Result<HostEvent, HostError>
+        ensures fresh { IfOk result (λ event. UnlessEnded event (false ≡ false)) }
         ensures out { self.new.out ≡ after_given result self.old.out }
         ensures handed { self.new.handed ≡ self.old.handed }
         ensures honest { IfOk result (λ event. IsTrue true → IsHonest A.answer self.old.out event) }
@@ -111,6 +112,7 @@ impl<'a, A: Analysis> Host<A> for ScriptHost<'a, A> {
 
     fn order(&mut self, commands: Items<Command>) -> Result<(), HostError>
         requires rising { AreRising self.old.handed (spawned commands) }
+        ensures fresh { IfOk result (λ _. false ≡ false) }
         ensures out { IfOk result (λ _. self.new.out ≡ after_order commands self.old.out) }
         ensures handed { IfOk result (λ _. self.new.handed
             ≡ last_number self.old.handed (spawned commands)) }

@@ -1,5 +1,7 @@
 // Hosts that follow a script, and hosts that give whatever they were told to give.
-use crate::fixtures::{Null, calls_text, numbers, told, two_jobs};
+ghost use Rattle.std.specs.Prelude.{◌≡◌, false};
+
+use crate::fixtures::{Null, calls_text, event_text, numbers, told, two_jobs};
 use plain::{Bytes, Items, Json};
 use session_peers::{HostileHost, ScriptHost, ScriptStep};
 use session_port::{Host, HostError, HostEvent, JobResult, JobValue, TaskBody, TaskMsg};
@@ -115,5 +117,22 @@ fn made_up_results(rt: HostRuntime) -> Result<(), Fail> {
     let (told, calls) = hostile_told(rt.alloc(), 5)?;
     assert_eq!(rt; told.as_str(), "5: null;|x|7: cancelled;|ended|ended|");
     assert_eq!(rt; calls.as_str(), "2|event|event|event|event|event|");
+    Ok(())
+}
+
+/// The next event of a host that is handed over.
+fn next_of<H: Host<Null> + Drop>(mut host: H) -> Result<HostEvent, HostError>
+    requires { H.spent host ≡ false }
+{
+    host.next()
+}
+
+#[test]
+fn a_lent_host_is_one(rt: HostRuntime) -> Result<(), Fail> {
+    let alloc = rt.alloc();
+    let mut host = ScriptHost::new(alloc, &Null, finishing(alloc)?, numbers(alloc, &[])?)?;
+    let event = next_of(&mut host);
+    assert_eq!(rt; event_text(alloc, event)?.as_str(), "ab");
+    assert_eq!(rt; host.calls().len(), 1);
     Ok(())
 }
