@@ -6,13 +6,16 @@ use std::alloc::Global;
 use std::test::Fail;
 use stdio::StandardOutput;
 
-const OPEN: &str = "Content-Length: 151\r\n\r\n{\"jsonrpc\":\"2.0\",\"method\":\"textDocument/didOpen\",\"params\":{\"textDocument\":{\"uri\":\"file:///w/a.rs\",\"languageId\":\"rust\",\"version\":1,\"text\":\"fn a() {}\"}}}";
+const OPEN: &str =
+    "Content-Length: 151\r\n\r\n{\"jsonrpc\":\"2.0\",\"method\":\"textDocument/didOpen\",\"params\":{\"textDocument\":{\"uri\":\"file:///w/a.rs\",\"languageId\":\"rust\",\"version\":1,\"text\":\"fn a() {}\"}}}";
 
-const HOVER: &str = "Content-Length: 141\r\n\r\n{\"jsonrpc\":\"2.0\",\"id\":1,\"method\":\"textDocument/hover\",\"params\":{\"textDocument\":{\"uri\":\"file:///w/a.rs\"},\"position\":{\"line\":0,\"character\":3}}}";
+const HOVER: &str =
+    "Content-Length: 141\r\n\r\n{\"jsonrpc\":\"2.0\",\"id\":1,\"method\":\"textDocument/hover\",\"params\":{\"textDocument\":{\"uri\":\"file:///w/a.rs\"},\"position\":{\"line\":0,\"character\":3}}}";
 
 const EXIT: &str = "Content-Length: 33\r\n\r\n{\"jsonrpc\":\"2.0\",\"method\":\"exit\"}";
 
-const REPLY: &str = "Content-Length: 50\r\n\r\n{\"id\":1,\"jsonrpc\":\"2.0\",\"result\":{\"contents\":\"a\"}}";
+const REPLY: &str =
+    "Content-Length: 50\r\n\r\n{\"id\":1,\"jsonrpc\":\"2.0\",\"result\":{\"contents\":\"a\"}}";
 
 /// How a run went: its status, what it wrote, and whether all of that was flushed.
 #[derive(Drop)]
