@@ -1,8 +1,10 @@
 pub mod Answered
 pub mod Appends
+pub mod Asking
 pub mod Causes
 pub mod Counted
 pub mod Courses
+pub mod Exhausting
 pub mod Fitting
 pub mod Handed
 pub mod Held

@@ -54,7 +54,7 @@ abbrev pub turn_of : Input → Working → Turn
 turn_of input w = record { input = input; messages = w.out.messages; commands = w.out.commands }
 
 -- the turn is counted, and nothing else was done
-abbrev counted_turn : State → Working
+abbrev pub counted_turn : State → Working
 counted_turn s = record { state = record s { turns = s.turns + 1 }; out = nothing_done }
 
 -- a turn before it closes

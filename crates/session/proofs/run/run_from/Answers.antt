@@ -12,7 +12,9 @@ returns-in-Err-clause-run g c = run-first _ _ _ c.run_turn.new.state _ _ _ _ (g.
 
 pub inputs-init : goal.inputs-init
 inputs-init g c = record {
-  so_far = stretch-start _ _ _ _ c.args.reader _ _ _ _ _ _ _ c.in_ok-state.ensures c.requires.idle c.in-Ok.ensures.turn;
+  so_far = stretch-start _ _ _ _ c.args.reader _ _ _ _ _ _ c.in_ok-state.ensures c.requires.idle c.in-Ok.ensures.turn;
+  host_fresh = search rules;
+  sink_fresh = search rules;
   handed = c.in-Ok.ensures.handed;
   honest_stays = search rules;
   host_later = search rules;
@@ -29,6 +31,8 @@ inputs-preserved g c =
     let on = rw c.in-Ok-Going.field-0-is at c.in-Ok-Going.ensures.turn in
     record {
       so_far = stretch-on _ _ _ _ _ _ _ _ _ _ _ _ _ _ _ _ _ _ c.inputs.invariant.so_far c.inputs.invariant.honest_stays on.stretch;
+      host_fresh = search rules;
+      sink_fresh = search rules;
       handed = search rules;
       honest_stays = search rules;
       host_later = search rules;
