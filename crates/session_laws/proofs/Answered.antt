@@ -11,7 +11,7 @@ use Rattle.session_port.specs.declared.command.Command.TheVariants.{Stop}
 use Rattle.session_port.specs.declared.event.HostEvent.{HostEvent}
 use Rattle.session_port.specs.declared.event.HostEvent.TheVariants.{Bytes, Ended}
 use Rattle.session_model.specs.Course.{Course, takes, session_course, bytes_in}
-use Rattle.session_model.specs.Headline.{Place, Answers, AllTaken, EndsAt, IsAnswered, IsUsedUp, LastUntaken, NeedsMore, AreHandedOver, place_after, place_after_all, beginning, reaction_of, row}
+use Rattle.session_model.specs.Headline.{Place, Answers, AllTaken, EndsAt, IsAnswered, IsUsedUp, LastUntaken, NeedsMore, Revises, AreHandedOver, place_after, place_after_all, beginning, reaction_of, row}
 use Rattle.session_model.specs.Meaning.{Meaning}
 use Rattle.session_model.specs.Run.{Turn, Told, Runs, Steps, AreHonest, AsksLast, BreaksOffWritten, Ends, EndsBy, IsRun, MayAsk, RunsOut, Stretch, TooManyBytes, commands_of, fed_bytes, giving, taking, telling}
 use Rattle.session_model.specs.State.{State, fresh}
@@ -43,6 +43,7 @@ after-one before turn = after_all-append before (turn ∷ []) beginning
 record Turned (meaning : Meaning) (config : ConfigData) (before : List Turn) (turn : Turn) (mid : State) : Type 0 where
   does : reaction_of turn ≡ row meaning config turn.input (place_after_all before beginning)
   next : Stands config (before ++ turn ∷ []) mid
+  revised : Revises (place_after_all before beginning) (place_after turn (place_after_all before beginning))
 
 turned : (meaning : Meaning) (config : ConfigData) (s : State) (before : List Turn) (turn : Turn) (mid : State) → Stands config before s → Steps meaning s turn mid → Turned meaning config before turn mid
 turned meaning config s before turn mid stands steps =
@@ -61,6 +62,7 @@ turned meaning config s before turn mid stands steps =
         sound = subst SoundAt (sym (after-one before turn)) sound;
         handed = subst (λ (p : Place). AreHandedOver config (before ++ turn ∷ []) p.out) (sym (after-one before turn)) handed;
       };
+      revised = subst (λ (p : Place). Revises here p) place (subst (λ (p : Place). Revises p (place_of mid)) stands.place fit.revised);
     }
 
 all-answer : (meaning : Meaning) (config : ConfigData) (honest : Bool) (s : State) (before turns : List Turn) (last : State) → Stands config before s
@@ -73,6 +75,7 @@ all-answer meaning config honest s before (turn ∷ turns) last stands (mid, ste
         once = turn-once meaning config turn (place_after_all before beginning) t.does stands.sound;
         held = t.next.sound.held;
         handed_over = stands.handed;
+        revised = t.revised;
         value = λ h. (fair h).0;
       },
       all-answer meaning config honest mid (before ++ turn ∷ []) turns last t.next runs (λ h. subst (λ (p : Place). AreHonest meaning p.out turns) (sym (after-one before turn)) (fair h).1),

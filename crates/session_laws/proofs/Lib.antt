@@ -10,6 +10,7 @@ pub mod Handed
 pub mod Held
 pub mod Joined
 pub mod Keyed
+pub mod Once
 pub mod Orders
 pub mod Reacting
 pub mod Results

@@ -1,5 +1,5 @@
 -- What a session's record says of requests and answers: by the lists of inputs, messages and commands alone.
-use Rattle.std.specs.Prelude.{◌≡◌, ◌≤◌, ℕ, ◌+◌, ◌-◌, ◌^◌, ◌⊎◌, ◌&&◌, ℤ, List, [], ◌∷◌, ◌++◌, codes, length, Contains, Bool, true, false, not, ltb, IsTrue, Option, None, Some, is_some, Result, Ok, Err, if◌then◌else◌}
+use Rattle.std.specs.Prelude.{◌≡◌, ◌≢◌, ◌≤◌, ℕ, ◌+◌, ◌-◌, ◌^◌, ◌⊎◌, ◌&&◌, ℤ, List, [], ◌∷◌, ◌++◌, codes, length, Contains, Bool, true, false, not, ltb, IsTrue, Option, None, Some, is_some, Result, Ok, Err, if◌then◌else◌}
 use Rattle.std.specs.FinMap as map
 use Rattle.serde_json.specs.Data.{Data, null}
 use Rattle.plain.specs.Plain.{is_plain}
@@ -336,6 +336,12 @@ pub record WasHandedOver (config : ConfigData) (turns : List Turn) (job : Job) :
 abbrev pub AreHandedOver : ConfigData → List Turn → Jobs → Type 0
 AreHandedOver config turns out = (number : ℕ) (job : Job) → map.get out number ≡ Some job → WasHandedOver config turns job
 
+-- the texts stay and the revision stays, or they are others and it is one more
+abbrev pub Revises : Place → Place → Type 0
+Revises before after =
+    ((after.documents.texts ≡ before.documents.texts) × (after.revision ≡ before.revision))
+    ⊎ ((after.documents.texts ≢ before.documents.texts) × (after.revision ≡ before.revision + 1))
+
 -- ---- the headline
 
 -- what holds of a turn, after those before it
@@ -348,6 +354,8 @@ pub record Answers (meaning : Meaning) (config : ConfigData) (honest : Bool) (be
   pub held : let after = place_after_all (before ++ turn ∷ []) beginning in AreHeld after.pending after.out
   -- each job out was handed over by the turn that read its request, or a later one, on the documents of all inputs before that turn
   pub handed_over : let place = place_after_all before beginning in AreHandedOver config before place.out
+  -- the revision rises by one exactly where a text changed
+  pub revised : let place = place_after_all before beginning in Revises place (place_after turn place)
   -- an honest host's results are what the questions of jobs out, on their snapshots, come to
   pub value : let place = place_after_all before beginning in IsTrue honest → IsHonestInput meaning place.out turn.input
 
