@@ -1,6 +1,6 @@
 -- One step of the loop, and the first and the last of a run.
 use Rattle.std.proofs.Common.{◌≡◌, ℕ, ◌+◌, ◌^◌, ◌<◌, ◌≤◌, List, [], ◌∷◌, ◌++◌, length, Bool, false, refl, sym, ap, ◌∙◌, subst, arith, length-append, inl}
-use Rattle.std.specs.Prelude.{⊤, IsTrue, Result, Ok, Err}
+use Rattle.std.specs.Prelude.{⊤, IfErr, IsTrue, OnOk, Result, Ok, Err}
 use Rattle.std.specs.FinMap as maps
 use Rattle.lsp_frame.specs.Reader.{Reader}
 use Rattle.ra_config.specs.Config.{ConfigData}
@@ -18,9 +18,9 @@ use Rattle.session_model.specs.declared.input.Input.{Input}
 use Rattle.session_model.specs.declared.input.Input.TheVariants.{Start}
 use Rattle.session_laws.proofs.Counted.{IsLater, steps-fewer}
 use Rattle.session_laws.proofs.Stretches.{stretch-turn, stretch-fed, stretch-none, telling-none}
-use Rattle.session.specs.Looping.{AdvancesByEvent, Goes, TurnDone, Done}
+use Rattle.session.specs.Looping.{AdvancesByEvent, Goes, IsFeedError, TurnDone, Done}
 use Rattle.session.specs.Reading.{course_from}
-use Rattle.session.proofs.Endings.{ends-turn, breaks_at_once}
+use Rattle.session.proofs.Endings.{ends-feed, ends-turn, breaks_at_once}
 
 -- the events brought the input
 pub brings : (events : List HostEvent) (input : Input) (to later : List HostEvent → Course) → MayAsk to events → ((more : List HostEvent) → to (events ++ more) ≡ takes input (later more)) → Brings to events input
@@ -73,6 +73,17 @@ advances-fed meaning bytes a reader reader_now old new honest out out_now asked 
       fewer = omega (arith, some, fits, longer);
     })
 
+-- bytes that came: they were fed, or that is how the run ended
+pub advances-feed : (meaning : Meaning) (bytes : List ℕ) (a : State) (reader reader_now : Reader) (old new : Told) (honest : Bool) (out out_now : Jobs) (r : Result ⊤ SessionError)
+    → course_from reader [] ≡ waits → ((more : List HostEvent) → course_from reader (Bytes bytes ∷ more) ≡ course_from (record { place = reader.place; held = reader.held ++ bytes; failed = false }) more)
+    → new ≡ telling (gave (Bytes bytes) ∷ []) [] old → 0 < length bytes → OnOk r (fed_bytes reader + length bytes < 2 ^ 64)
+    → OnOk r (reader_now ≡ record { place = reader.place; held = reader.held ++ bytes; failed = false }) → IfErr r (IsFeedError (fed_bytes reader) (length bytes))
+    → out_now ≡ out → AdvancesByEvent meaning a a reader reader_now old new honest out out_now r
+advances-feed meaning bytes a reader reader_now old new honest out out_now (Ok x) asked course given some fits is err same =
+    advances-fed meaning bytes a reader reader_now old new honest out out_now asked course given some fits is same
+advances-feed meaning bytes a reader reader_now old new honest out out_now (Err e) asked course given some fits is err same =
+    ends-feed meaning bytes a (course_from reader) (fed_bytes reader) old new honest out e asked given err
+
 -- the start
 pub stretch-start : (meaning : Meaning) (config : ConfigData) (a b : State) (reader : Reader) (used : ℕ) (old new : Told) (honest : Bool) (out out_now : Jobs)
     → a ≡ fresh config → out ≡ maps.empty → Done meaning Start a b old new out out_now
@@ -123,3 +134,10 @@ run-ends meaning config s first reader old mid new honest out_mid T result stret
   stretch = stretch;
   ends = ends;
 }
+
+-- a run breaks off
+pub run-broken : (meaning : Meaning) (config : ConfigData) (s : State) (first reader : Reader) (old mid new : Told) (honest honest_now : Bool) (out_mid : Jobs) (T : Type 0) (e : SessionError)
+    → Stretch meaning (fresh config) s (session_course first.place first.held) (course_from reader) (fed_bytes first) (fed_bytes reader) old mid honest maps.empty out_mid
+    → honest_now ≡ honest → EndsBy meaning s (course_from reader) (fed_bytes reader) mid new honest_now out_mid e → IsRun {T = T} meaning config first old new honest (Err e)
+run-broken meaning config s first reader old mid new honest honest_now out_mid T e stretch same ends =
+    run-ends meaning config s first reader old mid new honest out_mid T (Err e) stretch (subst (λ (h : Bool). EndsBy meaning s (course_from reader) (fed_bytes reader) mid new h out_mid e) same ends)

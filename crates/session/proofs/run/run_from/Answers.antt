@@ -1,7 +1,7 @@
 use Rattle.std.proofs.Common.{rules}
 use Rattle.std.proofs.lemmas.Result.{err_from_is_err_and}
 use Rattle.session_laws.proofs.Stretches.{stretch-on}
-use Rattle.session.proofs.Advancing.{run-none, run-first, run-ends, stretch-start}
+use Rattle.session.proofs.Advancing.{run-none, run-first, run-broken, run-ends, stretch-start}
 use Rattle.session.proofs.run.run_from.Goals as goal
 
 pub returns-in_err-state-clause-run : goal.returns-in_err-state-clause-run
@@ -42,3 +42,7 @@ inputs-preserved g c =
 pub returns-in-Ok-Stopped-clause-run : goal.returns-in-Ok-Stopped-clause-run
 returns-in-Ok-Stopped-clause-run g c =
     run-ends _ _ _ c.args.reader c.inputs.reader _ _ _ _ _ _ _ c.inputs.invariant.so_far (rw c.in-Ok-Stopped.field-0-is at c.in-Ok-Stopped.ensures.turn)
+
+pub returns-in-Err-advance-clause-run : goal.returns-in-Err-advance-clause-run
+returns-in-Err-advance-clause-run g c =
+    run-broken _ _ _ c.args.reader c.inputs.reader _ _ _ _ _ _ _ c.in-Err-advance.error c.inputs.invariant.so_far c.inputs.invariant.honest_stays c.in-Err-advance.ensures.turn

@@ -1,8 +1,8 @@
-use Rattle.std.proofs.Common.{rules, arith, refl, inl, inr, sym, subst, ◌≡◌}
+use Rattle.std.proofs.Common.{rules, arith, refl, inr, sym, subst, ◌≡◌}
 use Rattle.std.proofs.lemmas.Grind.{common_steps}
 use Rattle.session_port.specs.Record.{AreRising, spawned}
 use Rattle.session_model.specs.Meaning.{Meaning, meaning_of}
-use Rattle.session_model.specs.Run.{Turn, Steps}
+use Rattle.session_model.specs.Run.{Turn, Steps, told_of}
 use Rattle.session_laws.proofs.Rising.{steps-hand}
 use Rattle.session_laws.proofs.Stretches.{telling-turn}
 use Rattle.session.proofs.run.run_turn.Goals as goal
@@ -41,3 +41,29 @@ returns-in-Ok-order-clause-handed g c =
     let last = (steps-hand meaning c.args.state.now turn c.take_input.new.state steps).last in
     let h = c.in-Ok-order.ensures in
     grind (arith, common_steps, h, last, same, before)
+
+pub returns-in-Err-Failed-order-clause-turn : goal.returns-in-Err-Failed-order-clause-turn
+returns-in-Err-Failed-order-clause-turn g c =
+    let turn : Turn = record { input = c.args.input; messages = c.take_input.new.out.messages; commands = c.take_input.new.out.commands } in
+    let h = c.in-Err-Failed-order.ensures in
+    record {
+      turn = turn;
+      input_is = refl;
+      steps = search rules;
+      read = search rules;
+      told = telling-turn turn (told_of (g.H.Host.calls c.args.host.now) (g.S.Sink.turns c.args.sink.now)) (told_of (g.H.Host.calls c.order.new.self) (g.S.Sink.turns c.put_turn.new.self))
+          (grind (arith, common_steps, h)) (grind (arith, common_steps));
+    }
+
+pub returns-clause-turn : goal.returns-clause-turn
+returns-clause-turn g c =
+    let turn : Turn = record { input = c.args.input; messages = c.take_input.new.out.messages; commands = c.take_input.new.out.commands } in
+    let h = c.in-Err-NoMemory-order.ensures in
+    inr (record {
+      turn = turn;
+      input_is = refl;
+      steps = search rules;
+      read = search rules;
+      told = telling-turn turn (told_of (g.H.Host.calls c.args.host.now) (g.S.Sink.turns c.args.sink.now)) (told_of (g.H.Host.calls c.order.new.self) (g.S.Sink.turns c.put_turn.new.self))
+          (grind (arith, common_steps, h)) (grind (arith, common_steps));
+    })

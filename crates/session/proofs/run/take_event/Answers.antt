@@ -5,8 +5,8 @@ use Rattle.session_model.specs.declared.input.Event.TheVariants.{Task}
 use Rattle.session_model.specs.declared.input.Input.TheVariants.{Next}
 use Rattle.session_laws.proofs.Courses.{course-event, course-fed, course-empty, course-waits}
 use Rattle.session_laws.proofs.Stretches.{telling-calls}
-use Rattle.session.proofs.Endings.{breaks_at_once, ends-feed}
-use Rattle.session.proofs.Advancing.{advances-fed, advances-turn}
+use Rattle.session.proofs.Endings.{breaks_at_once}
+use Rattle.session.proofs.Advancing.{advances-feed, advances-turn}
 use Rattle.session.proofs.run.take_event.Goals as goal
 
 pub returns-in-Err-Failed-clause-turn : goal.returns-in-Err-Failed-clause-turn
@@ -39,10 +39,10 @@ returns-then-len-eq0-clause-turn g c =
     (course-waits _ _ c.requires.waits) (λ more. course-empty _ _ c.in-Bytes.bytes more c.requires.waits none) (omega (arith, none))
     (telling-calls _ _ _ (grind (arith, common_steps, h)) refl) (grind (arith, common_steps, h)) (λ _. tt) tt refl (rw c.new-batch.ensures at c.run_turn-then-len-eq0.ensures.turn)
 
-pub returns-in-Bytes-clause-turn : goal.returns-in-Bytes-clause-turn
-returns-in-Bytes-clause-turn g c =
+pub returns-else-len-eq0-clause-turn : goal.returns-else-len-eq0-clause-turn
+returns-else-len-eq0-clause-turn g c =
     let h = c.in-Ok.ensures in
     let some : 0 < length c.in-Bytes.bytes = search rules in
-    advances-fed _ c.in-Bytes.bytes _ c.args.reader.now c.feed.new.reader _ _ _ _ _
+    advances-feed _ c.in-Bytes.bytes _ c.args.reader.now c.feed.new.reader _ _ _ _ _ _
     (course-waits _ _ c.requires.waits) (λ more. course-fed _ _ c.in-Bytes.bytes more c.requires.waits some)
-    (telling-calls _ _ _ (grind (arith, common_steps, h)) refl) some (search rules) (search rules) (grind (arith, common_steps, h))
+    (telling-calls _ _ _ (grind (arith, common_steps, h)) refl) some c.feed.ensures.fits c.feed.ensures.ok c.feed.ensures.err (grind (arith, common_steps, h))
