@@ -19,5 +19,5 @@ returns-in-Ok-clause-turn g c =
 pub returns-in-Err-clause-turn : goal.returns-in-Err-clause-turn
 returns-in-Err-clause-turn g c =
     let next = rw c.in-Message.is at c.in_ok-message.ensures in
-    ends-turn _ (Next (Lsp c.in-Message.message)) [] _ _ _ _ _ _ _ _ _ _ _ c.in-Err.error
+    ends-turn _ (Next (Lsp c.in-Message.message)) [] _ _ _ _ _ _ _ _ _ (g.H.Host.out c.args.host.now) (g.H.Host.out c.args.host.now) c.in-Err.error
     (brings [] (Next (Lsp c.in-Message.message)) _ _ tt next.course) (sym (telling-none _)) (λ _. tt) c.in-Err.ensures.turn
