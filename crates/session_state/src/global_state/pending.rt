@@ -24,18 +24,18 @@ impl GlobalState {
         ensures pending { IfOk result (λ done. done ≡ is_some (id_of ticket self.old.pending)) }
         ensures after { OnOk result (record { state = self.new; out = out.new } ≡ responded (id_of ticket self.old.pending) response (record { state = self.old; out = out.old })) }
     {
-        match self.pending.complete(ticket) {
-            None => Ok(false),
-            Some(id) => {
-                let Response { result, error, .. } = response;
-                out.reply(Response {
-                    id: Some(id),
-                    result,
-                    error,
-                })?;
-                Ok(true)
-            }
-        }
+        let Some(id) = self.pending.id_of(ticket) else {
+            return Ok(false);
+        };
+        let id = id.clone()?;
+        self.pending.cancel(&id);
+        let Response { result, error, .. } = response;
+        out.reply(Response {
+            id: Some(id),
+            result,
+            error,
+        })?;
+        Ok(true)
     }
 
     /// Answers the request of an id as one that the client cancelled, and closes it; false where it isn't pending. After an `Err` the
