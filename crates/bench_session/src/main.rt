@@ -1,7 +1,7 @@
 // Runs sessions with many pending requests, and times them on standard error.
 #![tactic(auto)]
 
-ghost use Rattle.std.specs.Prelude.{◌≡◌};
+ghost use Rattle.std.specs.Prelude.{◌≡◌, false};
 ghost use Rattle.std.specs.FinMap as map;
 
 use analysis_host::Analysis;
@@ -65,6 +65,8 @@ fn run<H: Host<A>, S: Sink, A: Analysis>(
 ) -> Result<(), SessionError>
     requires idle { H.out host.old ≡ map.empty }
     requires unused { H.handed host.old ≡ 0 }
+    requires fresh_host { H.spent host.old ≡ false }
+    requires fresh_sink { S.spent sink.old ≡ false }
 {
     main_loop(alloc, config, host, sink, analysis)
 }

@@ -1,7 +1,7 @@
 //! The reader's loop: it reads a source, and posts what it read.
 ghost use Rattle.std.specs.Prelude.{◌≡◌, ◌∷◌, [], true, false};
 ghost use Rattle.inbox.specs.Posting.{IsPosting};
-ghost use Rattle.inbox.specs.Readers.{Reads, IsReading};
+ghost use Rattle.inbox.specs.Readers.{Reads, IfPiece, IsReading};
 ghost use Rattle.inbox.specs.Rule.{after_post};
 
 use crate::ends::ReaderEnd;
@@ -36,7 +36,8 @@ impl ReaderEnd {
 
     /// Reads the source to its end, posts each piece, and then one last entry: its end, its failure, or a want of memory.
     pub fn read_all<R: Wait, S: Source>(mut self, rt: &R, alloc: Global, mut source: S) -> ReaderEnd
-        requires { Reads (S.left source) (S.faults source) self.pass.me.view.client }
+        requires reads { Reads (S.left source) (S.faults source) self.pass.me.view.client }
+        requires fresh { S.spent source ≡ false }
         ensures inbox { result.inbox ≡ self.inbox }
         ensures closed { result.pass.me.view.client.closed ≡ true }
     {
@@ -67,7 +68,9 @@ fn tell_surely<R: Wait, S: Source>(rt: &R, alloc: Global, source: &S) -> Token
 
 /// The next entry of the source.
 fn read_entry<R: Wait, S: Source>(rt: &R, alloc: Global, source: &mut S) -> Entry
-    ensures { IsReading (S.left source.old) (S.faults source.old) (S.left source.new) (S.faults source.new) result }
+    requires fresh { S.spent source.old ≡ false }
+    ensures reading { IsReading (S.left source.old) (S.faults source.old) (S.left source.new) (S.faults source.new) result }
+    ensures fresh { IfPiece result (S.spent source.new ≡ false) }
 {
     match source.read_piece(PIECE) {
         Ok(Some(bytes)) => Entry::Piece(bytes),

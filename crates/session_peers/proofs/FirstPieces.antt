@@ -12,8 +12,8 @@ use Rattle.lsp_frame.specs.Find.{place_of}
 use Rattle.lsp_frame.specs.declared.frame.Cut.{Cut}
 use Rattle.lsp_frame.specs.declared.frame.Cut.TheVariants.{NeedMore, Bad, Frame}
 use Rattle.session_peers.specs.Coming.{Comes, ComesAsBytes, ComesAsEnd, source_after}
-use Rattle.session_peers.specs.Framed.{FramedData, waiting, IsRead, EndsBy, EndsPiece}
-use Rattle.session_peers.specs.Inline.{InlineData, IsFirstPiece, IsNextPiece, GivesBytes, IfBytes}
+use Rattle.session_peers.specs.Framed.{FramedData, waiting as framed_waiting, IsRead, EndsBy, EndsPiece}
+use Rattle.session_peers.specs.Inline.{InlineData, waiting, IsFirstPiece, IsNextPiece, GivesBytes, IfBytes}
 use Rattle.session_port.specs.Jobs.{Jobs}
 use Rattle.session_port.specs.Record.{before_piece}
 use Rattle.session_port.specs.declared.event.HostEvent.{HostEvent}
@@ -50,11 +50,11 @@ before_both : (piece behind : List ℕ) (left : Option (List ℕ)) → before_pi
 before_both piece behind None = refl
 before_both piece behind (Some left) = ap Some (append_assoc piece behind left)
 
-module _ (out : Jobs) (source : FramedData) (piece : List ℕ) (comes : ComesAsBytes out source piece) where
+module _ (out : Jobs) (before source : FramedData) (piece : List ℕ) (comes : ComesAsBytes out before source piece) where
   held_parted : source.held ≡ piece ++ drop (length piece) source.held
   held_parted = sym (take-append-drop (length piece) source.held) ∙ ap (λ front. front ++ drop (length piece) source.held) (sym comes.is)
 
-  waiting_parted : waiting source ≡ before_piece piece (waiting (source_after (Bytes piece) source))
+  waiting_parted : framed_waiting source ≡ before_piece piece (framed_waiting (source_after (Bytes piece) source))
   waiting_parted = ap (λ held. before_piece held source.left) held_parted ∙ before_both piece (drop (length piece) source.held) source.left
 
   all_held : length piece ≡ length source.held → piece ≡ source.held
@@ -87,17 +87,23 @@ module _ (out : Jobs) (source : FramedData) (piece : List ℕ) (comes : ComesAsB
   next_of (Some left) told = first_of left told
 
 -- what comes as bytes is given as the next piece
-gives_bytes : (old new : InlineData) (out : Jobs) (source : FramedData) (piece : List ℕ) → out ≡ old.out → waiting source ≡ old.waiting → waiting (source_after (Bytes piece) source) ≡ new.waiting
-    → ComesAsBytes out source piece → GivesBytes old new piece
-gives_bytes old new out source piece same_out before after comes = record {
-  idle = sym same_out ∙ comes.idle;
-  some = comes.some;
-  parted = sym before ∙ waiting_parted out source piece comes ∙ ap (before_piece piece) after;
-  next = subst (IsNextPiece piece) before (next_of out source piece comes source.left refl);
-}
+gives_bytes : (old new : InlineData) (out : Jobs) (before source : FramedData) (piece : List ℕ) → out ≡ old.out → before.held ≡ old.held → before.left ≡ old.left
+    → framed_waiting source ≡ framed_waiting before → drop (length piece) source.held ≡ new.held → source.left ≡ new.left → ComesAsBytes out before source piece
+    → GivesBytes old new piece
+gives_bytes old new out before source piece same_out same_held same_left same_waiting new_held new_left comes =
+    let at_old : framed_waiting source ≡ waiting old = same_waiting ∙ (λ i. before_piece (same_held i) (same_left i)) in
+    let at_new : framed_waiting (source_after (Bytes piece) source) ≡ waiting new = λ i. before_piece (new_held i) (new_left i) in record {
+      idle = sym same_out ∙ comes.idle;
+      some = comes.some;
+      parted = sym at_old ∙ waiting_parted out before source piece comes ∙ ap (before_piece piece) at_new;
+      next = subst (IsNextPiece piece) at_old (next_of out before source piece comes source.left refl);
+      unread = λ shown. sym new_left ∙ ap (λ s. s.left) (comes.unread (λ needs. shown (ap cut_of (sym same_held) ∙ needs))) ∙ same_left;
+    }
 
-pub event_bytes : (answer : SnapshotData → Ask → Finding) (event : HostEvent) (old new : InlineData) (out : Jobs) (source : FramedData) → out ≡ old.out → waiting source ≡ old.waiting
-    → waiting (source_after event source) ≡ new.waiting → Comes answer out source event → IfBytes event (GivesBytes old new)
-event_bytes answer (Bytes piece) old new out source same_out before after comes = gives_bytes old new out source piece same_out before after comes
-event_bytes answer Ended old new out source same_out before after comes = tt
-event_bytes answer (Tasks batch) old new out source same_out before after comes = tt
+pub event_bytes : (answer : SnapshotData → Ask → Finding) (event : HostEvent) (old new : InlineData) (out : Jobs) (before source : FramedData) → out ≡ old.out
+    → before.held ≡ old.held → before.left ≡ old.left → framed_waiting source ≡ framed_waiting before → (source_after event source).held ≡ new.held
+    → (source_after event source).left ≡ new.left → Comes answer out before source event → IfBytes event (GivesBytes old new)
+event_bytes answer (Bytes piece) old new out before source same_out same_held same_left same_waiting new_held new_left comes =
+    gives_bytes old new out before source piece same_out same_held same_left same_waiting new_held new_left comes
+event_bytes answer Ended old new out before source same_out same_held same_left same_waiting new_held new_left comes = tt
+event_bytes answer (Tasks batch) old new out before source same_out same_held same_left same_waiting new_held new_left comes = tt

@@ -1,31 +1,59 @@
--- How the logic stores what contracts see of hosts that follow a list.
-use Rattle.std.specs.Prelude.{ℕ, List, refl}
-use Rattle.std.specs.Coded.{Coded, code_by, coded×, coded_ℕ, coded_list}
+-- How the logic stores what contracts see of hosts.
+use Rattle.std.specs.Prelude.{◌≡◌, ◌⊎◌, ℕ, Bool, List, Option, refl}
+use Rattle.std.specs.Coded.{Coded, code_by, coded×, coded⊎, coded_ℕ, coded_bool, coded_list, coded_option}
 use Rattle.std.specs.FinMap as map
+use Rattle.std.proofs.Common.{inl, inr}
 use Rattle.session_port.specs.Jobs.{Jobs}
-use Rattle.session_peers.specs.Memory.{CallData}
+use Rattle.session_port.specs.Record.{HostCall, gave, took}
+use Rattle.session_peers.specs.Inline.{InlineData}
+use Rattle.session_peers.specs.Memory.{PlanData}
 use Rattle.session_peers.specs.Script.{ScriptData, HostileData}
 use Rattle.session_port.specs.declared.command.Command.{Command}
 use Rattle.session_port.specs.declared.event.HostEvent.{HostEvent}
 use Rattle.session_port.specs.declared.job.Job.{Job}
 use Rattle.session_peers.specs.declared.script.ScriptStep.{ScriptStep}
 
-abbrev pub calls_code : Coded CallData
-calls_code =
-    code_by (List ℕ × (ℕ × ℕ)) (coded× (coded_list coded_ℕ) (coded× coded_ℕ coded_ℕ))
-    (λ c. (c.fails, (c.made, c.faults))) (λ p. record { fails = p.0; made = p.1.0; faults = p.1.1 }) (λ _. refl)
+-- a call, as one of two
+abbrev pub split : HostCall → HostEvent ⊎ List Command
+split (gave event) = inl event
+split (took commands) = inr commands
+
+abbrev pub join : HostEvent ⊎ List Command → HostCall
+join (inl event) = gave event
+join (inr commands) = took commands
+
+abbrev pub join-split : (call : HostCall) → join (split call) ≡ call
+join-split (gave event) = refl
+join-split (took commands) = refl
 
 -- given how their parts are stored
-abbrev pub script_code : Coded Job → Coded ScriptStep → Coded HostEvent → Coded Command → Coded ScriptData
-script_code job step event command =
-    code_by (((Jobs × ℕ) × (List ScriptStep × CallData)) × (List HostEvent × List (List Command)))
-    (coded× (coded× (coded× (map.code coded_ℕ job) coded_ℕ) (coded× (coded_list step) calls_code)) (coded× (coded_list event) (coded_list (coded_list command))))
-    (λ h. (((h.out, h.handed), (h.steps, h.calls)), (h.given, h.taken)))
-    (λ p. record { out = p.0.0.0; handed = p.0.0.1; steps = p.0.1.0; given = p.1.0; taken = p.1.1; calls = p.0.1.1 }) (λ _. refl)
+abbrev pub call_code : Coded HostEvent → Coded Command → Coded HostCall
+call_code event command = code_by (HostEvent ⊎ List Command) (coded⊎ event (coded_list command)) split join join-split
 
-abbrev pub hostile_code : Coded Job → Coded HostEvent → Coded Command → Coded HostileData
-hostile_code job event command =
-    code_by (((Jobs × ℕ) × List HostEvent) × (List HostEvent × List (List Command)))
-    (coded× (coded× (coded× (map.code coded_ℕ job) coded_ℕ) (coded_list event)) (coded× (coded_list event) (coded_list (coded_list command))))
-    (λ h. (((h.out, h.handed), h.events), (h.given, h.taken)))
-    (λ p. record { out = p.0.0.0; handed = p.0.0.1; events = p.0.1; given = p.1.0; taken = p.1.1 }) (λ _. refl)
+abbrev pub jobs_code : Coded Job → Coded (Jobs × ℕ)
+jobs_code job = coded× (map.code coded_ℕ job) coded_ℕ
+
+abbrev pub plan_code : Coded PlanData
+plan_code =
+    code_by (List ℕ × (ℕ × ℕ)) (coded× (coded_list coded_ℕ) (coded× coded_ℕ coded_ℕ))
+    (λ p. (p.fails, (p.made, p.faults))) (λ p. record { fails = p.0; made = p.1.0; faults = p.1.1 }) (λ _. refl)
+
+abbrev pub script_code : Coded Job → Coded ScriptStep → Coded HostCall → Coded ScriptData
+script_code job step call =
+    code_by ((Jobs × ℕ) × ((List ScriptStep × PlanData) × List HostCall))
+    (coded× (jobs_code job) (coded× (coded× (coded_list step) plan_code) (coded_list call)))
+    (λ h. ((h.out, h.handed), ((h.steps, h.plan), h.calls)))
+    (λ p. record { out = p.0.0; handed = p.0.1; steps = p.1.0.0; plan = p.1.0.1; calls = p.1.1 }) (λ _. refl)
+
+abbrev pub hostile_code : Coded Job → Coded HostEvent → Coded HostCall → Coded HostileData
+hostile_code job event call =
+    code_by ((Jobs × ℕ) × (List HostEvent × List HostCall)) (coded× (jobs_code job) (coded× (coded_list event) (coded_list call)))
+    (λ h. ((h.out, h.handed), (h.events, h.calls))) (λ p. record { out = p.0.0; handed = p.0.1; events = p.1.0; calls = p.1.1 }) (λ _. refl)
+
+abbrev pub inline_code : Coded Job → Coded HostCall → Coded InlineData
+inline_code job call =
+    code_by ((Jobs × ℕ) × ((List ℕ × Option (List ℕ)) × ((ℕ × Bool) × Option (List HostCall))))
+    (coded× (jobs_code job)
+    (coded× (coded× (coded_list coded_ℕ) (coded_option (coded_list coded_ℕ))) (coded× (coded× coded_ℕ coded_bool) (coded_option (coded_list call)))))
+    (λ h. ((h.out, h.handed), ((h.held, h.left), ((h.faults, h.spent), h.calls))))
+    (λ p. record { out = p.0.0; handed = p.0.1; held = p.1.0.0; left = p.1.0.1; faults = p.1.1.0.0; spent = p.1.1.0.1; calls = p.1.1.1 }) (λ _. refl)

@@ -4,6 +4,8 @@ use Rattle.std.specs.FinMap as map
 use Rattle.analysis_host.specs.Answers.{Finding}
 use Rattle.analysis_host.specs.SnapshotData.{SnapshotData}
 use Rattle.analysis_host.specs.declared.ask.Ask.{Ask}
+use Rattle.lsp_frame.specs.Frames.{cut_of}
+use Rattle.lsp_frame.specs.declared.frame.Cut.TheVariants.{NeedMore}
 use Rattle.session_peers.specs.Framed.{FramedData, EndsPiece}
 use Rattle.session_port.specs.Honest.{AreHonest}
 use Rattle.session_peers.specs.Inline.{IsDry}
@@ -14,13 +16,14 @@ use Rattle.session_port.specs.declared.event.HostEvent.{HostEvent}
 use Rattle.session_port.specs.declared.event.HostEvent.TheVariants.{Bytes, Ended, Tasks}
 use Rattle.session_port.specs.declared.event.TaskMsg.{TaskMsg}
 
--- no job is out, and this is the next piece of the bytes held
-pub record ComesAsBytes (out : Jobs) (source : FramedData) (piece : List ℕ) : Type 0 where
+-- no job is out, and this is the next piece of the bytes held, of which more were read only where more were needed
+pub record ComesAsBytes (out : Jobs) (before source : FramedData) (piece : List ℕ) : Type 0 where
   pub idle : out ≡ map.empty
   pub some : 0 < length piece
   pub within : length piece ≤ length source.held
   pub is : piece ≡ take (length piece) source.held
   pub ends : EndsPiece source (length piece)
+  pub unread : cut_of before.held ≢ NeedMore → source ≡ before
 
 -- no job is out, and no byte is held or left
 pub record ComesAsEnd (out : Jobs) (source : FramedData) : Type 0 where
@@ -28,18 +31,24 @@ pub record ComesAsEnd (out : Jobs) (source : FramedData) : Type 0 where
   pub none : source.held ≡ []
   pub dry : IsDry source.left
 
--- some job is out, and these are the results of all that are, and nothing stopped any
-pub record ComesAsResults (answer : SnapshotData → Ask → Finding) (out : Jobs) (batch : List TaskMsg) : Type 0 where
+-- some job is out, these are the results of all that are, nothing stopped any, and nothing was read
+pub record ComesAsResults (answer : SnapshotData → Ask → Finding) (out : Jobs) (before source : FramedData) (batch : List TaskMsg) : Type 0 where
   pub busy : out ≢ map.empty
   pub honest : AreHonest answer out batch
   pub all : after_batch batch out ≡ map.empty
   pub numbers : map (λ message. message.job) batch ≡ map.keys out
   pub uncancelled : AreUncancelled batch
+  pub unread : source ≡ before
 
-abbrev pub Comes : (SnapshotData → Ask → Finding) → Jobs → FramedData → HostEvent → Type 0
-Comes answer out source (Bytes piece) = ComesAsBytes out source piece
-Comes answer out source Ended = ComesAsEnd out source
-Comes answer out source (Tasks batch) = ComesAsResults answer out batch
+abbrev pub Comes : (SnapshotData → Ask → Finding) → Jobs → FramedData → FramedData → HostEvent → Type 0
+Comes answer out before source (Bytes piece) = ComesAsBytes out before source piece
+Comes answer out before source Ended = ComesAsEnd out source
+Comes answer out before source (Tasks batch) = ComesAsResults answer out before source batch
+
+-- no job is out, and the bytes held don't show the next piece
+pub record NeedsRead (out : Jobs) (source : FramedData) : Type 0 where
+  pub idle : out ≡ map.empty
+  pub needs : cut_of source.held ≡ NeedMore
 
 -- the bytes that an event takes are held
 abbrev pub IsHeld : FramedData → HostEvent → Type 0

@@ -6,11 +6,12 @@ use Rattle.lsp_frame.specs.declared.frame.Cut.TheVariants.{NeedMore, Bad, Frame}
 use Rattle.session_port.specs.Record.{before_piece}
 use Rattle.session_peers.specs.Inline.{IsDry}
 
--- the bytes that were read and not given, those that the source has left, if it tells, and how often it has failed
+-- the bytes that were read and not given, those that the source has left, if it tells, how often it has failed, and whether it is spent
 pub record FramedData : Type 0 where
   pub held : List ℕ
   pub left : Option (List ℕ)
   pub faults : ℕ
+  pub spent : Bool
 
 -- the bytes not given yet
 abbrev pub waiting : FramedData → Option (List ℕ)

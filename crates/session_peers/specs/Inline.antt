@@ -5,40 +5,35 @@ use Rattle.lsp_frame.specs.Frames.{cut_of}
 use Rattle.lsp_frame.specs.declared.frame.Cut.{Cut}
 use Rattle.lsp_frame.specs.declared.frame.Cut.TheVariants.{NeedMore, Bad, Frame}
 use Rattle.session_port.specs.Jobs.{Jobs}
-use Rattle.session_port.specs.Record.{before_piece}
+use Rattle.session_port.specs.Record.{HostCall, before_piece}
 use Rattle.session_port.specs.Runs.{AreUncancelled}
-use Rattle.session_port.specs.declared.command.Command.{Command}
 use Rattle.session_port.specs.declared.event.HostEvent.{HostEvent}
 use Rattle.session_port.specs.declared.event.HostEvent.TheVariants.{Bytes, Ended, Tasks}
 use Rattle.session_port.specs.declared.event.TaskMsg.{TaskMsg}
 
--- the jobs out and the last number handed over, the bytes not given yet, if the source tells, the record, if it is kept, and how
--- often the source has failed
+-- the jobs out and the last number handed over, the bytes that were read and not given, those that the source has left, if it
+-- tells, the calls, if they are kept, how often the source has failed, and whether it is spent
 pub record InlineData : Type 0 where
   pub out : Jobs
   pub handed : ℕ
-  pub waiting : Option (List ℕ)
-  pub given : Option (List HostEvent)
-  pub taken : Option (List (List Command))
+  pub held : List ℕ
+  pub left : Option (List ℕ)
+  pub calls : Option (List HostCall)
   pub faults : ℕ
+  pub spent : Bool
 
--- its fields as pairs
-abbrev pub InlineParts : Type 0
-InlineParts = (Jobs × ℕ) × ((Option (List ℕ) × ℕ) × (Option (List HostEvent) × Option (List (List Command))))
-
-abbrev pub inline_parts : InlineData → InlineParts
-inline_parts h = ((h.out, h.handed), ((h.waiting, h.faults), (h.given, h.taken)))
-
-abbrev pub inline_from : InlineParts → InlineData
-inline_from p = record { out = p.0.0; handed = p.0.1; waiting = p.1.0.0; given = p.1.1.0; taken = p.1.1.1; faults = p.1.0.1 }
+-- the bytes not given yet, if the source tells
+abbrev pub waiting : InlineData → Option (List ℕ)
+waiting h = before_piece h.held h.left
 
 -- a record with nothing in it, if one is kept
 abbrev pub started : {X : Type 0} → Bool → Option (List X)
 started keep = if keep then Some [] else None
 
 -- the host before any call, on a source that has so much left and has failed so often
-abbrev pub new_inline : Option (List ℕ) → ℕ → Bool → InlineData
-new_inline left faults keep = record { out = map.empty; handed = 0; waiting = left; given = started keep; taken = started keep; faults = faults }
+abbrev pub new_inline : Option (List ℕ) → ℕ → Bool → Bool → InlineData
+new_inline left faults spent keep =
+    record { out = map.empty; handed = 0; held = []; left = left; calls = started keep; faults = faults; spent = spent }
 
 -- nothing is left
 abbrev pub IsDry : Option (List ℕ) → Type 0
@@ -54,26 +49,34 @@ abbrev pub IsNextPiece : List ℕ → Option (List ℕ) → Type 0
 IsNextPiece piece None = Unit {0}
 IsNextPiece piece (Some all) = IsFirstPiece piece all (cut_of all)
 
--- bytes come where no job is out, and they are the next of those that wait
+-- bytes come where no job is out, and they are the next of those that wait. Nothing is read where those held show the next piece
 pub record GivesBytes (old new : InlineData) (piece : List ℕ) : Type 0 where
   pub idle : old.out ≡ map.empty
   pub some : 0 < length piece
-  pub parted : old.waiting ≡ before_piece piece new.waiting
-  pub next : IsNextPiece piece old.waiting
+  pub parted : waiting old ≡ before_piece piece (waiting new)
+  pub next : IsNextPiece piece (waiting old)
+  pub unread : cut_of old.held ≢ NeedMore → new.left ≡ old.left
 
--- where jobs are out, one batch has the results of all of them, by number, and nothing stopped any
+-- where jobs are out, one batch has the results of all of them, by number, nothing stopped any, and nothing is read
 pub record GivesResults (old new : InlineData) (batch : List TaskMsg) : Type 0 where
   pub busy : old.out ≢ map.empty
   pub numbers : map (λ message. message.job) batch ≡ map.keys old.out
   pub uncancelled : AreUncancelled batch
   pub idle : new.out ≡ map.empty
-  pub waiting : new.waiting ≡ old.waiting
+  pub held : new.held ≡ old.held
+  pub left : new.left ≡ old.left
+  pub faults : new.faults ≡ old.faults
 
 -- the end comes where no job is out and no byte waits
 pub record GivesEnd (old new : InlineData) : Type 0 where
   pub idle : old.out ≡ map.empty
-  pub dry : IsDry old.waiting
-  pub waiting : new.waiting ≡ old.waiting
+  pub dry : IsDry (waiting old)
+  pub waiting : waiting new ≡ waiting old
+
+-- the source is read, and may fail, only where no job is out and the bytes held don't show the next piece
+pub record ReadsNow (old : InlineData) : Type 0 where
+  pub idle : old.out ≡ map.empty
+  pub needs : cut_of old.held ≡ NeedMore
 
 -- a fact for one kind of event
 abbrev pub IfBytes : HostEvent → (List ℕ → Type 0) → Type 0

@@ -9,9 +9,9 @@ use Rattle.analysis_host.specs.SnapshotData.{SnapshotData}
 use Rattle.analysis_host.specs.declared.ask.Ask.{Ask}
 use Rattle.session_port.specs.Honest.{IsResultOf}
 use Rattle.session_port.specs.Jobs.{Jobs, final_of, plain_result}
-use Rattle.session_peers.specs.Memory.{CallData, no_calls}
+use Rattle.session_peers.specs.Memory.{PlanData, no_calls}
+use Rattle.session_port.specs.Record.{HostCall}
 use Rattle.session_port.specs.Runs.{IsUncancelled}
-use Rattle.session_port.specs.declared.command.Command.{Command}
 use Rattle.session_port.specs.declared.event.HostEvent.{HostEvent}
 use Rattle.session_port.specs.declared.event.HostEvent.TheVariants.{Bytes, Ended, Tasks}
 use Rattle.session_port.specs.declared.event.TaskBody.TheVariants.{Final}
@@ -88,25 +88,23 @@ pub record IsNext (answer : SnapshotData → Ask → Finding) (next : Gift × Li
   pub gift : IsGift answer next.0 coming
   pub rest : left ≡ next.1
 
--- the jobs out and the last number handed over, the steps left, the record, and the calls
+-- the jobs out and the last number handed over, the steps left, the calls, and which of them are to fail
 pub record ScriptData : Type 0 where
   pub out : Jobs
   pub handed : ℕ
   pub steps : List ScriptStep
-  pub given : List HostEvent
-  pub taken : List (List Command)
-  pub calls : CallData
+  pub calls : List HostCall
+  pub plan : PlanData
 
 abbrev pub new_script : List ScriptStep → List ℕ → ScriptData
-new_script steps fails = record { out = map.empty; handed = 0; steps = steps; given = []; taken = []; calls = no_calls fails }
+new_script steps fails = record { out = map.empty; handed = 0; steps = steps; calls = []; plan = no_calls fails }
 
--- the jobs out and the last number handed over, the events left, and the record
+-- the jobs out and the last number handed over, the events left, and the calls
 pub record HostileData : Type 0 where
   pub out : Jobs
   pub handed : ℕ
   pub events : List HostEvent
-  pub given : List HostEvent
-  pub taken : List (List Command)
+  pub calls : List HostCall
 
 abbrev pub new_hostile : List HostEvent → HostileData
-new_hostile events = record { out = map.empty; handed = 0; events = events; given = []; taken = [] }
+new_hostile events = record { out = map.empty; handed = 0; events = events; calls = [] }

@@ -1,5 +1,7 @@
 // A source whose bytes are given frame by frame.
-ghost use Rattle.std.specs.Prelude.{◌≡◌, ◌≤◌, [], length, take, drop, vec_len, IfOk, OnErr};
+ghost use Rattle.std.specs.Prelude.{◌≡◌, ◌≢◌, ◌≤◌, false, [], length, take, drop, vec_len, IfNone, IfSome, IfOk, OnErr};
+ghost use Rattle.lsp_frame.specs.Frames.{cut_of};
+ghost use Rattle.lsp_frame.specs.declared.frame.Cut.TheVariants.{NeedMore};
 ghost use Rattle.session_peers.specs.Framed.{waiting, IsRead, EndsPiece};
 ghost use Rattle.session_port.specs.Record.{HasCause};
 
@@ -26,7 +28,7 @@ impl<S: Source> Model for FramedSource<S> {
 
     ghost Value = { FramedData };
 
-    ghost view = { λ s. record { held = drop s.start s.buf.items; left = S.left s.source; faults = S.faults s.source } };
+    ghost view = { λ s. record { held = drop s.start s.buf.items; left = S.left s.source; faults = S.faults s.source; spent = S.spent s.source } };
 
     ghost invariant = { λ s. s.start ≤ length s.buf.items };
 }
@@ -57,7 +59,7 @@ fn compact(buf: &mut Vec<u8>, start: usize) -> usize
 impl<S: Source> FramedSource<S> {
     pub fn new(alloc: Global, source: S) -> Result<Self, AllocError>
         ensures { IfOk result (λ s. s
-            ≡ record { held = []; left = S.left source; faults = S.faults source }) }
+            ≡ record { held = []; left = S.left source; faults = S.faults source; spent = S.spent source }) }
     {
         Ok(FramedSource {
             source,
@@ -90,6 +92,8 @@ impl<S: Source> FramedSource<S> {
 
     /// Reads more, and says whether there was more.
     fn read_more(&mut self) -> Result<bool, HostError>
+        requires fresh { self.old.spent ≡ false }
+        ensures fresh { IfOk result (λ _. self.new.spent ≡ false) }
         ensures more { IfOk result (IsRead self.old self.new) }
         ensures held { OnErr result (self.new.held ≡ self.old.held) }
         ensures left { OnErr result (self.new.left ≡ self.old.left) }
@@ -105,24 +109,55 @@ impl<S: Source> FramedSource<S> {
         Ok(true)
     }
 
-    /// Reads until it is known where the next piece ends: with a frame, or with all that is held, which is nothing
-    /// at the end.
-    pub fn next_end(&mut self) -> Result<usize, HostError>
+    /// Where the next piece ends, if the bytes held show it: with a frame, or with all that is held.
+    fn held_end(&self) -> Option<usize>
+        ensures none { IfNone result (cut_of self.now.held ≡ NeedMore) }
+        ensures end { IfSome result (EndsPiece self.now) }
+        ensures within { IfSome result (λ end. end ≤ length self.now.held) }
+    {
+        let held = self.held();
+        match cut(held) {
+            Cut::Frame { body_end, .. } => Some(body_end),
+            Cut::Bad => Some(held.len()),
+            Cut::NeedMore => None,
+        }
+    }
+
+    /// Reads until it is known where the next piece ends, which is with all that is held where the source has ended.
+    fn read_on(&mut self) -> Result<usize, HostError>
+        requires fresh { self.old.spent ≡ false }
+        requires needs { cut_of self.old.held ≡ NeedMore }
+        ensures fresh { IfOk result (λ _. self.new.spent ≡ false) }
         ensures waiting { waiting self.new ≡ waiting self.old }
         ensures end { IfOk result (EndsPiece self.new) }
         ensures within { IfOk result (λ end. end ≤ length self.new.held) }
         ensures cause { HasCause self.old.faults self.new.faults result }
     {
         'reading: loop {
-            let held = self.held();
-            match cut(held) {
-                Cut::Frame { body_end, .. } => return Ok(body_end),
-                Cut::Bad => return Ok(held.len()),
-                Cut::NeedMore => {}
-            }
             if !self.read_more()? {
                 return Ok(self.held().len());
             }
+            if let Some(end) = self.held_end() {
+                return Ok(end);
+            }
+        }
+    }
+
+    /// Where the next piece ends. It reads only where the bytes held don't show it. All that is held may be nothing,
+    /// at the end.
+    pub fn next_end(&mut self) -> Result<usize, HostError>
+        requires fresh { self.old.spent ≡ false }
+        ensures fresh { IfOk result (λ _. self.new.spent ≡ false) }
+        ensures waiting { waiting self.new ≡ waiting self.old }
+        ensures unread { cut_of self.old.held ≢ NeedMore → self.new ≡ self.old }
+        ensures end { IfOk result (EndsPiece self.new) }
+        ensures within { IfOk result (λ end. end ≤ length self.new.held) }
+        ensures cause { HasCause self.old.faults self.new.faults result }
+        ensures needs { result ≡ Err HostError.Failed → cut_of self.old.held ≡ NeedMore }
+    {
+        match self.held_end() {
+            Some(end) => Ok(end),
+            None => self.read_on(),
         }
     }
 }

@@ -1,10 +1,11 @@
 // A host that gives whatever it was told to give.
 ghost use Rattle.std.specs.Prelude.{◌≡◌, Some, IfOk, IfErr};
-ghost use Rattle.session_port.specs.Record.{HasCause, AreRising, added, after_given, after_ok, after_order, last_number, spawned};
+ghost use Rattle.session_port.specs.Record.{HasCause, AreRising, added, after_given, after_ok, after_order, gave, last_number, spawned, took};
 ghost use Rattle.session_peers.specs.Script.{new_hostile, next_event};
 
 use crate::numbered_jobs::NumberedJobs;
 use crate::queue::Queue;
+use crate::recorded_call::RecordedCall;
 use analysis_host::Analysis;
 use plain::Items;
 use session_port::{Command, Host, HostError, HostEvent};
@@ -16,12 +17,11 @@ use std::marker::Model;
 pub struct HostileHost {
     events: Queue<HostEvent>,
     jobs: NumberedJobs,
-    given: Items<HostEvent>,
-    taken: Items<Items<Command>>,
+    calls: Items<RecordedCall>,
 }
 
 impl Model for HostileHost {
-    ghost use Rattle.session_peers.specs.Codes.{hostile_code};
+    ghost use Rattle.session_peers.specs.Codes.{call_code, hostile_code};
     ghost use Rattle.session_peers.specs.Script.{HostileData};
     ghost use Rattle.session_port.specs.contracts.command.Command as command;
     ghost use Rattle.session_port.specs.contracts.event.HostEvent as event;
@@ -29,9 +29,9 @@ impl Model for HostileHost {
 
     ghost Value = { HostileData };
 
-    ghost coded = { hostile_code job.the_row.coded event.the_row.coded command.the_row.coded };
+    ghost coded = { hostile_code job.the_row.coded event.the_row.coded (call_code event.the_row.coded command.the_row.coded) };
 
-    ghost view = { λ h. record { out = h.jobs.out; handed = h.jobs.handed; events = h.events; given = h.given; taken = h.taken } };
+    ghost view = { λ h. record { out = h.jobs.out; handed = h.jobs.handed; events = h.events; calls = h.calls } };
 }
 
 impl HostileHost {
@@ -41,16 +41,15 @@ impl HostileHost {
         HostileHost {
             events: Queue::new(events),
             jobs: NumberedJobs::new(alloc),
-            given: Items::new(alloc),
-            taken: Items::new(alloc),
+            calls: Items::new(alloc),
         }
     }
 
-    /// The commands taken so far, one list for each `order`.
-    pub fn taken(&self) -> &[Items<Command>]
-        ensures { result.now ≡ self.now.taken }
+    /// The calls so far.
+    pub fn calls(&self) -> &[RecordedCall]
+        ensures { result.now ≡ self.now.calls }
     {
-        self.taken.as_slice()
+        self.calls.as_slice()
     }
 }
 
@@ -65,16 +64,15 @@ impl<A: Analysis> Host<A> for HostileHost {
 
     ghost faults = { λ _. 0 };
 
-    ghost given = { λ h. Some h.given };
+    ghost calls = { λ h. Some h.calls };
 
-    ghost taken = { λ h. Some h.taken };
+    ghost spent = { λ _. false };
 
     fn next(&mut self) -> Result<HostEvent, HostError>
         ensures out { self.new.out ≡ after_given result self.old.out }
         ensures handed { self.new.handed ≡ self.old.handed }
-        ensures given { Some self.new.given
-            ≡ after_ok result (λ event. added (Some self.old.given) event) (Some self.old.given) }
-        ensures taken { Some self.new.taken ≡ Some self.old.taken }
+        ensures calls { Some self.new.calls
+            ≡ after_ok result (λ event. added (Some self.old.calls) (gave event)) (Some self.old.calls) }
         ensures cause { HasCause 0 0 result }
 
         // The next of its events.
@@ -82,7 +80,7 @@ impl<A: Analysis> Host<A> for HostileHost {
         ensures memory { IfErr result (λ e. e ≡ HostError.NoMemory) }
     {
         let event = self.events.take_first().unwrap_or(HostEvent::Ended);
-        self.given.push(event.clone()?)?;
+        self.calls.push(RecordedCall::of_event(event.clone()?))?;
         self.jobs.let_go(&event);
         Ok(event)
     }
@@ -92,16 +90,15 @@ impl<A: Analysis> Host<A> for HostileHost {
         ensures out { IfOk result (λ _. self.new.out ≡ after_order commands self.old.out) }
         ensures handed { IfOk result (λ _. self.new.handed
             ≡ last_number self.old.handed (spawned commands)) }
-        ensures given { Some self.new.given ≡ Some self.old.given }
-        ensures taken { Some self.new.taken
-            ≡ after_ok result (λ _. added (Some self.old.taken) commands) (Some self.old.taken) }
+        ensures calls { Some self.new.calls
+            ≡ after_ok result (λ _. added (Some self.old.calls) (took commands)) (Some self.old.calls) }
         ensures cause { HasCause 0 0 result }
 
         ensures events { self.new.events ≡ self.old.events }
         ensures memory { IfErr result (λ e. e ≡ HostError.NoMemory) }
     {
         self.jobs.take(commands.clone()?)?;
-        self.taken.push(commands)?;
+        self.calls.push(RecordedCall::of_commands(commands))?;
         Ok(())
     }
 }

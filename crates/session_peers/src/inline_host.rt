@@ -1,13 +1,14 @@
 // The host that runs everything on one thread.
-ghost use Rattle.std.specs.Prelude.{◌≡◌, true, IsTrue, IfOk, IfErr, OnErr, option_copied};
-ghost use Rattle.session_peers.specs.Coming.{Comes, IsHeld, source_after, jobs_after};
-ghost use Rattle.session_peers.specs.Framed.{waiting};
+ghost use Rattle.std.specs.Prelude.{◌≡◌, true, false, Err, IsTrue, IfOk, IfErr, OnErr, option_copied};
+ghost use Rattle.session_peers.specs.Coming.{Comes, IsHeld, NeedsRead, source_after, jobs_after};
+ghost use Rattle.session_peers.specs.Framed.{waiting as framed_waiting};
 ghost use Rattle.session_port.specs.Honest.{IsHonest};
-ghost use Rattle.session_peers.specs.Inline.{new_inline, IfBytes, IfTasks, IfEnded, GivesBytes, GivesResults, GivesEnd};
-ghost use Rattle.session_port.specs.Record.{HasCause, AreRising, added, after_given, after_ok, after_order, last_number, spawned};
+ghost use Rattle.session_peers.specs.Inline.{new_inline, waiting, IfBytes, IfTasks, IfEnded, GivesBytes, GivesResults, GivesEnd, ReadsNow};
+ghost use Rattle.session_port.specs.Record.{HasCause, AreRising, UnlessEnded, added, after_given, after_ok, after_order, gave, last_number, spawned, took};
 
 use crate::framed_source::FramedSource;
 use crate::jobs_out::JobsOut;
+use crate::recorded_call::RecordedCall;
 use analysis_host::Analysis;
 use plain::{Bytes, Items};
 use session_port::{Command, Host, HostError, HostEvent, Source};
@@ -21,37 +22,29 @@ pub struct InlineHost<'a, S: Source, A> {
     source: FramedSource<S>,
     analysis: &'a A,
     jobs: JobsOut,
-    given: Option<Items<HostEvent>>,
-    taken: Option<Items<Items<Command>>>,
+    calls: Option<Items<RecordedCall>>,
 }
 
 impl<'a, S: Source, A> Model for InlineHost<'a, S, A> {
-    ghost use Rattle.std.specs.Prelude.{ℕ, List, Option, refl};
-    ghost use Rattle.std.specs.Coded.{code_by, coded×, coded_ℕ, coded_list, coded_option};
-    ghost use Rattle.std.specs.FinMap as map;
-    ghost use Rattle.session_peers.specs.Framed.{waiting};
-    ghost use Rattle.session_peers.specs.Inline.{InlineData, InlineParts, inline_parts, inline_from};
+    ghost use Rattle.session_peers.specs.Codes.{call_code, inline_code};
+    ghost use Rattle.session_peers.specs.Inline.{InlineData};
     ghost use Rattle.session_port.specs.contracts.command.Command as command;
     ghost use Rattle.session_port.specs.contracts.event.HostEvent as event;
     ghost use Rattle.session_port.specs.contracts.job.Job as job;
 
     ghost Value = { InlineData };
 
-    ghost coded = { code_by InlineParts
-        (coded× (coded× (map.code coded_ℕ job.the_row.coded) coded_ℕ)
-        (coded× (coded× (coded_option (coded_list coded_ℕ)) coded_ℕ)
-        (coded× (coded_option (coded_list event.the_row.coded)) (coded_option (coded_list (coded_list command.the_row.coded))))))
-        inline_parts inline_from (λ _. refl) };
+    ghost coded = { inline_code job.the_row.coded (call_code event.the_row.coded command.the_row.coded) };
 
-    ghost view = { λ h. record { out = h.jobs.out; handed = h.jobs.handed; waiting = waiting h.source; given = h.given; taken = h.taken; faults = h.source.faults } };
+    ghost view = { λ h. record { out = h.jobs.out; handed = h.jobs.handed; held = h.source.held; left = h.source.left; calls = h.calls; faults = h.source.faults; spent = h.source.spent } };
 }
 
 /// Adds an event to the record, if one is kept.
-fn keep(given: &mut Option<Items<HostEvent>>, event: &HostEvent) -> Result<(), AllocError>
-    ensures { given.new ≡ after_ok result (λ _. added given.old event.now) given.old }
+fn keep(calls: &mut Option<Items<RecordedCall>>, event: &HostEvent) -> Result<(), AllocError>
+    ensures { calls.new ≡ after_ok result (λ _. added calls.old (gave event.now)) calls.old }
 {
-    if let Some(given) = given {
-        given.push(event.clone()?)?;
+    if let Some(calls) = calls {
+        calls.push(RecordedCall::of_event(event.clone()?))?;
     }
     Ok(())
 }
@@ -63,9 +56,12 @@ fn coming<S: Source, A: Analysis>(
     jobs: &JobsOut,
     analysis: &A,
 ) -> Result<HostEvent, HostError>
-    ensures waiting { waiting source.new ≡ waiting source.old }
-    ensures event { IfOk result (Comes A.answer jobs.now.out source.new) }
+    requires fresh { source.old.spent ≡ false }
+    ensures fresh { IfOk result (λ _. source.new.spent ≡ false) }
+    ensures waiting { framed_waiting source.new ≡ framed_waiting source.old }
+    ensures event { IfOk result (Comes A.answer jobs.now.out source.old source.new) }
     ensures cause { HasCause source.old.faults source.new.faults result }
+    ensures failed { result ≡ Err HostError.Failed → NeedsRead jobs.now.out source.old }
 {
     if !jobs.is_empty() {
         return Ok(HostEvent::Tasks(jobs.results(alloc, analysis)?));
@@ -93,23 +89,22 @@ fn let_go<S: Source>(source: &mut FramedSource<S>, jobs: &mut JobsOut, event: &H
 impl<'a, S: Source, A: Analysis> InlineHost<'a, S, A> {
     /// A host that keeps a record of what it gives and takes if `keep` says so.
     pub fn new(alloc: Global, source: S, analysis: &'a A, keep: bool) -> Result<Self, AllocError>
-        ensures { IfOk result (λ host. host ≡ new_inline (S.left source) (S.faults source) keep) }
+        ensures { IfOk result (λ host. host ≡ new_inline (S.left source) (S.faults source) (S.spent source) keep) }
     {
         Ok(InlineHost {
             alloc,
             source: FramedSource::new(alloc, source)?,
             analysis,
             jobs: JobsOut::new(alloc),
-            given: keep.then(|| Items::new(alloc)),
-            taken: keep.then(|| Items::new(alloc)),
+            calls: keep.then(|| Items::new(alloc)),
         })
     }
 
-    /// The commands taken so far, one list for each `order`, if a record is kept.
-    pub fn taken(&self) -> Option<&Items<Items<Command>>>
-        ensures { option_copied result ≡ self.now.taken }
+    /// The calls so far that did not fail, if a record is kept.
+    pub fn calls(&self) -> Option<&Items<RecordedCall>>
+        ensures { option_copied result ≡ self.now.calls }
     {
-        self.taken.as_ref()
+        self.calls.as_ref()
     }
 }
 
@@ -122,50 +117,56 @@ impl<'a, S: Source, A: Analysis> Host<A> for InlineHost<'a, S, A> {
 
     ghost faults = { λ h. h.faults };
 
-    ghost given = { λ h. h.given };
+    ghost calls = { λ h. h.calls };
 
-    ghost taken = { λ h. h.taken };
+    ghost spent = { λ h. h.spent };
 
     fn next(&mut self) -> Result<HostEvent, HostError>
+        requires fresh { self.old.spent ≡ false }
+        ensures fresh { IfOk result (λ event. UnlessEnded event (self.new.spent ≡ false)) }
         ensures out { self.new.out ≡ after_given result self.old.out }
         ensures handed { self.new.handed ≡ self.old.handed }
         ensures honest { IfOk result (λ event. IsTrue true → IsHonest A.answer self.old.out event) }
-        ensures given { self.new.given
-            ≡ after_ok result (λ event. added self.old.given event) self.old.given }
-        ensures taken { self.new.taken ≡ self.old.taken }
+        ensures calls { self.new.calls
+            ≡ after_ok result (λ event. added self.old.calls (gave event)) self.old.calls }
         ensures cause { HasCause self.old.faults self.new.faults result }
 
-        // What comes, and when.
+        // What comes, and when. The source is read only where nothing else is there to give.
         ensures bytes { IfOk result (λ event. IfBytes event (GivesBytes self.old self.new)) }
         ensures results { IfOk result (λ event. IfTasks event (GivesResults self.old self.new)) }
         ensures ended { IfOk result (λ event. IfEnded event (GivesEnd self.old self.new)) }
-        ensures kept { OnErr result (self.new.waiting ≡ self.old.waiting) }
+        // It may be called again after the end too.
+        ensures fresh_at_end { IfOk result (λ _. self.new.spent ≡ false) }
+        ensures kept { OnErr result (waiting self.new ≡ waiting self.old) }
+        ensures failed { result ≡ Err HostError.Failed → ReadsNow self.old }
     {
         let event = coming(self.alloc, &mut self.source, &self.jobs, self.analysis)?;
-        keep(&mut self.given, &event)?;
+        keep(&mut self.calls, &event)?;
         let_go(&mut self.source, &mut self.jobs, &event);
         Ok(event)
     }
 
     fn order(&mut self, commands: Items<Command>) -> Result<(), HostError>
+        requires fresh { self.old.spent ≡ false }
         requires rising { AreRising self.old.handed (spawned commands) }
+        ensures fresh { IfOk result (λ _. self.new.spent ≡ false) }
         ensures out { IfOk result (λ _. self.new.out ≡ after_order commands self.old.out) }
         ensures handed { IfOk result (λ _. self.new.handed
             ≡ last_number self.old.handed (spawned commands)) }
-        ensures given { self.new.given ≡ self.old.given }
-        ensures taken { self.new.taken
-            ≡ after_ok result (λ _. added self.old.taken commands) self.old.taken }
+        ensures calls { self.new.calls
+            ≡ after_ok result (λ _. added self.old.calls (took commands)) self.old.calls }
         ensures cause { HasCause self.old.faults self.new.faults result }
 
-        ensures waiting { self.new.waiting ≡ self.old.waiting }
+        ensures held { self.new.held ≡ self.old.held }
+        ensures left { self.new.left ≡ self.old.left }
         ensures faults { self.new.faults ≡ self.old.faults }
         ensures memory { IfErr result (λ e. e ≡ HostError.NoMemory) }
     {
-        match &mut self.taken {
+        match &mut self.calls {
             None => self.jobs.take(commands)?,
-            Some(taken) => {
+            Some(calls) => {
                 self.jobs.take(commands.clone()?)?;
-                taken.push(commands)?;
+                calls.push(RecordedCall::of_commands(commands))?;
             }
         }
         Ok(())

@@ -2,7 +2,7 @@
 //! fail at listed calls.
 #![tactic(auto)]
 
-mod calls;
+mod fail_plan;
 mod framed_source;
 mod hostile_host;
 mod inline_host;
@@ -11,6 +11,7 @@ mod memory_sink;
 mod memory_source;
 mod numbered_jobs;
 mod queue;
+mod recorded_call;
 mod results;
 mod script;
 mod script_host;
@@ -19,5 +20,6 @@ pub use hostile_host::HostileHost;
 pub use inline_host::InlineHost;
 pub use memory_sink::MemorySink;
 pub use memory_source::MemorySource;
+pub use recorded_call::RecordedCall;
 pub use script::ScriptStep;
 pub use script_host::ScriptHost;

@@ -1,9 +1,9 @@
 // A sink in memory.
-ghost use Rattle.std.specs.Prelude.{◌≡◌, ◌↔◌, [], Some, Err};
+ghost use Rattle.std.specs.Prelude.{◌≡◌, ◌↔◌, [], false, Some, Err};
 ghost use Rattle.session_peers.specs.Memory.{no_calls, after_call, IsFailing};
 ghost use Rattle.session_port.specs.Record.{HasCause, added, after_ok};
 
-use crate::calls::Calls;
+use crate::fail_plan::FailPlan;
 use plain::{Bytes, Items};
 use session_port::{HostError, Sink};
 use std::alloc::Global;
@@ -14,7 +14,7 @@ use std::marker::Model;
 pub struct MemorySink {
     alloc: Global,
     turns: Items<Bytes>,
-    calls: Calls,
+    plan: FailPlan,
 }
 
 impl Model for MemorySink {
@@ -22,18 +22,18 @@ impl Model for MemorySink {
 
     ghost Value = { SinkData };
 
-    ghost view = { λ s. record { turns = s.turns; calls = s.calls } };
+    ghost view = { λ s. record { turns = s.turns; plan = s.plan } };
 }
 
 impl MemorySink {
     /// The calls of `put_turn` with these numbers, from 1, will fail.
     pub fn new(alloc: Global, fails: Items<u64>) -> Self
-        ensures { result ≡ record { turns = []; calls = no_calls fails } }
+        ensures { result ≡ record { turns = []; plan = no_calls fails } }
     {
         MemorySink {
             alloc,
             turns: Items::new(alloc),
-            calls: Calls::new(fails),
+            plan: FailPlan::new(fails),
         }
     }
 
@@ -47,19 +47,21 @@ impl MemorySink {
 impl Sink for MemorySink {
     ghost turns = { λ s. Some s.turns };
 
-    ghost faults = { λ s. s.calls.faults };
+    ghost faults = { λ s. s.plan.faults };
+
+    ghost spent = { λ _. false };
 
     fn put_turn(&mut self, bytes: &[u8]) -> Result<(), HostError>
         ensures turns { Some self.new.turns
             ≡ after_ok result (λ _. added (Some self.old.turns) bytes.now) (Some self.old.turns) }
-        ensures cause { HasCause self.old.calls.faults self.new.calls.faults result }
+        ensures cause { HasCause self.old.plan.faults self.new.plan.faults result }
 
         // It fails at the listed calls and at no others.
-        ensures fails { (result ≡ Err HostError.Failed) ↔ IsFailing self.old.calls }
-        ensures calls { self.new.calls ≡ after_call result self.old.calls }
+        ensures fails { (result ≡ Err HostError.Failed) ↔ IsFailing self.old.plan }
+        ensures plan { self.new.plan ≡ after_call result self.old.plan }
     {
-        if self.calls.count() {
-            self.calls.fail();
+        if self.plan.count() {
+            self.plan.fail();
             return Err(HostError::Failed);
         }
         self.turns.push(Bytes::from_slice(self.alloc, bytes)?)?;

@@ -1,9 +1,9 @@
 // A source in memory.
-ghost use Rattle.std.specs.Prelude.{◌≡◌, ◌≤◌, ◌↔◌, Some, Err, IfOk, OnErr};
+ghost use Rattle.std.specs.Prelude.{◌≡◌, ◌≤◌, ◌↔◌, false, Some, Err, IfOk, OnErr};
 ghost use Rattle.session_peers.specs.Memory.{no_calls, after_call, longest_piece, IsFailing};
 ghost use Rattle.session_port.specs.Record.{HasCause, IsPiece};
 
-use crate::calls::Calls;
+use crate::fail_plan::FailPlan;
 use plain::{Bytes, Items};
 use session_port::{HostError, Source};
 use std::alloc::Global;
@@ -16,7 +16,7 @@ pub struct MemorySource {
     bytes: Bytes,
     // How many of the bytes were given.
     given: usize,
-    calls: Calls,
+    plan: FailPlan,
 }
 
 impl Model for MemorySource {
@@ -25,7 +25,7 @@ impl Model for MemorySource {
 
     ghost Value = { SourceData };
 
-    ghost view = { λ s. record { left = drop s.given s.bytes; calls = s.calls } };
+    ghost view = { λ s. record { left = drop s.given s.bytes; plan = s.plan } };
 
     ghost invariant = { λ s. s.given ≤ length s.bytes };
 }
@@ -33,13 +33,13 @@ impl Model for MemorySource {
 impl MemorySource {
     /// The calls of `read_piece` with these numbers, from 1, will fail.
     pub fn new(alloc: Global, bytes: Bytes, fails: Items<u64>) -> Self
-        ensures { result ≡ record { left = bytes; calls = no_calls fails } }
+        ensures { result ≡ record { left = bytes; plan = no_calls fails } }
     {
         MemorySource {
             alloc,
             bytes,
             given: 0,
-            calls: Calls::new(fails),
+            plan: FailPlan::new(fails),
         }
     }
 
@@ -53,21 +53,23 @@ impl MemorySource {
 impl Source for MemorySource {
     ghost left = { λ s. Some s.left };
 
-    ghost faults = { λ s. s.calls.faults };
+    ghost faults = { λ s. s.plan.faults };
+
+    ghost spent = { λ _. false };
 
     fn read_piece(&mut self, max: usize) -> Result<Option<Bytes>, HostError>
         requires { 1 ≤ max }
         ensures piece { IfOk result (IsPiece max (Some self.old.left) (Some self.new.left)) }
         ensures kept { OnErr result (Some self.new.left ≡ Some self.old.left) }
-        ensures cause { HasCause self.old.calls.faults self.new.calls.faults result }
+        ensures cause { HasCause self.old.plan.faults self.new.plan.faults result }
 
         // It fails at the listed calls and at no others, and its pieces are as long as they may be.
-        ensures fails { (result ≡ Err HostError.Failed) ↔ IsFailing self.old.calls }
+        ensures fails { (result ≡ Err HostError.Failed) ↔ IsFailing self.old.plan }
         ensures longest { IfOk result (λ piece. piece ≡ longest_piece max self.old.left) }
-        ensures calls { self.new.calls ≡ after_call result self.old.calls }
+        ensures plan { self.new.plan ≡ after_call result self.old.plan }
     {
-        if self.calls.count() {
-            self.calls.fail();
+        if self.plan.count() {
+            self.plan.fail();
             return Err(HostError::Failed);
         }
         let left = &self.bytes.as_slice()[self.given..];

@@ -1,13 +1,14 @@
 // A host that follows a script.
-ghost use Rattle.std.specs.Prelude.{◌≡◌, ◌↔◌, true, Some, Err, IsTrue, IfOk, IsErrOf};
+ghost use Rattle.std.specs.Prelude.{◌≡◌, ◌↔◌, true, false, Some, Err, IsTrue, IfOk, IsErrOf};
 ghost use Rattle.session_port.specs.Honest.{IsHonest};
 ghost use Rattle.session_peers.specs.Memory.{after_call, IsFailing};
-ghost use Rattle.session_port.specs.Record.{HasCause, AreRising, added, after_given, after_ok, after_order, last_number, spawned};
+ghost use Rattle.session_port.specs.Record.{HasCause, AreRising, UnlessEnded, added, after_given, after_ok, after_order, gave, last_number, spawned, took};
 ghost use Rattle.session_peers.specs.Script.{IsNext, new_script, next_gift};
 
-use crate::calls::Calls;
+use crate::fail_plan::FailPlan;
 use crate::numbered_jobs::NumberedJobs;
 use crate::queue::Queue;
+use crate::recorded_call::RecordedCall;
 use crate::script::{ScriptStep, coming};
 use analysis_host::Analysis;
 use plain::Items;
@@ -22,13 +23,12 @@ pub struct ScriptHost<'a, A> {
     analysis: &'a A,
     steps: Queue<ScriptStep>,
     jobs: NumberedJobs,
-    given: Items<HostEvent>,
-    taken: Items<Items<Command>>,
-    calls: Calls,
+    calls: Items<RecordedCall>,
+    plan: FailPlan,
 }
 
 impl<'a, A> Model for ScriptHost<'a, A> {
-    ghost use Rattle.session_peers.specs.Codes.{script_code};
+    ghost use Rattle.session_peers.specs.Codes.{call_code, script_code};
     ghost use Rattle.session_peers.specs.Script.{ScriptData};
     ghost use Rattle.session_port.specs.contracts.command.Command as command;
     ghost use Rattle.session_port.specs.contracts.event.HostEvent as event;
@@ -37,9 +37,9 @@ impl<'a, A> Model for ScriptHost<'a, A> {
 
     ghost Value = { ScriptData };
 
-    ghost coded = { script_code job.the_row.coded step.the_row.coded event.the_row.coded command.the_row.coded };
+    ghost coded = { script_code job.the_row.coded step.the_row.coded (call_code event.the_row.coded command.the_row.coded) };
 
-    ghost view = { λ h. record { out = h.jobs.out; handed = h.jobs.handed; steps = h.steps; given = h.given; taken = h.taken; calls = h.calls } };
+    ghost view = { λ h. record { out = h.jobs.out; handed = h.jobs.handed; steps = h.steps; calls = h.calls; plan = h.plan } };
 }
 
 impl<'a, A: Analysis> ScriptHost<'a, A> {
@@ -58,17 +58,16 @@ impl<'a, A: Analysis> ScriptHost<'a, A> {
             analysis,
             steps: Queue::new(steps),
             jobs: NumberedJobs::new(alloc),
-            given: Items::new(alloc),
-            taken: Items::new(alloc),
-            calls: Calls::new(fails),
+            calls: Items::new(alloc),
+            plan: FailPlan::new(fails),
         })
     }
 
-    /// The commands taken so far, one list for each `order`.
-    pub fn taken(&self) -> &[Items<Command>]
-        ensures { result.now ≡ self.now.taken }
+    /// The calls so far that did not fail.
+    pub fn calls(&self) -> &[RecordedCall]
+        ensures { result.now ≡ self.now.calls }
     {
-        self.taken.as_slice()
+        self.calls.as_slice()
     }
 }
 
@@ -79,60 +78,60 @@ impl<'a, A: Analysis> Host<A> for ScriptHost<'a, A> {
 
     ghost honest = { λ _. true };
 
-    ghost faults = { λ h. h.calls.faults };
+    ghost faults = { λ h. h.plan.faults };
 
-    ghost given = { λ h. Some h.given };
+    ghost calls = { λ h. Some h.calls };
 
-    ghost taken = { λ h. Some h.taken };
+    ghost spent = { λ _. false };
 
     fn next(&mut self) -> Result<HostEvent, HostError>
+        ensures fresh { IfOk result (λ event. UnlessEnded event (false ≡ false)) }
         ensures out { self.new.out ≡ after_given result self.old.out }
         ensures handed { self.new.handed ≡ self.old.handed }
         ensures honest { IfOk result (λ event. IsTrue true → IsHonest A.answer self.old.out event) }
-        ensures given { Some self.new.given
-            ≡ after_ok result (λ event. added (Some self.old.given) event) (Some self.old.given) }
-        ensures taken { Some self.new.taken ≡ Some self.old.taken }
-        ensures cause { HasCause self.old.calls.faults self.new.calls.faults result }
+        ensures calls { Some self.new.calls
+            ≡ after_ok result (λ event. added (Some self.old.calls) (gave event)) (Some self.old.calls) }
+        ensures cause { HasCause self.old.plan.faults self.new.plan.faults result }
 
         // What comes, and at which calls it fails.
         ensures next { IfOk result (λ event.
             IsNext A.answer (next_gift self.old.out self.old.steps) event self.new.steps) }
-        ensures fails { (result ≡ Err HostError.Failed) ↔ IsFailing self.old.calls }
+        ensures fails { (result ≡ Err HostError.Failed) ↔ IsFailing self.old.plan }
         ensures kept { IsErrOf result HostError.Failed → self.new.steps ≡ self.old.steps }
-        ensures calls { self.new.calls ≡ after_call result self.old.calls }
+        ensures plan { self.new.plan ≡ after_call result self.old.plan }
     {
-        if self.calls.count() {
-            self.calls.fail();
+        if self.plan.count() {
+            self.plan.fail();
             return Err(HostError::Failed);
         }
         let event = coming(self.alloc, &self.jobs.out, &mut self.steps, self.analysis)?;
-        self.given.push(event.clone()?)?;
+        self.calls.push(RecordedCall::of_event(event.clone()?))?;
         self.jobs.let_go(&event);
         Ok(event)
     }
 
     fn order(&mut self, commands: Items<Command>) -> Result<(), HostError>
         requires rising { AreRising self.old.handed (spawned commands) }
+        ensures fresh { IfOk result (λ _. false ≡ false) }
         ensures out { IfOk result (λ _. self.new.out ≡ after_order commands self.old.out) }
         ensures handed { IfOk result (λ _. self.new.handed
             ≡ last_number self.old.handed (spawned commands)) }
-        ensures given { Some self.new.given ≡ Some self.old.given }
-        ensures taken { Some self.new.taken
-            ≡ after_ok result (λ _. added (Some self.old.taken) commands) (Some self.old.taken) }
-        ensures cause { HasCause self.old.calls.faults self.new.calls.faults result }
+        ensures calls { Some self.new.calls
+            ≡ after_ok result (λ _. added (Some self.old.calls) (took commands)) (Some self.old.calls) }
+        ensures cause { HasCause self.old.plan.faults self.new.plan.faults result }
 
         ensures steps { self.new.steps ≡ self.old.steps }
-        ensures fails { (result ≡ Err HostError.Failed) ↔ IsFailing self.old.calls }
+        ensures fails { (result ≡ Err HostError.Failed) ↔ IsFailing self.old.plan }
         ensures kept { IsErrOf result HostError.Failed → (self.new.out ≡ self.old.out)
             × (self.new.handed ≡ self.old.handed) }
-        ensures calls { self.new.calls ≡ after_call result self.old.calls }
+        ensures plan { self.new.plan ≡ after_call result self.old.plan }
     {
-        if self.calls.count() {
-            self.calls.fail();
+        if self.plan.count() {
+            self.plan.fail();
             return Err(HostError::Failed);
         }
         self.jobs.take(commands.clone()?)?;
-        self.taken.push(commands)?;
+        self.calls.push(RecordedCall::of_commands(commands))?;
         Ok(())
     }
 }

@@ -6,6 +6,7 @@ mod cause;
 mod command;
 mod event;
 mod job;
+mod lent;
 mod peers;
 mod runs;
 

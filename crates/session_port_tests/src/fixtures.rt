@@ -9,6 +9,7 @@ use analysis_host::{
 use docs_vfs::VfsPath;
 use plain::{Items, Json};
 use ra_config::Config;
+use session_peers::{HostileHost, RecordedCall, ScriptHost};
 use session_port::{
     Command, Host, HostError, HostEvent, Job, JobKind, JobResult, JobValue, PoolClass, TaskBody,
     TaskMsg,
@@ -114,7 +115,8 @@ fn batch_text(alloc: Global, batch: Items<TaskMsg>) -> Result<String, Fail> {
     Ok(text)
 }
 
-fn event_text(alloc: Global, event: Result<HostEvent, HostError>) -> Result<String, Fail> {
+/// An event in words, or that a call failed.
+pub fn event_text(alloc: Global, event: Result<HostEvent, HostError>) -> Result<String, Fail> {
     match event {
         Ok(HostEvent::Bytes(bytes)) => match String::from_utf8(bytes.into_vec()) {
             Ok(text) => Ok(text),
@@ -126,26 +128,41 @@ fn event_text(alloc: Global, event: Result<HostEvent, HostError>) -> Result<Stri
     }
 }
 
-// This call claims nothing here.
-fn next<H: Host<Null>>(host: &mut H) -> Result<HostEvent, HostError> {
-    host.next()
+/// A host that may be called again after it failed and after the end. The call claims nothing here.
+pub trait Tireless {
+    fn give(&mut self) -> Result<HostEvent, HostError>;
+}
+
+impl Tireless for ScriptHost<'_, Null> {
+    fn give(&mut self) -> Result<HostEvent, HostError> {
+        self.next()
+    }
+}
+
+impl Tireless for HostileHost {
+    fn give(&mut self) -> Result<HostEvent, HostError> {
+        Host::<Null>::next(self)
+    }
 }
 
 /// So many events of a host, in words.
-pub fn told<H: Host<Null>>(alloc: Global, host: &mut H, count: u32) -> Result<String, Fail> {
+pub fn told<H: Tireless>(alloc: Global, host: &mut H, count: u32) -> Result<String, Fail> {
     let mut all = String::new(alloc);
     for _ in 0..count {
-        all.push_str(event_text(alloc, next(host))?.as_str())?;
+        all.push_str(event_text(alloc, host.give())?.as_str())?;
         all.push('|')?;
     }
     Ok(all)
 }
 
-/// How many commands each order had, in words.
-pub fn orders_text(alloc: Global, taken: &[Items<Command>]) -> Result<String, AllocError> {
+/// The calls of a host, in words: that it gave an event, or how many commands it took.
+pub fn calls_text(alloc: Global, calls: &[RecordedCall]) -> Result<String, AllocError> {
     let mut text = String::new(alloc);
-    for commands in taken {
-        text.push_str(format!(in alloc; "{}|", commands.len())?.as_str())?;
+    for call in calls {
+        match call.commands() {
+            Some(commands) => text.push_str(format!(in alloc; "{}|", commands.len())?.as_str())?,
+            None => text.push_str("event|")?,
+        }
     }
     Ok(text)
 }

@@ -1,13 +1,49 @@
 // The host that runs everything on one thread.
-use crate::fixtures::{Null, told, two_jobs};
+ghost use Rattle.std.specs.Prelude.{◌≡◌, false, IfOk};
+
+use crate::fixtures::{Null, event_text, two_jobs};
 use crate::memory::{Small, source};
 use session_peers::InlineHost;
 use session_port::Host;
 use std::alloc::Global;
 use std::test::Fail;
 
-/// So many events of a host on these bytes, which is given the jobs 7 and 9 first if `busy` says so, and how many
-/// orders it took.
+/// A host on these bytes, which has the jobs 7 and 9 if `busy` says so.
+fn host<'a>(
+    alloc: Global,
+    text: &str,
+    fails: &[u64],
+    analysis: &'a Null,
+    busy: bool,
+) -> Result<InlineHost<'a, Small, Null>, Fail>
+    ensures { IfOk result (λ host. host.spent ≡ false) }
+{
+    let source: Small = source(alloc, text, fails)?;
+    let mut host = InlineHost::new(alloc, source, analysis, busy)?;
+    if busy {
+        host.order(two_jobs(alloc)?)?;
+    }
+    Ok(host)
+}
+
+/// So many events of a host in words, or fewer where a call fails, after which none may be made.
+fn told(alloc: Global, host: &mut InlineHost<'_, Small, Null>, count: u32) -> Result<String, Fail>
+    requires { host.old.spent ≡ false }
+{
+    let mut all = String::new(alloc);
+    'events: for _ in 0..count {
+        let event = host.next();
+        let failed = event.is_err();
+        all.push_str(event_text(alloc, event)?.as_str())?;
+        all.push('|')?;
+        if failed {
+            break;
+        }
+    }
+    Ok(all)
+}
+
+/// So many events of a host on these bytes, and how many calls it recorded.
 fn events(
     alloc: Global,
     text: &str,
@@ -15,18 +51,14 @@ fn events(
     busy: bool,
     count: u32,
 ) -> Result<(String, Option<usize>), Fail> {
-    let source: Small = source(alloc, text, fails)?;
-    let mut host = InlineHost::new(alloc, source, &Null, busy)?;
-    if busy {
-        host.order(two_jobs(alloc)?)?;
-    }
+    let mut host = host(alloc, text, fails, &Null, busy)?;
     let told = told(alloc, &mut host, count)?;
-    Ok((told, host.taken().map(|taken| taken.len())))
+    Ok((told, host.calls().map(|calls| calls.len())))
 }
 
 #[test]
 fn events_of_a_stream(rt: HostRuntime) -> Result<(), Fail> {
-    for (text, fails, busy, count, want, orders) in [
+    for (text, fails, busy, count, want, calls) in [
         // Two frames, of 48 bytes that come in three pieces.
         (
             "Content-Length: 2\r\n\r\n{}Content-Length: 4\r\n\r\nnull",
@@ -53,19 +85,27 @@ fn events_of_a_stream(rt: HostRuntime) -> Result<(), Fail> {
             "Content-Length: 20\r\n\r\n{}|ended|",
             None,
         ),
-        // Results come before bytes. The second read fails, and loses nothing.
+        // Results come before bytes, and before any read, of which the first fails here.
         (
             "Content-Length: 2\r\n\r\n{}",
-            2,
+            0,
             true,
-            4,
-            "7: null;9: null;|failed|Content-Length: 2\r\n\r\n{}|ended|",
-            Some(1),
+            3,
+            "7: null;9: null;|Content-Length: 2\r\n\r\n{}|ended|",
+            Some(4),
+        ),
+        (
+            "Content-Length: 2\r\n\r\n{}",
+            1,
+            true,
+            3,
+            "7: null;9: null;|failed|",
+            Some(2),
         ),
     ] {
-        let (told, taken) = events(rt.alloc(), text, &[fails], busy, count)?;
+        let (told, recorded) = events(rt.alloc(), text, &[fails], busy, count)?;
         assert_eq!(rt; told.as_str(), want, "on {text}");
-        assert!(rt; taken == orders, "on {text}");
+        assert!(rt; recorded == calls, "on {text}");
     }
     Ok(())
 }

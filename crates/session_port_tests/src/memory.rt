@@ -1,4 +1,6 @@
 // Peers in memory that fail at listed calls.
+ghost use Rattle.std.specs.Prelude.{◌≡◌, false};
+
 use crate::fixtures::numbers;
 use plain::{Bytes, Items};
 use session_peers::{MemorySink, MemorySource};
@@ -13,11 +15,13 @@ pub struct Small {
 }
 
 impl Source for Small {
-    ghost use Rattle.std.specs.Prelude.{Some};
+    ghost use Rattle.std.specs.Prelude.{Some, false};
 
     ghost left = { λ s. Some s.source.left };
 
-    ghost faults = { λ s. s.source.calls.faults };
+    ghost faults = { λ s. s.source.plan.faults };
+
+    ghost spent = { λ _. false };
 
     fn read_piece(&mut self, max: usize) -> Result<Option<Bytes>, HostError> {
         self.source.read_piece(max.min(16))
@@ -67,5 +71,31 @@ fn a_source_fails_at_listed_calls(rt: HostRuntime) -> Result<(), Fail> {
     for (piece, left) in [(None, 3), (Some(2), 1), (Some(1), 0), (Some(0), 0)] {
         assert!(rt; read(&mut small) == (piece, left), "{left} left");
     }
+    Ok(())
+}
+
+/// Whether a sink that is handed over takes a turn.
+fn put_to<S: Sink + Drop>(mut sink: S, bytes: &[u8]) -> bool
+    requires { S.spent sink ≡ false }
+{
+    sink.put_turn(bytes).is_ok()
+}
+
+/// Whether a source that is handed over gives a piece.
+fn gives<S: Source>(mut source: S) -> bool
+    requires { S.spent source ≡ false }
+{
+    matches!(source.read_piece(2), Ok(Some(_)))
+}
+
+#[test]
+fn lent_peers_are_peers(rt: HostRuntime) -> Result<(), Fail> {
+    let alloc = rt.alloc();
+    let mut sink = MemorySink::new(alloc, Items::new(alloc));
+    assert!(rt; put_to(&mut sink, b"ab"));
+    assert_eq!(rt; sink.turns().len(), 1);
+    let mut small = source(alloc, "abc", &[])?;
+    assert!(rt; gives(&mut small));
+    assert_eq!(rt; small.source.left().len(), 1);
     Ok(())
 }

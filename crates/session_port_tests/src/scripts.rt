@@ -1,5 +1,7 @@
 // Hosts that follow a script, and hosts that give whatever they were told to give.
-use crate::fixtures::{Null, numbers, orders_text, told, two_jobs};
+ghost use Rattle.std.specs.Prelude.{◌≡◌, false};
+
+use crate::fixtures::{Null, calls_text, event_text, numbers, told, two_jobs};
 use plain::{Bytes, Items, Json};
 use session_peers::{HostileHost, ScriptHost, ScriptStep};
 use session_port::{Host, HostError, HostEvent, JobResult, JobValue, TaskBody, TaskMsg};
@@ -20,7 +22,7 @@ fn bytes(alloc: Global, text: &str) -> Result<HostEvent, AllocError> {
     Ok(HostEvent::Bytes(Bytes::from_slice(alloc, text.as_bytes())?))
 }
 
-/// So many events of a host with these steps, which has the jobs 7 and 9, and its orders.
+/// So many events of a host with these steps, which has the jobs 7 and 9, and its calls.
 fn script_told(
     alloc: Global,
     steps: Items<ScriptStep>,
@@ -30,7 +32,7 @@ fn script_told(
     let mut host = ScriptHost::new(alloc, &Null, steps, numbers(alloc, fails)?)?;
     host.order(two_jobs(alloc)?)?;
     let told = told(alloc, &mut host, count)?;
-    Ok((told, orders_text(alloc, host.taken())?))
+    Ok((told, calls_text(alloc, host.calls())?))
 }
 
 /// Steps that finish jobs, with numbers that name none.
@@ -59,12 +61,12 @@ fn stopping(alloc: Global) -> Result<Items<ScriptStep>, Fail> {
 fn a_script_finishes_jobs(rt: HostRuntime) -> Result<(), Fail> {
     // The order is the first call, and so the second event is the third.
     let alloc = rt.alloc();
-    let (told, orders) = script_told(alloc, finishing(alloc)?, &[3, 4], 8)?;
+    let (told, calls) = script_told(alloc, finishing(alloc)?, &[3, 4], 8)?;
     assert_eq!(rt;
         told.as_str(),
         "ab|failed|failed|9: null;||ended|7: null;|ended|"
     );
-    assert_eq!(rt; orders.as_str(), "2|");
+    assert_eq!(rt; calls.as_str(), "2|event|event|event|event|event|event|");
     Ok(())
 }
 
@@ -102,18 +104,35 @@ fn made_up(alloc: Global) -> Result<Items<HostEvent>, Fail> {
     Ok(events)
 }
 
-/// So many events of a host with the jobs 7 and 9 that makes results up, and its orders.
+/// So many events of a host with the jobs 7 and 9 that makes results up, and its calls.
 fn hostile_told(alloc: Global, count: u32) -> Result<(String, String), Fail> {
     let mut host = HostileHost::new(alloc, made_up(alloc)?);
     Host::<Null>::order(&mut host, two_jobs(alloc)?)?;
     let told = told(alloc, &mut host, count)?;
-    Ok((told, orders_text(alloc, host.taken())?))
+    Ok((told, calls_text(alloc, host.calls())?))
 }
 
 #[test]
 fn made_up_results(rt: HostRuntime) -> Result<(), Fail> {
-    let (told, orders) = hostile_told(rt.alloc(), 5)?;
+    let (told, calls) = hostile_told(rt.alloc(), 5)?;
     assert_eq!(rt; told.as_str(), "5: null;|x|7: cancelled;|ended|ended|");
-    assert_eq!(rt; orders.as_str(), "2|");
+    assert_eq!(rt; calls.as_str(), "2|event|event|event|event|event|");
+    Ok(())
+}
+
+/// The next event of a host that is handed over.
+fn next_of<H: Host<Null> + Drop>(mut host: H) -> Result<HostEvent, HostError>
+    requires { H.spent host ≡ false }
+{
+    host.next()
+}
+
+#[test]
+fn a_lent_host_is_one(rt: HostRuntime) -> Result<(), Fail> {
+    let alloc = rt.alloc();
+    let mut host = ScriptHost::new(alloc, &Null, finishing(alloc)?, numbers(alloc, &[])?)?;
+    let event = next_of(&mut host);
+    assert_eq!(rt; event_text(alloc, event)?.as_str(), "ab");
+    assert_eq!(rt; host.calls().len(), 1);
     Ok(())
 }

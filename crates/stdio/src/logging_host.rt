@@ -54,9 +54,9 @@ impl<'a, R: Log, H: Host<A>, A: Analysis> Host<A> for LoggingHost<'a, R, H> {
 
     ghost faults = { λ h. H.faults h.host };
 
-    ghost given = { λ h. H.given h.host };
+    ghost calls = { λ h. H.calls h.host };
 
-    ghost taken = { λ h. H.taken h.host };
+    ghost spent = { λ h. H.spent h.host };
 
     fn next(&mut self) -> Result<HostEvent, HostError> {
         self.host.next()

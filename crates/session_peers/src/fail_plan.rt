@@ -7,26 +7,26 @@ use std::marker::Model;
 
 /// The calls of a fake, and which of them fail.
 #[derive(Drop)]
-pub(crate) struct Calls {
+pub(crate) struct FailPlan {
     fails: Items<u64>,
     made: u64,
     faults: u64,
 }
 
-impl Model for Calls {
-    ghost use Rattle.session_peers.specs.Memory.{CallData};
+impl Model for FailPlan {
+    ghost use Rattle.session_peers.specs.Memory.{PlanData};
 
-    ghost Value = { CallData };
+    ghost Value = { PlanData };
 
     ghost view = { λ c. record { fails = c.fails; made = c.made; faults = c.faults } };
 }
 
-impl Calls {
+impl FailPlan {
     /// No call was made yet. Those with these numbers will fail.
     pub fn new(fails: Items<u64>) -> Self
         ensures { result ≡ no_calls fails }
     {
-        Calls {
+        FailPlan {
             fails,
             made: 0,
             faults: 0,

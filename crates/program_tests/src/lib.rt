@@ -1,0 +1,7 @@
+//! Tests of `program`, over readers and writers in memory.
+#![tactic(auto)]
+
+#[cfg(test)]
+mod runs;
+#[cfg(test)]
+mod streams;

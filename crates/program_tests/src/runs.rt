@@ -1,0 +1,128 @@
+// Runs of the program.
+use crate::streams::{Paper, Tape};
+use plain::{Items, Text};
+use program::{HELP, VERSION, Words, run};
+use std::alloc::Global;
+use std::test::Fail;
+use stdio::StandardOutput;
+
+const OPEN: &str =
+    "Content-Length: 151\r\n\r\n{\"jsonrpc\":\"2.0\",\"method\":\"textDocument/didOpen\",\"params\":{\"textDocument\":{\"uri\":\"file:///w/a.rs\",\"languageId\":\"rust\",\"version\":1,\"text\":\"fn a() {}\"}}}";
+
+const HOVER: &str =
+    "Content-Length: 141\r\n\r\n{\"jsonrpc\":\"2.0\",\"id\":1,\"method\":\"textDocument/hover\",\"params\":{\"textDocument\":{\"uri\":\"file:///w/a.rs\"},\"position\":{\"line\":0,\"character\":3}}}";
+
+const EXIT: &str = "Content-Length: 33\r\n\r\n{\"jsonrpc\":\"2.0\",\"method\":\"exit\"}";
+
+const REPLY: &str =
+    "Content-Length: 50\r\n\r\n{\"id\":1,\"jsonrpc\":\"2.0\",\"result\":{\"contents\":\"a\"}}";
+
+/// How a run went: its status, what it wrote, and whether all of that was flushed.
+#[derive(Drop)]
+struct Outcome {
+    status: u8,
+    written: String,
+    flushed: bool,
+}
+
+// This call claims nothing here.
+fn status(rt: &HostRuntime, words: &Words, input: Tape<'_>, output: &mut Paper) -> u8 {
+    let mut output = StandardOutput::new(output);
+    run(rt.alloc(), words, input, &mut output, rt)
+}
+
+/// A run of these words, over an input that ends or fails, and an output with so much room.
+fn outcome_of(
+    rt: &HostRuntime,
+    words: &Words,
+    input: &str,
+    fails: bool,
+    room: usize,
+) -> Result<Outcome, Fail> {
+    let mut paper = Paper {
+        bytes: Vec::new(rt.alloc()),
+        room,
+        flushed: 0,
+        interrupted: false,
+    };
+    let tape = Tape {
+        left: input.as_bytes(),
+        fails,
+        interrupted: false,
+    };
+    let status = status(rt, words, tape, &mut paper);
+    let flushed = paper.flushed == paper.bytes.len();
+    match String::from_utf8(paper.bytes) {
+        Ok(written) => Ok(Outcome {
+            status,
+            written,
+            flushed,
+        }),
+        Err(_) => Err(Fail::from("no UTF-8")),
+    }
+}
+
+/// Words that are parted by blanks.
+fn words(alloc: Global, line: &str) -> Result<Words, Fail> {
+    let mut texts = Items::new(alloc);
+    for word in line.split(' ') {
+        texts.push(Text::from_str(alloc, word)?)?;
+    }
+    Ok(Words::Texts(texts))
+}
+
+#[test]
+fn words_that_print(rt: HostRuntime) -> Result<(), Fail> {
+    for (line, room, status, written) in [
+        ("--help", 4096, 0, HELP),
+        ("--version", 4096, 0, VERSION),
+        ("--version", 3, 7, "ra_"),
+        ("--help --version", 4096, 2, ""),
+        ("sessions", 4096, 2, ""),
+        ("session session", 4096, 2, ""),
+        ("", 4096, 2, ""),
+    ] {
+        let outcome = outcome_of(&rt, &words(rt.alloc(), line)?, "", false, room)?;
+        assert_eq!(rt; outcome.status, status, "of {line}");
+        assert_eq!(rt; outcome.written.as_str(), written, "of {line}");
+        assert!(rt; outcome.flushed || status == 7, "of {line}");
+    }
+    Ok(())
+}
+
+#[test]
+fn a_word_that_is_no_text(rt: HostRuntime) -> Result<(), Fail> {
+    let outcome = outcome_of(&rt, &Words::NotText, EXIT, false, 4096)?;
+    assert_eq!(rt; outcome.status, 2);
+    assert_eq!(rt; outcome.written.as_str(), "");
+    Ok(())
+}
+
+/// A stream of these frames.
+fn stream(alloc: Global, frames: &[&str]) -> Result<String, Fail> {
+    let mut stream = String::new(alloc);
+    for frame in frames {
+        stream.push_str(frame)?;
+    }
+    Ok(stream)
+}
+
+#[test]
+fn sessions(rt: HostRuntime) -> Result<(), Fail> {
+    let session = words(rt.alloc(), "session")?;
+    for (last, fails, room, status, written) in [
+        (EXIT, false, 4096, 0, REPLY),
+        ("Content-Length: 33\r\n\r\n{}", false, 4096, 3, REPLY),
+        ("Content-Length: x\r\n\r\n{}", false, 4096, 4, REPLY),
+        ("Content-Length: 3\r\n\r\n[1]", false, 4096, 5, REPLY),
+        ("", true, 4096, 6, REPLY),
+        (EXIT, false, 14, 7, "Content-Length"),
+    ] {
+        let stream = stream(rt.alloc(), &[OPEN, HOVER, last])?;
+        let outcome = outcome_of(&rt, &session, stream.as_str(), fails, room)?;
+        assert_eq!(rt; outcome.status, status, "of {last}");
+        assert_eq!(rt; outcome.written.as_str(), written, "of {last}");
+        assert!(rt; outcome.flushed || status == 7, "of {last}");
+    }
+    Ok(())
+}

@@ -1,5 +1,0 @@
-use Rattle.session_peers.proofs.FirstPieces.{read_nearer}
-use Rattle.session_peers.proofs.framed_source.FramedSource.next_end.Goals as goal
-
-pub reading-smaller : goal.reading-smaller
-reading-smaller g c = read_nearer c.reading.self c.read_more.new.self _ _ c.in_ok-read_more.ensures.more c.if-not-branch.false c.held-held.ensures c.in-NeedMore.ensures.is

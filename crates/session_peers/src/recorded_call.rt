@@ -1,0 +1,73 @@
+// The calls that a host records.
+ghost use Rattle.std.specs.Prelude.{◌≡◌, option_copied};
+ghost use Rattle.session_port.specs.Record.{gave, took};
+ghost use Rattle.session_peers.specs.Calls.{commands_in, event_in};
+
+use plain::Items;
+use session_port::{Command, HostEvent};
+use std::marker::Model;
+
+/// A call of a host: it gave an event, or it took a turn's commands.
+#[derive(Drop)]
+pub struct RecordedCall {
+    call: Call,
+}
+
+#[derive(Drop)]
+enum Call {
+    Gave(HostEvent),
+    Took(Items<Command>),
+}
+
+impl Model for RecordedCall {
+    ghost use Rattle.session_peers.specs.Codes.{call_code};
+    ghost use Rattle.session_port.specs.Record.{HostCall};
+    ghost use Rattle.session_port.specs.contracts.command.Command as command;
+    ghost use Rattle.session_port.specs.contracts.event.HostEvent as event;
+
+    ghost Value = { HostCall };
+
+    ghost coded = { call_code event.the_row.coded command.the_row.coded };
+
+    ghost use Rattle.session_peers.specs.Calls.{call_of};
+
+    ghost view = { λ c. call_of c.call };
+}
+
+impl RecordedCall {
+    pub(crate) fn of_event(event: HostEvent) -> Self
+        ensures { result ≡ gave event }
+    {
+        RecordedCall {
+            call: Call::Gave(event),
+        }
+    }
+
+    pub(crate) fn of_commands(commands: Items<Command>) -> Self
+        ensures { result ≡ took commands }
+    {
+        RecordedCall {
+            call: Call::Took(commands),
+        }
+    }
+
+    /// The event, if one was given.
+    pub fn event(&self) -> Option<&HostEvent>
+        ensures { option_copied result ≡ event_in self.now }
+    {
+        match &self.call {
+            Call::Gave(event) => Some(event),
+            Call::Took(_) => None,
+        }
+    }
+
+    /// The commands, if they were taken.
+    pub fn commands(&self) -> Option<&Items<Command>>
+        ensures { option_copied result ≡ commands_in self.now }
+    {
+        match &self.call {
+            Call::Gave(_) => None,
+            Call::Took(commands) => Some(commands),
+        }
+    }
+}
