@@ -1,4 +1,4 @@
-//! What a host with threads hands to them. A snapshot, a job, its messages, an event and a command may go to another
+//! What a host with threads hands to them. JSON, a message of the client, settings, a snapshot, a job, its messages, an event and a command may go to another
 //! thread, and threads may share a snapshot and a job: the functions here say no more than that these bounds hold. A
 //! worker may be started on a job. A crate above, whose types or closures hold one of these, cites the rulesets `sends`
 //! and `syncs` of `proofs/Sent.antt`.
@@ -7,6 +7,9 @@
 mod worker;
 
 use analysis_host::GlobalStateSnapshot;
+use lsp_frame::Message;
+use plain::{Json, SharedJson};
+use ra_config::Config;
 use session_port::{Command, HostEvent, Job, JobResult, TaskMsg};
 pub use worker::{Promised, Started, Worker, start};
 
@@ -18,6 +21,30 @@ fn sends<T: Send + Drop>(x: T) {
 /// Lets go of a value that threads may share.
 fn shares<T: Sync + Drop>(x: T) {
     drop(x)
+}
+
+pub fn json_is_sent(x: Json) {
+    sends(x)
+}
+
+pub fn json_is_shared(x: Json) {
+    shares(x)
+}
+
+pub fn shared_json_is_sent(x: SharedJson) {
+    sends(x)
+}
+
+pub fn client_message_is_sent(x: Message) {
+    sends(x)
+}
+
+pub fn settings_are_sent(x: Config) {
+    sends(x)
+}
+
+pub fn settings_are_shared(x: Config) {
+    shares(x)
 }
 
 pub fn snapshot_is_sent(x: GlobalStateSnapshot) {

@@ -1,12 +1,12 @@
 -- A session for whose settings there was no memory.
 use Rattle.std.proofs.Common.{Bool, refl}
 use Rattle.std.specs.Prelude.{⊤, Err}
-use Rattle.session_model.specs.Headline.{EndsByCause}
+use Rattle.session_model.specs.Headline.{EndsByCause, IsAnswered}
 use Rattle.session_model.specs.Meaning.{Meaning}
 use Rattle.session_model.specs.Run.{Told, empty_reader, IsRun}
 use Rattle.session_model.specs.declared.fault.SessionError.TheVariants.{NoMemory}
 use Rattle.session_laws.proofs.Answered.{run-answered}
-use Rattle.session_laws.proofs.Causes.{run-caused, run-complete}
+use Rattle.session_laws.proofs.Causes.{answered-caused, answered-complete}
 use Rattle.session.proofs.Advancing.{run-none}
 use Rattle.server.specs.Serving.{RanSession, session_config}
 use Rattle.server.specs.Status.{status_of}
@@ -14,12 +14,13 @@ use Rattle.server.specs.Status.{status_of}
 pub unstarted : (meaning : Meaning) (told : Told) (honest : Bool) (HostFailed SinkFailed : Type 0) → RanSession meaning told told honest HostFailed SinkFailed (status_of (Err NoMemory))
 unstarted meaning told honest HostFailed SinkFailed =
     let run : IsRun {T = ⊤} meaning session_config empty_reader told told honest (Err NoMemory) = run-none meaning session_config empty_reader told honest ⊤ in
-    let end : EndsByCause {T = ⊤} empty_reader told.given told.given (Err NoMemory) = run-caused ⊤ meaning session_config empty_reader told told honest (Err NoMemory) run in
+    let headline : IsAnswered {T = ⊤} meaning session_config empty_reader told told honest (Err NoMemory) = run-answered ⊤ meaning session_config empty_reader told told honest (Err NoMemory) run in
+    let end : EndsByCause {T = ⊤} empty_reader told.calls told.calls (Err NoMemory) = answered-caused ⊤ meaning session_config empty_reader told told honest (Err NoMemory) headline in
     record {
       outcome = Err NoMemory;
       status_is = refl;
       run = run;
       end = end;
-      complete = run-complete ⊤ empty_reader told.given told.given HostFailed SinkFailed (Err NoMemory) end (λ e. absurd cc) (λ e. absurd cc);
-      headline = run-answered ⊤ meaning session_config empty_reader told told honest (Err NoMemory) run;
+      complete = answered-complete ⊤ meaning session_config empty_reader told told honest HostFailed SinkFailed (Err NoMemory) headline end (λ e. absurd cc) (λ e. absurd cc);
+      headline = headline;
     }

@@ -24,8 +24,8 @@ pub record RanSession (meaning : Meaning) (old new : Told) (honest : Bool) (Host
   pub outcome : Result ⊤ SessionError
   pub status_is : status ≡ status_of outcome
   pub run : IsRun meaning session_config empty_reader old new honest outcome
-  pub end : EndsByCause empty_reader old.given new.given outcome
-  pub complete : IsComplete empty_reader old.given new.given HostFailed SinkFailed outcome
+  pub end : EndsByCause empty_reader old.calls new.calls outcome
+  pub complete : IsComplete meaning session_config empty_reader old.calls new.calls HostFailed SinkFailed outcome
   pub headline : IsAnswered meaning session_config empty_reader old new honest outcome
 
 -- or the words are none that the program knows, and nothing was read or written

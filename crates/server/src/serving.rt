@@ -47,7 +47,9 @@ fn run_session<H: Host<A>, S: Sink, A: Analysis>(
 ) -> Result<(), SessionError>
     requires idle { H.out host.old ≡ map.empty }
     requires unused { H.handed host.old ≡ 0 }
-    ensures run { RanSession (meaning_of A.decodes A.answer) (told_of (H.given host.old) (H.taken host.old) (S.turns sink.old)) (told_of (H.given host.new) (H.taken host.new) (S.turns sink.new)) (H.honest host.old) (Rose (H.faults host.old) (H.faults host.new)) (Rose (S.faults sink.old) (S.faults sink.new)) (status_of result) }
+    requires host_fresh { H.spent host.old ≡ false }
+    requires sink_fresh { S.spent sink.old ≡ false }
+    ensures run { RanSession (meaning_of A.decodes A.answer) (told_of (H.calls host.old) (S.turns sink.old)) (told_of (H.calls host.new) (S.turns sink.new)) (H.honest host.old) (Rose (H.faults host.old) (H.faults host.new)) (Rose (S.faults sink.old) (S.faults sink.new)) (status_of result) }
     ensures host_fault { result ≡ Err SessionError.HostFault → Rose (H.faults host.old) (H.faults host.new) }
     ensures write_fault { result ≡ Err SessionError.WriteFault → Rose (S.faults sink.old) (S.faults sink.new) }
 {
@@ -67,9 +69,11 @@ pub fn serve<H: Host<A>, S: Sink, A: Analysis>(
     // No job was handed to the host before.
     requires idle { H.out host.old ≡ map.empty }
     requires unused { H.handed host.old ≡ 0 }
+    requires host_fresh { H.spent host.old ≡ false }
+    requires sink_fresh { S.spent sink.old ≡ false }
 
     // One session, with all that is promised of a session; or the words are none that are known, and nothing is read or written.
-    ensures serves { Serves (is_session words.now) (meaning_of A.decodes A.answer) (told_of (H.given host.old) (H.taken host.old) (S.turns sink.old)) (told_of (H.given host.new) (H.taken host.new) (S.turns sink.new)) (H.honest host.old) (Rose (H.faults host.old) (H.faults host.new)) (Rose (S.faults sink.old) (S.faults sink.new)) result }
+    ensures serves { Serves (is_session words.now) (meaning_of A.decodes A.answer) (told_of (H.calls host.old) (S.turns sink.old)) (told_of (H.calls host.new) (S.turns sink.new)) (H.honest host.old) (Rose (H.faults host.old) (H.faults host.new)) (Rose (S.faults sink.old) (S.faults sink.new)) result }
 
     // The status 2 comes exactly where the words are none that are known.
     ensures words { (result ≡ bad_words) ↔ (is_session words.now ≡ false) }

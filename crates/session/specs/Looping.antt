@@ -1,11 +1,11 @@
 -- What one step of the loop leaves.
-use Rattle.std.specs.Prelude.{◌≡◌, ◌≤◌, ◌<◌, ℕ, ◌+◌, ◌-◌, ◌^◌, List, length, Bool, Result, Ok, Err}
+use Rattle.std.specs.Prelude.{◌≡◌, ◌≤◌, ◌<◌, ◌⊎◌, ℕ, ◌+◌, ◌-◌, ◌^◌, List, [], ◌∷◌, length, Bool, Result, Ok, Err}
 use Rattle.lsp_frame.specs.Reader.{Reader}
 use Rattle.session_port.specs.Jobs.{Jobs}
-use Rattle.session_port.specs.Record.{Rose, grown, added, after_order}
+use Rattle.session_port.specs.Record.{took, after_order}
 use Rattle.session_model.specs.Machine.{step}
 use Rattle.session_model.specs.Meaning.{Meaning}
-use Rattle.session_model.specs.Run.{Turn, Told, Steps, Stretch, EndsWell, EndsBy, begun, bytes_of, fed_bytes}
+use Rattle.session_model.specs.Run.{Turn, Told, Steps, Stretch, EndsWell, EndsBy, begun, commands_of, fed_bytes, telling}
 use Rattle.session_model.specs.State.{State}
 use Rattle.session_model.specs.Written.{AreRead}
 use Rattle.session_model.specs.declared.fault.Counter.TheVariants.{Bytes as BytesCounter}
@@ -16,31 +16,32 @@ use Rattle.session.specs.Reading.{course_from}
 use Rattle.session.specs.declared.run.Turned.{Turned}
 use Rattle.session.specs.declared.run.Turned.TheVariants.{Going, Stopped}
 
--- a turn whose input was just given
+-- a turn whose input was just given: it was written, and its commands were taken
 pub record Done (meaning : Meaning) (input : Input) (before now : State) (old new : Told) (out out_now : Jobs) : Type 0 where
   pub turn : Turn
   pub input_is : turn.input ≡ input
   pub steps : Steps meaning before turn now
   pub read : AreRead turn.messages
-  pub told : new ≡ record old { taken = added old.taken turn.commands; turns = added old.turns (bytes_of turn) }
+  pub told : new ≡ telling (took turn.commands ∷ []) (turn ∷ []) old
   pub out_is : out_now ≡ after_order turn.commands out
 
--- at most one turn more was written
-pub record BreaksOffTurn (old new : Told) : Type 0 where
-  pub written : List (List ℕ)
-  pub one_written : length written ≤ 1
-  pub told : new ≡ record old { turns = grown old.turns written }
+-- the turn was written, and its commands were not taken
+pub record Untaken (meaning : Meaning) (input : Input) (before now : State) (old new : Told) : Type 0 where
+  pub turn : Turn
+  pub input_is : turn.input ≡ input
+  pub steps : Steps meaning before turn now
+  pub read : AreRead turn.messages
+  pub told : new ≡ telling [] (turn ∷ []) old
 
-abbrev pub TurnDone : Meaning → Input → State → State → Told → Told → Jobs → Jobs → Result Turned SessionError → Type 0
-TurnDone meaning input before now old new out out_now (Ok Stopped) = ⊥
-TurnDone meaning input before now old new out out_now (Ok Going) = Done meaning input before now old new out out_now
+abbrev pub TurnDone : {T : Type 0} → Meaning → Input → State → State → Told → Told → Jobs → Jobs → Result T SessionError → Type 0
+TurnDone meaning input before now old new out out_now (Ok x) = Done meaning input before now old new out out_now
 TurnDone meaning input before now old new out out_now (Err (Exhausted counter)) = (new ≡ old) × (step meaning input (begun before) ≡ Err counter)
 TurnDone meaning input before now old new out out_now (Err ClientExited) = ⊥
 TurnDone meaning input before now old new out out_now (Err (BadFrame at)) = ⊥
 TurnDone meaning input before now old new out out_now (Err (BadMessage at)) = ⊥
-TurnDone meaning input before now old new out out_now (Err HostFault) = BreaksOffTurn old new
+TurnDone meaning input before now old new out out_now (Err HostFault) = Untaken meaning input before now old new
 TurnDone meaning input before now old new out out_now (Err WriteFault) = new ≡ old
-TurnDone meaning input before now old new out out_now (Err NoMemory) = BreaksOffTurn old new
+TurnDone meaning input before now old new out out_now (Err NoMemory) = new ≡ old ⊎ Untaken meaning input before now old new
 
 -- what a loop that counts turns and bytes has left
 abbrev pub left_of : State → ℕ → ℕ
@@ -51,20 +52,15 @@ pub record Goes (meaning : Meaning) (before now : State) (reader reader_now : Re
   pub stretch : Stretch meaning before now (course_from reader) (course_from reader_now) (fed_bytes reader) (fed_bytes reader_now) old new honest out out_now
   pub fewer : left_of now (fed_bytes reader_now) < left_of before (fed_bytes reader)
 
+-- what came of the next event
+abbrev pub AdvancesByEvent : {T : Type 0} → Meaning → State → State → Reader → Reader → Told → Told → Bool → Jobs → Jobs → Result T SessionError → Type 0
+AdvancesByEvent meaning before now reader reader_now old new honest out out_now (Ok x) = Goes meaning before now reader reader_now old new honest out out_now
+AdvancesByEvent meaning before now reader reader_now old new honest out out_now (Err e) = EndsBy meaning before (course_from reader) (fed_bytes reader) old new honest out e
+
 abbrev pub Advances : Meaning → State → State → Reader → Reader → Told → Told → Bool → Jobs → Jobs → Result Turned SessionError → Type 0
 Advances meaning before now reader reader_now old new honest out out_now (Ok Going) = Goes meaning before now reader reader_now old new honest out out_now
 Advances meaning before now reader reader_now old new honest out out_now (Ok Stopped) = EndsWell (course_from reader) old new
-Advances meaning before now reader reader_now old new honest out out_now (Err e) = EndsBy meaning before (course_from reader) (fed_bytes reader) old new e
-
--- an error of the host: its count rose, or memory ran out
-abbrev pub IsHostError : ℕ → ℕ → SessionError → Type 0
-IsHostError before now ClientExited = ⊥
-IsHostError before now (BadFrame at) = ⊥
-IsHostError before now (BadMessage at) = ⊥
-IsHostError before now HostFault = Rose before now
-IsHostError before now WriteFault = ⊥
-IsHostError before now (Exhausted counter) = ⊥
-IsHostError before now NoMemory = Unit {0}
+Advances meaning before now reader reader_now old new honest out out_now (Err e) = EndsBy meaning before (course_from reader) (fed_bytes reader) old new honest out e
 
 -- why bytes could not be fed: there are more than can be counted, or memory ran out
 abbrev pub IsFeedError : ℕ → ℕ → SessionError → Type 0

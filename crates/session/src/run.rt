@@ -3,13 +3,13 @@ ghost use Rattle.std.specs.Prelude.{◌≡◌, ◌≤◌, ◌<◌, ◌^◌, ◌+
 ghost use Rattle.std.specs.FinMap as map;
 ghost use Rattle.lsp_frame.specs.Frames.{cut_of};
 ghost use Rattle.lsp_frame.specs.declared.frame.Cut.TheVariants.{NeedMore};
-ghost use Rattle.session_port.specs.Record.{Rose, after_ok, added};
+ghost use Rattle.session_port.specs.Record.{HasCause, Rose, after_ok, added, took};
 ghost use Rattle.session_model.specs.Headline.{IsAnswered, EndsByCause, IsComplete};
 ghost use Rattle.session_model.specs.Meaning.{meaning_of};
 ghost use Rattle.session_model.specs.Machine.{step};
 ghost use Rattle.session_model.specs.Meets.{Meets};
-ghost use Rattle.session_model.specs.Run.{IsRun, empty_reader, told_of, host_error_of, write_error_of, turn_error_of, fed_bytes};
-ghost use Rattle.session.specs.Looping.{Advances, TurnDone, IsHostError, IsFeedError};
+ghost use Rattle.session_model.specs.Run.{IsRun, empty_reader, told_of, turn_error_of, fed_bytes};
+ghost use Rattle.session.specs.Looping.{Advances, AdvancesByEvent, TurnDone, IsFeedError};
 
 use crate::reading::{Coming, next_message};
 use analysis_host::Analysis;
@@ -26,24 +26,6 @@ use std::alloc::Global;
 enum Turned {
     Going,
     Stopped,
-}
-
-fn host_error(error: HostError) -> SessionError
-    ensures { result ≡ host_error_of error }
-{
-    match error {
-        HostError::Failed => SessionError::HostFault,
-        HostError::NoMemory => SessionError::NoMemory,
-    }
-}
-
-fn write_error(error: HostError) -> SessionError
-    ensures { result ≡ write_error_of error }
-{
-    match error {
-        HostError::Failed => SessionError::WriteFault,
-        HostError::NoMemory => SessionError::NoMemory,
-    }
 }
 
 fn turn_error(error: TurnError) -> SessionError
@@ -78,9 +60,13 @@ fn run_turn<H: Host<A>, S: Sink, A: Analysis>(
     host: &mut H,
     sink: &mut S,
     analysis: &A,
-) -> Result<Turned, SessionError>
+) -> Result<(), SessionError>
+    requires host_fresh { H.spent host.old ≡ false }
+    requires sink_fresh { S.spent sink.old ≡ false }
     requires handed { H.handed host.old ≡ state.old.jobs_given }
-    ensures turn { TurnDone (meaning_of A.decodes A.answer) input state.old state.new (told_of (H.given host.old) (H.taken host.old) (S.turns sink.old)) (told_of (H.given host.new) (H.taken host.new) (S.turns sink.new)) (H.out host.old) (H.out host.new) result }
+    ensures host_fresh { OnOk result (H.spent host.new ≡ false) }
+    ensures sink_fresh { OnOk result (S.spent sink.new ≡ false) }
+    ensures turn { TurnDone (meaning_of A.decodes A.answer) input state.old state.new (told_of (H.calls host.old) (S.turns sink.old)) (told_of (H.calls host.new) (S.turns sink.new)) (H.out host.old) (H.out host.new) result }
     ensures handed { OnOk result (H.handed host.new ≡ state.new.jobs_given) }
     ensures honest_stays { H.honest host.new ≡ H.honest host.old }
     ensures host_later { H.faults host.old ≤ H.faults host.new }
@@ -93,29 +79,28 @@ fn run_turn<H: Host<A>, S: Sink, A: Analysis>(
         return Err(turn_error(error));
     }
     let bytes = out.take_bytes(alloc)?;
-    if let Err(error) = sink.put_turn(&bytes) {
-        return Err(write_error(error));
+    match sink.put_turn(&bytes) {
+        Ok(()) => {}
+        Err(HostError::Failed) => return Err(SessionError::WriteFault),
+        Err(HostError::NoMemory) => return Err(SessionError::NoMemory),
     }
     match host.order(out.into_commands()) {
-        Ok(()) => Ok(Turned::Going),
-        Err(error) => Err(host_error(error)),
+        Ok(()) => Ok(()),
+        Err(HostError::Failed) => Err(SessionError::HostFault),
+        Err(HostError::NoMemory) => Err(SessionError::NoMemory),
     }
 }
 
 // The last order.
-fn stop<H: Host<A>, A: Analysis>(alloc: Global, host: &mut H) -> Result<(), SessionError>
-    ensures given { H.given host.new ≡ H.given host.old }
-    ensures taken { H.taken host.new ≡ after_ok result (λ _. added (H.taken host.old) (Command.Stop ∷ [])) (H.taken host.old) }
+fn stop<H: Host<A>, A: Analysis>(alloc: Global, host: &mut H) -> Result<(), HostError>
+    requires host_fresh { H.spent host.old ≡ false }
+    ensures calls { H.calls host.new ≡ after_ok result (λ _. added (H.calls host.old) (took (Command.Stop ∷ []))) (H.calls host.old) }
     ensures honest_stays { H.honest host.new ≡ H.honest host.old }
-    ensures later { H.faults host.old ≤ H.faults host.new }
-    ensures error { IfErr result (IsHostError (H.faults host.old) (H.faults host.new)) }
+    ensures cause { HasCause (H.faults host.old) (H.faults host.new) result }
 {
     let mut commands = Items::new(alloc);
     commands.push(Command::Stop)?;
-    match host.order(commands) {
-        Ok(()) => Ok(()),
-        Err(error) => Err(host_error(error)),
-    }
+    host.order(commands)
 }
 
 // Feeds the reader.
@@ -143,11 +128,15 @@ fn take_event<H: Host<A>, S: Sink, A: Analysis>(
     host: &mut H,
     sink: &mut S,
     analysis: &A,
-) -> Result<Turned, SessionError>
+) -> Result<(), SessionError>
+    requires host_fresh { H.spent host.old ≡ false }
+    requires sink_fresh { S.spent sink.old ≡ false }
     requires waits { cut_of reader.old.held ≡ NeedMore }
     requires sound { reader.old.failed ≡ false }
     requires handed { H.handed host.old ≡ state.old.jobs_given }
-    ensures turn { Advances (meaning_of A.decodes A.answer) state.old state.new reader.old reader.new (told_of (H.given host.old) (H.taken host.old) (S.turns sink.old)) (told_of (H.given host.new) (H.taken host.new) (S.turns sink.new)) (H.honest host.old) (H.out host.old) (H.out host.new) result }
+    ensures host_fresh { OnOk result (H.spent host.new ≡ false) }
+    ensures sink_fresh { OnOk result (S.spent sink.new ≡ false) }
+    ensures turn { AdvancesByEvent (meaning_of A.decodes A.answer) state.old state.new reader.old reader.new (told_of (H.calls host.old) (S.turns sink.old)) (told_of (H.calls host.new) (S.turns sink.new)) (H.honest host.old) (H.out host.old) (H.out host.new) result }
     ensures handed { OnOk result (H.handed host.new ≡ state.new.jobs_given) }
     ensures honest_stays { H.honest host.new ≡ H.honest host.old }
     ensures host_later { H.faults host.old ≤ H.faults host.new }
@@ -157,7 +146,8 @@ fn take_event<H: Host<A>, S: Sink, A: Analysis>(
 {
     let event = match host.next() {
         Ok(event) => event,
-        Err(error) => return Err(host_error(error)),
+        Err(HostError::Failed) => return Err(SessionError::HostFault),
+        Err(HostError::NoMemory) => return Err(SessionError::NoMemory),
     };
     match event {
         HostEvent::Ended => Err(SessionError::ClientExited),
@@ -171,10 +161,7 @@ fn take_event<H: Host<A>, S: Sink, A: Analysis>(
                 let input = Input::Next(Event::Task(batch));
                 return run_turn(alloc, input, state, host, sink, analysis);
             }
-            match feed(reader, &bytes) {
-                Ok(()) => Ok(Turned::Going),
-                Err(error) => Err(error),
-            }
+            feed(reader, &bytes)
         }
     }
 }
@@ -188,8 +175,12 @@ fn advance<H: Host<A>, S: Sink, A: Analysis>(
     sink: &mut S,
     analysis: &A,
 ) -> Result<Turned, SessionError>
+    requires host_fresh { H.spent host.old ≡ false }
+    requires sink_fresh { S.spent sink.old ≡ false }
     requires handed { H.handed host.old ≡ state.old.jobs_given }
-    ensures turn { Advances (meaning_of A.decodes A.answer) state.old state.new reader.old reader.new (told_of (H.given host.old) (H.taken host.old) (S.turns sink.old)) (told_of (H.given host.new) (H.taken host.new) (S.turns sink.new)) (H.honest host.old) (H.out host.old) (H.out host.new) result }
+    ensures host_fresh { result ≡ Ok Turned.Going → H.spent host.new ≡ false }
+    ensures sink_fresh { result ≡ Ok Turned.Going → S.spent sink.new ≡ false }
+    ensures turn { Advances (meaning_of A.decodes A.answer) state.old state.new reader.old reader.new (told_of (H.calls host.old) (S.turns sink.old)) (told_of (H.calls host.new) (S.turns sink.new)) (H.honest host.old) (H.out host.old) (H.out host.new) result }
     ensures handed { result ≡ Ok Turned.Going → H.handed host.new ≡ state.new.jobs_given }
     ensures honest_stays { H.honest host.new ≡ H.honest host.old }
     ensures host_later { H.faults host.old ≤ H.faults host.new }
@@ -200,15 +191,22 @@ fn advance<H: Host<A>, S: Sink, A: Analysis>(
     match next_message(reader)? {
         Coming::Message(message) => {
             let input = Input::Next(Event::Lsp(message));
-            run_turn(alloc, input, state, host, sink, analysis)
+            match run_turn(alloc, input, state, host, sink, analysis) {
+                Ok(()) => Ok(Turned::Going),
+                Err(error) => Err(error),
+            }
         }
         Coming::Exit => match stop(alloc, host) {
             Ok(()) => Ok(Turned::Stopped),
-            Err(error) => Err(error),
+            Err(HostError::Failed) => Err(SessionError::HostFault),
+            Err(HostError::NoMemory) => Err(SessionError::NoMemory),
         },
         Coming::BadFrame { at } => Err(SessionError::BadFrame { at }),
         Coming::BadMessage { at } => Err(SessionError::BadMessage { at }),
-        Coming::Waits => take_event(alloc, reader, state, host, sink, analysis),
+        Coming::Waits => match take_event(alloc, reader, state, host, sink, analysis) {
+            Ok(()) => Ok(Turned::Going),
+            Err(error) => Err(error),
+        },
     }
 }
 
@@ -223,13 +221,15 @@ fn run_from<H: Host<A>, S: Sink, A: Analysis>(
 ) -> Result<(), SessionError>
     requires idle { H.out host.old ≡ map.empty }
     requires unused { H.handed host.old ≡ 0 }
-    ensures run { IsRun (meaning_of A.decodes A.answer) config reader (told_of (H.given host.old) (H.taken host.old) (S.turns sink.old)) (told_of (H.given host.new) (H.taken host.new) (S.turns sink.new)) (H.honest host.old) result }
+    requires host_fresh { H.spent host.old ≡ false }
+    requires sink_fresh { S.spent sink.old ≡ false }
+    ensures run { IsRun (meaning_of A.decodes A.answer) config reader (told_of (H.calls host.old) (S.turns sink.old)) (told_of (H.calls host.new) (S.turns sink.new)) (H.honest host.old) result }
     ensures host_fault { result ≡ Err SessionError.HostFault → Rose (H.faults host.old) (H.faults host.new) }
     ensures write_fault { result ≡ Err SessionError.WriteFault → Rose (S.faults sink.old) (S.faults sink.new) }
 {
     let mut state = GlobalState::new(alloc, config)?;
     match run_turn(alloc, Input::Start, &mut state, host, sink, analysis) {
-        Ok(_) => {}
+        Ok(()) => {}
         Err(error) => return Err(error),
     }
     'inputs: loop {
@@ -254,18 +254,20 @@ pub fn main_loop_from<H: Host<A>, S: Sink, A: Analysis>(
     // No job was handed to the host before.
     requires idle { H.out host.old ≡ map.empty }
     requires unused { H.handed host.old ≡ 0 }
+    requires host_fresh { H.spent host.old ≡ false }
+    requires sink_fresh { S.spent sink.old ≡ false }
 
     // The turns are the session machine's, over the inputs of the bytes held and of the host's events.
-    ensures run { IsRun (meaning_of A.decodes A.answer) config reader (told_of (H.given host.old) (H.taken host.old) (S.turns sink.old)) (told_of (H.given host.new) (H.taken host.new) (S.turns sink.new)) (H.honest host.old) result }
+    ensures run { IsRun (meaning_of A.decodes A.answer) config reader (told_of (H.calls host.old) (S.turns sink.old)) (told_of (H.calls host.new) (S.turns sink.new)) (H.honest host.old) result }
 
     // What ended the run is what ends the course of the events given.
-    ensures end { EndsByCause reader (H.given host.old) (H.given host.new) result }
+    ensures end { EndsByCause reader (H.calls host.old) (H.calls host.new) result }
 
     // Over a good input up to `exit` it ends well, unless memory or the numbers of a counter run out.
-    ensures complete { IsComplete reader (H.given host.old) (H.given host.new) (Rose (H.faults host.old) (H.faults host.new)) (Rose (S.faults sink.old) (S.faults sink.new)) result }
+    ensures complete { IsComplete (meaning_of A.decodes A.answer) config reader (H.calls host.old) (H.calls host.new) (Rose (H.faults host.old) (H.faults host.new)) (Rose (S.faults sink.old) (S.faults sink.new)) result }
 
     // Each request gets the response of its row and no other; between turns exactly one job holds each pending request.
-    ensures headline { IsAnswered (meaning_of A.decodes A.answer) config reader (told_of (H.given host.old) (H.taken host.old) (S.turns sink.old)) (told_of (H.given host.new) (H.taken host.new) (S.turns sink.new)) (H.honest host.old) result }
+    ensures headline { IsAnswered (meaning_of A.decodes A.answer) config reader (told_of (H.calls host.old) (S.turns sink.old)) (told_of (H.calls host.new) (S.turns sink.new)) (H.honest host.old) result }
 
     ensures host_fault { result ≡ Err SessionError.HostFault → Rose (H.faults host.old) (H.faults host.new) }
     ensures write_fault { result ≡ Err SessionError.WriteFault → Rose (S.faults sink.old) (S.faults sink.new) }
@@ -284,18 +286,20 @@ pub fn main_loop<H: Host<A>, S: Sink, A: Analysis>(
     // No job was handed to the host before.
     requires idle { H.out host.old ≡ map.empty }
     requires unused { H.handed host.old ≡ 0 }
+    requires host_fresh { H.spent host.old ≡ false }
+    requires sink_fresh { S.spent sink.old ≡ false }
 
     // The turns are the session machine's, over the inputs of the host's events.
-    ensures run { IsRun (meaning_of A.decodes A.answer) config empty_reader (told_of (H.given host.old) (H.taken host.old) (S.turns sink.old)) (told_of (H.given host.new) (H.taken host.new) (S.turns sink.new)) (H.honest host.old) result }
+    ensures run { IsRun (meaning_of A.decodes A.answer) config empty_reader (told_of (H.calls host.old) (S.turns sink.old)) (told_of (H.calls host.new) (S.turns sink.new)) (H.honest host.old) result }
 
     // What ended the run is what ends the course of the events given.
-    ensures end { EndsByCause empty_reader (H.given host.old) (H.given host.new) result }
+    ensures end { EndsByCause empty_reader (H.calls host.old) (H.calls host.new) result }
 
     // Over a good input up to `exit` it ends well, unless memory or the numbers of a counter run out.
-    ensures complete { IsComplete empty_reader (H.given host.old) (H.given host.new) (Rose (H.faults host.old) (H.faults host.new)) (Rose (S.faults sink.old) (S.faults sink.new)) result }
+    ensures complete { IsComplete (meaning_of A.decodes A.answer) config empty_reader (H.calls host.old) (H.calls host.new) (Rose (H.faults host.old) (H.faults host.new)) (Rose (S.faults sink.old) (S.faults sink.new)) result }
 
     // Each request gets the response of its row and no other; between turns exactly one job holds each pending request.
-    ensures headline { IsAnswered (meaning_of A.decodes A.answer) config empty_reader (told_of (H.given host.old) (H.taken host.old) (S.turns sink.old)) (told_of (H.given host.new) (H.taken host.new) (S.turns sink.new)) (H.honest host.old) result }
+    ensures headline { IsAnswered (meaning_of A.decodes A.answer) config empty_reader (told_of (H.calls host.old) (S.turns sink.old)) (told_of (H.calls host.new) (S.turns sink.new)) (H.honest host.old) result }
 
     ensures host_fault { result ≡ Err SessionError.HostFault → Rose (H.faults host.old) (H.faults host.new) }
     ensures write_fault { result ≡ Err SessionError.WriteFault → Rose (S.faults sink.old) (S.faults sink.new) }

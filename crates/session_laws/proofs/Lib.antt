@@ -1,13 +1,16 @@
 pub mod Answered
 pub mod Appends
+pub mod Asking
 pub mod Causes
 pub mod Counted
 pub mod Courses
+pub mod Exhausting
 pub mod Fitting
 pub mod Handed
 pub mod Held
 pub mod Joined
 pub mod Keyed
+pub mod Once
 pub mod Orders
 pub mod Reacting
 pub mod Results

@@ -1,6 +1,8 @@
 -- The machine's turns are the rows of the reply table.
-use Rattle.std.proofs.Common.{◌≡◌, ℕ, ◌+◌, ◌-◌, ◌^◌, ◌≤◌, List, [], ◌∷◌, ◌++◌, length, Bool, true, false, refl, sym, ap, ◌∙◌, arith, eqb-true, append-nil}
-use Rattle.std.specs.Prelude.{Result, Ok, Err, IfOk, ℤ, Option, None, Some, ◌==◌, ◌&&◌, is_some, if◌then◌else◌, ltb, codes, nat_eq}
+use Rattle.std.proofs.Common.{◌≡◌, ◌≢◌, ℕ, ◌+◌, ◌-◌, ◌^◌, ◌≤◌, List, [], ◌∷◌, ◌++◌, length, Bool, true, false, refl, sym, ap, ◌∙◌, arith, eqb-true, append-nil, inl, inr}
+use Rattle.std.proofs.lemmas.Bool.{true≢false}
+use Rattle.docs_vfs.specs.Paths.{path_cmp}
+use Rattle.std.specs.Prelude.{◌⊎◌, Result, Ok, Err, IfOk, ℤ, Option, None, Some, ◌==◌, ◌&&◌, is_some, if◌then◌else◌, ltb, codes, nat_eq}
 use Rattle.std.specs.Cmp.Lexicographic.{bytes_decides}
 use Rattle.std.specs.List.{starts_with}
 use Rattle.std.specs.FinMap as map
@@ -25,7 +27,7 @@ use Rattle.session_port.specs.declared.event.TaskMsg.{TaskMsg}
 use Rattle.session_port.specs.declared.job.Job.{Job}
 use Rattle.session_model.specs.Cancelling.{cancel_of, is_unit}
 use Rattle.session_model.specs.Changing.{changed_of, text_after, has_skipped}
-use Rattle.session_model.specs.Headline.{Documents, Reaction, silent, says, reaction_of, row, class_row, new_row, notification_row, batch_row, place_after, number_after, documents_after, pending_after, revision_after, shutdown_after, closed_by}
+use Rattle.session_model.specs.Headline.{Documents, Reaction, Revises, silent, says, reaction_of, row, class_row, new_row, notification_row, batch_row, place_after, number_after, documents_after, pending_after, revision_after, shutdown_after, closed_by}
 use Rattle.session_laws.specs.Invariant.{StepFits, place_of}
 use Rattle.session_model.specs.Machine.{Working, and_then, next_number, counted, asked, noted, shut_down, admitted, requested, opened, opened_at, open_noted, changed, changed_at, cancelled, version_set, text_set, skip_noted, edited, edited_by, holds_text, world_changed, world_by, notified, received, answered, replied, logged, ordered, batched, happened, taken_in, kept, revised, step}
 use Rattle.session_model.specs.Meaning.{Meaning}
@@ -44,7 +46,7 @@ use Rattle.session_model.specs.declared.input.Input.TheVariants.{Start, Next}
 use Rattle.session_model.specs.declared.notice.DidChange.{DidChange}
 use Rattle.session_model.specs.declared.notice.DidOpen.{DidOpen}
 use Rattle.session_laws.proofs.Appends.{spawned-append, revision-append}
-use Rattle.session_laws.proofs.Keyed.{insert-there}
+use Rattle.session_laws.proofs.Keyed.{insert-there, get-insert_same}
 use Rattle.session_laws.proofs.Orders.{by_path_total, by_path_same}
 use Rattle.session_laws.proofs.Results.{IfOk-and_then, IfOk-next, IfOk-weaker}
 use Rattle.session_laws.proofs.Settling.{Settled, nothing-settles, unknown-settles, answer-settles, log-settles, class-settles, batch-settles, same_place}
@@ -54,8 +56,12 @@ abbrev pub turn_of : Input → Working → Turn
 turn_of input w = record { input = input; messages = w.out.messages; commands = w.out.commands }
 
 -- the turn is counted, and nothing else was done
-abbrev counted_turn : State → Working
+abbrev pub counted_turn : State → Working
 counted_turn s = record { state = record s { turns = s.turns + 1 }; out = nothing_done }
+
+-- the world stays, or its texts are others and its revision is one more
+abbrev pub Raises : HostData → HostData → Type 0
+Raises old new = (new ≡ old) ⊎ ((new.world.texts ≢ old.world.texts) × (new.revision ≡ old.revision + 1))
 
 -- a turn before it closes
 pub record Mid (meaning : Meaning) (s : State) (input : Input) (u : Working) : Type 0 where
@@ -70,6 +76,7 @@ pub record Mid (meaning : Meaning) (s : State) (input : Input) (u : Working) : T
   pub shutdown : u.state.shutdown ≡ shutdown_after input u.out.messages s.shutdown
   pub unrevised : (r : ℕ) → revision_after u.out.commands r ≡ r
   pub later : s.host.revision ≤ u.state.host.revision
+  pub raised : Raises s.host u.state.host
 
 -- ---- requests
 
@@ -92,6 +99,7 @@ request-mid meaning s r done u new is stays a = record {
   shutdown = ap (λ (t : State). t.shutdown) a.same ∙ sym stays;
   unrevised = a.unrevised;
   later = omega (arith, ap (λ (t : State). t.host.revision) a.same);
+  raised = inl (ap (λ (t : State). t.host) a.same);
 }
 
 -- the same of a method by another name than shutdown
@@ -127,6 +135,7 @@ shutdown-cases meaning s r true new named unit = record {
   shutdown = rw named refl;
   unrevised = λ q. refl;
   later = omega arith;
+  raised = inl refl;
 }
 shutdown-cases meaning s r false new named unit =
     request-mid meaning s r (says (invalid_params r.id)) _ new (rw (named, unit) refl) (rw named refl) (answer-settles r.id (invalid_params r.id) (noted r.id (counted_turn s)) refl)
@@ -160,6 +169,7 @@ refused-mid meaning s r is = record {
   shutdown = sym (no-null (same_text r.method (codes "shutdown")));
   unrevised = λ q. refl;
   later = omega arith;
+  raised = inl refl;
 }
   where
     no-null : (b : Bool) → (if b && false then true else s.shutdown) ≡ s.shutdown
@@ -196,6 +206,7 @@ notification-mid meaning s n done u is same a = record {
   shutdown = ap (λ (t : State). t.shutdown) a.same;
   unrevised = a.unrevised;
   later = omega (arith, ap (λ (t : State). t.host.revision) a.same);
+  raised = inl (ap (λ (t : State). t.host) a.same);
 }
 
 -- what a document's turn has done before its text is set: nothing, or a log line
@@ -229,8 +240,8 @@ abbrev setting_turn : State → List ℕ → ℤ → Written → Working
 setting_turn s path version out = record { state = set_state s path version; out = out }
 
 set-mid : (meaning : Meaning) (s : State) (n : Notification) (path : List ℕ) (version : ℤ) (text : List ℕ) (out : Written) (host : HostData) → IsQuiet out → Sets s n path version text
-    → host.world.texts ≡ map.insert s.host.world.texts path text → s.host.revision ≤ host.revision → Mid meaning s (notification_input n) (record { state = record (set_state s path version) { host = host }; out = out })
-set-mid meaning s n path version text out host quiet sets texts later = record {
+    → host.world.texts ≡ map.insert s.host.world.texts path text → s.host.revision ≤ host.revision → Raises s.host host → Mid meaning s (notification_input n) (record { state = record (set_state s path version) { host = host }; out = out })
+set-mid meaning s n path version text out host quiet sets texts later raised = record {
   turns = refl;
   config = refl;
   does = (λ i. record { messages = quiet.written i; jobs = quiet.none i }) ∙ sym (rw sets.other refl);
@@ -242,17 +253,26 @@ set-mid meaning s n path version text out host quiet sets texts later = record {
   shutdown = refl;
   unrevised = quiet.unrevised;
   later = later;
+  raised = raised;
 }
+
+-- a text that the world doesn't have changes it
+other-texts : (texts : map.FinMap path_cmp (List ℕ)) (path text : List ℕ) → holds_text (map.get texts path) text ≡ false → map.insert texts path text ≢ texts
+other-texts texts path text other same =
+    let there : map.get texts path ≡ Some text = ap (λ (t : map.FinMap path_cmp (List ℕ)). map.get t path) (sym same) ∙ get-insert_same by_path_total by_path_same texts path text in
+    let held : holds_text (map.get texts path) text ≡ true = ap (λ o. holds_text o text) there ∙ (bytes_decides text text).1 refl in
+    true≢false (sym held ∙ other)
 
 -- the world after the change
 abbrev later_host : State → List ℕ → List ℕ → HostData
 later_host s path text = record { world = record { texts = map.insert s.host.world.texts path text }; revision = s.host.revision + 1 }
 
-room-cases : (meaning : Meaning) (s : State) (n : Notification) (path : List ℕ) (version : ℤ) (text : List ℕ) (out : Written) (b : Bool) → IsQuiet out → Sets s n path version text
+room-cases : (meaning : Meaning) (s : State) (n : Notification) (path : List ℕ) (version : ℤ) (text : List ℕ) (out : Written) (b : Bool) → IsQuiet out → Sets s n path version text → holds_text (map.get s.host.world.texts path) text ≡ false
     → IfOk (world_by (if b then Ok (later_host s path text) else Err Exhausted) (setting_turn s path version out)) (Mid meaning s (notification_input n))
 unfolding world_by
-room-cases meaning s n path version text out true quiet sets = set-mid meaning s n path version text out (later_host s path text) quiet sets refl (omega arith)
-room-cases meaning s n path version text out false quiet sets = tt
+room-cases meaning s n path version text out true quiet sets other =
+    set-mid meaning s n path version text out (later_host s path text) quiet sets refl (omega arith) (inr (other-texts s.host.world.texts path text other, refl))
+room-cases meaning s n path version text out false quiet sets other = tt
 
 text-cases : (meaning : Meaning) (s : State) (n : Notification) (path : List ℕ) (version : ℤ) (text : List ℕ) (out : Written) (b : Bool) → IsQuiet out → Sets s n path version text
     → holds_text (map.get s.host.world.texts path) text ≡ b
@@ -260,8 +280,8 @@ text-cases : (meaning : Meaning) (s : State) (n : Notification) (path : List ℕ
 unfolding world_changed
 text-cases meaning s n path version text out true quiet sets held =
     set-mid meaning s n path version text out s.host quiet sets
-    (sym (insert-there by_path_total by_path_same s.host.world.texts path text (held-there (map.get s.host.world.texts path) text held))) (omega arith)
-text-cases meaning s n path version text out false quiet sets held = room-cases meaning s n path version text out (ltb s.host.revision (2 ^ 64 - 1)) quiet sets
+    (sym (insert-there by_path_total by_path_same s.host.world.texts path text (held-there (map.get s.host.world.texts path) text held))) (omega arith) (inl refl)
+text-cases meaning s n path version text out false quiet sets held = room-cases meaning s n path version text out (ltb s.host.revision (2 ^ 64 - 1)) quiet sets held
 
 text-mid : (meaning : Meaning) (s : State) (n : Notification) (path : List ℕ) (version : ℤ) (text : List ℕ) (out : Written) → IsQuiet out → Sets s n path version text
     → IfOk (text_set path text (version_set path version (record { state = record s { turns = s.turns + 1 }; out = out }))) (Mid meaning s (notification_input n))
@@ -376,6 +396,7 @@ settled-mid meaning s input done u number is same closes stays a = record {
   shutdown = ap (λ (t : State). t.shutdown) a.same ∙ sym (stays u.out.messages);
   unrevised = a.unrevised;
   later = omega (arith, ap (λ (t : State). t.host.revision) a.same);
+  raised = inl (ap (λ (t : State). t.host) a.same);
 }
 
 message-mid : (meaning : Meaning) (s : State) (message : Message) → IfOk (received meaning message (counted_turn s)) (Mid meaning s (Next (Lsp message)))
@@ -406,7 +427,7 @@ counted-gives s f Q q = and_then-and_then (next_number s.turns _) _ f Q (IfOk-ne
 
 mid-fits : (meaning : Meaning) (s : State) (input : Input) → IfOk (taken_in meaning input (begun s)) (Mid meaning s input)
 unfolding taken_in
-mid-fits meaning s Start = record { turns = refl; config = refl; does = refl; texts = refl; versions = refl; pending = refl; jobs = refl; handed = omega arith; shutdown = refl; unrevised = λ q. refl; later = omega arith }
+mid-fits meaning s Start = record { turns = refl; config = refl; does = refl; texts = refl; versions = refl; pending = refl; jobs = refl; handed = omega arith; shutdown = refl; unrevised = λ q. refl; later = omega arith; raised = inl refl }
 mid-fits meaning s (Next event) = counted-gives s _ (Mid meaning s (Next event)) (event-mid meaning s event)
 
 -- a turn of the machine is a row, and what it leaves is the next place
@@ -415,6 +436,7 @@ pub record Fits (meaning : Meaning) (s : State) (input : Input) (v : Working) : 
   pub place : place_of v.state ≡ place_after (turn_of input v) (place_of s)
   pub config : v.state.config ≡ s.config
   pub later : s.host.revision ≤ v.state.host.revision
+  pub raised : Raises s.host v.state.host
 
 close-cases : (meaning : Meaning) (s : State) (input : Input) (u : Working) (b : Bool) → (u.state.host.revision == s.host.revision) ≡ b → Mid meaning s input u
     → Fits meaning s input (if b then kept 0 u else ordered (Revise u.state.host.revision) (kept 0 u))
@@ -426,6 +448,7 @@ close-cases meaning s input u true h mid =
       place = same_place _ _ mid.turns mid.texts mid.versions same mid.pending (ap (with_jobs (spawned u.out.commands)) mid.jobs) mid.handed mid.shutdown;
       config = mid.config;
       later = mid.later;
+      raised = mid.raised;
     }
 close-cases meaning s input u false h mid =
     let jobs : spawned (u.out.commands ++ Revise u.state.host.revision ∷ []) ≡ spawned u.out.commands = spawned-append u.out.commands _ ∙ append-nil _ in
@@ -436,6 +459,7 @@ close-cases meaning s input u false h mid =
           (ap (with_jobs (spawned u.out.commands)) mid.jobs ∙ ap (λ js. with_jobs js (after_input input s.jobs)) (sym jobs)) (mid.handed ∙ ap (λ js. s.jobs_given + length js) (sym jobs)) mid.shutdown;
       config = mid.config;
       later = mid.later;
+      raised = mid.raised;
     }
 
 close-fits : (meaning : Meaning) (s : State) (input : Input) (u : Working) → Mid meaning s input u → Fits meaning s input (revised s.host.revision (kept 0 u))
@@ -447,7 +471,11 @@ unfolding step
 step-fits meaning s input =
     IfOk-and_then (taken_in meaning input (begun s)) _ (Mid meaning s input) (Fits meaning s input) (mid-fits meaning s input) (λ u mid. close-fits meaning s input u mid)
 
+raises-revises : (s new : State) → Raises s.host new.host → Revises (place_of s) (place_of new)
+raises-revises s new (inl same) = inl (ap (λ (h : HostData). h.world.texts) same, ap (λ (h : HostData). h.revision) same)
+raises-revises s new (inr h) = inr (h.0, h.1)
+
 pub steps-fit : (meaning : Meaning) (s : State) (turn : Turn) (new : State) → Steps meaning s turn new → StepFits meaning s turn new
 steps-fit meaning s turn new steps =
     let fits : Fits meaning s turn.input (record { state = new; out = record { messages = turn.messages; commands = turn.commands } }) = IfOk-at_ok (Fits meaning s turn.input) steps (step-fits meaning s turn.input) in
-    record { does = fits.does; place = fits.place; config = fits.config; later = fits.later }
+    record { does = fits.does; place = fits.place; config = fits.config; later = fits.later; revised = raises-revises s new fits.raised }

@@ -166,7 +166,7 @@ stop-settles : (meaning : Meaning) (n : ℕ) (id : RequestId) (revision : ℕ) (
 unfolding stopped
 stop-settles meaning n id revision (RequestJob ticket row params) w = stop-cases meaning n ticket id row params w (ltb revision w.state.host.revision && not (retries row))
 
-abbrev without : ℕ → Working → Working
+abbrev pub without : ℕ → Working → Working
 without number w = record w { state = record w.state { jobs = map.remove w.state.jobs number } }
 
 -- what was done after a job was taken off was done
@@ -209,7 +209,7 @@ job-settles meaning n (Some job) message w is =
     (λ v a. subst (Settled w v done) (sym (after_message-some message w.state.jobs job is).0) (settled-from w v message.job done a))
 
 -- one message of a batch
-message-settles : (meaning : Meaning) (config : ConfigData) (place : Place) (message : TaskMsg) (w : Working) → w.state.config ≡ config → place_at place.number w.state ≡ place
+pub message-settles : (meaning : Meaning) (config : ConfigData) (place : Place) (message : TaskMsg) (w : Working) → w.state.config ≡ config → place_at place.number w.state ≡ place
     → IfOk (taken meaning message w) (λ v. Settled w v (message_row meaning config place message) (after_message message w.state.jobs))
 message-settles meaning config place message w settings here =
     subst (λ c. IfOk (taken meaning message w) (λ v. Settled w v (message_row meaning c place message) (after_message message w.state.jobs))) settings
@@ -229,7 +229,7 @@ same_place p q number texts versions revision pending out handed shutdown = λ i
 }
 
 -- what a message leaves
-settled-place : (n : ℕ) (w v : Working) (message : TaskMsg) (done : Reaction) → Settled w v done (after_message message w.state.jobs) → place_at n v.state ≡ place_past message done (place_at n w.state)
+pub settled-place : (n : ℕ) (w v : Working) (message : TaskMsg) (done : Reaction) → Settled w v done (after_message message w.state.jobs) → place_at n v.state ≡ place_past message done (place_at n w.state)
 settled-place n w v message done a = same_place _ _ refl
     (ap (λ (s : State). s.host.world.texts) a.same) (ap (λ (s : State). s.versions) a.same) (ap (λ (s : State). s.host.revision) a.same)
     a.pending a.out a.given (ap (λ (s : State). s.shutdown) a.same)

@@ -6,7 +6,7 @@ use Rattle.lsp_frame.specs.declared.message.RequestId.{RequestId}
 use Rattle.session_port.specs.Jobs.{Jobs, ticket_of}
 use Rattle.session_port.specs.declared.job.Job.{Job}
 use Rattle.ra_config.specs.Config.{ConfigData}
-use Rattle.session_model.specs.Headline.{Place, AreHeld, AreHandedOver, beginning, place_after, place_after_all, reaction_of, row}
+use Rattle.session_model.specs.Headline.{Place, AreHeld, AreHandedOver, Revises, beginning, place_after, place_after_all, reaction_of, row}
 use Rattle.session_model.specs.Meaning.{Meaning}
 use Rattle.session_model.specs.Run.{Turn}
 use Rattle.session_model.specs.State.{State}
@@ -42,6 +42,7 @@ pub record StepFits (meaning : Meaning) (s : State) (turn : Turn) (new : State) 
   pub place : place_of new ≡ place_after turn (place_of s)
   pub config : new.config ≡ s.config
   pub later : s.host.revision ≤ new.host.revision
+  pub revised : Revises (place_of s) (place_of new)
 
 -- after some turns of a fresh machine: it stands where the lists say, the invariant holds, and each job out was handed over by one of the turns
 pub record Stands (config : ConfigData) (turns : List Turn) (s : State) : Type 0 where

@@ -1,11 +1,13 @@
 // Laws of the definitions: of what a session reads and writes, and of the machine and the reply table.
-ghost use Rattle.std.specs.Prelude.{◌≡◌, ◌≤◌, ◌++◌, ◌∷◌, ℕ, List, map, Some};
+ghost use Rattle.std.specs.Prelude.{◌≡◌, ◌≤◌, ◌++◌, ◌∷◌, ℕ, List, length, map, Some};
+ghost use Rattle.lsp_frame.specs.Pending.{Pending};
 ghost use Rattle.lsp_frame.specs.declared.message.Message.{Message};
 ghost use Rattle.ra_config.specs.Config.{ConfigData};
 ghost use Rattle.session_port.specs.declared.event.HostEvent.{HostEvent};
 ghost use Rattle.session_port.specs.declared.event.HostEvent.TheVariants.{Bytes};
 ghost use Rattle.session_model.specs.Course.{course_of};
-ghost use Rattle.session_model.specs.Headline.{Place, beginning, place_after, reaction_of, row};
+ghost use Rattle.session_model.specs.Headline.{AreAnswers, Place, beginning, place_after, reaction_of, row};
+ghost use Rattle.session_laws.specs.Answering.{AllDiffer, answered_by, answered_in, responses_in};
 ghost use Rattle.session_laws.specs.Invariant.{SoundAt, Stands, StepFits};
 ghost use Rattle.session_model.specs.Meaning.{Meaning};
 ghost use Rattle.session_model.specs.Run.{Turn, Runs, Steps};
@@ -34,6 +36,14 @@ pub fn rows_keep_the_invariant()
     ensures kept { (meaning : Meaning) (config : ConfigData) (turn : Turn) (place : Place)
         → reaction_of turn ≡ row meaning config turn.input place → place.revision ≤ (place_after turn place).revision
         → SoundAt place → SoundAt (place_after turn place) }
+{}
+
+/// No request is answered twice in a run; and where each response answers a pending request, so many are answered as there are
+/// responses.
+pub fn no_request_is_answered_twice()
+    ensures once { (turns : List Turn) → AllDiffer (answered_by turns beginning) }
+    ensures each { (messages : List Message) (pending : Pending) → AreAnswers messages pending
+        → length (answered_in messages pending) ≡ length (responses_in messages) }
 {}
 
 /// The turn invariant holds after each list of the machine's turns, and the machine stands where these lists say.

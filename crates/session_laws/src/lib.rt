@@ -5,5 +5,6 @@
 mod laws;
 
 pub use laws::{
-    any_pieces, rows_keep_the_invariant, runs_keep_the_invariant, steps_are_rows, turns_are_read,
+    any_pieces, no_request_is_answered_twice, rows_keep_the_invariant, runs_keep_the_invariant,
+    steps_are_rows, turns_are_read,
 };

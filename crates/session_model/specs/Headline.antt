@@ -1,5 +1,5 @@
 -- What a session's record says of requests and answers: by the lists of inputs, messages and commands alone.
-use Rattle.std.specs.Prelude.{◌≡◌, ◌≤◌, ℕ, ◌+◌, ◌&&◌, ℤ, List, [], ◌∷◌, ◌++◌, codes, length, Contains, Bool, true, false, not, ltb, IsTrue, Option, None, Some, is_some, Result, Ok, Err, if◌then◌else◌}
+use Rattle.std.specs.Prelude.{◌≡◌, ◌≢◌, ◌≤◌, ℕ, ◌+◌, ◌-◌, ◌^◌, ◌⊎◌, ◌&&◌, ℤ, List, [], ◌∷◌, ◌++◌, codes, length, Contains, Bool, true, false, not, ltb, IsTrue, Option, None, Some, is_some, Result, Ok, Err, if◌then◌else◌}
 use Rattle.std.specs.FinMap as map
 use Rattle.serde_json.specs.Data.{Data, null}
 use Rattle.plain.specs.Plain.{is_plain}
@@ -20,25 +20,25 @@ use Rattle.analysis_host.specs.SnapshotData.{SnapshotData}
 use Rattle.analysis_host.specs.declared.ask.Ask.TheVariants.{Request as RequestAsk}
 use Rattle.analysis_host.specs.declared.ask.RowId.{RowId}
 use Rattle.session_port.specs.Jobs.{Jobs, ticket_of, final_of, fitting_job, after_message}
-use Rattle.session_port.specs.Record.{added, grown, spawned}
+use Rattle.session_port.specs.Record.{HostCall, given_in, taken_in, spawned}
 use Rattle.session_port.specs.declared.command.Command.{Command}
 use Rattle.session_port.specs.declared.command.Command.TheVariants.{Spawn, Revise, Log, Stop}
-use Rattle.session_port.specs.declared.event.HostEvent.{HostEvent}
-use Rattle.session_port.specs.declared.event.HostEvent.TheVariants.{Ended}
 use Rattle.session_port.specs.declared.event.TaskMsg.{TaskMsg}
 use Rattle.session_port.specs.declared.job.Job.{Job}
 use Rattle.session_port.specs.declared.job.JobKind.{JobKind}
 use Rattle.session_port.specs.declared.job.JobKind.TheVariants.{Request as RequestJob}
 use Rattle.session_port.specs.declared.job.JobResult.{JobResult}
-use Rattle.session_model.specs.Course.{Course, Stop as CourseStop, exit, client_gone, bad_frame, bad_message, end_of, session_course}
+use Rattle.session_model.specs.Course.{Course, Stop as CourseStop, takes, stops, waits, exit, client_gone, bad_frame, bad_message, end_of, session_course, bytes_in}
 use Rattle.session_model.specs.Cancelling.{cancel_of, is_unit}
 use Rattle.session_model.specs.Changing.{changed_of, text_after}
 use Rattle.session_model.specs.Meaning.{Meaning}
 use Rattle.session_model.specs.Methods.{row_of, class_of, is_on_loop, retries}
 use Rattle.session_model.specs.Opening.{opened_of}
 use Rattle.session_model.specs.Replies.{response_with, already_pending, shut_already, unknown_request, invalid_params, canceled_by_client, content_modified, finding_reply, finished_reply}
-use Rattle.session_model.specs.Run.{Turn, Told, AllRead, BreaksOff, BreaksOffUnwritten, IsHonestInput, out_after, taking, telling}
+use Rattle.session_model.specs.Run.{Turn, Told, AllRead, AsksLast, IsHonestInput, commands_of, fed_bytes, out_after, taking, telling}
 use Rattle.session_model.specs.Texts.{same_text}
+use Rattle.session_model.specs.declared.fault.Counter.{Counter}
+use Rattle.session_model.specs.declared.fault.Counter.TheVariants.{Turns, Bytes, Jobs as JobsCounter, Revisions}
 use Rattle.session_model.specs.declared.fault.SessionError.{SessionError}
 use Rattle.session_model.specs.declared.fault.SessionError.TheVariants.{ClientExited, BadFrame, BadMessage, HostFault, WriteFault, Exhausted, NoMemory}
 use Rattle.session_model.specs.declared.input.Event.TheVariants.{Lsp, Task}
@@ -336,6 +336,12 @@ pub record WasHandedOver (config : ConfigData) (turns : List Turn) (job : Job) :
 abbrev pub AreHandedOver : ConfigData → List Turn → Jobs → Type 0
 AreHandedOver config turns out = (number : ℕ) (job : Job) → map.get out number ≡ Some job → WasHandedOver config turns job
 
+-- the texts stay and the revision stays, or they are others and it is one more
+abbrev pub Revises : Place → Place → Type 0
+Revises before after =
+    ((after.documents.texts ≡ before.documents.texts) × (after.revision ≡ before.revision))
+    ⊎ ((after.documents.texts ≢ before.documents.texts) × (after.revision ≡ before.revision + 1))
+
 -- ---- the headline
 
 -- what holds of a turn, after those before it
@@ -348,30 +354,66 @@ pub record Answers (meaning : Meaning) (config : ConfigData) (honest : Bool) (be
   pub held : let after = place_after_all (before ++ turn ∷ []) beginning in AreHeld after.pending after.out
   -- each job out was handed over by the turn that read its request, or a later one, on the documents of all inputs before that turn
   pub handed_over : let place = place_after_all before beginning in AreHandedOver config before place.out
+  -- the revision rises by one exactly where a text changed
+  pub revised : let place = place_after_all before beginning in Revises place (place_after turn place)
   -- an honest host's results are what the questions of jobs out, on their snapshots, come to
   pub value : let place = place_after_all before beginning in IsTrue honest → IsHonestInput meaning place.out turn.input
 
--- how a run's lists end after its turns
-abbrev pub ListsEnd : {T : Type 0} → Told → Told → Result T SessionError → Type 0
-ListsEnd old new (Ok x) = new ≡ record old { taken = added old.taken (Stop ∷ []) }
-ListsEnd old new (Err ClientExited) = new ≡ record old { given = added old.given Ended }
-ListsEnd old new (Err (BadFrame at)) = new ≡ old
-ListsEnd old new (Err (BadMessage at)) = new ≡ old
-ListsEnd old new (Err HostFault) = BreaksOff old new
-ListsEnd old new (Err WriteFault) = BreaksOffUnwritten old new
-ListsEnd old new (Err (Exhausted counter)) = (events : List HostEvent) × (new ≡ record old { given = grown old.given events })
-ListsEnd old new (Err NoMemory) = BreaksOff old new
+-- each turn's commands were taken by the host
+abbrev pub AllTaken : List HostCall → List Turn → Type 0
+AllTaken calls turns = taken_in calls ≡ commands_of turns
 
--- what was told of the run are these turns and its end, and each turn is as it should be
-pub record IsAnswered {T : Type 0} (meaning : Meaning) (config : ConfigData) (reader : Reader) (old new : Told) (honest : Bool) (result : Result T SessionError) : Type 0 where
-  pub events : List HostEvent
-  pub turns : List Turn
-  -- the inputs are those of the bytes held and of the events given, in order
+-- each turn's commands but those of the last one
+pub record LastUntaken (calls : List HostCall) (turns : List Turn) : Type 0 where
+  pub before : List Turn
+  pub last : Turn
+  pub split : turns ≡ before ++ last ∷ []
+  pub taken : taken_in calls ≡ commands_of before
+
+-- an input comes next, and this is true of it
+pub record NextInput (left : Course) (P : Input → Type 0) : Type 0 where
+  pub input : Input
   pub later : Course
-  pub inputs : session_course reader.place reader.held events ≡ taking turns later
+  pub is : left ≡ takes input later
+  pub needs : P input
+
+-- a turn needs one more of a counter than there are: its number is past the last one, it hands over more jobs, or it changes a text at the last revision
+abbrev pub NeedsMore : Meaning → ConfigData → Place → Input → Counter → Type 0
+NeedsMore meaning config place input Turns = 2 ^ 64 ≤ place.number
+NeedsMore meaning config place input Bytes = ⊥
+NeedsMore meaning config place input JobsCounter = 2 ^ 64 ≤ place.handed + length (row meaning config input place).jobs
+NeedsMore meaning config place input Revisions = 2 ^ 64 - 1 ≤ place.revision
+
+-- one more of a counter was needed than there are, by the turn of the next input, or for the bytes that were given
+abbrev pub IsUsedUp : Meaning → ConfigData → Reader → List HostCall → List Turn → Course → Counter → Type 0
+IsUsedUp meaning config reader calls turns left counter =
+    NextInput left (λ input. NeedsMore meaning config (place_after_all turns beginning) input counter) ⊎ ((counter ≡ Bytes) × (2 ^ 64 ≤ fed_bytes reader + bytes_in (given_in calls)))
+
+-- how the lists of a run end, and what is left of its course: for each result what ended the run
+abbrev pub EndsAt : {T : Type 0} → Meaning → ConfigData → Reader → List HostCall → List Turn → Course → Result T SessionError → Type 0
+EndsAt meaning config reader calls turns left (Ok x) = (taken_in calls ≡ commands_of turns ++ (Stop ∷ []) ∷ []) × (left ≡ stops exit)
+EndsAt meaning config reader calls turns left (Err ClientExited) = AllTaken calls turns × (left ≡ stops client_gone)
+EndsAt meaning config reader calls turns left (Err (BadFrame at)) = AllTaken calls turns × (left ≡ stops (bad_frame at))
+EndsAt meaning config reader calls turns left (Err (BadMessage at)) = AllTaken calls turns × (left ≡ stops (bad_message at))
+EndsAt meaning config reader calls turns left (Err HostFault) = (AllTaken calls turns × (left ≡ waits ⊎ left ≡ stops exit)) ⊎ LastUntaken calls turns
+EndsAt meaning config reader calls turns left (Err WriteFault) = AllTaken calls turns × NextInput left (λ input. Unit {0})
+EndsAt meaning config reader calls turns left (Err (Exhausted counter)) = AllTaken calls turns × IsUsedUp meaning config reader calls turns left counter
+EndsAt meaning config reader calls turns left (Err NoMemory) = AllTaken calls turns ⊎ LastUntaken calls turns
+
+-- what was told of the run are these calls and turns, and each turn is as it should be
+pub record IsAnswered {T : Type 0} (meaning : Meaning) (config : ConfigData) (reader : Reader) (old new : Told) (honest : Bool) (result : Result T SessionError) : Type 0 where
+  pub calls : List HostCall
+  -- the turns that were written, one string for each: none but whole turns, and no part of another
+  pub turns : List Turn
+  pub told : new ≡ telling calls turns old
+  -- the inputs are those of the bytes held and of the events given, in order, and what is left then is what ended the run
+  pub left : Course
+  pub inputs : session_course reader.place reader.held (given_in calls) ≡ taking turns left
+  pub ends : EndsAt meaning config reader calls turns left result
+  -- an event was asked for where all that came before was done and ordered
+  pub asks : AsksLast (session_course reader.place reader.held) calls turns
   -- each turn's bytes are frames whose bodies read as its messages
   pub read : AllRead turns
-  pub lists : ListsEnd (telling events turns old) new result
   pub each : (before : List Turn) (turn : Turn) (after : List Turn) → turns ≡ before ++ turn ∷ after → Answers meaning config honest before turn
 
 -- the end of a run, by what ends the course of its events
@@ -385,24 +427,33 @@ IsEnd (Err WriteFault) end = Unit {0}
 IsEnd (Err (Exhausted counter)) end = Unit {0}
 IsEnd (Err NoMemory) end = Unit {0}
 
--- for a host that tells its events: what ended the run is what ends their course
-abbrev pub EndsByCause : {T : Type 0} → Reader → Option (List HostEvent) → Option (List HostEvent) → Result T SessionError → Type 0
-EndsByCause reader old new result = (before events : List HostEvent) → old ≡ Some before → new ≡ Some (before ++ events) → IsEnd result (end_of (session_course reader.place reader.held events))
+-- for a host that tells its calls: what ended the run is what ends the course of its events
+abbrev pub EndsByCause : {T : Type 0} → Reader → Option (List HostCall) → Option (List HostCall) → Result T SessionError → Type 0
+EndsByCause reader old new result =
+    (before calls : List HostCall) → old ≡ Some before → new ≡ Some (before ++ calls) → IsEnd result (end_of (session_course reader.place reader.held (given_in calls)))
+
+-- after some turns, whose commands were all taken, one more of this counter was needed than there are
+pub record RanOut (meaning : Meaning) (config : ConfigData) (reader : Reader) (calls : List HostCall) (counter : Counter) : Type 0 where
+  pub turns : List Turn
+  pub left : Course
+  pub inputs : session_course reader.place reader.held (given_in calls) ≡ taking turns left
+  pub taken : AllTaken calls turns
+  pub used_up : IsUsedUp meaning config reader calls turns left counter
 
 -- an end that a good input allows: `exit`, or that memory or the numbers of a counter ran out
-abbrev pub IsGoodEnd : {T : Type 0} → Result T SessionError → Type 0
-IsGoodEnd (Ok x) = Unit {0}
-IsGoodEnd (Err ClientExited) = ⊥
-IsGoodEnd (Err (BadFrame at)) = ⊥
-IsGoodEnd (Err (BadMessage at)) = ⊥
-IsGoodEnd (Err HostFault) = ⊥
-IsGoodEnd (Err WriteFault) = ⊥
-IsGoodEnd (Err (Exhausted counter)) = Unit {0}
-IsGoodEnd (Err NoMemory) = Unit {0}
+abbrev pub IsGoodEnd : {T : Type 0} → Meaning → ConfigData → Reader → List HostCall → Result T SessionError → Type 0
+IsGoodEnd meaning config reader calls (Ok x) = Unit {0}
+IsGoodEnd meaning config reader calls (Err ClientExited) = ⊥
+IsGoodEnd meaning config reader calls (Err (BadFrame at)) = ⊥
+IsGoodEnd meaning config reader calls (Err (BadMessage at)) = ⊥
+IsGoodEnd meaning config reader calls (Err HostFault) = ⊥
+IsGoodEnd meaning config reader calls (Err WriteFault) = ⊥
+IsGoodEnd meaning config reader calls (Err (Exhausted counter)) = RanOut meaning config reader calls counter
+IsGoodEnd meaning config reader calls (Err NoMemory) = Unit {0}
 
--- for a host that tells its events: where these hold an `exit` before all else that stops a session, and neither the host nor the sink has
+-- for a host that tells its calls: where the events hold an `exit` before all else that stops a session, and neither the host nor the sink has
 -- failed, the run ends well
-abbrev pub IsComplete : {T : Type 0} → Reader → Option (List HostEvent) → Option (List HostEvent) → Type 0 → Type 0 → Result T SessionError → Type 0
-IsComplete reader old new HostFailed SinkFailed result =
-    (before events : List HostEvent) → old ≡ Some before → new ≡ Some (before ++ events) → end_of (session_course reader.place reader.held events) ≡ Some exit
-    → (HostFailed → ⊥) → (SinkFailed → ⊥) → IsGoodEnd result
+abbrev pub IsComplete : {T : Type 0} → Meaning → ConfigData → Reader → Option (List HostCall) → Option (List HostCall) → Type 0 → Type 0 → Result T SessionError → Type 0
+IsComplete meaning config reader old new HostFailed SinkFailed result =
+    (before calls : List HostCall) → old ≡ Some before → new ≡ Some (before ++ calls) → end_of (session_course reader.place reader.held (given_in calls)) ≡ Some exit
+    → (HostFailed → ⊥) → (SinkFailed → ⊥) → IsGoodEnd meaning config reader calls result

@@ -75,6 +75,11 @@ logged code text w = ordered (Log code text) w
 unfoldable pub answered : RequestId → Response → Working → Working
 answered id response w = replied response (record w { state = record w.state { pending = closed_id id w.state.pending } })
 
+-- the request of a ticket is answered under its id, where it is pending
+unfoldable pub responded : Option RequestId → Response → Working → Working
+responded None response w = w
+responded (Some id) response w = answered id (record response { id = Some id }) w
+
 -- ---- requests
 
 -- the request waits for an answer, under the turn's number as its ticket

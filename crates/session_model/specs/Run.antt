@@ -5,15 +5,13 @@ use Rattle.lsp_frame.specs.Reader.{Reader}
 use Rattle.lsp_frame.specs.declared.message.Message.{Message}
 use Rattle.ra_config.specs.Config.{ConfigData}
 use Rattle.session_port.specs.Jobs.{Jobs, after_batch}
-use Rattle.session_port.specs.Record.{grown, added, after_order}
+use Rattle.session_port.specs.Record.{HostCall, gave, took, given_in, taken_in, grown, after_order}
 use Rattle.session_port.specs.Honest.{AreHonest as AreHonestMessages}
-use Rattle.session_port.specs.declared.cause.HostError.{HostError}
-use Rattle.session_port.specs.declared.cause.HostError.TheVariants.{Failed, NoMemory as HostNoMemory}
 use Rattle.session_port.specs.declared.command.Command.{Command}
 use Rattle.session_port.specs.declared.command.Command.TheVariants.{Stop as StopCommand}
 use Rattle.session_port.specs.declared.event.HostEvent.{HostEvent}
 use Rattle.session_port.specs.declared.event.HostEvent.TheVariants.{Bytes, Ended}
-use Rattle.session_model.specs.Course.{Course, takes, stops, exit, bad_frame, bad_message, client_gone, session_course, bytes_in}
+use Rattle.session_model.specs.Course.{Course, takes, stops, waits, exit, bad_frame, bad_message, client_gone, session_course, bytes_in}
 use Rattle.session_model.specs.Machine.{Working, step}
 use Rattle.session_model.specs.Meaning.{Meaning}
 use Rattle.session_model.specs.State.{State, fresh}
@@ -83,83 +81,128 @@ abbrev pub taking : List Turn → Course → Course
 taking [] later = later
 taking (turn ∷ turns) later = takes turn.input (taking turns later)
 
+-- the commands of turns, one list for each
+abbrev pub commands_of : List Turn → List (List Command)
+commands_of turns = map (λ turn. turn.commands) turns
+
 -- what the host and the sink tell of a run
 pub record Told : Type 0 where
-  pub given : Option (List HostEvent)
-  pub taken : Option (List (List Command))
+  pub calls : Option (List HostCall)
   pub turns : Option (List (List ℕ))
 
-abbrev pub told_of : Option (List HostEvent) → Option (List (List Command)) → Option (List (List ℕ)) → Told
-told_of given taken turns = record { given = given; taken = taken; turns = turns }
+abbrev pub told_of : Option (List HostCall) → Option (List (List ℕ)) → Told
+told_of calls turns = record { calls = calls; turns = turns }
 
--- they tell these events and turns more
-abbrev pub telling : List HostEvent → List Turn → Told → Told
-telling events turns told = record {
-  given = grown told.given events;
-  taken = grown told.taken (map (λ turn. turn.commands) turns);
-  turns = grown told.turns (map bytes_of turns);
-}
+-- they tell these calls and turns more
+abbrev pub telling : List HostCall → List Turn → Told → Told
+telling calls turns told = record { calls = grown told.calls calls; turns = grown told.turns (map bytes_of turns) }
+
+-- the calls that gave these events
+abbrev pub giving : List HostEvent → List HostCall
+giving events = map gave events
+
+-- when an event was asked for: each input that the calls before had brought had its turn, whose commands were ordered, and nothing had ended the session
+pub record HadTurns (from : List HostEvent → Course) (before : List HostCall) (turns : List Turn) : Type 0 where
+  pub done : List Turn
+  pub rest : List Turn
+  pub split : turns ≡ done ++ rest
+  pub ordered : taken_in before ≡ commands_of done
+  pub waiting : from (given_in before) ≡ taking done waits
+
+-- it was so for each event
+abbrev pub AsksLast : (List HostEvent → Course) → List HostCall → List Turn → Type 0
+AsksLast from calls turns = (before : List HostCall) (event : HostEvent) (after : List HostCall) → calls ≡ before ++ gave event ∷ after → HadTurns from before turns
 
 -- a stretch of a run, in which the course goes on from one function of the events to come to another
 pub record Stretch (meaning : Meaning) (before now : State) (from to : List HostEvent → Course) (used used_now : ℕ) (old new : Told) (honest : Bool) (out out_now : Jobs) : Type 0 where
-  pub events : List HostEvent
+  pub calls : List HostCall
   pub turns : List Turn
   pub runs : Runs meaning before turns now
   pub read : AllRead turns
-  pub told : new ≡ telling events turns old
-  pub course : (more : List HostEvent) → from (events ++ more) ≡ taking turns (to more)
-  pub counted : used_now ≡ used + bytes_in events
+  pub told : new ≡ telling calls turns old
+  pub ordered : taken_in calls ≡ commands_of turns
+  pub course : (more : List HostEvent) → from (given_in calls ++ more) ≡ taking turns (to more)
+  pub asks : AsksLast from calls turns
+  pub counted : used_now ≡ used + bytes_in (given_in calls)
   pub out_is : out_now ≡ out_after_all turns out
   pub honest_turns : IsTrue honest → AreHonest meaning out turns
 
--- a run broken off: at most one event more, and at most one turn written but not taken
-pub record BreaksOff (old new : Told) : Type 0 where
-  pub events : List HostEvent
-  pub one_event : length events ≤ 1
-  pub written : List (List ℕ)
-  pub one_written : length written ≤ 1
-  pub told : new ≡ record { given = grown old.given events; taken = old.taken; turns = grown old.turns written }
+-- ---- how a run ends
 
--- a run broken off before its turn was written: at most one event more
-pub record BreaksOffUnwritten (old new : Told) : Type 0 where
+-- at most one event more, which was asked for where nothing was left to do
+abbrev pub MayAsk : (List HostEvent → Course) → List HostEvent → Type 0
+MayAsk to [] = Unit {0}
+MayAsk to (event ∷ []) = to [] ≡ waits
+MayAsk to (event ∷ other ∷ events) = ⊥
+
+-- the events gave this input, if it was not there already
+pub record Brings (to : List HostEvent → Course) (events : List HostEvent) (input : Input) : Type 0 where
+  pub asked : MayAsk to events
+  pub later : List HostEvent → Course
+  pub course : (more : List HostEvent) → to (events ++ more) ≡ takes input (later more)
+
+-- the machine's next turn was written, and its commands were not taken
+pub record BreaksOffWritten (meaning : Meaning) (state : State) (to : List HostEvent → Course) (old new : Told) (honest : Bool) (out : Jobs) : Type 0 where
   pub events : List HostEvent
-  pub one_event : length events ≤ 1
-  pub told : new ≡ record old { given = grown old.given events }
+  pub turn : Turn
+  pub next : State
+  pub brings : Brings to events turn.input
+  pub steps : Steps meaning state turn next
+  pub read : AreRead turn.messages
+  pub honest_turn : IsTrue honest → IsHonestInput meaning out turn.input
+  pub told : new ≡ telling (giving events) (turn ∷ []) old
+
+-- nothing of the next turn was written
+pub record BreaksOffUnwritten (to : List HostEvent → Course) (old new : Told) : Type 0 where
+  pub events : List HostEvent
+  pub asked : MayAsk to events
+  pub told : new ≡ telling (giving events) [] old
+
+-- the same, where there was a next input
+pub record BreaksOffBefore (to : List HostEvent → Course) (old new : Told) : Type 0 where
+  pub events : List HostEvent
+  pub input : Input
+  pub brings : Brings to events input
+  pub told : new ≡ telling (giving events) [] old
 
 -- the next input needs one more of a counter than there are
 pub record RunsOut (meaning : Meaning) (counter : Counter) (state : State) (to : List HostEvent → Course) (old new : Told) : Type 0 where
   pub events : List HostEvent
-  pub one_event : length events ≤ 1
   pub input : Input
-  pub later : List HostEvent → Course
-  pub course : (more : List HostEvent) → to (events ++ more) ≡ takes input (later more)
+  pub brings : Brings to events input
   pub needed : step meaning input (begun state) ≡ Err counter
-  pub told : new ≡ record old { given = grown old.given events }
+  pub told : new ≡ telling (giving events) [] old
 
 -- the next event brings more bytes than can be counted
-pub record TooManyBytes (counter : Counter) (used : ℕ) (old new : Told) : Type 0 where
+pub record TooManyBytes (counter : Counter) (used : ℕ) (to : List HostEvent → Course) (old new : Told) : Type 0 where
   pub counter_is : counter ≡ BytesCounter
   pub bytes : List ℕ
+  pub asked : to [] ≡ waits
   pub needed : 2 ^ 64 ≤ used + length bytes
-  pub told : new ≡ record old { given = added old.given (Bytes bytes) }
+  pub told : new ≡ telling (gave (Bytes bytes) ∷ []) [] old
 
--- how a run ends at this place: for each error its cause
-abbrev pub EndsBy : Meaning → State → (List HostEvent → Course) → ℕ → Told → Told → SessionError → Type 0
-EndsBy meaning state to used old new ClientExited = ((more : List HostEvent) → to (Ended ∷ more) ≡ stops client_gone) × (new ≡ record old { given = added old.given Ended })
-EndsBy meaning state to used old new (BadFrame at) = ((more : List HostEvent) → to more ≡ stops (bad_frame at)) × (new ≡ old)
-EndsBy meaning state to used old new (BadMessage at) = ((more : List HostEvent) → to more ≡ stops (bad_message at)) × (new ≡ old)
-EndsBy meaning state to used old new HostFault = BreaksOff old new
-EndsBy meaning state to used old new WriteFault = BreaksOffUnwritten old new
-EndsBy meaning state to used old new (Exhausted counter) = RunsOut meaning counter state to old new ⊎ TooManyBytes counter used old new
-EndsBy meaning state to used old new NoMemory = BreaksOff old new
+-- nothing more was told, where the course goes on in this way
+pub record StaysAt (to : List HostEvent → Course) (stop : Course) (old new : Told) : Type 0 where
+  pub course : to [] ≡ stop
+  pub told : new ≡ old
+
+-- how a run ends at this place: for each error its cause. The host fails where it is asked for an event, behind a turn that was written, or at the last order
+abbrev pub EndsBy : Meaning → State → (List HostEvent → Course) → ℕ → Told → Told → Bool → Jobs → SessionError → Type 0
+EndsBy meaning state to used old new honest out ClientExited = (to [] ≡ waits) × (to (Ended ∷ []) ≡ stops client_gone) × (new ≡ telling (gave Ended ∷ []) [] old)
+EndsBy meaning state to used old new honest out (BadFrame at) = StaysAt to (stops (bad_frame at)) old new
+EndsBy meaning state to used old new honest out (BadMessage at) = StaysAt to (stops (bad_message at)) old new
+EndsBy meaning state to used old new honest out HostFault = (StaysAt to waits old new ⊎ StaysAt to (stops exit) old new) ⊎ BreaksOffWritten meaning state to old new honest out
+EndsBy meaning state to used old new honest out WriteFault = BreaksOffBefore to old new
+EndsBy meaning state to used old new honest out (Exhausted counter) = RunsOut meaning counter state to old new ⊎ TooManyBytes counter used to old new
+EndsBy meaning state to used old new honest out NoMemory = BreaksOffUnwritten to old new ⊎ BreaksOffWritten meaning state to old new honest out
 
 -- the first `exit`
 abbrev pub EndsWell : (List HostEvent → Course) → Told → Told → Type 0
-EndsWell to old new = ((more : List HostEvent) → to more ≡ stops exit) × (new ≡ record old { taken = added old.taken (StopCommand ∷ []) })
+EndsWell to old new = (to [] ≡ stops exit) × (new ≡ telling (took (StopCommand ∷ []) ∷ []) [] old)
 
-abbrev pub Ends : {T : Type 0} → Meaning → State → (List HostEvent → Course) → ℕ → Told → Told → Result T SessionError → Type 0
-Ends meaning state to used old new (Ok x) = EndsWell to old new
-Ends meaning state to used old new (Err e) = EndsBy meaning state to used old new e
+abbrev pub Ends : {T : Type 0} → Meaning → State → (List HostEvent → Course) → ℕ → Told → Told → Bool → Jobs → Result T SessionError → Type 0
+Ends meaning state to used old new honest out (Ok x) = EndsWell to old new
+Ends meaning state to used old new honest out (Err e) = EndsBy meaning state to used old new honest out e
 
 -- a reader that was fed nothing
 abbrev pub empty_reader : Reader
@@ -169,7 +212,7 @@ empty_reader = record { place = 0; held = []; failed = false }
 abbrev pub fed_bytes : Reader → ℕ
 fed_bytes reader = reader.place + length reader.held
 
--- a whole run: its turns are the machine's, over the inputs of its events; the three lists grew by exactly these; and then it ended
+-- a whole run: its turns are the machine's, over the inputs of its events; the lists grew by exactly these; and then it ended
 pub record IsRun {T : Type 0} (meaning : Meaning) (config : ConfigData) (reader : Reader) (old new : Told) (honest : Bool) (result : Result T SessionError) : Type 0 where
   pub last : State
   pub to : List HostEvent → Course
@@ -177,15 +220,7 @@ pub record IsRun {T : Type 0} (meaning : Meaning) (config : ConfigData) (reader 
   pub told_last : Told
   pub out_last : Jobs
   pub stretch : Stretch meaning (fresh config) last (session_course reader.place reader.held) to (fed_bytes reader) used_last old told_last honest maps.empty out_last
-  pub ends : Ends meaning last to used_last told_last new result
-
-abbrev pub host_error_of : HostError → SessionError
-host_error_of Failed = HostFault
-host_error_of HostNoMemory = NoMemory
-
-abbrev pub write_error_of : HostError → SessionError
-write_error_of Failed = WriteFault
-write_error_of HostNoMemory = NoMemory
+  pub ends : Ends meaning last to used_last told_last new honest out_last result
 
 abbrev pub turn_error_of : TurnError → SessionError
 turn_error_of (TurnExhausted counter) = Exhausted counter

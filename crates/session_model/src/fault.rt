@@ -4,6 +4,7 @@ ghost use Rattle.session_model.specs.declared.fault.SessionError.TheVariants.{No
 ghost use Rattle.session_model.specs.declared.fault.TurnError.TheVariants.{NoMemory as TurnOutOfMemory};
 
 use std::alloc::{AllocError, AllocFailed};
+use thiserror::Error;
 
 /// What is counted, each up to the greatest number of its type.
 #[derive(Clone, Copy, Debug, PartialEq, Eq, PartialOrd, Ord, Hash)]
@@ -39,20 +40,27 @@ impl<T: Drop> From<AllocFailed<T>> for TurnError {
 }
 
 /// Why a session ended otherwise than by `exit`.
-#[derive(Clone, Copy, Debug, PartialEq, Eq)]
+#[derive(Clone, Copy, Debug, PartialEq, Eq, Error)]
 pub enum SessionError {
     /// The client has gone without `exit`.
+    #[error("client exited without proper shutdown sequence")]
     ClientExited,
     /// What begins at this byte of the stream is no frame.
+    #[error("bad frame at byte {at}")]
     BadFrame { at: u64 },
     /// The body of the frame that begins at this byte of the stream is no message.
+    #[error("bad message at byte {at}")]
     BadMessage { at: u64 },
     /// The host failed.
+    #[error("the host failed")]
     HostFault,
     /// The sink failed.
+    #[error("the output failed")]
     WriteFault,
     /// One more of this counter was needed than there are.
+    #[error("counter exhausted: {counter:?}")]
     Exhausted { counter: Counter },
+    #[error("out of memory")]
     NoMemory,
 }
 

@@ -12,6 +12,7 @@ ghost use Rattle.lsp_frame.specs.Written.{AreWritable};
 ghost use Rattle.lsp_frame.specs.declared.message.Message.TheVariants.{Response as ResponseMessage};
 
 mod notifications;
+mod pending;
 mod requests;
 mod results;
 
@@ -147,7 +148,7 @@ impl GlobalState {
 
     // Answers a pending request and closes it.
     #[tactic(auto, using(lsp_frame::proofs::Above::closed_above), unfolding(session_model::specs::Machine::answered))]
-    fn respond(
+    fn answer(
         &mut self,
         id: &RequestId,
         response: Response,

@@ -254,7 +254,7 @@ impl GlobalState {
             return Ok(());
         }
         let response = replies::canceled_by_client(self.alloc, id.clone()?)?;
-        self.respond(&id, response, out)
+        self.answer(&id, response, out)
     }
 
     #[tactic(auto, unfolding(session_model::specs::Machine::notified))]

@@ -101,7 +101,7 @@ impl GlobalState {
             return self.dispatch(ticket, row, params, out);
         }
         let response = self.answer_now(id.clone()?, row, params, analysis)?;
-        self.respond(id, response, out)
+        self.answer(id, response, out)
     }
 
     // A request of a row.
@@ -119,7 +119,7 @@ impl GlobalState {
     {
         if !params.is_plain() || !analysis.decodes(row, &params) {
             let response = replies::invalid_params(self.alloc, id.clone()?)?;
-            return self.respond(id, response, out);
+            return self.answer(id, response, out);
         }
         self.grant(ticket, id, row, params, analysis, out)
     }
@@ -134,7 +134,7 @@ impl GlobalState {
         ensures { Gives result (unknown id.now method (record { state = self.old; out = out.old })) self.new out.new }
     {
         let response = replies::unknown_request(self.alloc, id.clone()?)?;
-        self.respond(id, response, out)?;
+        self.answer(id, response, out)?;
         self.log(LogCode::UnknownRequest, method, out)
     }
 
@@ -170,11 +170,11 @@ impl GlobalState {
     {
         if !is_unit(params) {
             let response = replies::invalid_params(self.alloc, id.clone()?)?;
-            return self.respond(id, response, out);
+            return self.answer(id, response, out);
         }
         self.shutdown = true;
         let response = replies::response_with(id.clone()?, Json::null());
-        self.respond(id, response, out)
+        self.answer(id, response, out)
     }
 
     // A request that waits now.
@@ -192,7 +192,7 @@ impl GlobalState {
         }
         if self.shutdown {
             let response = replies::shut_already(self.alloc, request.id.clone()?)?;
-            return self.respond(&request.id, response, out);
+            return self.answer(&request.id, response, out);
         }
         let row = row_of(&request.method);
         self.on_row(row, request, analysis, out)

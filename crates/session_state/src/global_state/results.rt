@@ -34,7 +34,7 @@ impl GlobalState {
     {
         if self.shutdown {
             let response = replies::shut_already(self.alloc, id.clone()?)?;
-            return self.respond(id, response, out);
+            return self.answer(id, response, out);
         }
         self.on_class(ticket, id, row, params, analysis, out)
     }
@@ -44,7 +44,7 @@ impl GlobalState {
         ensures { Gives result (answered id.now (content_modified id.now) (record { state = self.old; out = out.old })) self.new out.new }
     {
         let response = replies::content_modified(self.alloc, id.clone()?)?;
-        self.respond(id, response, out)
+        self.answer(id, response, out)
     }
 
     // A job stopped whose request waits.
@@ -84,7 +84,7 @@ impl GlobalState {
         ensures { Meets result (settled (meaning_of A.decodes A.answer) (finished_reply id.now outcome) id.now job (record { state = self.old; out = out.old })) self.new out.new }
     {
         match replies::finished_reply(self.alloc, id.clone()?, outcome)? {
-            Some(response) => self.respond(id, response, out),
+            Some(response) => self.answer(id, response, out),
             None => self.on_stopped(id, job, analysis, out),
         }
     }

@@ -1,7 +1,7 @@
 use Rattle.std.proofs.Common.{rules}
 use Rattle.std.proofs.lemmas.Result.{err_from_is_err_and}
 use Rattle.session_laws.proofs.Stretches.{stretch-on}
-use Rattle.session.proofs.Advancing.{run-none, run-first, run-ends, stretch-start}
+use Rattle.session.proofs.Advancing.{run-none, run-first, run-broken, run-ends, stretch-start}
 use Rattle.session.proofs.run.run_from.Goals as goal
 
 pub returns-in_err-state-clause-run : goal.returns-in_err-state-clause-run
@@ -12,7 +12,9 @@ returns-in-Err-clause-run g c = run-first _ _ _ c.run_turn.new.state _ _ _ _ (g.
 
 pub inputs-init : goal.inputs-init
 inputs-init g c = record {
-  so_far = stretch-start _ _ _ _ c.args.reader _ _ _ _ _ _ _ c.in_ok-state.ensures c.requires.idle c.in-Ok.ensures.turn;
+  so_far = stretch-start _ _ _ _ c.args.reader _ _ _ _ _ _ c.in_ok-state.ensures c.requires.idle c.in-Ok.ensures.turn;
+  host_fresh = search rules;
+  sink_fresh = search rules;
   handed = c.in-Ok.ensures.handed;
   honest_stays = search rules;
   host_later = search rules;
@@ -29,6 +31,8 @@ inputs-preserved g c =
     let on = rw c.in-Ok-Going.field-0-is at c.in-Ok-Going.ensures.turn in
     record {
       so_far = stretch-on _ _ _ _ _ _ _ _ _ _ _ _ _ _ _ _ _ _ c.inputs.invariant.so_far c.inputs.invariant.honest_stays on.stretch;
+      host_fresh = search rules;
+      sink_fresh = search rules;
       handed = search rules;
       honest_stays = search rules;
       host_later = search rules;
@@ -38,3 +42,7 @@ inputs-preserved g c =
 pub returns-in-Ok-Stopped-clause-run : goal.returns-in-Ok-Stopped-clause-run
 returns-in-Ok-Stopped-clause-run g c =
     run-ends _ _ _ c.args.reader c.inputs.reader _ _ _ _ _ _ _ c.inputs.invariant.so_far (rw c.in-Ok-Stopped.field-0-is at c.in-Ok-Stopped.ensures.turn)
+
+pub returns-in-Err-advance-clause-run : goal.returns-in-Err-advance-clause-run
+returns-in-Err-advance-clause-run g c =
+    run-broken _ _ _ c.args.reader c.inputs.reader _ _ _ _ _ _ _ c.in-Err-advance.error c.inputs.invariant.so_far c.inputs.invariant.honest_stays c.in-Err-advance.ensures.turn

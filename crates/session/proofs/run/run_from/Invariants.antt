@@ -1,4 +1,4 @@
-use Rattle.std.proofs.Common.{◌≤◌, ◌≡◌}
+use Rattle.std.proofs.Common.{◌≤◌, ◌≡◌, false}
 use Rattle.std.specs.FinMap as map
 use Rattle.session_model.specs.Course.{session_course}
 use Rattle.session_model.specs.Meaning.{meaning_of}
@@ -11,8 +11,10 @@ use Rattle.session.proofs.run.run_from.Given as goal
 abbrev pub invariant-inputs : goal.invariant-inputs
 invariant-inputs g l = record {
   so_far : Stretch (meaning_of g.A.Analysis.decodes g.A.Analysis.answer) (fresh l.fn.config) l.state (session_course l.fn.reader.place l.fn.reader.held) (course_from l.reader) (fed_bytes l.fn.reader) (fed_bytes l.reader)
-      (told_of (g.H.Host.given l.fn.host) (g.H.Host.taken l.fn.host) (g.S.Sink.turns l.fn.sink)) (told_of (g.H.Host.given l.host) (g.H.Host.taken l.host) (g.S.Sink.turns l.sink))
+      (told_of (g.H.Host.calls l.fn.host) (g.S.Sink.turns l.fn.sink)) (told_of (g.H.Host.calls l.host) (g.S.Sink.turns l.sink))
       (g.H.Host.honest l.fn.host) map.empty (g.H.Host.out l.host);
+  host_fresh : g.H.Host.spent l.host ≡ false;
+  sink_fresh : g.S.Sink.spent l.sink ≡ false;
   handed : g.H.Host.handed l.host ≡ l.state.jobs_given;
   honest_stays : g.H.Host.honest l.host ≡ g.H.Host.honest l.fn.host;
   host_later : g.H.Host.faults l.fn.host ≤ g.H.Host.faults l.host;

@@ -8,4 +8,4 @@ pub returns-in-Some : goal.returns-in-Some
 unfolding settled
 returns-in-Some g c =
     let is : finished_reply c.args.id.now c.args.outcome ≡ Some c.in-Some.response = search rules in
-    rw is c.respond.ensures
+    rw is c.answer.ensures
