@@ -1,8 +1,8 @@
 -- The rows in the order of their methods' bytes, and what a binary search of them finds.
-use Rattle.std.proofs.Common.{◌≡◌, ◌≢◌, ℕ, zero, suc, ◌<◌, ◌≤◌, Bool, true, false, ◌&&◌, List, [], ◌∷◌, length, get_or, find, Option, None, Some, Result, Ok, Err, MatchResult, refl, sym, ◌∙◌, ap, arith, nat_eq, inl, inr}
-use Rattle.std.specs.Cmp.{IsTotalOrder, alike_right, tied_itself}
+use Rattle.std.proofs.Common.{◌≡◌, ℕ, zero, suc, ◌<◌, ◌≤◌, Bool, true, false, ◌&&◌, List, [], ◌∷◌, length, get_or, find, Option, None, Some, Result, Ok, Err, MatchResult, refl, sym, ◌∙◌, ap, arith, nat_eq, inl, inr}
+use Rattle.std.specs.Cmp.{alike_right, tied_itself}
 use Rattle.std.specs.Cmp.Lexicographic.{slice_cmp, pointwise, nat_list_cmp_total, bytes_decides}
-use Rattle.std.specs.List.{list_all, list_any, Any}
+use Rattle.std.specs.List.{list_all, list_any}
 use Rattle.std.specs.FinMap.{nat_cmp-IsAntisymmetric, slice_cmp-IsAntisymmetric}
 use Rattle.std.specs.List.Sorted.{IsNonDecreasingBy, IsBinarySearchResult, IsPartitionPoint, IsSearchInRange}
 use Rattle.std.specs.Option.{option_map}
@@ -119,7 +119,7 @@ module _ (method : List ℕ) (i : ℕ) (parts : IsPartitionPoint (λ row. cmp (m
   differs k x in_list is same =
       let at : cmp (method_of (get_or BY_METHOD k x)) method ≡ Equal = rw is (tie x same) in
       elim (cases_lt k i) [
-        inl before ↦ let less : cmp (method_of (get_or BY_METHOD k x)) method ≡ Less = parts.0 k x (omega arith) before in absurd (omega (arith, ap ordering_index (sym at ∙ less)))
+        | inl before ↦ let less : cmp (method_of (get_or BY_METHOD k x)) method ≡ Less = parts.0 k x (omega arith) before in absurd (omega (arith, ap ordering_index (sym at ∙ less)))
         | inr after ↦ let more : cmp (method_of (get_or BY_METHOD k x)) method ≡ Greater = parts.1 k x after in_list in absurd (omega (arith, ap ordering_index (sym at ∙ more)))
       ]
 

@@ -1,5 +1,5 @@
 -- The laws of the table: computed over its rows, and then of each row.
-use Rattle.std.proofs.Common.{◌≡◌, ◌≢◌, ◌↔◌, ℕ, zero, suc, ◌+◌, ◌<◌, Bool, true, false, ◌&&◌, List, [], ◌∷◌, length, map, get_or, drop, cond, find, Option, None, Some, IfSome, IsSome, refl, sym, ◌∙◌, ap, subst, arith, nat_eq}
+use Rattle.std.proofs.Common.{◌≡◌, ◌≢◌, ◌↔◌, ℕ, zero, suc, ◌+◌, ◌<◌, Bool, true, false, ◌&&◌, List, [], ◌∷◌, length, map, get_or, drop, cond, find, Option, None, Some, IfSome, IsSome, refl, sym, ◌∙◌, ap, arith, nat_eq}
 use Rattle.std.specs.Prelude.{All, AllPairs}
 use Rattle.std.specs.Cmp.Lexicographic.{pointwise, bytes_decides}
 use Rattle.std.specs.List.{list_all}
@@ -115,9 +115,10 @@ not_true false f = refl
 
 pub none : (method : List ℕ) → (row_of method ≡ None) ↔ All (λ facts. facts.method ≢ method) table
 unfolding row_of
-none method =
-    ( (λ e k d within same. false≢true (sym (none_passes (has_method method) table (no_row _ e) k d within) ∙ (bytes_decides (get_or table k d).method method).1 same))
-    , (λ apart. ap (option_map id_of) (none_found (has_method method) table (λ k d within. not_true _ (λ same. apart k d within ((bytes_decides (get_or table k d).method method).0 same))))) )
+none method = (
+  (λ e k d within same. false≢true (sym (none_passes (has_method method) table (no_row _ e) k d within) ∙ (bytes_decides (get_or table k d).method method).1 same)),
+  (λ apart. ap (option_map id_of) (none_found (has_method method) table (λ k d within. not_true _ (λ same. apart k d within ((bytes_decides (get_or table k d).method method).0 same))))),
+)
 
 -- the number at a place
 number_at : (n : ℕ) (xs : List RowFacts) → map (λ facts. facts.number) xs ≡ numbers_from n (length xs) → (k : ℕ) (d : RowFacts) → k < length xs → (get_or xs k d).number ≡ n + k

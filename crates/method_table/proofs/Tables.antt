@@ -1,12 +1,12 @@
 -- The code's table is the table, and a row is found by its number.
-use Rattle.std.proofs.Common.{◌≡◌, ℕ, zero, suc, ◌+◌, ◌<◌, List, [], ◌∷◌, Option, None, Some, find, refl, sym, ◌∙◌, ap, arith}
+use Rattle.std.proofs.Common.{◌≡◌, ℕ, zero, suc, ◌+◌, List, [], ◌∷◌, Option, None, Some, find, refl, sym, ap, arith}
 use Rattle.std.specs.Prelude.{slice_get}
 use Rattle.std.specs.Borrow.{Bor}
 use Rattle.std.specs.Option.{option_map}
 use Rattle.std.proofs.lemmas.Bool.{eq-eqb, ne_eqb}
 use Rattle.method_table.specs.Rows.{has_number, facts_of}
 use Rattle.method_table.specs.Seen.{seen, seen_from}
-use Rattle.method_table.specs.Table.{RowFacts, table}
+use Rattle.method_table.specs.Table.{table}
 use Rattle.method_table.specs.declared.row_id.RowId.{RowId}
 use Rattle.method_table.specs.declared.facts.Facts.{Facts}
 

@@ -1,5 +1,5 @@
 -- What is done for a request.
-use Rattle.std.specs.Prelude.{ℕ, ◌==◌, ◌||◌, Bool, false, if◌then◌else◌, Option}
+use Rattle.std.specs.Prelude.{◌==◌, ◌||◌, Bool, false, if◌then◌else◌, Option}
 use Rattle.std.specs.Option.{option_map_or, option_and_then}
 use Rattle.method_table.specs.Rows.{facts_of}
 use Rattle.method_table.specs.declared.class.Class.{Class}

@@ -47,7 +47,12 @@ static TABLE: [Facts; ROWS] = [
     row!("completionItem/resolve", Latency, true, EmptyLabel),
     row!("textDocument/semanticTokens/full", Latency, true, Null),
     row!("textDocument/semanticTokens/range", Latency, false, Null),
-    row!("textDocument/diagnostic", DocumentDiagnostic, false, FullReport),
+    row!(
+        "textDocument/diagnostic",
+        DocumentDiagnostic,
+        false,
+        FullReport
+    ),
     row!("textDocument/documentSymbol", Worker, true, Null),
     row!("textDocument/foldingRange", Worker, true, Null),
     row!("textDocument/signatureHelp", Worker, false, Null),
@@ -75,7 +80,12 @@ static TABLE: [Facts; ROWS] = [
     row!("experimental/discoverTest", Worker, true, NoTests),
     row!("workspace/symbol", Worker, true, Null),
     row!("experimental/ssr", Worker, false, EmptyObject),
-    row!("rust-analyzer/viewRecursiveMemoryLayout", Worker, false, Null),
+    row!(
+        "rust-analyzer/viewRecursiveMemoryLayout",
+        Worker,
+        false,
+        Null
+    ),
     row!("rust-analyzer/viewSyntaxTree", Worker, false, EmptyText),
     row!("rust-analyzer/viewHir", Worker, false, EmptyText),
     row!("rust-analyzer/viewMir", Worker, false, EmptyText),
@@ -91,8 +101,18 @@ static TABLE: [Facts; ROWS] = [
     row!("experimental/externalDocs", Worker, false, Null),
     row!("experimental/openCargoToml", Worker, false, Null),
     row!("experimental/moveItem", Worker, false, EmptyList),
-    row!("rust-analyzer-internal/internalTestingFetchConfig", Worker, false, Null),
-    row!("rust-analyzer/getFailedObligations", Worker, true, EmptyText),
+    row!(
+        "rust-analyzer-internal/internalTestingFetchConfig",
+        Worker,
+        false,
+        Null
+    ),
+    row!(
+        "rust-analyzer/getFailedObligations",
+        Worker,
+        true,
+        EmptyText
+    ),
 ];
 
 // The rows in the order of their methods' bytes.

@@ -30,7 +30,11 @@ pub fn plan(row: Option<RowId>, loading: bool, incomplete: bool, shutdown: bool)
     ensures { result ≡ plan row loading incomplete shutdown }
 {
     let Some(row) = row else {
-        return if shutdown { Plan::Refuse } else { Plan::Unknown };
+        return if shutdown {
+            Plan::Refuse
+        } else {
+            Plan::Unknown
+        };
     };
     if row == SHUTDOWN {
         return Plan::Shutdown;

@@ -7,8 +7,8 @@ ghost use Rattle.method_table.specs.Rows.{facts_of, row_of, method_of, class_of,
 ghost use Rattle.method_table.specs.Seen.{seen};
 
 use crate::class::Class;
-use crate::row_id::RowId;
 use crate::facts::{BY_METHOD, Facts, table};
+use crate::row_id::RowId;
 use plain::{Json, NoMemory};
 use std::alloc::Global;
 use std::cmp::Ordering;
