@@ -1,4 +1,4 @@
-ghost use Rattle.std.specs.Prelude.{◌≡◌, IfOk, IsOk};
+ghost use Rattle.std.specs.Prelude.{◌≡◌, true, IfOk, IsOk};
 ghost use Rattle.analysis_host.specs.Answers.{IsPlainOutcome};
 ghost use Rattle.lsp_frame.specs.Written.{AreWritable};
 ghost use Rattle.lsp_frame.specs.declared.message.Message.TheVariants.{Response as ResponseMessage};
@@ -16,7 +16,6 @@ const OUT_OF_MEMORY: i32 = -31000;
 // What JSON-RPC answers where a request failed within the server.
 const INTERNAL_ERROR: i32 = -32603;
 
-#[tactic(auto, using(crate::proofs::Writable::value_writable))]
 fn response_with(id: RequestId, value: Json) -> Response
     requires { is_plain value ≡ true }
     ensures value { result ≡ response_with id value }

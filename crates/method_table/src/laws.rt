@@ -1,8 +1,11 @@
 // Laws of the table of requests.
-ghost use Rattle.std.specs.Prelude.{◌≡◌, ◌≢◌, ◌↔◌, ℕ, List, codes, length, map, All, AllPairs, None, IfSome, IsSome};
+ghost use Rattle.std.specs.Prelude.{◌≡◌, ◌≢◌, ◌↔◌, ◌⊎◌, ℕ, Bool, true, List, Option, codes, length, map, All, AllPairs, None, IfSome, IsSome};
 ghost use Rattle.method_table.specs.Laws.{numbers_from, IsRowOf};
+ghost use Rattle.method_table.specs.Plans.{plan};
 ghost use Rattle.method_table.specs.Rows.{facts_of, method_of, row_of};
 ghost use Rattle.method_table.specs.Table.{table};
+ghost use Rattle.method_table.specs.declared.class.PoolClass.{PoolClass};
+ghost use Rattle.method_table.specs.declared.planned.Plan.{Plan};
 ghost use Rattle.method_table.specs.declared.row_id.RowId.{RowId};
 
 use crate::named::{
@@ -22,6 +25,14 @@ pub fn rows_are_found()
     ensures own { (row : RowId) → IsSome (facts_of row) → IsRowOf (method_of row) row }
     ensures some { (method : List ℕ) → IfSome (row_of method) (λ row. method_of row ≡ method) }
     ensures none { (method : List ℕ) → (row_of method ≡ None) ↔ All (λ facts. facts.method ≢ method) table }
+{}
+
+/// While files are loading only a formatting request is handed to a job, and after a shutdown was requested none is.
+pub fn few_jobs_are_handed_over()
+    ensures loading { (row : Option RowId) (incomplete shutdown : Bool) (pool : PoolClass)
+        → plan row true incomplete shutdown ≡ Plan.Job pool → pool ≡ PoolClass.Formatting }
+    ensures shutdown { (row : Option RowId) (loading incomplete : Bool)
+        → (plan row loading incomplete true ≡ Plan.Shutdown) ⊎ (plan row loading incomplete true ≡ Plan.Refuse) }
 {}
 
 /// The rows that have a name of their own are those of these methods.

@@ -15,7 +15,9 @@ mod rows;
 pub use class::{Class, PoolClass};
 pub use default_value::DefaultValue;
 pub use facts::{Facts, table};
-pub use laws::{methods_are_distinct, named_rows_have_their_methods, rows_are_found};
+pub use laws::{
+    few_jobs_are_handed_over, methods_are_distinct, named_rows_have_their_methods, rows_are_found,
+};
 pub use named::{
     CODE_ACTION_RESOLVE, CODE_LENS_RESOLVE, COMPLETION, DOCUMENT_DIAGNOSTIC, FORMATTING, HOVER,
     INLAY_HINT_RESOLVE, JOIN_LINES, MATCHING_BRACE, ON_ENTER, ON_TYPE_FORMATTING, RANGE_FORMATTING,

@@ -1,9 +1,7 @@
-//! Tests of `requests` and `protocol_values`, by their public calls alone.
+//! Tests of `requests`, by its public calls alone.
 #![tactic(auto)]
 
 #[cfg(test)]
 mod files;
 #[cfg(test)]
 mod params;
-#[cfg(test)]
-mod values;
