@@ -1,0 +1,11 @@
+use plain::Copied;
+
+/// A row of the method table, by its number.
+#[derive(Clone, Copy, Debug, PartialEq, Eq, PartialOrd, Ord, Hash)]
+pub struct RowId(pub u8);
+
+impl Copied for RowId {
+    ghost use Rattle.std.proofs.Common.{rules};
+
+    ghost copies = { λ x y h. Prim.search rules };
+}

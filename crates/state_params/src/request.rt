@@ -1,0 +1,23 @@
+use plain::{Items, Text};
+
+/// A request to run tests.
+#[derive(Clone, Debug, Drop)]
+pub struct RunTest {
+    /// The ids of the tests that are to run; where there are none, all are.
+    pub include: Option<Items<Text>>,
+    /// The ids of the tests that are not to run.
+    pub exclude: Option<Items<Text>>,
+}
+
+/// A request that changes the session's own state.
+#[derive(Clone, Debug, Drop)]
+pub enum StateRequest {
+    /// `shutdown`
+    Shutdown,
+    /// `rust-analyzer/reloadWorkspace`
+    ReloadWorkspace,
+    /// `rust-analyzer/rebuildProcMacros`
+    RebuildProcMacros,
+    /// `experimental/runTest`
+    RunTest(RunTest),
+}
