@@ -28,7 +28,11 @@ impl ToJson for Related {
 
     fn to_json(&self, alloc: Global) -> Result<Json, NoMemory> {
         let mut members = Members::new(alloc);
-        members.put(alloc, "location", location_json(alloc, &self.path, &self.range)?)?;
+        members.put(
+            alloc,
+            "location",
+            location_json(alloc, &self.path, &self.range)?,
+        )?;
         members.put(alloc, "message", Json::from_text(self.message.clone()?))?;
         Ok(members.into_json())
     }
@@ -60,7 +64,12 @@ impl ToJson for Diagnostic {
     fn to_json(&self, alloc: Global) -> Result<Json, NoMemory> {
         let mut members = Members::new(alloc);
         members.put(alloc, "range", self.range.to_json(alloc)?)?;
-        put_some(&mut members, alloc, "severity", severity_json(self.severity))?;
+        put_some(
+            &mut members,
+            alloc,
+            "severity",
+            severity_json(self.severity),
+        )?;
         put_some(&mut members, alloc, "code", text_json(&self.code)?)?;
         put_some(&mut members, alloc, "source", text_json(&self.source)?)?;
         members.put(alloc, "message", Json::from_text(self.message.clone()?))?;
