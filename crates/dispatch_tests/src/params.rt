@@ -1,7 +1,5 @@
 // The params of the rows that change the session's own state.
-use method_table::{
-    HOVER, REBUILD_PROC_MACROS, RELOAD_WORKSPACE, RUN_TEST, RowId, SHUTDOWN,
-};
+use method_table::{HOVER, REBUILD_PROC_MACROS, RELOAD_WORKSPACE, RUN_TEST, RowId, SHUTDOWN};
 use plain::{Items, Json, Text};
 use state_params::{StateRequest, read_state_request};
 use std::alloc::Global;
@@ -65,7 +63,10 @@ fn tests_to_run(rt: HostRuntime) -> Result<(), Fail> {
         ("{\"include\":null}", "run all but all"),
         ("{\"include\":[],\"exclude\":null}", "run but all"),
         ("{\"include\":[\"a\",\"b\"]}", "run a b but all"),
-        ("{\"include\":[\"a\"],\"exclude\":[\"b\"],\"more\":7}", "run a but b"),
+        (
+            "{\"include\":[\"a\"],\"exclude\":[\"b\"],\"more\":7}",
+            "run a but b",
+        ),
         ("null", "none"),
         ("[]", "none"),
         ("{\"include\":\"a\"}", "none"),

@@ -52,7 +52,11 @@ fn each_method_is_planned_by_its_class(rt: HostRuntime) {
             assert_eq!(rt; plan(row, true, true, false), *loading, "{method}");
         }
         for (loading, incomplete) in [(false, false), (false, true), (true, false), (true, true)] {
-            assert_eq!(rt; plan(row, loading, incomplete, true), Plan::Refuse, "{method}");
+            assert_eq!(rt;
+                plan(row, loading, incomplete, true),
+                Plan::Refuse,
+                "{method}"
+            );
         }
     }
 }
@@ -84,11 +88,7 @@ fn while_files_are_loading(rt: HostRuntime) {
             DOCUMENT_DIAGNOSTIC,
             Plan::Default,
         ),
-        (
-            "experimental/matchingBrace",
-            MATCHING_BRACE,
-            Plan::OnLoop,
-        ),
+        ("experimental/matchingBrace", MATCHING_BRACE, Plan::OnLoop),
     ] {
         assert_eq!(rt; row_of(method), Some(row), "{method}");
         assert_eq!(rt; plan(Some(row), true, false, false), planned, "{method}");

@@ -12,8 +12,14 @@ fn json(alloc: Global, text: &str) -> Result<Json, Fail> {
 #[test]
 fn documents(rt: HostRuntime) -> Result<(), Fail> {
     for (text, uri) in [
-        ("{\"textDocument\":{\"uri\":\"file:///a\"}}", Some("file:///a")),
-        ("{\"textDocument\":{\"uri\":\"\",\"version\":1},\"more\":0}", Some("")),
+        (
+            "{\"textDocument\":{\"uri\":\"file:///a\"}}",
+            Some("file:///a"),
+        ),
+        (
+            "{\"textDocument\":{\"uri\":\"\",\"version\":1},\"more\":0}",
+            Some(""),
+        ),
         ("{\"textDocument\":{\"uri\":7}}", None),
         ("{\"textDocument\":\"file:///a\"}", None),
         ("{\"uri\":\"file:///a\"}", None),
@@ -31,7 +37,12 @@ fn documents(rt: HostRuntime) -> Result<(), Fail> {
 fn places(rt: HostRuntime) -> Result<(), Fail> {
     for (text, line, character, is_there) in [
         ("{\"line\":3,\"character\":4}", 3, 4, true),
-        ("{\"line\":4294967295,\"character\":0,\"more\":[]}", 4294967295, 0, true),
+        (
+            "{\"line\":4294967295,\"character\":0,\"more\":[]}",
+            4294967295,
+            0,
+            true,
+        ),
         ("{\"line\":4294967296,\"character\":0}", 0, 0, false),
         ("{\"line\":-1,\"character\":0}", 0, 0, false),
         ("{\"line\":1.0,\"character\":0}", 0, 0, false),
@@ -42,7 +53,10 @@ fn places(rt: HostRuntime) -> Result<(), Fail> {
         let params = json(rt.alloc(), at.as_str())?;
         let found = position_of(&params);
         assert_eq!(rt; found.is_some(), is_there, "{text}");
-        let place = found.unwrap_or(Position { line: 0, character: 0 });
+        let place = found.unwrap_or(Position {
+            line: 0,
+            character: 0,
+        });
         assert_eq!(rt; place.line, line, "{text}");
         assert_eq!(rt; place.character, character, "{text}");
     }
