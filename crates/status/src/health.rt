@@ -15,7 +15,7 @@ impl Health {
         ensures { result ≡ worse self other }
     {
         match self {
-            Health::Error => Health::Error,
+            Health::Error => self,
             Health::Warning => match other {
                 Health::Error => Health::Error,
                 Health::Warning => Health::Warning,
