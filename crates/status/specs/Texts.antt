@@ -22,8 +22,8 @@ build_text =
 abbrev pub discover_text : List ℕ
 discover_text =
     codes "Failed to discover workspace." ++ line_feed
-    ++ codes "Consider adding the `Cargo.toml` of the workspace to the [`linkedProjects`](https://rust-analyzer.github.io/book/configuration.html#linkedProjects) setting."
-    ++ line_feed ++ line_feed
+    ++ codes "Consider adding the `Cargo.toml` of the workspace to the [`linkedProjects`]"
+    ++ codes "(https://rust-analyzer.github.io/book/configuration.html#linkedProjects) setting." ++ line_feed ++ line_feed
 
 -- a text that ends its line
 abbrev pub line : List ℕ → List ℕ
