@@ -6,6 +6,8 @@ mod errors;
 #[cfg(test)]
 mod graph;
 #[cfg(test)]
+mod health;
+#[cfg(test)]
 mod made;
 #[cfg(test)]
 mod names;
@@ -13,8 +15,6 @@ mod names;
 mod packages;
 #[cfg(test)]
 mod restarts;
-#[cfg(test)]
-mod status;
 #[cfg(test)]
 mod status_texts;
 #[cfg(test)]

@@ -1,5 +1,5 @@
+use crate::health::{all_is_well, health_of, message_of};
 use crate::made::{path_at, text_of, workspace};
-use crate::status::{all_is_well, health_of, message_of};
 use project_model::{ProjectWorkspace, WorkspaceKind};
 use status::{Health, StatusInput, current_status};
 use std::alloc::Global;
