@@ -1,0 +1,56 @@
+ghost use Rattle.std.specs.Prelude.{◌≡◌};
+
+use crate::copies::copy;
+use docs_vfs::VfsPath;
+use plain::{Copied, Items, NoMemory, Text};
+
+/// What was built of a proc macro crate.
+#[derive(Debug, Drop)]
+pub enum MacroPath {
+    /// The name of the crate, and its library.
+    Built { name: Text, library: VfsPath },
+    /// Why there is no library.
+    Failed(Text),
+}
+
+/// What the build scripts of a workspace made.
+#[derive(Debug, Drop)]
+pub struct BuildScripts {
+    /// What was wrong with some of them.
+    pub error: Option<Text>,
+    /// The proc macro crates, by their places among the crates of the workspace.
+    pub macro_paths: Items<(u32, MacroPath)>,
+}
+
+impl Clone for MacroPath {
+    ghost is_clone = { λ path copy. copy ≡ path };
+
+    fn clone(&self) -> Result<MacroPath, NoMemory> {
+        match self {
+            MacroPath::Built { name, library } => Ok(MacroPath::Built {
+                name: copy(name)?,
+                library: copy(library)?,
+            }),
+            MacroPath::Failed(error) => Ok(MacroPath::Failed(copy(error)?)),
+        }
+    }
+}
+
+impl Copied for MacroPath {
+    ghost copies = { λ x y h. h };
+}
+
+impl Clone for BuildScripts {
+    ghost is_clone = { λ scripts copy. copy ≡ scripts };
+
+    fn clone(&self) -> Result<BuildScripts, NoMemory> {
+        Ok(BuildScripts {
+            error: copy(&self.error)?,
+            macro_paths: copy(&self.macro_paths)?,
+        })
+    }
+}
+
+impl Copied for BuildScripts {
+    ghost copies = { λ x y h. h };
+}

@@ -1,0 +1,21 @@
+//! What a session knows of its project: workspaces with their packages, targets and crates, what their builds
+//! made, and the crate graph that an analysis works on.
+#![tactic(auto)]
+
+mod build;
+mod copies;
+mod crates;
+mod dependencies;
+mod kinds;
+mod package;
+mod same;
+mod target_spec;
+mod workspace;
+
+pub use build::{BuildScripts, MacroPath};
+pub use crates::{CrateData, CrateEntry, CrateInfo, MacroState};
+pub use dependencies::all_workspace_dependencies_for_package;
+pub use kinds::{TargetKind, WorkspaceKind};
+pub use package::{Package, PackageSpecifier, Target};
+pub use target_spec::{TargetSpec, target_spec_for_file};
+pub use workspace::ProjectWorkspace;

@@ -1,0 +1,87 @@
+ghost use Rattle.std.specs.Prelude.{◌≡◌};
+
+use crate::copies::copy;
+use crate::kinds::TargetKind;
+use docs_vfs::VfsPath;
+use plain::{Copied, Items, NoMemory, Text};
+
+/// What a package builds from one root file.
+#[derive(Debug, Drop)]
+pub struct Target {
+    pub name: Text,
+    pub kind: TargetKind,
+    pub root: VfsPath,
+    pub required_features: Items<Text>,
+}
+
+/// A package of a workspace. In a workspace that is described as JSON its id is its label.
+#[derive(Debug, Drop)]
+pub struct Package {
+    pub id: Text,
+    pub manifest: VfsPath,
+    pub targets: Items<Target>,
+    pub features: Items<Text>,
+    /// The ids of the members of its workspace that it depends on, where they are known.
+    pub member_deps: Option<Items<Text>>,
+}
+
+/// The name of a package to the tool that builds it.
+#[derive(Debug, Drop)]
+pub enum PackageSpecifier {
+    Cargo { package_id: Text },
+    BuildInfo { label: Text },
+}
+
+impl Clone for Target {
+    ghost is_clone = { λ target copy. copy ≡ target };
+
+    fn clone(&self) -> Result<Target, NoMemory> {
+        Ok(Target {
+            name: copy(&self.name)?,
+            kind: self.kind,
+            root: copy(&self.root)?,
+            required_features: copy(&self.required_features)?,
+        })
+    }
+}
+
+impl Copied for Target {
+    ghost copies = { λ x y h. h };
+}
+
+impl Clone for Package {
+    ghost is_clone = { λ original copy. copy ≡ original };
+
+    fn clone(&self) -> Result<Package, NoMemory> {
+        Ok(Package {
+            id: copy(&self.id)?,
+            manifest: copy(&self.manifest)?,
+            targets: copy(&self.targets)?,
+            features: copy(&self.features)?,
+            member_deps: copy(&self.member_deps)?,
+        })
+    }
+}
+
+impl Copied for Package {
+    ghost copies = { λ x y h. h };
+}
+
+impl Clone for PackageSpecifier {
+    ghost is_clone = { λ original copy. copy ≡ original };
+
+    fn clone(&self) -> Result<PackageSpecifier, NoMemory> {
+        match self {
+            PackageSpecifier::Cargo { package_id } => Ok(PackageSpecifier::Cargo {
+                package_id: copy(package_id)?,
+            }),
+            PackageSpecifier::BuildInfo { label } => Ok(PackageSpecifier::BuildInfo {
+                label: copy(label)?,
+            }),
+        }
+    }
+}
+
+impl Copied for PackageSpecifier {
+    ghost copies = { λ x y h. h };
+}

@@ -1,0 +1,6 @@
+pub mod Folders
+pub mod Found
+pub mod GraphLaws
+pub mod NameLaws
+pub mod Pushed
+pub mod SwitchLaws

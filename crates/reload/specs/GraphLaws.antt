@@ -1,0 +1,17 @@
+-- What is said of the crates that a graph keeps.
+use Rattle.std.specs.Prelude.{ℕ, List, Option, option_map}
+use Rattle.std.specs.List.{filter_map}
+use Rattle.docs_vfs.specs.declared.file_kinds.FileId.{FileId}
+use Rattle.reload.specs.Graph.{Standing}
+
+-- the numbers of the crates that are kept, in order
+abbrev pub numbers_in : List (Option Standing) → List ℕ
+numbers_in places = filter_map (option_map (λ (place : Standing). place.1)) places
+
+-- the files of the crates that are kept, in order
+abbrev pub files_in : List (Option Standing) → List FileId
+files_in places = filter_map (option_map (λ (place : Standing). place.0)) places
+
+-- the files that were answered, in order
+abbrev pub files_found : List (Option FileId) → List FileId
+files_found files = filter_map (λ (file : Option FileId). file) files

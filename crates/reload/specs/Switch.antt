@@ -1,0 +1,85 @@
+-- What becomes of the workspaces when a fetch or a run of build scripts has ended.
+use Rattle.std.specs.Prelude.{◌≡◌, ◌↔◌, ℕ, Bool, true, false, not, ◌&&◌, ◌||◌, ◌==◌, IsTrue, MatchBool, List, [], ◌∷◌, map, Option, Some, None, is_some, Result, Ok, Err, length, if◌then◌else◌}
+use Rattle.project_model.specs.declared.build.BuildScripts.{BuildScripts}
+use Rattle.project_model.specs.declared.workspace.ProjectWorkspace.{ProjectWorkspace}
+use Rattle.project_model.specs.Workspaces.{without_build}
+use Rattle.msrv.specs.Msrv.{msrv_texts}
+use Rattle.reload.specs.Errors.{fetch_error}
+use Rattle.reload.specs.declared.switch.Switch.{Switch}
+use Rattle.reload.specs.declared.switch.Switch.TheVariants as switch
+
+abbrev pub Fetched : Type 0
+Fetched = List (Result ProjectWorkspace (List ℕ))
+
+abbrev pub Runs : Type 0
+Runs = List (Result BuildScripts (List ℕ))
+
+abbrev pub is_empty : List ProjectWorkspace → Bool
+is_empty [] = true
+is_empty (first ∷ rest) = false
+
+-- the workspaces that were fetched
+abbrev pub taken : Fetched → List ProjectWorkspace
+taken [] = []
+taken (Ok workspace ∷ rest) = workspace ∷ taken rest
+taken (Err error ∷ rest) = taken rest
+
+-- there are as many, and each is the other but for its build data
+abbrev pub AreSame : List ProjectWorkspace → List ProjectWorkspace → Type 0
+AreSame one two = map without_build one ≡ map without_build two
+
+-- a run that failed made nothing
+abbrev pub scripts_of : Result BuildScripts (List ℕ) → BuildScripts
+scripts_of (Ok scripts) = scripts
+scripts_of (Err error) = record { error = None; macro_paths = [] }
+
+abbrev pub with_build : ProjectWorkspace → Result BuildScripts (List ℕ) → ProjectWorkspace
+with_build workspace run = record workspace { build = Some (scripts_of run) }
+
+-- each workspace with what its build made
+abbrev pub joined : Runs → List ProjectWorkspace → List ProjectWorkspace
+joined [] workspaces = []
+joined (run ∷ runs) [] = []
+joined (run ∷ runs) (workspace ∷ rest) = with_build workspace run ∷ joined runs rest
+
+-- the build data that was run on the workspaces of this version
+abbrev pub runs_on : ℕ → ℕ → Option Runs → Option Runs
+runs_on version build_version build = if build_version == version then build else None
+
+-- crate data is built anew where that is forced
+abbrev pub anew_if : Bool → Switch
+anew_if forced = if forced then switch.CrateData else switch.End
+
+-- the fetched workspaces are the present ones
+abbrev pub kept : List ProjectWorkspace → Option Runs → Bool → Switch
+kept [] runs forced = switch.End
+kept (first ∷ rest) (Some runs) forced = switch.Join (joined runs (first ∷ rest))
+kept (first ∷ rest) None forced = anew_if forced
+
+-- they aren't: what follows waits for build data, unless that isn't run or there were no workspaces before
+abbrev pub replaced : List ProjectWorkspace → List ProjectWorkspace → Bool → Switch
+replaced new present build_scripts = switch.Replace new (msrv_texts new) build_scripts (not build_scripts || is_empty present)
+
+abbrev pub switched_to : Fetched → List ProjectWorkspace → Bool → Option Runs → Bool → Bool → Switch
+switched_to fetched present same runs forced build_scripts =
+    if same then kept present runs forced else replaced (taken fetched) present build_scripts
+
+-- the fetched workspaces are taken: whether they are the present ones decides
+abbrev pub SwitchesTo : Fetched → List ProjectWorkspace → Option Runs → Bool → Bool → Switch → Type 0
+SwitchesTo fetched present runs forced build_scripts to =
+    (same : Bool) × (IsTrue same ↔ AreSame (taken fetched) present) × (to ≡ switched_to fetched present same runs forced build_scripts)
+
+-- an error ends the switch where there are workspaces
+abbrev pub has_ended : Fetched → Bool → List ProjectWorkspace → Bool
+has_ended fetched discover present = is_some (fetch_error (Some fetched) discover) && not (is_empty present)
+
+-- what a switch comes to; where nothing was fetched it does nothing
+abbrev pub Switches : Option Fetched → Bool → Bool → List ProjectWorkspace → Option Runs → Bool → Switch → Type 0
+Switches None forced discover present runs build_scripts to = to ≡ switch.End
+Switches (Some fetched) forced discover present runs build_scripts to =
+    MatchBool (has_ended fetched discover present) (to ≡ anew_if forced) (SwitchesTo fetched present runs forced build_scripts to)
+
+-- there is one run for each workspace
+abbrev pub HasOneEach : Option Runs → List ProjectWorkspace → Type 0
+HasOneEach None present = Unit {0}
+HasOneEach (Some runs) present = length runs ≡ length present

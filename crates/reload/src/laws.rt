@@ -1,0 +1,42 @@
+// What the definitions of a reload come to.
+ghost use Rattle.std.specs.Prelude.{◌≡◌, ℕ, Bool, List, Option, Some, length, map, filter, take, is_some};
+ghost use Rattle.std.specs.Cmp.{IsEquivalence};
+ghost use Rattle.std.specs.List.{filter_map, range_with_len};
+ghost use Rattle.docs_vfs.specs.declared.file_kinds.FileId.{FileId};
+ghost use Rattle.project_model.specs.declared.crates.CrateEntry.{CrateEntry};
+ghost use Rattle.project_model.specs.declared.workspace.ProjectWorkspace.{ProjectWorkspace};
+ghost use Rattle.reload.specs.Graph.{Standing, most_crates, places_from, number_of, crate_of};
+ghost use Rattle.reload.specs.GraphLaws.{numbers_in, files_in, files_found};
+ghost use Rattle.reload.specs.Names.{is_alike};
+ghost use Rattle.reload.specs.Switch.{Fetched, Runs, joined, runs_on, Switches};
+ghost use Rattle.reload.specs.declared.switch.Switch.TheVariants.{Join};
+
+/// That `-` and `_` are alike is an equivalence of texts.
+pub fn alike_names_are_equivalent()
+    ensures { IsEquivalence is_alike }
+{}
+
+/// Where a switch joins build data, it was run on the version of the workspaces that are present.
+pub fn build_data_is_joined_to_its_version()
+    ensures { (fetched : Option Fetched) (forced discover : Bool) (present made : List ProjectWorkspace)
+        (version build_version : ℕ) (build : Option Runs) (build_scripts : Bool)
+        → Switches fetched forced discover present (runs_on version build_version build) build_scripts (Join made)
+        → (build_version ≡ version) × ((runs : Runs) × (build ≡ Some runs) × (made ≡ joined runs present)) }
+{}
+
+/// The crates that are kept are the first of those whose roots have files, as many as there are numbers. Their numbers
+/// are 0, 1, 2 and so on, over all workspaces.
+pub fn kept_crates_are_numbered_in_order()
+    ensures numbers { (files : List (Option FileId)) → numbers_in (places_from 0 files)
+        ≡ range_with_len 0 (length (numbers_in (places_from 0 files))) }
+    ensures kept { (files : List (Option FileId)) → files_in (places_from 0 files) ≡ take most_crates (files_found files) }
+{}
+
+/// Of the dependencies of a crate exactly those are renumbered that are kept, in order, and the others are left out. A
+/// crate has a number exactly where it is kept.
+pub fn kept_dependencies_are_renumbered()
+    ensures dependencies { (places : List (Option Standing)) (deps : List ℕ)
+        → map Some (filter_map (number_of places) deps) ≡ filter is_some (map (number_of places) deps) }
+    ensures numbers { (places : List (Option Standing)) (index : ℕ) (entry : CrateEntry)
+        → is_some (number_of places index) ≡ is_some (crate_of places (index, entry)) }
+{}

@@ -1,0 +1,4 @@
+pub mod Drafts
+pub mod Facts
+pub mod Health
+pub mod Texts

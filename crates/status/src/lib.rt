@@ -1,0 +1,12 @@
+//! The status of a session: whether all is well, and what is to be told.
+#![tactic(auto)]
+
+mod draft;
+mod health;
+mod linked;
+mod session_facts;
+mod status;
+mod workspace_facts;
+
+pub use health::Health;
+pub use status::{Status, StatusInput, current_status};

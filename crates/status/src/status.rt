@@ -1,0 +1,70 @@
+ghost use Rattle.std.specs.Prelude.{◌≡◌, IfOk};
+ghost use Rattle.status.specs.Drafts.{message_of};
+ghost use Rattle.status.specs.Facts.{status_of};
+
+use crate::draft::nothing_told;
+use crate::health::Health;
+use crate::session_facts::add_session_facts;
+use crate::workspace_facts::{add_warnings, add_workspaces};
+use msrv::check_workspaces_msrv;
+use plain::{Items, NoMemory, Text};
+use project_model::ProjectWorkspace;
+use ra_settings::LinkedProject;
+use std::alloc::Global;
+
+/// What a status is made of.
+#[derive(Drop)]
+pub struct StatusInput {
+    /// Workspaces changed, and are fetched only by hand.
+    pub reload_needed: bool,
+    /// What proc macros and build scripts are made of has changed.
+    pub build_deps_changed: bool,
+    /// Build scripts failed.
+    pub build_error: bool,
+    /// What was wrong with the settings.
+    pub config_errors: Option<Text>,
+    /// Why the last check couldn't be run.
+    pub check_error: Option<Text>,
+    /// There are neither projects nor detached files.
+    pub no_projects: bool,
+    /// Workspaces couldn't be loaded.
+    pub workspace_error: bool,
+    /// The projects that the settings link.
+    pub linked: Items<LinkedProject>,
+    pub workspaces: Items<ProjectWorkspace>,
+    /// All is loaded, and nothing is being worked on.
+    pub fully_ready: bool,
+}
+
+/// The status of a session.
+#[derive(Drop)]
+pub struct Status {
+    pub health: Health,
+    pub quiescent: bool,
+    pub message: Option<Text>,
+}
+
+fn message_of(alloc: Global, text: &str) -> Result<Option<Text>, NoMemory>
+    ensures { IfOk result (λ message. message ≡ message_of text.now) }
+{
+    if text.len() == 0 {
+        return Ok(None);
+    }
+    Ok(Some(Text::from_str(alloc, text.trim_end())?))
+}
+
+/// The status by these facts: the worst of them, and their texts without the white space at their end.
+pub fn current_status(alloc: Global, input: &StatusInput) -> Result<Status, NoMemory>
+    ensures { IfOk result (λ status. status ≡ status_of input.now) }
+{
+    let mut draft = nothing_told(alloc);
+    add_session_facts(alloc, &mut draft, input)?;
+    let outdated = check_workspaces_msrv(alloc, input.workspaces.as_slice())?;
+    add_warnings(&mut draft, outdated.as_slice())?;
+    add_workspaces(alloc, &mut draft, input.workspaces.as_slice())?;
+    Ok(Status {
+        health: draft.health,
+        quiescent: input.fully_ready,
+        message: message_of(alloc, draft.text.as_str())?,
+    })
+}
