@@ -1,4 +1,5 @@
-ghost use Rattle.std.specs.Prelude.{◌≡◌, [], codes, IfOk};
+ghost use Rattle.std.specs.Prelude.{◌≡◌, [], codes, true, IfOk};
+ghost use Rattle.plain.specs.Plain.{is_plain};
 ghost use Rattle.serde_json.specs.Data.{array, no_items, object, no_members, member, string};
 ghost use Rattle.method_table.specs.Defaults.{value_of, empty_label, full_report, no_crates, no_tests};
 
@@ -70,8 +71,10 @@ fn no_tests(alloc: Global) -> Result<Json, NoMemory>
 }
 
 impl DefaultValue {
+    #[tactic(auto, using(crate::proofs::Plainness::default_plain))]
     pub fn value(self, alloc: Global) -> Result<Json, NoMemory>
-        ensures { IfOk result (λ json. json ≡ value_of self) }
+        ensures value { IfOk result (λ json. json ≡ value_of self) }
+        ensures plain { IfOk result (λ json. is_plain json ≡ true) }
     {
         match self {
             DefaultValue::Null => Ok(Json::null()),

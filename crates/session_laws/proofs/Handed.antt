@@ -70,7 +70,7 @@ input-out (Next (Task batch)) out n job there = batch-out batch out n job there
 
 reacts-due : (config : ConfigData) (place : Place) (ticket : ℕ) (id : RequestId) (done : Reaction) → ticket ≤ place.number → Reacts config place ticket id done → AreDue config place done.jobs
 reacts-due config place ticket id done by_then (inl (response, is, says_it)) = subst (λ (d : Reaction). AreDue config place d.jobs) (sym says_it) tt
-reacts-due config place ticket id done by_then (inr (row_id, params, hands)) = subst (λ (d : Reaction). AreDue config place d.jobs) (sym hands) (record { not_before = by_then; snapshot = refl }, tt)
+reacts-due config place ticket id done by_then (inr (class, row_id, params, hands)) = subst (λ (d : Reaction). AreDue config place d.jobs) (sym hands) (record { not_before = by_then; snapshot = refl }, tt)
 
 -- the jobs out are for requests that were read before
 IsBelow : Place → Type 0

@@ -13,7 +13,8 @@ use Rattle.lsp_frame.specs.declared.message.Message.TheVariants.{Request as Requ
 use Rattle.ra_config.specs.Config.{ConfigData}
 use Rattle.serde_json.specs.Data.{Data}
 use Rattle.lsp_frame.proofs.InStep.{none-distinct, registered-distinct, completed-distinct, completed-closed, closed-registered, ticket_of-is, is_pending-found, id_of-registered}
-use Rattle.analysis_host.specs.declared.ask.RowId.{RowId}
+use Rattle.method_table.specs.declared.class.PoolClass.{PoolClass}
+use Rattle.method_table.specs.declared.row_id.RowId.{RowId}
 use Rattle.session_port.specs.Jobs.{Jobs, ticket_of, final_of, fitting_job, after_message, after_batch}
 use Rattle.session_port.specs.Record.{with_jobs}
 use Rattle.session_port.specs.declared.event.TaskMsg.{TaskMsg}
@@ -24,7 +25,6 @@ use Rattle.session_model.specs.Cancelling.{cancel_of}
 use Rattle.session_model.specs.Headline.{Place, Reaction, reaction_of, row, silent, says, joined, hands_over, snapshot_at, new_row, cancel_row, ticket_row, final_row, message_row, batch_row, place_past, beginning, IsHeld, AreAnswers, AnswersOnce, closed_by, closed_with, pending_after, place_after, number_after}
 use Rattle.session_laws.specs.Invariant.{Sound, SoundAt}
 use Rattle.session_model.specs.Meaning.{Meaning}
-use Rattle.session_model.specs.Methods.{class_of}
 use Rattle.session_model.specs.Replies.{already_pending, canceled_by_client, finished_reply}
 use Rattle.session_model.specs.Run.{Turn, after_input}
 use Rattle.session_model.specs.Texts.{same_text}
@@ -385,16 +385,16 @@ going-said first place js message found id response waits is t = (
 )
 
 -- the job that is handed over for a ticket
-abbrev job_for : ConfigData → Place → ℕ → RowId → Data → Job
-job_for config place ticket row_id params = record { number = place.handed + 1; class = class_of row_id; kind = RequestJob ticket row_id params; snapshot = snapshot_at config place }
+abbrev job_for : ConfigData → Place → PoolClass → ℕ → RowId → Data → Job
+job_for config place class ticket row_id params = record { number = place.handed + 1; class = class; kind = RequestJob ticket row_id params; snapshot = snapshot_at config place }
 
 -- a job is handed over for it
-going-again : (first : ℕ) (config : ConfigData) (place : Place) (js : List Job) (message : TaskMsg) (found : Job) (row_id : RowId) (params : Data) → Took first place js message found
-    → Going first place js message (hands_over config place (ticket_of found.kind) row_id params)
-going-again first config place js message found row_id params t = (
+going-again : (first : ℕ) (config : ConfigData) (place : Place) (js : List Job) (message : TaskMsg) (found : Job) (class : PoolClass) (row_id : RowId) (params : Data) → Took first place js message found
+    → Going first place js message (hands_over place.handed (snapshot_at config place) class (ticket_of found.kind) row_id params)
+going-again first config place js message found class row_id params t = (
   record {
-    sound = subst (λ out. Sound place.number place.pending out (place.handed + 1) place.revision) (sym (with_jobs-append js (job_for config place (ticket_of found.kind) row_id params ∷ []) (after_message message place.out) ∙ ap (λ out. map.insert out (place.handed + 1) (job_for config place (ticket_of found.kind) row_id params)) t.left))
-        (sound-again place.number place.pending (with_jobs js place.out) place.handed place.revision message.job found (job_for config place (ticket_of found.kind) row_id params) t.is_there refl (omega arith) t.before.sound);
+    sound = subst (λ out. Sound place.number place.pending out (place.handed + 1) place.revision) (sym (with_jobs-append js (job_for config place class (ticket_of found.kind) row_id params ∷ []) (after_message message place.out) ∙ ap (λ out. map.insert out (place.handed + 1) (job_for config place class (ticket_of found.kind) row_id params)) t.left))
+        (sound-again place.number place.pending (with_jobs js place.out) place.handed place.revision message.job found (job_for config place class (ticket_of found.kind) row_id params) t.is_there refl (omega arith) t.before.sound);
     early = early-on first place js message found t;
     late = above-append first js _ t.before.late (let g = t.before.given in omega arith, tt);
     given = let g = t.before.given in omega arith;
@@ -405,7 +405,7 @@ going-again first config place js message found row_id params t = (
 going-reacts : (first : ℕ) (config : ConfigData) (place : Place) (js : List Job) (message : TaskMsg) (found : Job) (id : RequestId) (done : Reaction) → id_of (ticket_of found.kind) place.pending ≡ Some id
     → Reacts config place (ticket_of found.kind) id done → Took first place js message found → Going first place js message done
 going-reacts first config place js message found id done waits (inl (response, is, says_it)) t = subst (Going first place js message) (sym says_it) (going-said first place js message found id response waits is t)
-going-reacts first config place js message found id done waits (inr (row_id, params, hands)) t = subst (Going first place js message) (sym hands) (going-again first config place js message found row_id params t)
+going-reacts first config place js message found id done waits (inr (class, row_id, params, hands)) t = subst (Going first place js message) (sym hands) (going-again first config place js message found class row_id params t)
 
 going-ticket : (meaning : Meaning) (first : ℕ) (config : ConfigData) (place : Place) (js : List Job) (message : TaskMsg) (found : Job) (o : Option RequestId) (result : JobResult) → id_of (ticket_of found.kind) place.pending ≡ o
     → Took first place js message found → Going first place js message (ticket_row meaning config place o found result)

@@ -17,7 +17,10 @@ use Rattle.lsp_frame.specs.declared.message.Notification.{Notification}
 use Rattle.lsp_frame.specs.declared.message.Message.{Message}
 use Rattle.lsp_frame.specs.declared.message.Message.TheVariants.{Request as RequestMessage, Notification as NotificationMessage, Response as ResponseMessage}
 use Rattle.analysis_host.specs.HostData.{HostData}
-use Rattle.analysis_host.specs.declared.ask.RowId.{RowId}
+use Rattle.method_table.specs.Plans.{is_shutdown}
+use Rattle.method_table.specs.Rows.{row_of}
+use Rattle.method_table.specs.declared.row_id.RowId.{RowId}
+use Rattle.state_params.specs.Unit.{is_unit}
 use Rattle.analysis_host.specs.declared.host.WorldFault.TheVariants.{Exhausted}
 use Rattle.session_port.specs.Record.{spawned, with_jobs}
 use Rattle.session_port.specs.declared.command.Command.TheVariants.{Revise}
@@ -25,13 +28,12 @@ use Rattle.session_port.specs.declared.command.LogCode.{LogCode}
 use Rattle.session_port.specs.declared.command.LogCode.TheVariants.{UnhandledNotification, DuplicateOpen, UnexpectedChange, SkippedChange}
 use Rattle.session_port.specs.declared.event.TaskMsg.{TaskMsg}
 use Rattle.session_port.specs.declared.job.Job.{Job}
-use Rattle.session_model.specs.Cancelling.{cancel_of, is_unit}
+use Rattle.session_model.specs.Cancelling.{cancel_of}
 use Rattle.session_model.specs.Changing.{changed_of, text_after, has_skipped}
 use Rattle.session_model.specs.Headline.{Documents, Reaction, Revises, silent, says, reaction_of, row, class_row, new_row, notification_row, batch_row, place_after, number_after, documents_after, pending_after, revision_after, shutdown_after, closed_by}
 use Rattle.session_laws.specs.Invariant.{StepFits, place_of}
-use Rattle.session_model.specs.Machine.{Working, and_then, next_number, counted, asked, noted, shut_down, admitted, requested, opened, opened_at, open_noted, changed, changed_at, cancelled, version_set, text_set, skip_noted, edited, edited_by, holds_text, world_changed, world_by, notified, received, answered, replied, logged, ordered, batched, happened, taken_in, kept, revised, step}
+use Rattle.session_model.specs.Machine.{Working, and_then, next_number, counted, asked, noted, unknown, shut_down, admitted, requested, opened, opened_at, open_noted, changed, changed_at, cancelled, version_set, text_set, skip_noted, edited, edited_by, holds_text, world_changed, world_by, notified, received, answered, replied, logged, ordered, batched, happened, taken_in, kept, revised, step}
 use Rattle.session_model.specs.Meaning.{Meaning}
-use Rattle.session_model.specs.Methods.{row_of}
 use Rattle.session_model.specs.Opening.{opened_of}
 use Rattle.session_model.specs.Replies.{already_pending, shut_already, unknown_request, invalid_params, canceled_by_client, response_with}
 use Rattle.session_model.specs.Run.{Turn, Steps, begun, after_input}
@@ -74,6 +76,7 @@ pub record Mid (meaning : Meaning) (s : State) (input : Input) (u : Working) : T
   pub jobs : u.state.jobs ≡ after_input input s.jobs
   pub handed : u.state.jobs_given ≡ s.jobs_given + length (spawned u.out.commands)
   pub shutdown : u.state.shutdown ≡ shutdown_after input u.out.messages s.shutdown
+  pub loading : u.state.loading ≡ s.loading
   pub unrevised : (r : ℕ) → revision_after u.out.commands r ≡ r
   pub later : s.host.revision ≤ u.state.host.revision
   pub raised : Raises s.host u.state.host
@@ -97,30 +100,38 @@ request-mid meaning s r done u new is stays a = record {
   jobs = a.out;
   handed = a.given ∙ ap (λ (js : List Job). s.jobs_given + length js) (sym a.spawns);
   shutdown = ap (λ (t : State). t.shutdown) a.same ∙ sym stays;
+  loading = ap (λ (t : State). t.loading) a.same;
   unrevised = a.unrevised;
   later = omega (arith, ap (λ (t : State). t.host.revision) a.same);
   raised = inl (ap (λ (t : State). t.host) a.same);
 }
 
--- the same of a method by another name than shutdown
+-- the same of a method that isn't shutdown
 other-mid : (meaning : Meaning) (s : State) (r : Request) (done : Reaction) (u : Working) → is_pending r.id s.pending ≡ false → new_row meaning s.config (place_of s) r ≡ done
-    → same_text r.method (codes "shutdown") ≡ false → Settled (noted r.id (counted_turn s)) u done s.jobs → Mid meaning s (request_input r) u
+    → is_shutdown (row_of r.method) ≡ false → Settled (noted r.id (counted_turn s)) u done s.jobs → Mid meaning s (request_input r) u
 other-mid meaning s r done u new is other a = request-mid meaning s r done u new is (rw other refl) a
 
-method-cases : (meaning : Meaning) (s : State) (r : Request) (o : Option RowId) → is_pending r.id s.pending ≡ false → same_text r.method (codes "shutdown") ≡ false → s.shutdown ≡ false → row_of r.method ≡ o
+-- a request of a method that has no row
+unknown-cases : (meaning : Meaning) (s : State) (r : Request) (b : Bool) → is_pending r.id s.pending ≡ false → is_shutdown (row_of r.method) ≡ false → row_of r.method ≡ None → s.shutdown ≡ b
+    → IfOk {E = Counter} (if b then Ok (answered r.id (shut_already r.id) (noted r.id (counted_turn s))) else Ok (unknown r.id r.method (noted r.id (counted_turn s)))) (Mid meaning s (request_input r))
+unfolding noted
+unknown-cases meaning s r true new other is shut =
+    other-mid meaning s r (says (shut_already r.id)) _ new (rw (other, is, shut) refl) other (answer-settles r.id (shut_already r.id) (noted r.id (counted_turn s)) refl)
+unknown-cases meaning s r false new other is stays =
+    other-mid meaning s r (says (unknown_request r.id)) _ new (rw (other, is, stays) refl) other (unknown-settles r.id r.method (noted r.id (counted_turn s)))
+
+method-cases : (meaning : Meaning) (s : State) (r : Request) (o : Option RowId) → is_pending r.id s.pending ≡ false → is_shutdown (row_of r.method) ≡ false → row_of r.method ≡ o
     → IfOk (asked meaning o r (noted r.id (counted_turn s))) (Mid meaning s (request_input r))
 unfolding asked noted
-method-cases meaning s r None new other stays is =
-    other-mid meaning s r (says (unknown_request r.id)) _ new (rw (other, stays, is) refl) other
-    (unknown-settles r.id r.method (noted r.id (counted_turn s)))
-method-cases meaning s r (Some row_id) new other stays is =
+method-cases meaning s r None new other is = unknown-cases meaning s r s.shutdown new other is refl
+method-cases meaning s r (Some row_id) new other is =
     let done = class_row meaning s.config (place_of s) (s.turns + 1) r.id row_id r.params in
     IfOk-weaker _ (λ u. Settled (noted r.id (counted_turn s)) u done s.jobs) (Mid meaning s (request_input r))
     (class-settles meaning (s.turns + 1) (s.turns + 1) r.id row_id r.params (noted r.id (counted_turn s)))
-    (λ u a. other-mid meaning s r done u new (rw (other, stays, is) refl) other a)
+    (λ u a. other-mid meaning s r done u new (rw (other, is) refl) other a)
 
 -- shutdown is requested
-shutdown-cases : (meaning : Meaning) (s : State) (r : Request) (b : Bool) → is_pending r.id s.pending ≡ false → same_text r.method (codes "shutdown") ≡ true → is_unit r.params ≡ b
+shutdown-cases : (meaning : Meaning) (s : State) (r : Request) (b : Bool) → is_pending r.id s.pending ≡ false → is_shutdown (row_of r.method) ≡ true → is_unit r.params ≡ b
     → Mid meaning s (request_input r) (if b then answered r.id (response_with r.id null) (record (noted r.id (counted_turn s)) { state = record (noted r.id (counted_turn s)).state { shutdown = true } }) else answered r.id (invalid_params r.id) (noted r.id (counted_turn s)))
 unfolding noted answered replied
 shutdown-cases meaning s r true new named unit = record {
@@ -133,6 +144,7 @@ shutdown-cases meaning s r true new named unit = record {
   jobs = refl;
   handed = omega arith;
   shutdown = rw named refl;
+  loading = refl;
   unrevised = λ q. refl;
   later = omega arith;
   raised = inl refl;
@@ -140,19 +152,11 @@ shutdown-cases meaning s r true new named unit = record {
 shutdown-cases meaning s r false new named unit =
     request-mid meaning s r (says (invalid_params r.id)) _ new (rw (named, unit) refl) (rw named refl) (answer-settles r.id (invalid_params r.id) (noted r.id (counted_turn s)) refl)
 
-open-cases : (meaning : Meaning) (s : State) (r : Request) (b : Bool) → is_pending r.id s.pending ≡ false → same_text r.method (codes "shutdown") ≡ false → s.shutdown ≡ b
-    → IfOk (if b then Ok (answered r.id (shut_already r.id) (noted r.id (counted_turn s))) else asked meaning (row_of r.method) r (noted r.id (counted_turn s))) (Mid meaning s (request_input r))
-unfolding noted
-open-cases meaning s r true new other shut =
-    other-mid meaning s r (says (shut_already r.id)) _ new (rw (other, shut) refl) other (answer-settles r.id (shut_already r.id) (noted r.id (counted_turn s)) refl)
-open-cases meaning s r false new other stays = method-cases meaning s r (row_of r.method) new other stays refl
-
-admit-cases : (meaning : Meaning) (s : State) (r : Request) (b : Bool) → is_pending r.id s.pending ≡ false → same_text r.method (codes "shutdown") ≡ b
-    → IfOk (if b then Ok (shut_down r.id r.params (noted r.id (counted_turn s)))
-    else if s.shutdown then Ok (answered r.id (shut_already r.id) (noted r.id (counted_turn s))) else asked meaning (row_of r.method) r (noted r.id (counted_turn s))) (Mid meaning s (request_input r))
+admit-cases : (meaning : Meaning) (s : State) (r : Request) (b : Bool) → is_pending r.id s.pending ≡ false → is_shutdown (row_of r.method) ≡ b
+    → IfOk (if b then Ok (shut_down r.id r.params (noted r.id (counted_turn s))) else asked meaning (row_of r.method) r (noted r.id (counted_turn s))) (Mid meaning s (request_input r))
 unfolding shut_down
 admit-cases meaning s r true new named = shutdown-cases meaning s r (is_unit r.params) new named refl
-admit-cases meaning s r false new other = open-cases meaning s r s.shutdown new other refl
+admit-cases meaning s r false new other = method-cases meaning s r (row_of r.method) new other refl
 
 -- the id is pending: nothing is registered
 refused-mid : (meaning : Meaning) (s : State) (r : Request) → is_pending r.id s.pending ≡ true → Mid meaning s (request_input r) (replied (already_pending r.id) (counted_turn s))
@@ -166,7 +170,8 @@ refused-mid meaning s r is = record {
   pending = rw is refl;
   jobs = refl;
   handed = omega arith;
-  shutdown = sym (no-null (same_text r.method (codes "shutdown")));
+  shutdown = sym (no-null (is_shutdown (row_of r.method)));
+  loading = refl;
   unrevised = λ q. refl;
   later = omega arith;
   raised = inl refl;
@@ -180,7 +185,7 @@ request-cases : (meaning : Meaning) (s : State) (r : Request) (b : Bool) → is_
     → IfOk (if b then Ok (replied (already_pending r.id) (counted_turn s)) else admitted meaning r (noted r.id (counted_turn s))) (Mid meaning s (request_input r))
 unfolding admitted noted
 request-cases meaning s r true is = refused-mid meaning s r is
-request-cases meaning s r false is = admit-cases meaning s r (same_text r.method (codes "shutdown")) is refl
+request-cases meaning s r false is = admit-cases meaning s r (is_shutdown (row_of r.method)) is refl
 
 requested-mid : (meaning : Meaning) (s : State) (r : Request) → IfOk (requested meaning r (counted_turn s)) (Mid meaning s (request_input r))
 unfolding requested
@@ -204,6 +209,7 @@ notification-mid meaning s n done u is same a = record {
   jobs = a.out;
   handed = a.given ∙ ap (λ (js : List Job). s.jobs_given + length js) (sym a.spawns);
   shutdown = ap (λ (t : State). t.shutdown) a.same;
+  loading = ap (λ (t : State). t.loading) a.same;
   unrevised = a.unrevised;
   later = omega (arith, ap (λ (t : State). t.host.revision) a.same);
   raised = inl (ap (λ (t : State). t.host) a.same);
@@ -251,6 +257,7 @@ set-mid meaning s n path version text out host quiet sets texts later raised = r
   jobs = refl;
   handed = omega (arith, ap (λ (js : List Job). length js) quiet.none);
   shutdown = refl;
+  loading = refl;
   unrevised = quiet.unrevised;
   later = later;
   raised = raised;
@@ -394,6 +401,7 @@ settled-mid meaning s input done u number is same closes stays a = record {
   jobs = a.out;
   handed = a.given ∙ ap (λ (js : List Job). s.jobs_given + length js) (sym a.spawns);
   shutdown = ap (λ (t : State). t.shutdown) a.same ∙ sym (stays u.out.messages);
+  loading = ap (λ (t : State). t.loading) a.same;
   unrevised = a.unrevised;
   later = omega (arith, ap (λ (t : State). t.host.revision) a.same);
   raised = inl (ap (λ (t : State). t.host) a.same);
@@ -427,7 +435,7 @@ counted-gives s f Q q = and_then-and_then (next_number s.turns _) _ f Q (IfOk-ne
 
 mid-fits : (meaning : Meaning) (s : State) (input : Input) → IfOk (taken_in meaning input (begun s)) (Mid meaning s input)
 unfolding taken_in
-mid-fits meaning s Start = record { turns = refl; config = refl; does = refl; texts = refl; versions = refl; pending = refl; jobs = refl; handed = omega arith; shutdown = refl; unrevised = λ q. refl; later = omega arith; raised = inl refl }
+mid-fits meaning s Start = record { turns = refl; config = refl; does = refl; texts = refl; versions = refl; pending = refl; jobs = refl; handed = omega arith; shutdown = refl; loading = refl; unrevised = λ q. refl; later = omega arith; raised = inl refl }
 mid-fits meaning s (Next event) = counted-gives s _ (Mid meaning s (Next event)) (event-mid meaning s event)
 
 -- a turn of the machine is a row, and what it leaves is the next place
@@ -445,7 +453,7 @@ close-cases meaning s input u true h mid =
     let same : u.state.host.revision ≡ revision_after u.out.commands s.host.revision = eqb-true _ _ h ∙ sym (mid.unrevised s.host.revision) in
     record {
       does = mid.does;
-      place = same_place _ _ mid.turns mid.texts mid.versions same mid.pending (ap (with_jobs (spawned u.out.commands)) mid.jobs) mid.handed mid.shutdown;
+      place = same_place _ _ mid.turns mid.texts mid.versions same mid.pending (ap (with_jobs (spawned u.out.commands)) mid.jobs) mid.handed mid.shutdown mid.loading;
       config = mid.config;
       later = mid.later;
       raised = mid.raised;
@@ -456,7 +464,7 @@ close-cases meaning s input u false h mid =
     record {
       does = rw jobs mid.does;
       place = same_place _ _ mid.turns mid.texts mid.versions (sym revision) mid.pending
-          (ap (with_jobs (spawned u.out.commands)) mid.jobs ∙ ap (λ js. with_jobs js (after_input input s.jobs)) (sym jobs)) (mid.handed ∙ ap (λ js. s.jobs_given + length js) (sym jobs)) mid.shutdown;
+          (ap (with_jobs (spawned u.out.commands)) mid.jobs ∙ ap (λ js. with_jobs js (after_input input s.jobs)) (sym jobs)) (mid.handed ∙ ap (λ js. s.jobs_given + length js) (sym jobs)) mid.shutdown mid.loading;
       config = mid.config;
       later = mid.later;
       raised = mid.raised;

@@ -34,6 +34,7 @@ place_of s = record {
   out = s.jobs;
   handed = s.jobs_given;
   shutdown = s.shutdown;
+  loading = s.loading;
 }
 
 -- a turn of the machine is its row of the reply table, and what it leaves is the next place

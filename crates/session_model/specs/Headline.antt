@@ -2,7 +2,6 @@
 use Rattle.std.specs.Prelude.{◌≡◌, ◌≢◌, ◌≤◌, ℕ, ◌+◌, ◌-◌, ◌^◌, ◌⊎◌, ◌&&◌, ℤ, List, [], ◌∷◌, ◌++◌, codes, length, Contains, Bool, true, false, not, ltb, IsTrue, Option, None, Some, is_some, Result, Ok, Err, if◌then◌else◌}
 use Rattle.std.specs.FinMap as map
 use Rattle.serde_json.specs.Data.{Data, null}
-use Rattle.plain.specs.Plain.{is_plain}
 use Rattle.plain.specs.Reading.{is_null}
 use Rattle.docs_vfs.specs.Paths.{path_cmp}
 use Rattle.docs_vfs.specs.FileUrls.{path_of}
@@ -18,7 +17,15 @@ use Rattle.lsp_frame.specs.declared.message.Message.TheVariants.{Request as Requ
 use Rattle.ra_config.specs.Config.{ConfigData}
 use Rattle.analysis_host.specs.SnapshotData.{SnapshotData}
 use Rattle.analysis_host.specs.declared.ask.Ask.TheVariants.{Request as RequestAsk}
-use Rattle.analysis_host.specs.declared.ask.RowId.{RowId}
+use Rattle.method_table.specs.Plans.{plan, is_shutdown}
+use Rattle.method_table.specs.Rows.{row_of, class_of, retries, default_of}
+use Rattle.method_table.specs.declared.class.PoolClass.{PoolClass}
+use Rattle.method_table.specs.declared.planned.Plan.{Plan}
+use Rattle.method_table.specs.declared.planned.Plan.TheVariants as plans
+use Rattle.method_table.specs.declared.row_id.RowId.{RowId}
+use Rattle.state_params.specs.StateRequests.{request_of}
+use Rattle.state_params.specs.Unit.{is_unit}
+use Rattle.state_params.specs.declared.request.StateRequest.{StateRequest}
 use Rattle.session_port.specs.Jobs.{Jobs, ticket_of, final_of, fitting_job, after_message}
 use Rattle.session_port.specs.Record.{HostCall, given_in, taken_in, spawned}
 use Rattle.session_port.specs.declared.command.Command.{Command}
@@ -29,12 +36,11 @@ use Rattle.session_port.specs.declared.job.JobKind.{JobKind}
 use Rattle.session_port.specs.declared.job.JobKind.TheVariants.{Request as RequestJob}
 use Rattle.session_port.specs.declared.job.JobResult.{JobResult}
 use Rattle.session_model.specs.Course.{Course, Stop as CourseStop, takes, stops, waits, exit, client_gone, bad_frame, bad_message, end_of, session_course, bytes_in}
-use Rattle.session_model.specs.Cancelling.{cancel_of, is_unit}
+use Rattle.session_model.specs.Cancelling.{cancel_of}
 use Rattle.session_model.specs.Changing.{changed_of, text_after}
-use Rattle.session_model.specs.Meaning.{Meaning}
-use Rattle.session_model.specs.Methods.{row_of, class_of, is_on_loop, retries}
+use Rattle.session_model.specs.Meaning.{Meaning, can_read}
 use Rattle.session_model.specs.Opening.{opened_of}
-use Rattle.session_model.specs.Replies.{response_with, already_pending, shut_already, unknown_request, invalid_params, canceled_by_client, content_modified, finding_reply, finished_reply}
+use Rattle.session_model.specs.Replies.{response_with, already_pending, shut_already, unknown_request, invalid_params, canceled_by_client, stopped_reply, finding_reply, finished_reply}
 use Rattle.session_model.specs.Run.{Turn, Told, AllRead, AsksLast, IsHonestInput, commands_of, fed_bytes, out_after, taking, telling}
 use Rattle.session_model.specs.Texts.{same_text}
 use Rattle.session_model.specs.declared.fault.Counter.{Counter}
@@ -68,12 +74,23 @@ pub record Place : Type 0 where
   pub handed : ℕ
   -- a request `shutdown` was answered with null
   pub shutdown : Bool
+  -- files are loading; nothing tells of it yet
+  pub loading : Bool
 
 abbrev pub no_documents : Documents
 no_documents = record { texts = map.empty; versions = map.empty }
 
 abbrev pub beginning : Place
-beginning = record { number = 1; documents = no_documents; revision = 0; pending = none_pending; out = map.empty; handed = 0; shutdown = false }
+beginning = record {
+  number = 1;
+  documents = no_documents;
+  revision = 0;
+  pending = none_pending;
+  out = map.empty;
+  handed = 0;
+  shutdown = false;
+  loading = false;
+}
 
 -- what a job works on that is handed over here
 abbrev pub snapshot_at : ConfigData → Place → SnapshotData
@@ -158,7 +175,7 @@ answers_null (NotificationMessage n ∷ messages) = answers_null messages
 
 abbrev pub shutdown_after : Input → List Message → Bool → Bool
 shutdown_after Start messages shutdown = shutdown
-shutdown_after (Next (Lsp (RequestMessage r))) messages shutdown = if same_text r.method (codes "shutdown") && answers_null messages then true else shutdown
+shutdown_after (Next (Lsp (RequestMessage r))) messages shutdown = if is_shutdown (row_of r.method) && answers_null messages then true else shutdown
 shutdown_after (Next (Lsp (NotificationMessage n))) messages shutdown = shutdown
 shutdown_after (Next (Lsp (ResponseMessage r))) messages shutdown = shutdown
 shutdown_after (Next (Task batch)) messages shutdown = shutdown
@@ -172,6 +189,7 @@ place_after turn place = record {
   out = out_after turn place.out;
   handed = place.handed + length (spawned turn.commands);
   shutdown = shutdown_after turn.input turn.messages place.shutdown;
+  loading = place.loading;
 }
 
 abbrev pub place_after_all : List Turn → Place → Place
@@ -197,26 +215,43 @@ says response = record { messages = ResponseMessage response ∷ []; jobs = [] }
 abbrev pub joined : Reaction → Reaction → Reaction
 joined a b = record { messages = a.messages ++ b.messages; jobs = a.jobs ++ b.jobs }
 
--- one job for the request with this ticket, on the documents of all earlier inputs
-abbrev pub hands_over : ConfigData → Place → ℕ → RowId → Data → Reaction
-hands_over config place ticket row params = record {
+-- one job for the request with this ticket, behind so many that were handed over
+abbrev pub hands_over : ℕ → SnapshotData → PoolClass → ℕ → RowId → Data → Reaction
+hands_over handed snapshot class ticket row params = record {
   messages = [];
-  jobs = (record { number = place.handed + 1; class = class_of row; kind = RequestJob ticket row params; snapshot = snapshot_at config place }) ∷ [];
+  jobs = (record { number = handed + 1; class = class; kind = RequestJob ticket row params; snapshot = snapshot }) ∷ [];
 }
 
--- a row whose params can be read: the answer on the documents of all earlier inputs at once, or a job
-abbrev pub granted_row : Meaning → ConfigData → Place → ℕ → RequestId → RowId → Data → Reaction
-granted_row meaning config place ticket id row params =
-    if is_on_loop row then says (finding_reply id (meaning.answer (snapshot_at config place) (RequestAsk row params)))
-    else hands_over config place ticket row params
+-- this is done where the params can be read
+abbrev pub if_read : Bool → RequestId → Reaction → Reaction
+if_read reads id done = if reads then done else says (invalid_params id)
 
+-- a request to change the session's own state
+abbrev pub state_row : RequestId → Option StateRequest → Reaction
+state_row id None = says (invalid_params id)
+state_row id (Some request) = says (response_with id null)
+
+-- a request of a row, by what is planned for it
+abbrev pub planned_row : Meaning → ℕ → SnapshotData → Plan → ℕ → RequestId → RowId → Data → Reaction
+planned_row meaning handed snapshot plans.Shutdown ticket id row params = state_row id (request_of row params)
+planned_row meaning handed snapshot plans.Refuse ticket id row params = says (shut_already id)
+planned_row meaning handed snapshot plans.Unknown ticket id row params = says (unknown_request id)
+planned_row meaning handed snapshot plans.Default ticket id row params = says (response_with id (default_of row))
+planned_row meaning handed snapshot plans.Identity ticket id row params = if_read (can_read meaning row params) id (says (response_with id params))
+planned_row meaning handed snapshot plans.State ticket id row params = state_row id (request_of row params)
+planned_row meaning handed snapshot plans.OnLoop ticket id row params =
+    if_read (can_read meaning row params) id (says (finding_reply id (meaning.answer snapshot (RequestAsk row params))))
+planned_row meaning handed snapshot (plans.Job class) ticket id row params =
+    if_read (can_read meaning row params) id (hands_over handed snapshot class ticket row params)
+
+-- on the documents of all earlier inputs; the crate graph counts as complete
 abbrev pub class_row : Meaning → ConfigData → Place → ℕ → RequestId → RowId → Data → Reaction
 class_row meaning config place ticket id row params =
-    if is_plain params && meaning.decodes row params then granted_row meaning config place ticket id row params
-    else says (invalid_params id)
+    planned_row meaning place.handed (snapshot_at config place) (plan (Some row) place.loading false place.shutdown) ticket id row params
 
+-- a request that isn't `shutdown`
 abbrev pub method_row : Meaning → ConfigData → Place → Option RowId → Request → Reaction
-method_row meaning config place None r = says (unknown_request r.id)
+method_row meaning config place None r = if place.shutdown then says (shut_already r.id) else says (unknown_request r.id)
 method_row meaning config place (Some row) r = class_row meaning config place place.number r.id row r.params
 
 abbrev pub shutdown_row : RequestId → Data → Reaction
@@ -225,9 +260,7 @@ shutdown_row id params = if is_unit params then says (response_with id null) els
 -- a request whose id isn't pending
 abbrev pub new_row : Meaning → ConfigData → Place → Request → Reaction
 new_row meaning config place r =
-    if same_text r.method (codes "shutdown") then shutdown_row r.id r.params
-    else if place.shutdown then says (shut_already r.id)
-    else method_row meaning config place (row_of r.method) r
+    if is_shutdown (row_of r.method) then shutdown_row r.id r.params else method_row meaning config place (row_of r.method) r
 
 abbrev pub request_row : Meaning → ConfigData → Place → Request → Reaction
 request_row meaning config place r = if is_pending r.id place.pending then says (already_pending r.id) else new_row meaning config place r
@@ -244,8 +277,7 @@ notification_row n place = if same_text n.method (codes "$/cancelRequest") then 
 -- refused; else it is taken as one that is read here, under its ticket
 abbrev pub stopped_row : Meaning → ConfigData → Place → RequestId → ℕ → JobKind → Reaction
 stopped_row meaning config place id revision (RequestJob ticket row params) =
-    if ltb revision place.revision && not (retries row) then says (content_modified id)
-    else if place.shutdown then says (shut_already id)
+    if ltb revision place.revision && not (retries row) then says (stopped_reply (class_of row) id)
     else class_row meaning config place ticket id row params
 
 -- a result, of a request that is pending

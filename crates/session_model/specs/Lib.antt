@@ -6,7 +6,6 @@ pub mod Headline
 pub mod Machine
 pub mod Meaning
 pub mod Meets
-pub mod Methods
 pub mod Opening
 pub mod Replies
 pub mod Run

@@ -7,12 +7,12 @@ use analysis_host::{
     World,
 };
 use docs_vfs::VfsPath;
-use plain::{Items, Json};
+use method_table::PoolClass;
+use plain::{Items, Json, SharedJson};
 use ra_config::Config;
 use session_peers::{HostileHost, RecordedCall, ScriptHost};
 use session_port::{
-    Command, Host, HostError, HostEvent, Job, JobKind, JobResult, JobValue, PoolClass, TaskBody,
-    TaskMsg,
+    Command, Host, HostError, HostEvent, Job, JobKind, JobResult, JobValue, TaskBody, TaskMsg,
 };
 use std::alloc::{AllocError, Global};
 use std::sync::Arc;
@@ -72,7 +72,7 @@ pub fn job(alloc: Global, number: u64) -> Result<Job, Fail>
         kind: JobKind::Request {
             ticket: 1,
             row: RowId(0),
-            params: Json::null(),
+            params: SharedJson::new(alloc, Json::null())?,
         },
         snapshot: snapshot(alloc)?,
     })

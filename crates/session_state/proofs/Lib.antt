@@ -1,3 +1,3 @@
 pub mod Writable
-pub mod Units
 pub mod Tickets
+pub mod News

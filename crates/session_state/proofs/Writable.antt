@@ -9,7 +9,7 @@ use Rattle.lsp_frame.specs.Written.{IsWritable, AreWritable, value_depth}
 use Rattle.lsp_frame.specs.declared.message.Message.{Message}
 use Rattle.lsp_frame.specs.declared.message.Message.TheVariants.{Response as ResponseMessage}
 use Rattle.lsp_frame.specs.declared.message.RequestId.{RequestId}
-use Rattle.session_model.specs.Replies.{response_with, refusal}
+use Rattle.session_model.specs.Replies.{response_with, refusal, server_cancelled}
 use Rattle.session_model.specs.Written.{AllWritable}
 
 not_true : (b : Bool) → not b ≡ true → b ≡ false
@@ -29,6 +29,9 @@ value_writable id d plain = (plain_writable d plain, tt)
 
 pub refusal_writable : (id : RequestId) (code : ℤ) (message : List ℕ) → AreWritable (ResponseMessage (refusal id code message))
 refusal_writable id code message = (tt, tt)
+
+pub cancelled_writable : (id : RequestId) → AreWritable (ResponseMessage (server_cancelled id))
+cancelled_writable id = (tt, (plain_writable _ refl, tt))
 
 pub writable_push : (messages : List Message) (message : Message) → AllWritable messages → AreWritable message → AllWritable (messages ++ message ∷ [])
 writable_push [] message all one = (one, tt)

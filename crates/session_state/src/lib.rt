@@ -2,11 +2,11 @@
 #![tactic(auto)]
 
 mod global_state;
-mod methods;
+mod names;
 mod notices;
 mod replies;
 mod turn_out;
 
 pub use global_state::GlobalState;
-pub use methods::is_name;
+pub use names::is_name;
 pub use turn_out::TurnOut;

@@ -1,14 +1,14 @@
 // What a client tells.
 ghost use Rattle.std.specs.Prelude.{◌≡◌, ◌<◌, ◌^◌, length, IfOk, IfSome};
-ghost use Rattle.serde_json.specs.View.{view, items_view, members_view};
-ghost use Rattle.session_model.specs.Cancelling.{cancel_of, is_unit, no_items_in, no_members_in};
+ghost use Rattle.serde_json.specs.View.{items_view};
+ghost use Rattle.session_model.specs.Cancelling.{cancel_of};
 ghost use Rattle.session_model.specs.Changing.{changed_of, members_change, range_in, edit_of, edits_in};
 ghost use Rattle.session_model.specs.Opening.{opened_of, opened_in, text_within};
 
 use analysis_host::range_of;
 use lsp_frame::RequestId;
 use plain::{Items, Json, Members, Text};
-use serde_json::{Map, Value};
+use serde_json::Value;
 use session_model::{DidChange, DidOpen};
 use std::alloc::{AllocError, Global};
 use text_core::{ContentChange, Range};
@@ -135,28 +135,4 @@ pub fn cancel_of(params: Json) -> Option<RequestId>
         return None;
     }
     RequestId::from_json(params.into_members()?.take("id")?)
-}
-
-fn has_no_items(items: &Vec<Value>) -> bool
-    ensures { result ≡ no_items_in (items_view items.now.items) }
-{
-    items.is_empty()
-}
-
-fn has_no_members(members: &Map<String, Value>) -> bool
-    ensures { result ≡ no_members_in (members_view members.now.entries) }
-{
-    members.is_empty()
-}
-
-/// Whether params are null, `{}` or `[]`.
-pub fn is_unit(params: &Json) -> bool
-    ensures { result ≡ is_unit params.now }
-{
-    match params.as_value() {
-        Value::Null => true,
-        Value::Array(items) => has_no_items(items),
-        Value::Object(members) => has_no_members(members),
-        _ => false,
-    }
 }

@@ -4,11 +4,12 @@ ghost use Rattle.lsp_frame.specs.Written.{AreWritable};
 ghost use Rattle.lsp_frame.specs.declared.message.Message.TheVariants.{Response as ResponseMessage};
 ghost use Rattle.plain.specs.Plain.{is_plain};
 ghost use Rattle.session_port.specs.Jobs.{plain_result};
-ghost use Rattle.session_model.specs.Replies.{response_with, refusal, already_pending, shut_already, unknown_request, invalid_params, canceled_by_client, content_modified, fault_code, fault_reply, finished_reply};
+ghost use Rattle.session_model.specs.Replies.{response_with, refusal, already_pending, shut_already, unknown_request, invalid_params, canceled_by_client, content_modified, server_cancelled, stopped_reply, fault_code, fault_reply, finished_reply};
 ghost use Rattle.session_model.specs.Texts.{id_text};
 
 use lsp_frame::{RequestId, Response, ResponseError};
-use plain::{Json, Text};
+use method_table::Class;
+use plain::{Json, Members, Text};
 use session_port::{JobResult, JobValue};
 use std::alloc::{AllocError, Global};
 
@@ -85,13 +86,49 @@ pub fn canceled_by_client(alloc: Global, id: RequestId) -> Result<Response, Allo
     Ok(refusal(id, -32800, message))
 }
 
-/// The answer to a request whose documents changed while it was worked on.
-pub fn content_modified(alloc: Global, id: RequestId) -> Result<Response, AllocError>
+// The answer to a request whose documents changed while it was worked on.
+fn content_modified(alloc: Global, id: RequestId) -> Result<Response, AllocError>
     ensures value { IfOk result (λ response. response ≡ content_modified id) }
     ensures writable { IfOk result (λ response. AreWritable (ResponseMessage response)) }
 {
     let message = Text::from_str(alloc, "content modified")?;
     Ok(refusal(id, -32801, message))
+}
+
+// The same of a request that the client is to ask again.
+#[tactic(auto, using(crate::proofs::Writable::cancelled_writable))]
+fn server_cancelled(alloc: Global, id: RequestId) -> Result<Response, AllocError>
+    ensures value { IfOk result (λ response. response ≡ server_cancelled id) }
+    ensures writable { IfOk result (λ response. AreWritable (ResponseMessage response)) }
+{
+    let message = Text::from_str(alloc, "server cancelled the request")?;
+    let mut extra = Members::new(alloc);
+    extra.put(alloc, "retriggerRequest", Json::from_bool(true))?;
+    Ok(Response {
+        id: Some(id),
+        result: None,
+        error: Some(ResponseError {
+            code: -32802,
+            message,
+            extra: Some(extra.into_json()),
+        }),
+    })
+}
+
+/// The answer to a request whose job stopped for a later revision, and that isn't tried again.
+pub fn stopped_reply(alloc: Global, class: Class, id: RequestId) -> Result<Response, AllocError>
+    ensures value { IfOk result (λ response. response ≡ stopped_reply class id) }
+    ensures writable { IfOk result (λ response. AreWritable (ResponseMessage response)) }
+{
+    match class {
+        Class::DocumentDiagnostic => server_cancelled(alloc, id),
+        Class::State
+        | Class::OnLoop
+        | Class::Formatting
+        | Class::Latency
+        | Class::Worker
+        | Class::Identity => content_modified(alloc, id),
+    }
 }
 
 // A fault's own code, but for the one that says that memory ran out.
