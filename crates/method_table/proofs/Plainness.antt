@@ -1,12 +1,13 @@
 -- The defaults of the table are plain.
 use Rattle.std.proofs.Common.{◌≡◌, true, refl, ap, ◌∙◌}
-use Rattle.plain.specs.Plain.{is_plain}
+use Rattle.plain.specs.Plain.{is_plain, most_levels}
 use Rattle.serde_json.specs.Data.{Data}
 use Rattle.method_table.specs.Defaults.{value_of}
 use Rattle.method_table.specs.declared.default_value.DefaultValue.{DefaultValue}
 use Rattle.method_table.specs.declared.default_value.DefaultValue.TheVariants.{Null, EmptyText, EmptyList, EmptyObject, EmptyLabel, FullReport, NoCrates, NoTests}
 
 value_plain : (default : DefaultValue) → is_plain (value_of default) ≡ true
+unfolding most_levels
 value_plain Null = refl
 value_plain EmptyText = refl
 value_plain EmptyList = refl

@@ -71,10 +71,8 @@ fn no_tests(alloc: Global) -> Result<Json, NoMemory>
 }
 
 impl DefaultValue {
-    #[tactic(auto, using(crate::proofs::Plainness::default_plain))]
-    pub fn value(self, alloc: Global) -> Result<Json, NoMemory>
-        ensures value { IfOk result (λ json. json ≡ value_of self) }
-        ensures plain { IfOk result (λ json. is_plain json ≡ true) }
+    fn make(self, alloc: Global) -> Result<Json, NoMemory>
+        ensures { IfOk result (λ json. json ≡ value_of self) }
     {
         match self {
             DefaultValue::Null => Ok(Json::null()),
@@ -86,5 +84,14 @@ impl DefaultValue {
             DefaultValue::NoCrates => no_crates(alloc),
             DefaultValue::NoTests => no_tests(alloc),
         }
+    }
+
+    #[tactic(auto, using(crate::proofs::Plainness::default_plain))]
+    pub fn value(self, alloc: Global) -> Result<Json, NoMemory>
+        ensures value { IfOk result (λ json. json ≡ value_of self) }
+        ensures plain { IfOk result (λ json. is_plain json ≡ true) }
+    {
+        let json = self.make(alloc)?;
+        Ok(json)
     }
 }
