@@ -54,7 +54,7 @@ enum Expected {
     Job(&'static str),
 }
 
-fn expected(facts: &Facts, place: Place) -> Expected {
+fn answer_to(facts: &Facts, place: Place) -> Expected {
     if facts.method == "shutdown" {
         return Expected::Response(NULL);
     }
@@ -85,7 +85,7 @@ fn told(alloc: Global, expected: Expected) -> Result<String, Fail> {
 
 fn check(alloc: Global, facts: &Facts, place: Place) -> Result<bool, Fail> {
     let done = asked(alloc, facts.method, "{}", place)?;
-    Ok(done == told(alloc, expected(facts, place))?)
+    Ok(done == told(alloc, answer_to(facts, place))?)
 }
 
 fn all_are(alloc: Global, place: Place) -> Result<bool, Fail> {

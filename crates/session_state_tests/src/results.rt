@@ -26,7 +26,7 @@ static ASKED: [(&str, &str, Place, &str); 8] = [
         "textDocument/diagnostic",
         "null",
         LOADING,
-        "Content-Length: 90\r\n\r\n{\"id\":5,\"jsonrpc\":\"2.0\",\"result\":{\"items\":[],\"kind\":\"full\",\"resultId\":\"rust-analyzer\"}}",
+        "Content-Length: 87\r\n\r\n{\"id\":5,\"jsonrpc\":\"2.0\",\"result\":{\"items\":[],\"kind\":\"full\",\"resultId\":\"rust-analyzer\"}}",
     ),
     (
         "textDocument/hover",
@@ -38,19 +38,19 @@ static ASKED: [(&str, &str, Place, &str); 8] = [
         "textDocument/hover",
         "1.5",
         READY,
-        "Content-Length: 76\r\n\r\n{\"error\":{\"code\":-32602,\"message\":\"invalid params\"},\"id\":5,\"jsonrpc\":\"2.0\"}",
+        "Content-Length: 75\r\n\r\n{\"error\":{\"code\":-32602,\"message\":\"invalid params\"},\"id\":5,\"jsonrpc\":\"2.0\"}",
     ),
     (
         "x/y",
         "null",
         LOADING,
-        "Content-Length: 77\r\n\r\n{\"error\":{\"code\":-32601,\"message\":\"unknown request\"},\"id\":5,\"jsonrpc\":\"2.0\"}log",
+        "Content-Length: 76\r\n\r\n{\"error\":{\"code\":-32601,\"message\":\"unknown request\"},\"id\":5,\"jsonrpc\":\"2.0\"}log",
     ),
     (
         "experimental/runTest",
         "[]",
         READY,
-        "Content-Length: 76\r\n\r\n{\"error\":{\"code\":-32602,\"message\":\"invalid params\"},\"id\":5,\"jsonrpc\":\"2.0\"}",
+        "Content-Length: 75\r\n\r\n{\"error\":{\"code\":-32602,\"message\":\"invalid params\"},\"id\":5,\"jsonrpc\":\"2.0\"}",
     ),
     (
         "rust-analyzer/reloadWorkspace",
@@ -76,12 +76,12 @@ static TURNS: [(&[&str], Place, &str); 5] = [
     (
         &["textDocument/hover", "open", "stopped"],
         READY,
-        "Content-Length: 78\r\n\r\n{\"error\":{\"code\":-32801,\"message\":\"content modified\"},\"id\":5,\"jsonrpc\":\"2.0\"}",
+        "Content-Length: 77\r\n\r\n{\"error\":{\"code\":-32801,\"message\":\"content modified\"},\"id\":5,\"jsonrpc\":\"2.0\"}",
     ),
     (
         &["textDocument/diagnostic", "open", "stopped"],
         READY,
-        "Content-Length: 124\r\n\r\n{\"error\":{\"code\":-32802,\"data\":{\"retriggerRequest\":true},\"message\":\"server cancelled the request\"},\"id\":5,\"jsonrpc\":\"2.0\"}",
+        "Content-Length: 122\r\n\r\n{\"error\":{\"code\":-32802,\"data\":{\"retriggerRequest\":true},\"message\":\"server cancelled the request\"},\"id\":5,\"jsonrpc\":\"2.0\"}",
     ),
     // The texts stayed: it is tried again.
     (&["textDocument/hover", "stopped"], READY, "Worker"),

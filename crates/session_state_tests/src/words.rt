@@ -34,11 +34,11 @@ fn open(alloc: Global) -> Result<Event, Fail> {
 }
 
 /// The final result of the first job.
-fn ended(alloc: Global, result: JobResult) -> Result<Event, Fail> {
+fn ended(alloc: Global, outcome: JobResult) -> Result<Event, Fail> {
     let mut batch = Items::new(alloc);
     batch.push(TaskMsg {
         job: 1,
-        body: TaskBody::Final(result),
+        body: TaskBody::Final(outcome),
     })?;
     Ok(Event::Task(batch))
 }

@@ -1,6 +1,6 @@
 use Rattle.std.proofs.Common.{rules, tests, ◌≡◌, ◌<◌, Some, sym, ap, ◌∙◌}
-use Rattle.ra_config.proofs.SearchLaws.{at_root, walk, walk_found, walk_path}
-use Rattle.ra_config.proofs.settings.Settings.find_in_roots.Goals as goal
+use Rattle.layered_settings.proofs.SearchLaws.{at_root, walk, walk_found, walk_path}
+use Rattle.layered_settings.proofs.settings.Settings.find_in_roots.Goals as goal
 
 pub returns-in-Some-find_at_root-clause-value : goal.returns-in-Some-find_at_root-clause-value
 returns-in-Some-find_at_root-clause-value c =

@@ -6,9 +6,9 @@ use Rattle.std.specs.Ordering.{nat_cmp}
 use Rattle.std.specs.Cmp.{nat_cmp_total, unsigned_tied}
 use Rattle.std.specs.FinMap as map
 use Rattle.std.proofs.lemmas.Bool.Decides.{nat_tests}
-use Rattle.ra_config.specs.Change.{put_first, put_parents}
-use Rattle.ra_config.specs.Search.{Parents, parent_of, is_in, chain, or_else}
-use Rattle.ra_config.specs.PathLaws.{IsSearchPath, first_parent, PathsEnd, FirstPairHolds}
+use Rattle.layered_settings.specs.Change.{put_first, put_parents}
+use Rattle.layered_settings.specs.Search.{Parents, parent_of, is_in, chain, or_else}
+use Rattle.layered_settings.specs.PathLaws.{IsSearchPath, first_parent, PathsEnd, FirstPairHolds}
 
 same_number : (x y : ℕ) → (x == y) ≡ true → x ≡ y
 same_number x y h = grind (arith, nat_tests)

@@ -1,7 +1,7 @@
 use Rattle.std.proofs.Common.{◌≡◌, ◌++◌, drop}
 use Rattle.std.specs.FinMap as finmap
-use Rattle.ra_config.specs.Change.{held, over, put_files, tell_files}
-use Rattle.ra_config.proofs.change.read_sorted.Given as goal
+use Rattle.layered_settings.specs.Change.{held, over, put_files, tell_files}
+use Rattle.layered_settings.proofs.change.read_sorted.Given as goal
 
 abbrev pub invariant-loop-change : goal.invariant-loop-change
 invariant-loop-change l = record {

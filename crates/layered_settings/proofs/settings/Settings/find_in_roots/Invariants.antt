@@ -1,7 +1,7 @@
 use Rattle.std.proofs.Common.{◌≡◌, ◌+◌}
 use Rattle.std.specs.FinMap as map
-use Rattle.ra_config.proofs.SearchLaws.{walk}
-use Rattle.ra_config.proofs.settings.Settings.find_in_roots.Given as goal
+use Rattle.layered_settings.proofs.SearchLaws.{walk}
+use Rattle.layered_settings.proofs.settings.Settings.find_in_roots.Given as goal
 
 abbrev pub invariant-roots : goal.invariant-roots
 invariant-roots l = walk l.left l.row l.self l.at ≡ walk (map.len l.self.parents + 1) l.row l.self l.fn.root

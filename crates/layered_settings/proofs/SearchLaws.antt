@@ -5,7 +5,7 @@ use Rattle.std.specs.FinMap as map
 use Rattle.ra_settings.specs.declared.row.Row.{Row}
 use Rattle.ra_settings.specs.declared.value.SettingValue.{SettingValue}
 use Rattle.ra_settings.specs.Layers.{Values, value_at}
-use Rattle.ra_config.specs.Search.{SettingsData, parent_of, is_in, chain, layers_at, layers_of, or_else, first_in, roots_from, path}
+use Rattle.layered_settings.specs.Search.{SettingsData, parent_of, is_in, chain, layers_at, layers_of, or_else, first_in, roots_from, path}
 use Rattle.std.proofs.lemmas.Bool.Decides.{nat_tests}
 
 or_else-none : {A : Type 0} (x : Option A) → or_else x None ≡ x

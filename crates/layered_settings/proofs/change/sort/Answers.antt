@@ -1,9 +1,9 @@
 use Rattle.std.proofs.Common.{rules, ap, ◌∙◌}
 use Rattle.std.specs.Cmp.Lexicographic.{nat_list_cmp_total}
 use Rattle.plain.proofs.Stable.{sorted_by_key}
-use Rattle.ra_config.specs.declared.change.SettingsFile.{SettingsFile}
-use Rattle.ra_config.specs.Order.{by_path}
-use Rattle.ra_config.proofs.change.sort.Goals as goal
+use Rattle.layered_settings.specs.declared.change.SettingsFile.{SettingsFile}
+use Rattle.layered_settings.specs.Order.{by_path}
+use Rattle.layered_settings.proofs.change.sort.Goals as goal
 
 pub returns : goal.returns
 unfolding by_path

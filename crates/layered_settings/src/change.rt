@@ -3,8 +3,8 @@ ghost use Rattle.std.specs.Prelude.{◌≡◌, ◌++◌, ◌↔◌, [], ◌∷�
 ghost use Rattle.std.specs.FinMap as map;
 ghost use Rattle.ra_settings.specs.Layers.{nothing_set};
 ghost use Rattle.ra_settings.specs.declared.layer.Source.{Source};
-ghost use Rattle.ra_config.specs.Order.{by_path};
-ghost use Rattle.ra_config.specs.Change.{after, over, passed_over, errors_after, put_first, parents_of, parents_after, HasChanged, text_layer, text_errors, not_toml, files_after, files_errors, tree_in, client_after, client_errors, user_after, user_errors, held, put_files, tell_files};
+ghost use Rattle.layered_settings.specs.Order.{by_path};
+ghost use Rattle.layered_settings.specs.Change.{after, over, passed_over, errors_after, put_first, parents_of, parents_after, HasChanged, text_layer, text_errors, not_toml, files_after, files_errors, tree_in, client_after, client_errors, user_after, user_errors, held, put_files, tell_files};
 
 use crate::settings::{Files, Parents, Settings, SettingsParts};
 use docs_vfs::VfsPath;
@@ -366,12 +366,14 @@ impl ReadChange {
 
 /// Settings after a change, and what is to be told of it.
 #[derive(Drop)]
-pub(crate) struct ChangedSettings {
-    pub(crate) settings: Settings,
-    pub(crate) errors: Items<ConfigError>,
+pub struct ChangedSettings {
+    pub settings: Settings,
+    /// The errors of the values that the change brings.
+    pub errors: Items<ConfigError>,
     /// Whether the client's or the user's values changed.
-    pub(crate) changed: bool,
-    pub(crate) passed_over: Items<VfsPath>,
+    pub changed: bool,
+    /// The changed files that don't hold, since one of their root and kind has a smaller path.
+    pub passed_over: Items<VfsPath>,
 }
 
 impl Settings {
@@ -434,7 +436,7 @@ impl Settings {
 
     /// The settings after a change, and what is to be told of it.
     #[tactic(auto, unfolding(crate::specs::Change::after, crate::specs::Change::errors_after, crate::specs::Change::passed_over))]
-    pub(crate) fn after(
+    pub fn after(
         &self,
         alloc: Global,
         root: &VfsPath,

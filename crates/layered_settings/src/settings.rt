@@ -4,8 +4,8 @@ ghost use Rattle.std.specs.Option.{option_copied};
 ghost use Rattle.std.specs.FinMap as map;
 ghost use Rattle.ra_settings.specs.Facts.{facts_of};
 ghost use Rattle.ra_settings.specs.Values.{kind_of};
-ghost use Rattle.ra_config.specs.Change.{no_settings};
-ghost use Rattle.ra_config.specs.Search.{parent_of, layers_at, layers_of, roots_from, path, first_in, setting};
+ghost use Rattle.layered_settings.specs.Change.{no_settings};
+ghost use Rattle.layered_settings.specs.Search.{parent_of, layers_at, layers_of, roots_from, path, first_in, setting};
 
 use plain::ByNumber;
 use ra_settings::{Defaults, Layer, Row, SettingValue};
@@ -125,7 +125,7 @@ impl Clone for Parents {
 
 /// What is set. Clones share the values.
 #[derive(Drop)]
-pub(crate) struct Settings {
+pub struct Settings {
     client: Layer,
     user: Layer,
     workspaces: Files,
@@ -146,10 +146,10 @@ pub(crate) struct SettingsParts {
 
 impl Model for Settings {
     ghost use Rattle.std.specs.Coded.{codes};
-    ghost use Rattle.ra_config.specs.Search.{SettingsData};
+    ghost use Rattle.layered_settings.specs.Search.{SettingsData};
     ghost use Rattle.ra_settings.specs.contracts.layer.Layer as layer_row;
-    ghost use Rattle.ra_config.specs.contracts.settings.Files as files_row;
-    ghost use Rattle.ra_config.specs.contracts.settings.Parents as parents_row;
+    ghost use Rattle.layered_settings.specs.contracts.settings.Files as files_row;
+    ghost use Rattle.layered_settings.specs.contracts.settings.Parents as parents_row;
 
     ghost Value = { SettingsData };
 
@@ -193,7 +193,7 @@ impl Settings {
 
     /// Nothing is set.
     #[tactic(auto, unfolding(crate::specs::Change::no_settings))]
-    pub(crate) fn new(alloc: Global) -> Result<Settings, AllocError>
+    pub fn new(alloc: Global) -> Result<Settings, AllocError>
         ensures { IfOk result (λ settings. settings ≡ no_settings) }
     {
         let none = Layer::empty(alloc)?;
@@ -210,7 +210,7 @@ impl Settings {
     }
 
     /// The same with these values of the client.
-    pub(crate) fn with_client(self, client: Layer) -> Settings
+    pub fn with_client(self, client: Layer) -> Settings
         ensures { result ≡ record self { client = client } }
     {
         let Settings {
@@ -267,7 +267,7 @@ impl Settings {
 
     /// The value of a row at a root: the first on its search path, else its default.
     #[tactic(auto, unfolding(crate::specs::Search::setting))]
-    pub(crate) fn get(&self, row: Row, root: Option<u32>) -> &SettingValue
+    pub fn get(&self, row: Row, root: Option<u32>) -> &SettingValue
         ensures value { result.now ≡ setting row root self.now }
         ensures kind { kind_of result.now ≡ kind_of (facts_of row).default }
     {

@@ -5,13 +5,13 @@ use Rattle.std.specs.Ordering.{nat_cmp}
 use Rattle.serde_json.specs.Data.{Data, object, no_members}
 use Rattle.ra_settings.specs.declared.error.ConfigError.{ConfigError}
 use Rattle.ra_settings.specs.declared.layer.Source.{Source}
-use Rattle.ra_config.specs.declared.change.SettingsFile.{SettingsFile}
-use Rattle.ra_config.specs.declared.change.ConfigChange.{ConfigChange}
+use Rattle.layered_settings.specs.declared.change.SettingsFile.{SettingsFile}
+use Rattle.layered_settings.specs.declared.change.ConfigChange.{ConfigChange}
 use Rattle.ra_settings.specs.declared.row.TheConstants.{ROWS}
 use Rattle.ra_settings.specs.Layers.{Values, layer_of, errors_of, nothing_set}
-use Rattle.ra_config.specs.Search.{SettingsData, Layers, Parents}
+use Rattle.layered_settings.specs.Search.{SettingsData, Layers, Parents}
 use Rattle.ra_settings.specs.Toml.{toml_tree}
-use Rattle.ra_config.specs.Order.{by_path}
+use Rattle.layered_settings.specs.Order.{by_path}
 
 -- the tree of a text; a deleted file is an empty table
 abbrev pub tree_in : Option (List ℕ) → Option Data

@@ -1,8 +1,8 @@
 -- What the search path of a root is, and which parents hold, without a count of steps.
 use Rattle.std.specs.Prelude.{◌≡◌, ℕ, ◌+◌, ◌==◌, List, [], ◌∷◌, true, false, Option, Some, None, if◌then◌else◌}
 use Rattle.std.specs.FinMap as map
-use Rattle.ra_config.specs.Change.{parents_of}
-use Rattle.ra_config.specs.Search.{Parents, parent_of, is_in, chain}
+use Rattle.layered_settings.specs.Change.{parents_of}
+use Rattle.layered_settings.specs.Search.{Parents, parent_of, is_in, chain}
 
 -- the path is at its end: there is no root, or one that came before
 abbrev pub IsEnd : List ℕ → Option ℕ → Type 0
