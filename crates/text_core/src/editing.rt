@@ -356,7 +356,7 @@ pub fn edit_with_steps<L: Ledger>(
 }
 
 /// The same where nobody counts the steps.
-fn edit_uncounted_document<L: Ledger>(
+fn edit_document_uncounted<L: Ledger>(
     alloc: Global,
     encoding: PositionEncoding,
     index: &TextIndex,
@@ -387,5 +387,5 @@ pub fn edit_document(
     ensures skipped { let told = skips encoding u32.MAX index.now content_changes in
         IfOk result (λ edited. edited.skipped ≡ told) }
 {
-    edit_uncounted_document::<Brand>(alloc, encoding, index, content_changes, Blank::new(1))
+    edit_document_uncounted::<Brand>(alloc, encoding, index, content_changes, Blank::new(1))
 }
