@@ -7,7 +7,7 @@ use docs_vfs::VfsPath;
 use method_table::PoolClass;
 use plain::{Items, Json, SharedJson};
 use ra_config::Config;
-use session_peers::{HostileHost, RecordedCall, ScriptHost};
+use session_peers::{HostileHost, NullAnalysis, RecordedCall, ScriptHost};
 use session_port::{
     Command, Host, HostError, HostEvent, Job, JobKind, JobResult, JobValue, TaskBody, TaskMsg,
 };
@@ -99,7 +99,7 @@ pub trait Tireless {
     fn give(&mut self) -> Result<HostEvent, HostError>;
 }
 
-impl Tireless for ScriptHost<'_, Null> {
+impl Tireless for ScriptHost<'_, NullAnalysis> {
     fn give(&mut self) -> Result<HostEvent, HostError> {
         self.next()
     }
@@ -107,7 +107,7 @@ impl Tireless for ScriptHost<'_, Null> {
 
 impl Tireless for HostileHost {
     fn give(&mut self) -> Result<HostEvent, HostError> {
-        Host::<Null>::next(self)
+        Host::<NullAnalysis>::next(self)
     }
 }
 

@@ -27,7 +27,11 @@ fn host<'a>(
 }
 
 /// So many events of a host in words, or fewer where a call fails, after which none may be made.
-fn told(alloc: Global, host: &mut InlineHost<'_, Small, NullAnalysis>, count: u32) -> Result<String, Fail>
+fn told(
+    alloc: Global,
+    host: &mut InlineHost<'_, Small, NullAnalysis>,
+    count: u32,
+) -> Result<String, Fail>
     requires { host.old.spent ≡ false }
 {
     let mut all = String::new(alloc);

@@ -2,6 +2,7 @@
 use crate::fixtures::{job, result_text};
 use analysis_host::{Cancel, Never};
 use plain::Json;
+use session_peers::NullAnalysis;
 use session_port::{HostEvent, JobResult, JobValue, TaskBody, TaskMsg, run_job};
 use std::alloc::Global;
 use std::test::Fail;

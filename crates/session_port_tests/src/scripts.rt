@@ -130,7 +130,12 @@ fn next_of<H: Host<NullAnalysis> + Drop>(mut host: H) -> Result<HostEvent, HostE
 #[test]
 fn a_lent_host_is_one(rt: HostRuntime) -> Result<(), Fail> {
     let alloc = rt.alloc();
-    let mut host = ScriptHost::new(alloc, &NullAnalysis, finishing(alloc)?, numbers(alloc, &[])?)?;
+    let mut host = ScriptHost::new(
+        alloc,
+        &NullAnalysis,
+        finishing(alloc)?,
+        numbers(alloc, &[])?,
+    )?;
     let event = next_of(&mut host);
     assert_eq!(rt; event_text(alloc, event)?.as_str(), "ab");
     assert_eq!(rt; host.calls().len(), 1);
