@@ -3,8 +3,7 @@ use Rattle.std.proofs.Common.{◌≡◌, ℕ, ◌+◌, ◌-◌, ◌^◌, ◌≤�
 use Rattle.std.proofs.lemmas.Bool.{ltb-false}
 use Rattle.std.proofs.lemmas.List.{length-append}
 use Rattle.std.proofs.lemmas.Result.{IfErr-at_err, IfOk-at_ok}
-use Rattle.std.specs.Prelude.{Result, Ok, Err, IfErr, ℤ, Option, None, Some, ◌&&◌, not, is_some, if◌then◌else◌, ltb, codes, nat_eq}
-use Rattle.std.specs.List.{starts_with}
+use Rattle.std.specs.Prelude.{Result, Ok, Err, IfErr, ℤ, Option, None, Some, ◌&&◌, not, is_some, if◌then◌else◌, ltb}
 use Rattle.std.specs.FinMap as map
 use Rattle.serde_json.specs.Data.{Data}
 use Rattle.docs_vfs.specs.FileUrls.{path_of}
@@ -27,22 +26,20 @@ use Rattle.method_table.specs.declared.row_id.RowId.{RowId}
 use Rattle.analysis_host.specs.declared.host.WorldFault.TheVariants.{Exhausted}
 use Rattle.session_port.specs.Jobs.{ticket_of, final_of, fitting_job, after_message}
 use Rattle.session_port.specs.declared.command.LogCode.{LogCode}
-use Rattle.session_port.specs.declared.command.LogCode.TheVariants.{UnhandledNotification, DuplicateOpen, UnexpectedChange, SkippedChange}
+use Rattle.session_port.specs.declared.command.LogCode.TheVariants.{DuplicateOpen, UnexpectedChange, SkippedChange}
 use Rattle.session_port.specs.declared.event.TaskMsg.{TaskMsg}
 use Rattle.session_port.specs.declared.job.Job.{Job}
 use Rattle.session_port.specs.declared.job.JobKind.{JobKind}
 use Rattle.session_port.specs.declared.job.JobKind.TheVariants.{Request as RequestJob}
 use Rattle.session_port.specs.declared.job.JobResult.{JobResult}
-use Rattle.session_model.specs.Cancelling.{cancel_of}
-use Rattle.session_model.specs.Changing.{changed_of, text_after, has_skipped}
+use Rattle.session_model.specs.Changing.{text_after, has_skipped}
 use Rattle.session_model.specs.Headline.{Place, NeedsMore, Reaction, row, says, new_row, snapshot_at, hands_over, if_read, planned_row, class_row, stopped_row, result_row, ticket_row, final_row, message_row, batch_row, place_past}
-use Rattle.session_model.specs.Machine.{Working, and_then, next_number, counted, dispatched, submitted, planned, classed, asked, noted, shut_down, admitted, requested, answered, opened, opened_at, open_noted, is_open, changed, changed_at, cancelled, skip_noted, version_set, text_set, edited, edited_by, holds_text, world_changed, world_by, notified, received, logged, ordered, stopped, settled, delivered, ended, taken, batched, happened, taken_in, step}
+use Rattle.session_model.specs.Machine.{Working, and_then, next_number, counted, dispatched, submitted, planned, classed, asked, noted, shut_down, admitted, requested, answered, opened_at, open_noted, is_open, changed_at, skip_noted, version_set, text_set, edited, edited_by, holds_text, world_changed, world_by, noticed, received, logged, ordered, stopped, settled, delivered, ended, taken, batched, happened, taken_in, step}
 use Rattle.session_model.specs.Meaning.{Meaning, can_read}
-use Rattle.session_model.specs.Opening.{opened_of}
+use Rattle.session_model.specs.Notices.{notice_of}
 use Rattle.session_model.specs.Replies.{stopped_reply, finished_reply}
 use Rattle.session_model.specs.Run.{begun}
 use Rattle.session_model.specs.State.{State}
-use Rattle.session_model.specs.Texts.{same_text}
 use Rattle.session_model.specs.declared.fault.Counter.{Counter}
 use Rattle.session_model.specs.declared.fault.Counter.TheVariants.{Turns, Jobs, Revisions}
 use Rattle.session_model.specs.declared.input.Event.{Event}
@@ -51,6 +48,8 @@ use Rattle.session_model.specs.declared.input.Input.{Input}
 use Rattle.session_model.specs.declared.input.Input.TheVariants.{Start, Next}
 use Rattle.session_model.specs.declared.notice.DidChange.{DidChange}
 use Rattle.session_model.specs.declared.notice.DidOpen.{DidOpen}
+use Rattle.session_model.specs.declared.notice.Notice.{Notice}
+use Rattle.session_model.specs.declared.notice.Notice.TheVariants.{Opened, Changed, Cancel, Malformed, Unhandled, Silent}
 use Rattle.session_laws.specs.Invariant.{place_of}
 use Rattle.session_laws.proofs.Rows.{counted_turn}
 use Rattle.session_laws.proofs.Settling.{Settled, place_at, without, message-settles, settled-place}
@@ -237,11 +236,6 @@ unfolding opened_at open_noted
 open-path-errs (Err fault) document w = tt
 open-path-errs (Ok path) document w = noted-errs DuplicateOpen path document.version document.text w (is_open path w)
 
-opened-errs : (o : Option DidOpen) (method : List ℕ) (w : Working) → IfErr (opened o method w) (AtLast w.state.host.revision)
-unfolding opened
-opened-errs None method w = tt
-opened-errs (Some document) method w = open-path-errs (path_of document.uri) document w
-
 is_open-errs : (path : List ℕ) (change : DidChange) (w : Working) (b : Bool) → IfErr (if b then edited path change w else Ok (logged UnexpectedChange path w)) (AtLast w.state.host.revision)
 unfolding edited edited_by skip_noted
 is_open-errs path change w true =
@@ -253,24 +247,14 @@ unfolding changed_at
 change-path-errs (Err fault) change w = tt
 change-path-errs (Ok path) change w = is_open-errs path change w (is_open path w)
 
-changed-errs : (o : Option DidChange) (method : List ℕ) (w : Working) → IfErr (changed o method w) (AtLast w.state.host.revision)
-unfolding changed
-changed-errs None method w = tt
-changed-errs (Some change) method w = change-path-errs (path_of change.uri) change w
-
-notify-cases : (n : Notification) (w quiet unhandled : Working) (named_open is_change is_cancel is_quiet : Bool)
-    → IfErr (if named_open then opened (opened_of n.params) n.method w else if is_change then changed (changed_of n.params) n.method w
-    else if is_cancel then Ok (cancelled (cancel_of n.params) n.method w) else if is_quiet then Ok quiet else Ok unhandled) (AtLast w.state.host.revision)
-notify-cases n w quiet unhandled true is_change is_cancel is_quiet = opened-errs (opened_of n.params) n.method w
-notify-cases n w quiet unhandled false true is_cancel is_quiet = changed-errs (changed_of n.params) n.method w
-notify-cases n w quiet unhandled false false true is_quiet = tt
-notify-cases n w quiet unhandled false false false true = tt
-notify-cases n w quiet unhandled false false false false = tt
-
-notify-errs : (n : Notification) (w : Working) → IfErr (notified n w) (AtLast w.state.host.revision)
-unfolding notified
-notify-errs n w = notify-cases n w w (logged UnhandledNotification n.method w) (same_text n.method (codes "textDocument/didOpen")) (same_text n.method (codes "textDocument/didChange"))
-    (same_text n.method (codes "$/cancelRequest")) (starts_with nat_eq n.method (codes "$/"))
+notice-errs : (notice : Notice) (method : List ℕ) (w : Working) → IfErr (noticed notice method w) (AtLast w.state.host.revision)
+unfolding noticed
+notice-errs (Opened document) method w = open-path-errs (path_of document.uri) document w
+notice-errs (Changed change) method w = change-path-errs (path_of change.uri) change w
+notice-errs (Cancel id) method w = tt
+notice-errs Malformed method w = tt
+notice-errs Unhandled method w = tt
+notice-errs Silent method w = tt
 
 needs-revision : (meaning : Meaning) (s : State) (input : Input) (counter : Counter) → AtLast s.host.revision counter → Needs meaning s input counter
 needs-revision meaning s input counter h = subst (Needs meaning s input) (sym h.0) h.1
@@ -281,7 +265,7 @@ event-errs : (meaning : Meaning) (s : State) (event : Event) → IfErr (happened
 unfolding happened received
 event-errs meaning s (Lsp (RequestMessage r)) = request-errs meaning s r
 event-errs meaning s (Lsp (NotificationMessage n)) =
-    err-weaker _ (AtLast s.host.revision) _ (notify-errs n (counted_turn s)) (λ c h. needs-revision meaning s (Next (Lsp (NotificationMessage n))) c h)
+    err-weaker _ (AtLast s.host.revision) _ (notice-errs (notice_of n) n.method (counted_turn s)) (λ c h. needs-revision meaning s (Next (Lsp (NotificationMessage n))) c h)
 event-errs meaning s (Lsp (ResponseMessage r)) = tt
 event-errs meaning s (Task batch) =
     let done = batch_row meaning s.config batch (place_of s) in

@@ -1,6 +1,6 @@
 -- The jobs that a turn hands over have the numbers after those that were given.
 use Rattle.std.proofs.Common.{◌≡◌, ℕ, ◌+◌, List, [], ◌∷◌, ◌++◌, length, Bool, true, false, refl, sym, ap, ◌∙◌, subst, arith, inl, inr}
-use Rattle.std.specs.Prelude.{Option, None, Some, codes, if◌then◌else◌}
+use Rattle.std.specs.Prelude.{Option, None, Some, if◌then◌else◌}
 use Rattle.std.proofs.lemmas.List.{length-append}
 use Rattle.serde_json.specs.Data.{Data}
 use Rattle.lsp_frame.specs.Pending.{is_pending, id_of}
@@ -16,13 +16,14 @@ use Rattle.session_port.specs.Record.{AreRising, last_number, spawned}
 use Rattle.session_port.specs.declared.event.TaskMsg.{TaskMsg}
 use Rattle.session_port.specs.declared.job.Job.{Job}
 use Rattle.session_port.specs.declared.job.JobResult.{JobResult}
-use Rattle.session_model.specs.Cancelling.{cancel_of}
-use Rattle.session_model.specs.Headline.{Place, Reaction, snapshot_at, hands_over, new_row, request_row, cancel_row, ticket_row, final_row, message_row, place_past, batch_row, row}
+use Rattle.session_model.specs.Notices.{notice_of}
+use Rattle.session_model.specs.Headline.{Place, Reaction, snapshot_at, hands_over, new_row, request_row, notice_row, ticket_row, final_row, message_row, place_past, batch_row, row}
 use Rattle.session_model.specs.Meaning.{Meaning}
 use Rattle.session_model.specs.Replies.{finished_reply}
 use Rattle.session_model.specs.Run.{Turn, Steps}
 use Rattle.session_model.specs.State.{State}
-use Rattle.session_model.specs.Texts.{same_text}
+use Rattle.session_model.specs.declared.notice.Notice.{Notice}
+use Rattle.session_model.specs.declared.notice.Notice.TheVariants.{Opened, Changed, Cancel, Malformed, Unhandled, Silent}
 use Rattle.session_model.specs.declared.input.Event.TheVariants.{Lsp, Task}
 use Rattle.session_model.specs.declared.input.Input.{Input}
 use Rattle.session_model.specs.declared.input.Input.TheVariants.{Start, Next}
@@ -74,9 +75,13 @@ request-follow meaning config place r =
     either-follow place.handed (is_pending r.id place.pending) _ _ (none-follow place.handed)
     (reacts-follow config place place.number r.id (new_row meaning config place r) (new-reacts meaning config place r))
 
-cancel-follow : (o : Option RequestId) (place : Place) → Follow place.handed (cancel_row o place).jobs
-cancel-follow None place = none-follow place.handed
-cancel-follow (Some id) place = either-follow place.handed (is_pending id place.pending) _ _ (none-follow place.handed) (none-follow place.handed)
+notice-follow : (notice : Notice) (place : Place) → Follow place.handed (notice_row notice place).jobs
+notice-follow (Cancel id) place = either-follow place.handed (is_pending id place.pending) _ _ (none-follow place.handed) (none-follow place.handed)
+notice-follow (Opened document) place = none-follow place.handed
+notice-follow (Changed change) place = none-follow place.handed
+notice-follow Malformed place = none-follow place.handed
+notice-follow Unhandled place = none-follow place.handed
+notice-follow Silent place = none-follow place.handed
 
 ticket-follow : (meaning : Meaning) (config : ConfigData) (place : Place) (o : Option RequestId) (job : Job) (result : JobResult) → Follow place.handed (ticket_row meaning config place o job result).jobs
 ticket-follow meaning config place None job result = none-follow place.handed
@@ -97,7 +102,7 @@ batch-follow meaning config (m ∷ ms) place =
 row-follow : (meaning : Meaning) (config : ConfigData) (input : Input) (place : Place) → Follow place.handed (row meaning config input place).jobs
 row-follow meaning config Start place = none-follow place.handed
 row-follow meaning config (Next (Lsp (RequestMessage r))) place = request-follow meaning config place r
-row-follow meaning config (Next (Lsp (NotificationMessage n))) place = either-follow place.handed (same_text n.method (codes "$/cancelRequest")) _ _ (cancel-follow (cancel_of n.params) place) (none-follow place.handed)
+row-follow meaning config (Next (Lsp (NotificationMessage n))) place = notice-follow (notice_of n) place
 row-follow meaning config (Next (Lsp (ResponseMessage r))) place = none-follow place.handed
 row-follow meaning config (Next (Task batch)) place = batch-follow meaning config batch place
 

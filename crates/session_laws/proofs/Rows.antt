@@ -2,9 +2,8 @@
 use Rattle.std.proofs.Common.{◌≡◌, ◌≢◌, ℕ, ◌+◌, ◌-◌, ◌^◌, ◌≤◌, List, [], ◌∷◌, ◌++◌, length, Bool, true, false, refl, sym, ap, ◌∙◌, arith, eqb-true, append-nil, inl, inr}
 use Rattle.std.proofs.lemmas.Bool.{true≢false}
 use Rattle.docs_vfs.specs.Paths.{path_cmp}
-use Rattle.std.specs.Prelude.{◌⊎◌, Result, Ok, Err, IfOk, ℤ, Option, None, Some, ◌==◌, ◌&&◌, is_some, if◌then◌else◌, ltb, codes, nat_eq}
+use Rattle.std.specs.Prelude.{◌⊎◌, Result, Ok, Err, IfOk, ℤ, Option, None, Some, ◌==◌, ◌&&◌, is_some, if◌then◌else◌, ltb}
 use Rattle.std.specs.Cmp.Lexicographic.{bytes_decides}
-use Rattle.std.specs.List.{starts_with}
 use Rattle.std.specs.FinMap as map
 use Rattle.std.proofs.lemmas.Result.{IfOk-at_ok}
 use Rattle.serde_json.specs.Data.{null}
@@ -25,16 +24,15 @@ use Rattle.analysis_host.specs.declared.host.WorldFault.TheVariants.{Exhausted}
 use Rattle.session_port.specs.Record.{spawned, with_jobs}
 use Rattle.session_port.specs.declared.command.Command.TheVariants.{Revise}
 use Rattle.session_port.specs.declared.command.LogCode.{LogCode}
-use Rattle.session_port.specs.declared.command.LogCode.TheVariants.{UnhandledNotification, DuplicateOpen, UnexpectedChange, SkippedChange}
+use Rattle.session_port.specs.declared.command.LogCode.TheVariants.{DuplicateOpen, UnexpectedChange, SkippedChange}
 use Rattle.session_port.specs.declared.event.TaskMsg.{TaskMsg}
 use Rattle.session_port.specs.declared.job.Job.{Job}
-use Rattle.session_model.specs.Cancelling.{cancel_of}
-use Rattle.session_model.specs.Changing.{changed_of, text_after, has_skipped}
-use Rattle.session_model.specs.Headline.{Documents, Reaction, Revises, silent, says, reaction_of, row, class_row, new_row, notification_row, batch_row, place_after, number_after, documents_after, pending_after, revision_after, shutdown_after, closed_by}
+use Rattle.session_model.specs.Changing.{text_after, has_skipped}
+use Rattle.session_model.specs.Headline.{Documents, Reaction, Revises, silent, says, reaction_of, row, class_row, new_row, notice_row, batch_row, place_after, number_after, documents_after, pending_after, revision_after, shutdown_after, closed_by}
 use Rattle.session_laws.specs.Invariant.{StepFits, place_of}
-use Rattle.session_model.specs.Machine.{Working, and_then, next_number, counted, asked, noted, unknown, shut_down, admitted, requested, opened, opened_at, open_noted, changed, changed_at, cancelled, version_set, text_set, skip_noted, edited, edited_by, holds_text, world_changed, world_by, notified, received, answered, replied, logged, ordered, batched, happened, taken_in, kept, revised, step}
+use Rattle.session_model.specs.Machine.{Working, and_then, next_number, counted, asked, noted, unknown, shut_down, admitted, requested, opened_at, open_noted, changed_at, cancelled, version_set, text_set, skip_noted, edited, edited_by, holds_text, world_changed, world_by, noticed, received, answered, replied, logged, ordered, batched, happened, taken_in, kept, revised, step}
 use Rattle.session_model.specs.Meaning.{Meaning}
-use Rattle.session_model.specs.Opening.{opened_of}
+use Rattle.session_model.specs.Notices.{notice_of}
 use Rattle.session_model.specs.Replies.{already_pending, shut_already, unknown_request, invalid_params, canceled_by_client, response_with}
 use Rattle.session_model.specs.Run.{Turn, Steps, begun, after_input}
 use Rattle.session_model.specs.State.{State}
@@ -47,6 +45,8 @@ use Rattle.session_model.specs.declared.input.Input.{Input}
 use Rattle.session_model.specs.declared.input.Input.TheVariants.{Start, Next}
 use Rattle.session_model.specs.declared.notice.DidChange.{DidChange}
 use Rattle.session_model.specs.declared.notice.DidOpen.{DidOpen}
+use Rattle.session_model.specs.declared.notice.Notice.{Notice}
+use Rattle.session_model.specs.declared.notice.Notice.TheVariants.{Opened, Changed, Cancel, Malformed, Unhandled, Silent}
 use Rattle.session_laws.proofs.Appends.{spawned-append, revision-append}
 use Rattle.session_laws.proofs.Keyed.{insert-there, get-insert_same}
 use Rattle.session_laws.proofs.Orders.{by_path_total, by_path_same}
@@ -197,7 +197,7 @@ abbrev notification_input : Notification → Input
 notification_input n = Next (Lsp (NotificationMessage n))
 
 -- a notification that leaves the documents as they are, and what was done for it
-notification-mid : (meaning : Meaning) (s : State) (n : Notification) (done : Reaction) (u : Working) → notification_row n (place_of s) ≡ done → documents_after (notification_input n) (place_of s).documents ≡ (place_of s).documents
+notification-mid : (meaning : Meaning) (s : State) (n : Notification) (done : Reaction) (u : Working) → notice_row (notice_of n) (place_of s) ≡ done → documents_after (notification_input n) (place_of s).documents ≡ (place_of s).documents
     → Settled (counted_turn s) u done s.jobs → Mid meaning s (notification_input n) u
 notification-mid meaning s n done u is same a = record {
   turns = ap (λ (t : State). t.turns + 1) a.same;
@@ -224,10 +224,6 @@ record IsQuiet (out : Written) : Type 0 where
 same_text-is : (a b : List ℕ) → same_text a b ≡ true → a ≡ b
 same_text-is a b e = (bytes_decides a b).0 e
 
--- a text that is one name is no other
-other-name : (m a b : List ℕ) → same_text m a ≡ true → same_text a b ≡ false → same_text m b ≡ false
-other-name m a b is apart = ap (λ x. same_text x b) (same_text-is m a is) ∙ apart
-
 -- where the world has the text, it has it
 held-there : (o : Option (List ℕ)) (text : List ℕ) → holds_text o text ≡ true → o ≡ Some text
 held-there None text e = absurd cc
@@ -235,7 +231,7 @@ held-there (Some held) text e = ap Some (same_text-is held text e)
 
 -- the notification sets the version and the text of a path
 record Sets (s : State) (n : Notification) (path : List ℕ) (version : ℤ) (text : List ℕ) : Type 0 where
-  other : same_text n.method (codes "$/cancelRequest") ≡ false
+  silent : notice_row (notice_of n) (place_of s) ≡ silent
   texts : (documents_after (notification_input n) (place_of s).documents).texts ≡ map.insert s.host.world.texts path text
   versions : (documents_after (notification_input n) (place_of s).documents).versions ≡ map.insert s.versions path version
 
@@ -250,7 +246,7 @@ set-mid : (meaning : Meaning) (s : State) (n : Notification) (path : List ℕ) (
 set-mid meaning s n path version text out host quiet sets texts later raised = record {
   turns = refl;
   config = refl;
-  does = (λ i. record { messages = quiet.written i; jobs = quiet.none i }) ∙ sym (rw sets.other refl);
+  does = (λ i. record { messages = quiet.written i; jobs = quiet.none i }) ∙ sym sets.silent;
   texts = texts ∙ sym sets.texts;
   versions = sym sets.versions;
   pending = sym (ap (λ (ms : List Message). closed_by ms s.pending) quiet.written);
@@ -303,87 +299,47 @@ noted-cases meaning s n code path version text true sets = text-mid meaning s n 
 noted-cases meaning s n code path version text false sets = text-mid meaning s n path version text _ (record { written = refl; none = refl; unrevised = λ q. refl }) sets
 
 -- a log line alone
-logged-mid : (meaning : Meaning) (s : State) (n : Notification) (code : LogCode) (text : List ℕ) → same_text n.method (codes "$/cancelRequest") ≡ false → documents_after (notification_input n) (place_of s).documents ≡ (place_of s).documents
-    → Mid meaning s (notification_input n) (logged code text (counted_turn s))
-logged-mid meaning s n code text other same = notification-mid meaning s n silent _ (rw other refl) same (log-settles code text (counted_turn s))
+logged-mid : (meaning : Meaning) (s : State) (n : Notification) (code : LogCode) (text : List ℕ) → notice_row (notice_of n) (place_of s) ≡ silent
+    → documents_after (notification_input n) (place_of s).documents ≡ (place_of s).documents → Mid meaning s (notification_input n) (logged code text (counted_turn s))
+logged-mid meaning s n code text quiet same = notification-mid meaning s n silent _ quiet same (log-settles code text (counted_turn s))
 
-open-path-cases : (meaning : Meaning) (s : State) (n : Notification) (document : DidOpen) (o : Result (List ℕ) UrlFault) → same_text n.method (codes "textDocument/didOpen") ≡ true → opened_of n.params ≡ Some document → path_of document.uri ≡ o
+opened-cases : (meaning : Meaning) (s : State) (n : Notification) (document : DidOpen) (o : Result (List ℕ) UrlFault) → notice_of n ≡ Opened document → path_of document.uri ≡ o
     → IfOk (opened_at o document (counted_turn s)) (Mid meaning s (notification_input n))
 unfolding opened_at open_noted
-open-path-cases meaning s n document (Err fault) named reads is = logged-mid meaning s n _ _ (other-name n.method _ _ named refl) (rw (named, reads, is) refl)
-open-path-cases meaning s n document (Ok path) named reads is =
+opened-cases meaning s n document (Err fault) told is = logged-mid meaning s n _ _ (rw told refl) (rw (told, is) refl)
+opened-cases meaning s n document (Ok path) told is =
     noted-cases meaning s n DuplicateOpen path document.version document.text (is_some (map.get s.versions path))
-    (record { other = other-name n.method _ _ named refl; texts = rw (named, reads, is) refl; versions = rw (named, reads, is) refl })
+    (record { silent = rw told refl; texts = rw (told, is) refl; versions = rw (told, is) refl })
 
-opened-cases : (meaning : Meaning) (s : State) (n : Notification) (o : Option DidOpen) → same_text n.method (codes "textDocument/didOpen") ≡ true → opened_of n.params ≡ o
-    → IfOk (opened o n.method (counted_turn s)) (Mid meaning s (notification_input n))
-unfolding opened
-opened-cases meaning s n None named reads = logged-mid meaning s n _ _ (other-name n.method _ _ named refl) (rw (named, reads) refl)
-opened-cases meaning s n (Some document) named reads = open-path-cases meaning s n document (path_of document.uri) named reads refl
-
--- the notification is a change
-record IsChange (n : Notification) : Type 0 where
-  unlike : same_text n.method (codes "textDocument/didOpen") ≡ false
-  named : same_text n.method (codes "textDocument/didChange") ≡ true
-  other : same_text n.method (codes "$/cancelRequest") ≡ false
-
-is_open-cases : (meaning : Meaning) (s : State) (n : Notification) (change : DidChange) (path : List ℕ) (b : Bool) → IsChange n → changed_of n.params ≡ Some change → path_of change.uri ≡ Ok path → is_some (map.get s.versions path) ≡ b
+is_open-cases : (meaning : Meaning) (s : State) (n : Notification) (change : DidChange) (path : List ℕ) (b : Bool) → notice_of n ≡ Changed change → path_of change.uri ≡ Ok path → is_some (map.get s.versions path) ≡ b
     → IfOk (if b then edited path change (counted_turn s) else Ok (logged UnexpectedChange path (counted_turn s))) (Mid meaning s (notification_input n))
 unfolding edited edited_by skip_noted
-is_open-cases meaning s n change path true named reads is stays =
+is_open-cases meaning s n change path true told is stays =
     let held = map.get s.host.world.texts path in
     noted-cases meaning s n SkippedChange path change.version (text_after change.changes held) (has_skipped change.changes held)
-    (record { other = named.other; texts = rw (named.unlike, named.named, reads, is, stays) refl; versions = rw (named.unlike, named.named, reads, is, stays) refl })
-is_open-cases meaning s n change path false named reads is shut = logged-mid meaning s n _ _ named.other (rw (named.unlike, named.named, reads, is, shut) refl)
+    (record { silent = rw told refl; texts = rw (told, is, stays) refl; versions = rw (told, is, stays) refl })
+is_open-cases meaning s n change path false told is shut = logged-mid meaning s n _ _ (rw told refl) (rw (told, is, shut) refl)
 
-change-path-cases : (meaning : Meaning) (s : State) (n : Notification) (change : DidChange) (o : Result (List ℕ) UrlFault) → IsChange n → changed_of n.params ≡ Some change → path_of change.uri ≡ o
+changed-cases : (meaning : Meaning) (s : State) (n : Notification) (change : DidChange) (o : Result (List ℕ) UrlFault) → notice_of n ≡ Changed change → path_of change.uri ≡ o
     → IfOk (changed_at o change (counted_turn s)) (Mid meaning s (notification_input n))
 unfolding changed_at
-change-path-cases meaning s n change (Err fault) named reads is = logged-mid meaning s n _ _ named.other (rw (named.unlike, named.named, reads, is) refl)
-change-path-cases meaning s n change (Ok path) named reads is = is_open-cases meaning s n change path (is_some (map.get s.versions path)) named reads is refl
+changed-cases meaning s n change (Err fault) told is = logged-mid meaning s n _ _ (rw told refl) (rw (told, is) refl)
+changed-cases meaning s n change (Ok path) told is = is_open-cases meaning s n change path (is_some (map.get s.versions path)) told is refl
 
-changed-cases : (meaning : Meaning) (s : State) (n : Notification) (o : Option DidChange) → IsChange n → changed_of n.params ≡ o
-    → IfOk (changed o n.method (counted_turn s)) (Mid meaning s (notification_input n))
-unfolding changed
-changed-cases meaning s n None named reads = logged-mid meaning s n _ _ named.other (rw (named.unlike, named.named, reads) refl)
-changed-cases meaning s n (Some change) named reads = change-path-cases meaning s n change (path_of change.uri) named reads refl
-
--- the notification cancels a request
-record IsCancel (n : Notification) : Type 0 where
-  no_open : same_text n.method (codes "textDocument/didOpen") ≡ false
-  no_change : same_text n.method (codes "textDocument/didChange") ≡ false
-  named : same_text n.method (codes "$/cancelRequest") ≡ true
-
-waits-cases : (meaning : Meaning) (s : State) (n : Notification) (id : RequestId) (b : Bool) → IsCancel n → cancel_of n.params ≡ Some id → is_pending id s.pending ≡ b
+cancel-cases : (meaning : Meaning) (s : State) (n : Notification) (id : RequestId) (b : Bool) → notice_of n ≡ Cancel id → is_pending id s.pending ≡ b
     → Mid meaning s (notification_input n) (if b then answered id (canceled_by_client id) (counted_turn s) else counted_turn s)
-waits-cases meaning s n id true named reads waits =
-    notification-mid meaning s n (says (canceled_by_client id)) _ (rw (named.named, reads, waits) refl) (rw (named.no_open, named.no_change) refl) (answer-settles id (canceled_by_client id) (counted_turn s) refl)
-waits-cases meaning s n id false named reads none =
-    notification-mid meaning s n silent _ (rw (named.named, reads, none) refl) (rw (named.no_open, named.no_change) refl) (nothing-settles (counted_turn s))
+cancel-cases meaning s n id true told waits =
+    notification-mid meaning s n (says (canceled_by_client id)) _ (rw (told, waits) refl) (rw told refl) (answer-settles id (canceled_by_client id) (counted_turn s) refl)
+cancel-cases meaning s n id false told none = notification-mid meaning s n silent _ (rw (told, none) refl) (rw told refl) (nothing-settles (counted_turn s))
 
-cancel-cases : (meaning : Meaning) (s : State) (n : Notification) (o : Option RequestId) → IsCancel n → cancel_of n.params ≡ o → Mid meaning s (notification_input n) (cancelled o n.method (counted_turn s))
-unfolding cancelled
-cancel-cases meaning s n None named reads = notification-mid meaning s n silent _ (rw (named.named, reads) refl) (rw (named.no_open, named.no_change) refl) (log-settles _ _ (counted_turn s))
-cancel-cases meaning s n (Some id) named reads = waits-cases meaning s n id (is_pending id s.pending) named reads refl
-
-other-cases : (meaning : Meaning) (s : State) (n : Notification) (b c : Bool) → same_text n.method (codes "textDocument/didOpen") ≡ false → same_text n.method (codes "textDocument/didChange") ≡ false → same_text n.method (codes "$/cancelRequest") ≡ b
-    → IfOk {E = Counter} (if b then Ok (cancelled (cancel_of n.params) n.method (counted_turn s)) else if c then Ok (counted_turn s) else Ok (logged UnhandledNotification n.method (counted_turn s))) (Mid meaning s (notification_input n))
-other-cases meaning s n true c no_open no_change named = cancel-cases meaning s n (cancel_of n.params) (record { no_open = no_open; no_change = no_change; named = named }) refl
-other-cases meaning s n false true no_open no_change other = notification-mid meaning s n silent _ (rw other refl) (rw (no_open, no_change) refl) (nothing-settles (counted_turn s))
-other-cases meaning s n false false no_open no_change other = logged-mid meaning s n _ _ other (rw (no_open, no_change) refl)
-
-change-cases : (meaning : Meaning) (s : State) (n : Notification) (b : Bool) → same_text n.method (codes "textDocument/didOpen") ≡ false → same_text n.method (codes "textDocument/didChange") ≡ b
-    → IfOk (if b then changed (changed_of n.params) n.method (counted_turn s) else if same_text n.method (codes "$/cancelRequest") then Ok (cancelled (cancel_of n.params) n.method (counted_turn s))
-    else if starts_with nat_eq n.method (codes "$/") then Ok (counted_turn s) else Ok (logged UnhandledNotification n.method (counted_turn s))) (Mid meaning s (notification_input n))
-change-cases meaning s n true no_open named = changed-cases meaning s n (changed_of n.params) (record { unlike = no_open; named = named; other = other-name n.method _ _ named refl }) refl
-change-cases meaning s n false no_open other = other-cases meaning s n (same_text n.method (codes "$/cancelRequest")) (starts_with nat_eq n.method (codes "$/")) no_open other refl
-
-notify-cases : (meaning : Meaning) (s : State) (n : Notification) (b : Bool) → same_text n.method (codes "textDocument/didOpen") ≡ b
-    → IfOk (if b then opened (opened_of n.params) n.method (counted_turn s) else if same_text n.method (codes "textDocument/didChange") then changed (changed_of n.params) n.method (counted_turn s)
-    else if same_text n.method (codes "$/cancelRequest") then Ok (cancelled (cancel_of n.params) n.method (counted_turn s))
-    else if starts_with nat_eq n.method (codes "$/") then Ok (counted_turn s) else Ok (logged UnhandledNotification n.method (counted_turn s))) (Mid meaning s (notification_input n))
-notify-cases meaning s n true named = opened-cases meaning s n (opened_of n.params) named refl
-notify-cases meaning s n false other = change-cases meaning s n (same_text n.method (codes "textDocument/didChange")) other refl
+notice-cases : (meaning : Meaning) (s : State) (n : Notification) (notice : Notice) → notice_of n ≡ notice → IfOk (noticed notice n.method (counted_turn s)) (Mid meaning s (notification_input n))
+unfolding noticed cancelled
+notice-cases meaning s n (Opened document) told = opened-cases meaning s n document (path_of document.uri) told refl
+notice-cases meaning s n (Changed change) told = changed-cases meaning s n change (path_of change.uri) told refl
+notice-cases meaning s n (Cancel id) told = cancel-cases meaning s n id (is_pending id s.pending) told refl
+notice-cases meaning s n Malformed told = logged-mid meaning s n _ _ (rw told refl) (rw told refl)
+notice-cases meaning s n Unhandled told = logged-mid meaning s n _ _ (rw told refl) (rw told refl)
+notice-cases meaning s n Silent told = notification-mid meaning s n silent _ (rw told refl) (rw told refl) (nothing-settles (counted_turn s))
 
 -- ---- whole turns
 
@@ -408,9 +364,9 @@ settled-mid meaning s input done u number is same closes stays a = record {
 }
 
 message-mid : (meaning : Meaning) (s : State) (message : Message) → IfOk (received meaning message (counted_turn s)) (Mid meaning s (Next (Lsp message)))
-unfolding received notified
+unfolding received
 message-mid meaning s (RequestMessage r) = requested-mid meaning s r
-message-mid meaning s (NotificationMessage n) = notify-cases meaning s n (same_text n.method (codes "textDocument/didOpen")) refl
+message-mid meaning s (NotificationMessage n) = notice-cases meaning s n (notice_of n) refl
 message-mid meaning s (ResponseMessage r) = settled-mid meaning s (Next (Lsp (ResponseMessage r))) silent _ refl refl refl (λ ms. refl) (λ ms. refl) (log-settles _ _ (counted_turn s))
 
 batch-mid : (meaning : Meaning) (s : State) (batch : List TaskMsg) → IfOk (batched meaning batch (counted_turn s)) (Mid meaning s (Next (Task batch)))

@@ -1,5 +1,5 @@
 -- What a session's record says of requests and answers: by the lists of inputs, messages and commands alone.
-use Rattle.std.specs.Prelude.{◌≡◌, ◌≢◌, ◌≤◌, ℕ, ◌+◌, ◌-◌, ◌^◌, ◌⊎◌, ◌&&◌, ℤ, List, [], ◌∷◌, ◌++◌, codes, length, Contains, Bool, true, false, not, ltb, IsTrue, Option, None, Some, is_some, Result, Ok, Err, if◌then◌else◌}
+use Rattle.std.specs.Prelude.{◌≡◌, ◌≢◌, ◌≤◌, ℕ, ◌+◌, ◌-◌, ◌^◌, ◌⊎◌, ◌&&◌, ℤ, List, [], ◌∷◌, ◌++◌, length, Contains, Bool, true, false, not, ltb, IsTrue, Option, None, Some, is_some, Result, Ok, Err, if◌then◌else◌}
 use Rattle.std.specs.FinMap as map
 use Rattle.serde_json.specs.Data.{Data, null}
 use Rattle.plain.specs.Reading.{is_null}
@@ -10,7 +10,6 @@ use Rattle.lsp_frame.specs.Reader.{Reader}
 use Rattle.lsp_frame.specs.Pending.{Pending, none_pending, is_pending, id_of, registered, closed}
 use Rattle.lsp_frame.specs.declared.message.RequestId.{RequestId}
 use Rattle.lsp_frame.specs.declared.message.Request.{Request}
-use Rattle.lsp_frame.specs.declared.message.Notification.{Notification}
 use Rattle.lsp_frame.specs.declared.message.Response.{Response}
 use Rattle.lsp_frame.specs.declared.message.Message.{Message}
 use Rattle.lsp_frame.specs.declared.message.Message.TheVariants.{Request as RequestMessage, Notification as NotificationMessage, Response as ResponseMessage}
@@ -36,13 +35,11 @@ use Rattle.session_port.specs.declared.job.JobKind.{JobKind}
 use Rattle.session_port.specs.declared.job.JobKind.TheVariants.{Request as RequestJob}
 use Rattle.session_port.specs.declared.job.JobResult.{JobResult}
 use Rattle.session_model.specs.Course.{Course, Stop as CourseStop, takes, stops, waits, exit, client_gone, bad_frame, bad_message, end_of, session_course, bytes_in}
-use Rattle.session_model.specs.Cancelling.{cancel_of}
-use Rattle.session_model.specs.Changing.{changed_of, text_after}
+use Rattle.session_model.specs.Changing.{text_after}
 use Rattle.session_model.specs.Meaning.{Meaning, can_read}
-use Rattle.session_model.specs.Opening.{opened_of}
+use Rattle.session_model.specs.Notices.{notice_of}
 use Rattle.session_model.specs.Replies.{response_with, already_pending, shut_already, unknown_request, invalid_params, canceled_by_client, stopped_reply, finding_reply, finished_reply}
 use Rattle.session_model.specs.Run.{Turn, Told, AllRead, AsksLast, IsHonestInput, commands_of, fed_bytes, out_after, taking, telling}
-use Rattle.session_model.specs.Texts.{same_text}
 use Rattle.session_model.specs.declared.fault.Counter.{Counter}
 use Rattle.session_model.specs.declared.fault.Counter.TheVariants.{Turns, Bytes, Jobs as JobsCounter, Revisions}
 use Rattle.session_model.specs.declared.fault.SessionError.{SessionError}
@@ -52,6 +49,8 @@ use Rattle.session_model.specs.declared.input.Input.{Input}
 use Rattle.session_model.specs.declared.input.Input.TheVariants.{Start, Next}
 use Rattle.session_model.specs.declared.notice.DidChange.{DidChange}
 use Rattle.session_model.specs.declared.notice.DidOpen.{DidOpen}
+use Rattle.session_model.specs.declared.notice.Notice.{Notice}
+use Rattle.session_model.specs.declared.notice.Notice.TheVariants.{Opened, Changed, Cancel, Malformed, Unhandled, Silent}
 
 -- ---- what the lists say before a turn
 
@@ -107,10 +106,6 @@ abbrev pub opened_at : Result (List ℕ) UrlFault → DidOpen → Documents → 
 opened_at (Err fault) document documents = documents
 opened_at (Ok path) document documents = record { texts = map.insert documents.texts path document.text; versions = map.insert documents.versions path document.version }
 
-abbrev pub with_opened : Option DidOpen → Documents → Documents
-with_opened None documents = documents
-with_opened (Some document) documents = opened_at (path_of document.uri) document documents
-
 -- a document is changed at a path, where it is open: its text is what the changes make of it, one after another
 abbrev pub changed_at : Result (List ℕ) UrlFault → DidChange → Documents → Documents
 changed_at (Err fault) change documents = documents
@@ -119,17 +114,18 @@ changed_at (Ok path) change documents =
     then record { texts = map.insert documents.texts path (text_after change.changes (map.get documents.texts path)); versions = map.insert documents.versions path change.version }
     else documents
 
-abbrev pub with_changed : Option DidChange → Documents → Documents
-with_changed None documents = documents
-with_changed (Some change) documents = changed_at (path_of change.uri) change documents
+abbrev pub documents_noticed : Notice → Documents → Documents
+documents_noticed (Opened document) documents = opened_at (path_of document.uri) document documents
+documents_noticed (Changed change) documents = changed_at (path_of change.uri) change documents
+documents_noticed (Cancel id) documents = documents
+documents_noticed Malformed documents = documents
+documents_noticed Unhandled documents = documents
+documents_noticed Silent documents = documents
 
 abbrev pub documents_after : Input → Documents → Documents
 documents_after Start documents = documents
 documents_after (Next (Lsp (RequestMessage r))) documents = documents
-documents_after (Next (Lsp (NotificationMessage n))) documents =
-    if same_text n.method (codes "textDocument/didOpen") then with_opened (opened_of n.params) documents
-    else if same_text n.method (codes "textDocument/didChange") then with_changed (changed_of n.params) documents
-    else documents
+documents_after (Next (Lsp (NotificationMessage n))) documents = documents_noticed (notice_of n) documents
 documents_after (Next (Lsp (ResponseMessage r))) documents = documents
 documents_after (Next (Task batch)) documents = documents
 
@@ -266,12 +262,13 @@ abbrev pub request_row : Meaning → ConfigData → Place → Request → Reacti
 request_row meaning config place r = if is_pending r.id place.pending then says (already_pending r.id) else new_row meaning config place r
 
 -- a notification: one that cancels a pending request answers it
-abbrev pub cancel_row : Option RequestId → Place → Reaction
-cancel_row None place = silent
-cancel_row (Some id) place = if is_pending id place.pending then says (canceled_by_client id) else silent
-
-abbrev pub notification_row : Notification → Place → Reaction
-notification_row n place = if same_text n.method (codes "$/cancelRequest") then cancel_row (cancel_of n.params) place else silent
+abbrev pub notice_row : Notice → Place → Reaction
+notice_row (Cancel id) place = if is_pending id place.pending then says (canceled_by_client id) else silent
+notice_row (Opened document) place = silent
+notice_row (Changed change) place = silent
+notice_row Malformed place = silent
+notice_row Unhandled place = silent
+notice_row Silent place = silent
 
 -- a job that stopped, of a request that is pending: where the revision is above the job's snapshot's and the row isn't to be tried again, the request is
 -- refused; else it is taken as one that is read here, under its ticket
@@ -316,7 +313,7 @@ batch_row meaning config (message ∷ messages) place =
 abbrev pub row : Meaning → ConfigData → Input → Place → Reaction
 row meaning config Start place = silent
 row meaning config (Next (Lsp (RequestMessage r))) place = request_row meaning config place r
-row meaning config (Next (Lsp (NotificationMessage n))) place = notification_row n place
+row meaning config (Next (Lsp (NotificationMessage n))) place = notice_row (notice_of n) place
 row meaning config (Next (Lsp (ResponseMessage r))) place = silent
 row meaning config (Next (Task batch)) place = batch_row meaning config batch place
 

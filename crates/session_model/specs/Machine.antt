@@ -1,6 +1,5 @@
 -- The session machine: one turn, as a composition of small parts.
-use Rattle.std.specs.Prelude.{ℕ, ◌+◌, ◌-◌, ◌^◌, ◌==◌, ◌&&◌, ℤ, Bool, true, false, not, nat_eq, List, [], ◌∷◌, ◌++◌, codes, decimal, drop, length, Option, None, Some, is_some, Result, Ok, Err, if◌then◌else◌, ltb}
-use Rattle.std.specs.List.{starts_with}
+use Rattle.std.specs.Prelude.{ℕ, ◌+◌, ◌-◌, ◌^◌, ◌==◌, ◌&&◌, ℤ, Bool, true, false, not, List, [], ◌∷◌, ◌++◌, decimal, drop, length, Option, None, Some, is_some, Result, Ok, Err, if◌then◌else◌, ltb}
 use Rattle.std.specs.FinMap as map
 use Rattle.serde_json.specs.Data.{Data, null}
 use Rattle.lsp_frame.specs.Pending.{is_pending, id_of, registered, closed as closed_id}
@@ -36,10 +35,9 @@ use Rattle.session_port.specs.declared.job.Job.{Job}
 use Rattle.session_port.specs.declared.job.JobKind.{JobKind}
 use Rattle.session_port.specs.declared.job.JobKind.TheVariants.{Request as RequestJob}
 use Rattle.session_port.specs.declared.job.JobResult.{JobResult}
-use Rattle.session_model.specs.Cancelling.{cancel_of}
-use Rattle.session_model.specs.Changing.{changed_of, text_after, has_skipped}
+use Rattle.session_model.specs.Changing.{text_after, has_skipped}
 use Rattle.session_model.specs.Meaning.{Meaning, can_read}
-use Rattle.session_model.specs.Opening.{opened_of}
+use Rattle.session_model.specs.Notices.{notice_of}
 use Rattle.session_model.specs.Replies.{response_with, already_pending, shut_already, unknown_request, invalid_params, canceled_by_client, stopped_reply, finding_reply, finished_reply}
 use Rattle.session_model.specs.State.{State, snapshot_of}
 use Rattle.session_model.specs.Texts.{same_text, id_text}
@@ -52,6 +50,8 @@ use Rattle.session_model.specs.declared.input.Input.{Input}
 use Rattle.session_model.specs.declared.input.Input.TheVariants.{Start, Next}
 use Rattle.session_model.specs.declared.notice.DidChange.{DidChange}
 use Rattle.session_model.specs.declared.notice.DidOpen.{DidOpen}
+use Rattle.session_model.specs.declared.notice.Notice.{Notice}
+use Rattle.session_model.specs.declared.notice.Notice.TheVariants.{Opened, Changed, Cancel, Malformed, Unhandled, Silent}
 
 -- the state within a turn, and what the turn has done so far
 pub record Working : Type 0 where
@@ -192,10 +192,6 @@ unfoldable pub opened_at : Result (List ℕ) UrlFault → DidOpen → Working �
 opened_at (Err fault) document w = Ok (logged BadPath document.uri w)
 opened_at (Ok path) document w = text_set path document.text (version_set path document.version (open_noted path w))
 
-unfoldable pub opened : Option DidOpen → List ℕ → Working → Result Working Counter
-opened None method w = Ok (logged MalformedNotification method w)
-opened (Some document) method w = opened_at (path_of document.uri) document w
-
 -- that an edit was skipped is logged once
 unfoldable pub skip_noted : List ℕ → Bool → Working → Working
 skip_noted path skipped w = if skipped then logged SkippedChange path w else w
@@ -213,26 +209,22 @@ unfoldable pub changed_at : Result (List ℕ) UrlFault → DidChange → Working
 changed_at (Err fault) change w = Ok (logged BadPath change.uri w)
 changed_at (Ok path) change w = if is_open path w then edited path change w else Ok (logged UnexpectedChange path w)
 
-unfoldable pub changed : Option DidChange → List ℕ → Working → Result Working Counter
-changed None method w = Ok (logged MalformedNotification method w)
-changed (Some change) method w = changed_at (path_of change.uri) change w
-
 -- the request of an id is cancelled, where it is pending; its job stays out
-unfoldable pub cancelled : Option RequestId → List ℕ → Working → Working
-cancelled None method w = logged MalformedNotification method w
-cancelled (Some id) method w = if is_pending id w.state.pending then answered id (canceled_by_client id) w else w
+unfoldable pub cancelled : RequestId → Working → Working
+cancelled id w = if is_pending id w.state.pending then answered id (canceled_by_client id) w else w
 
-unfoldable pub notified : Notification → Working → Result Working Counter
-notified n w =
-    if same_text n.method (codes "textDocument/didOpen") then opened (opened_of n.params) n.method w
-    else if same_text n.method (codes "textDocument/didChange") then changed (changed_of n.params) n.method w
-    else if same_text n.method (codes "$/cancelRequest") then Ok (cancelled (cancel_of n.params) n.method w)
-    else if starts_with nat_eq n.method (codes "$/") then Ok w
-    else Ok (logged UnhandledNotification n.method w)
+-- what a notification of this method tells
+unfoldable pub noticed : Notice → List ℕ → Working → Result Working Counter
+noticed (Opened document) method w = opened_at (path_of document.uri) document w
+noticed (Changed change) method w = changed_at (path_of change.uri) change w
+noticed (Cancel id) method w = Ok (cancelled id w)
+noticed Malformed method w = Ok (logged MalformedNotification method w)
+noticed Unhandled method w = Ok (logged UnhandledNotification method w)
+noticed Silent method w = Ok w
 
 unfoldable pub received : Meaning → Message → Working → Result Working Counter
 received meaning (RequestMessage r) w = requested meaning r w
-received meaning (NotificationMessage n) w = notified n w
+received meaning (NotificationMessage n) w = noticed (notice_of n) n.method w
 received meaning (ResponseMessage r) w = Ok (logged UnknownResponse (id_text r.id) w)
 
 -- ---- results

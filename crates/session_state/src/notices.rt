@@ -3,13 +3,15 @@ ghost use Rattle.std.specs.Prelude.{◌≡◌, ◌<◌, ◌^◌, length, IfOk, I
 ghost use Rattle.serde_json.specs.View.{items_view};
 ghost use Rattle.session_model.specs.Cancelling.{cancel_of};
 ghost use Rattle.session_model.specs.Changing.{changed_of, members_change, range_in, edit_of, edits_in};
+ghost use Rattle.session_model.specs.Notices.{notice_of, FitsWorld};
 ghost use Rattle.session_model.specs.Opening.{opened_of, opened_in, text_within};
 
+use crate::names::is_name;
 use analysis_host::range_of;
 use lsp_frame::RequestId;
 use plain::{Items, Json, Members, Text};
 use serde_json::Value;
-use session_model::{DidChange, DidOpen};
+use session_model::{DidChange, DidOpen, Notice};
 use std::alloc::{AllocError, Global};
 use text_core::{ContentChange, Range};
 
@@ -28,7 +30,7 @@ fn within(text: Text) -> Option<Text>
 }
 
 /// The document that the params open, or none where they are malformed.
-pub fn opened_of(params: Json) -> Option<DidOpen>
+fn opened_of(params: Json) -> Option<DidOpen>
     ensures value { result ≡ opened_of params }
     ensures fits { IfSome result (λ document. length document.text < 2 ^ 32) }
 {
@@ -115,7 +117,7 @@ fn change_in(alloc: Global, mut params: Members) -> Result<Option<DidChange>, Al
 }
 
 /// The changes of a document that the params tell, or none where they are malformed.
-pub fn changed_of(alloc: Global, params: Json) -> Result<Option<DidChange>, AllocError>
+fn changed_of(alloc: Global, params: Json) -> Result<Option<DidChange>, AllocError>
     ensures { IfOk result (λ change. change ≡ changed_of params) }
 {
     if !params.is_plain() {
@@ -128,11 +130,41 @@ pub fn changed_of(alloc: Global, params: Json) -> Result<Option<DidChange>, Allo
 }
 
 /// The id of the request that the params cancel, or none where they are malformed.
-pub fn cancel_of(params: Json) -> Option<RequestId>
+fn cancel_of(params: Json) -> Option<RequestId>
     ensures { result ≡ cancel_of params }
 {
     if !params.is_plain() {
         return None;
     }
     RequestId::from_json(params.into_members()?.take("id")?)
+}
+
+/// What a notification tells.
+#[tactic(auto, unfolding(session_model::specs::Notices::notice_of))]
+pub fn notice_of(alloc: Global, method: &Text, params: Json) -> Result<Notice, AllocError>
+    ensures value { IfOk result (λ notice. notice ≡ notice_of (record { method = method.now; params = params })) }
+    ensures fits { IfOk result FitsWorld }
+{
+    if is_name(method, "textDocument/didOpen") {
+        return Ok(match opened_of(params) {
+            Some(document) => Notice::Opened(document),
+            None => Notice::Malformed,
+        });
+    }
+    if is_name(method, "textDocument/didChange") {
+        return Ok(match changed_of(alloc, params)? {
+            Some(change) => Notice::Changed(change),
+            None => Notice::Malformed,
+        });
+    }
+    if is_name(method, "$/cancelRequest") {
+        return Ok(match cancel_of(params) {
+            Some(id) => Notice::Cancel(id),
+            None => Notice::Malformed,
+        });
+    }
+    if method.as_str().as_bytes().starts_with(b"$/") {
+        return Ok(Notice::Silent);
+    }
+    Ok(Notice::Unhandled)
 }

@@ -3,20 +3,21 @@ ghost use Rattle.std.specs.Prelude.{◌≡◌, ◌<◌, ◌^◌, List, ℕ, [], 
 ghost use Rattle.std.specs.FinMap as map;
 ghost use Rattle.lsp_frame.specs.Pending.{IsAbove};
 ghost use Rattle.session_model.specs.Changing.{text_after, has_skipped, IsNews};
-ghost use Rattle.session_model.specs.Machine.{received, notified, opened, opened_at, open_noted, changed, changed_at, edited, edited_by, skip_noted, cancelled, logged, version_set, text_set, holds_text, world_changed};
+ghost use Rattle.session_model.specs.Machine.{received, noticed, opened_at, open_noted, changed_at, edited, edited_by, skip_noted, cancelled, logged, version_set, text_set, holds_text, world_changed};
 ghost use Rattle.session_model.specs.Meaning.{meaning_of};
 ghost use Rattle.session_model.specs.Meets.{Meets, Gives};
+ghost use Rattle.session_model.specs.Notices.{FitsWorld};
+ghost use Rattle.docs_vfs.specs.FileUrls.{path_of};
 
 use crate::global_state::GlobalState;
-use crate::names::is_name;
-use crate::notices::{cancel_of, changed_of, opened_of};
+use crate::notices::notice_of;
 use crate::replies;
 use crate::turn_out::TurnOut;
 use analysis_host::{Analysis, Change, FileChange, SharedText, WorldFault, columns};
 use docs_vfs::{UrlFault, VfsPath, path_of_url};
 use lsp_frame::{Message, Notification, RequestId};
 use plain::{Items, Text};
-use session_model::{Counter, DidChange, DidOpen, TurnError};
+use session_model::{Counter, DidChange, DidOpen, Notice, TurnError};
 use session_port::LogCode;
 use std::alloc::{AllocError, Global};
 use text_core::{ContentChange, TextIndex, edit_document};
@@ -203,19 +204,12 @@ impl GlobalState {
         self.set_text(path, document.text, out)
     }
 
-    #[tactic(auto, unfolding(session_model::specs::Machine::opened, session_model::specs::Machine::opened_at))]
-    fn on_open(
-        &mut self,
-        document: Option<DidOpen>,
-        method: Text,
-        out: &mut TurnOut,
-    ) -> Result<(), TurnError>
-        requires { IfSome document (λ document. length document.text < 2 ^ 32) }
-        ensures { Meets result (opened document method (record { state = self.old; out = out.old })) self.new out.new }
+    // A document is open at the path of its URL.
+    #[tactic(auto, unfolding(session_model::specs::Machine::opened_at))]
+    fn on_open(&mut self, document: DidOpen, out: &mut TurnOut) -> Result<(), TurnError>
+        requires { length document.text < 2 ^ 32 }
+        ensures { Meets result (opened_at (path_of document.uri) document (record { state = self.old; out = out.old })) self.new out.new }
     {
-        let Some(document) = document else {
-            return self.log(LogCode::MalformedNotification, method, out);
-        };
         match path_of_url(self.alloc, document.uri.as_str()) {
             Ok(path) => self.open_at(path, document, out),
             Err(UrlFault::NoMemory) => Err(TurnError::NoMemory),
@@ -291,18 +285,11 @@ impl GlobalState {
         self.edit_at(path, change, out)
     }
 
-    #[tactic(auto, unfolding(session_model::specs::Machine::changed, session_model::specs::Machine::changed_at))]
-    fn on_change(
-        &mut self,
-        change: Option<DidChange>,
-        method: Text,
-        out: &mut TurnOut,
-    ) -> Result<(), TurnError>
-        ensures { Meets result (changed change method (record { state = self.old; out = out.old })) self.new out.new }
+    // A document is changed at the path of its URL.
+    #[tactic(auto, unfolding(session_model::specs::Machine::changed_at))]
+    fn on_change(&mut self, change: DidChange, out: &mut TurnOut) -> Result<(), TurnError>
+        ensures { Meets result (changed_at (path_of change.uri) change (record { state = self.old; out = out.old })) self.new out.new }
     {
-        let Some(change) = change else {
-            return self.log(LogCode::MalformedNotification, method, out);
-        };
         match path_of_url(self.alloc, change.uri.as_str()) {
             Ok(path) => self.change_at(path, change, out),
             Err(UrlFault::NoMemory) => Err(TurnError::NoMemory),
@@ -314,46 +301,35 @@ impl GlobalState {
 
     // The request of an id is cancelled, where it is pending.
     #[tactic(auto, unfolding(session_model::specs::Machine::cancelled))]
-    fn on_cancel(
-        &mut self,
-        id: Option<RequestId>,
-        method: Text,
-        out: &mut TurnOut,
-    ) -> Result<(), TurnError>
-        ensures { Gives result (cancelled id method (record { state = self.old; out = out.old })) self.new out.new }
+    fn on_cancel(&mut self, id: &RequestId, out: &mut TurnOut) -> Result<(), TurnError>
+        ensures { Gives result (cancelled id.now (record { state = self.old; out = out.old })) self.new out.new }
     {
-        let Some(id) = id else {
-            return self.log(LogCode::MalformedNotification, method, out);
-        };
-        if !self.pending.has_id(&id) {
+        if !self.pending.has_id(id) {
             return Ok(());
         }
         let response = replies::canceled_by_client(self.alloc, id.clone()?)?;
-        self.answer(&id, response, out)
+        self.answer(id, response, out)
     }
 
-    #[tactic(auto, unfolding(session_model::specs::Machine::notified))]
-    fn on_notification(
+    // What a notification of this method tells.
+    #[tactic(auto, unfolding(session_model::specs::Machine::noticed))]
+    fn on_notice(
         &mut self,
-        notification: Notification,
+        notice: Notice,
+        method: Text,
         out: &mut TurnOut,
     ) -> Result<(), TurnError>
-        ensures { Meets result (notified notification (record { state = self.old; out = out.old })) self.new out.new }
+        requires { FitsWorld notice }
+        ensures { Meets result (noticed notice method (record { state = self.old; out = out.old })) self.new out.new }
     {
-        let Notification { method, params } = notification;
-        if is_name(&method, "textDocument/didOpen") {
-            return self.on_open(opened_of(params), method, out);
+        match notice {
+            Notice::Opened(document) => self.on_open(document, out),
+            Notice::Changed(change) => self.on_change(change, out),
+            Notice::Cancel(id) => self.on_cancel(&id, out),
+            Notice::Malformed => self.log(LogCode::MalformedNotification, method, out),
+            Notice::Unhandled => self.log(LogCode::UnhandledNotification, method, out),
+            Notice::Silent => Ok(()),
         }
-        if is_name(&method, "textDocument/didChange") {
-            return self.on_change(changed_of(self.alloc, params)?, method, out);
-        }
-        if is_name(&method, "$/cancelRequest") {
-            return self.on_cancel(cancel_of(params), method, out);
-        }
-        if method.as_str().as_bytes().starts_with(b"$/") {
-            return Ok(());
-        }
-        self.log(LogCode::UnhandledNotification, method, out)
     }
 
     #[tactic(auto, unfolding(session_model::specs::Machine::received))]
@@ -368,7 +344,10 @@ impl GlobalState {
     {
         match message {
             Message::Request(request) => self.on_request(request, analysis, out),
-            Message::Notification(notification) => self.on_notification(notification, out),
+            Message::Notification(Notification { method, params }) => {
+                let notice = notice_of(self.alloc, &method, params)?;
+                self.on_notice(notice, method, out)
+            }
             Message::Response(response) => {
                 let text = replies::id_text(self.alloc, response.id)?;
                 self.log(LogCode::UnknownResponse, text, out)
