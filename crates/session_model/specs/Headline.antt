@@ -1,5 +1,6 @@
 -- What a session's record says of requests and answers: by the lists of inputs, messages and commands alone.
-use Rattle.std.specs.Prelude.{◌≡◌, ◌≢◌, ◌≤◌, ℕ, ◌+◌, ◌-◌, ◌^◌, ◌⊎◌, ◌&&◌, ℤ, List, [], ◌∷◌, ◌++◌, length, Contains, Bool, true, false, not, ltb, IsTrue, Option, None, Some, is_some, Result, Ok, Err, if◌then◌else◌}
+use Rattle.std.specs.Prelude.{◌≡◌, ◌≢◌, ◌≤◌, ℕ, ◌+◌, ◌-◌, ◌^◌, ◌⊎◌, ◌&&◌, ℤ, List, [], ◌∷◌, ◌++◌, length, Contains, Bool, true, false, not, ltb}
+use Rattle.std.specs.Prelude.{IsTrue, Option, None, Some, is_some, Result, Ok, Err, if◌then◌else◌}
 use Rattle.std.specs.FinMap as map
 use Rattle.serde_json.specs.Data.{Data, null}
 use Rattle.plain.specs.Reading.{is_null}
@@ -34,11 +35,13 @@ use Rattle.session_port.specs.declared.job.Job.{Job}
 use Rattle.session_port.specs.declared.job.JobKind.{JobKind}
 use Rattle.session_port.specs.declared.job.JobKind.TheVariants.{Request as RequestJob}
 use Rattle.session_port.specs.declared.job.JobResult.{JobResult}
-use Rattle.session_model.specs.Course.{Course, Stop as CourseStop, takes, stops, waits, exit, client_gone, bad_frame, bad_message, end_of, session_course, bytes_in}
+use Rattle.session_model.specs.Course.{Course, Stop as CourseStop, takes, stops, waits, exit, client_gone, bad_frame, bad_message, end_of}
+use Rattle.session_model.specs.Course.{session_course, bytes_in}
 use Rattle.session_model.specs.Changing.{text_after}
 use Rattle.session_model.specs.Meaning.{Meaning, can_read}
 use Rattle.session_model.specs.Notices.{notice_of}
-use Rattle.session_model.specs.Replies.{response_with, already_pending, shut_already, unknown_request, invalid_params, canceled_by_client, stopped_reply, finding_reply, finished_reply}
+use Rattle.session_model.specs.Replies.{response_with, already_pending, shut_already, unknown_request, invalid_params, canceled_by_client}
+use Rattle.session_model.specs.Replies.{stopped_reply, finding_reply, finished_reply}
 use Rattle.session_model.specs.Run.{Turn, Told, AllRead, AsksLast, IsHonestInput, commands_of, fed_bytes, out_after, taking, telling}
 use Rattle.session_model.specs.declared.fault.Counter.{Counter}
 use Rattle.session_model.specs.declared.fault.Counter.TheVariants.{Turns, Bytes, Jobs as JobsCounter, Revisions}
@@ -93,7 +96,12 @@ beginning = record {
 
 -- what a job works on that is handed over here
 abbrev pub snapshot_at : ConfigData → Place → SnapshotData
-snapshot_at config place = record { world = record { texts = place.documents.texts }; versions = place.documents.versions; config = config; revision = place.revision }
+snapshot_at config place = record {
+  world = record { texts = place.documents.texts };
+  versions = place.documents.versions;
+  config = config;
+  revision = place.revision;
+}
 
 -- ---- what a turn changes of it
 
@@ -104,14 +112,20 @@ number_after (Next event) number = number + 1
 -- a document is opened at a path
 abbrev pub opened_at : Result (List ℕ) UrlFault → DidOpen → Documents → Documents
 opened_at (Err fault) document documents = documents
-opened_at (Ok path) document documents = record { texts = map.insert documents.texts path document.text; versions = map.insert documents.versions path document.version }
+opened_at (Ok path) document documents = record {
+  texts = map.insert documents.texts path document.text;
+  versions = map.insert documents.versions path document.version;
+}
 
 -- a document is changed at a path, where it is open: its text is what the changes make of it, one after another
 abbrev pub changed_at : Result (List ℕ) UrlFault → DidChange → Documents → Documents
 changed_at (Err fault) change documents = documents
 changed_at (Ok path) change documents =
     if is_some (map.get documents.versions path)
-    then record { texts = map.insert documents.texts path (text_after change.changes (map.get documents.texts path)); versions = map.insert documents.versions path change.version }
+    then record {
+      texts = map.insert documents.texts path (text_after change.changes (map.get documents.texts path));
+      versions = map.insert documents.versions path change.version;
+    }
     else documents
 
 abbrev pub documents_noticed : Notice → Documents → Documents
@@ -416,7 +430,8 @@ NeedsMore meaning config place input Revisions = 2 ^ 64 - 1 ≤ place.revision
 -- one more of a counter was needed than there are, by the turn of the next input, or for the bytes that were given
 abbrev pub IsUsedUp : Meaning → ConfigData → Reader → List HostCall → List Turn → Course → Counter → Type 0
 IsUsedUp meaning config reader calls turns left counter =
-    NextInput left (λ input. NeedsMore meaning config (place_after_all turns beginning) input counter) ⊎ ((counter ≡ Bytes) × (2 ^ 64 ≤ fed_bytes reader + bytes_in (given_in calls)))
+    NextInput left (λ input. NeedsMore meaning config (place_after_all turns beginning) input counter)
+    ⊎ ((counter ≡ Bytes) × (2 ^ 64 ≤ fed_bytes reader + bytes_in (given_in calls)))
 
 -- how the lists of a run end, and what is left of its course: for each result what ended the run
 abbrev pub EndsAt : {T : Type 0} → Meaning → ConfigData → Reader → List HostCall → List Turn → Course → Result T SessionError → Type 0
@@ -430,7 +445,8 @@ EndsAt meaning config reader calls turns left (Err (Exhausted counter)) = AllTak
 EndsAt meaning config reader calls turns left (Err NoMemory) = AllTaken calls turns ⊎ LastUntaken calls turns
 
 -- what was told of the run are these calls and turns, and each turn is as it should be
-pub record IsAnswered {T : Type 0} (meaning : Meaning) (config : ConfigData) (reader : Reader) (old new : Told) (honest : Bool) (result : Result T SessionError) : Type 0 where
+pub record IsAnswered {T : Type 0} (meaning : Meaning) (config : ConfigData) (reader : Reader) (old new : Told) (honest : Bool)
+    (result : Result T SessionError) : Type 0 where
   pub calls : List HostCall
   -- the turns that were written, one string for each: none but whole turns, and no part of another
   pub turns : List Turn
@@ -459,7 +475,8 @@ IsEnd (Err NoMemory) end = Unit {0}
 -- for a host that tells its calls: what ended the run is what ends the course of its events
 abbrev pub EndsByCause : {T : Type 0} → Reader → Option (List HostCall) → Option (List HostCall) → Result T SessionError → Type 0
 EndsByCause reader old new result =
-    (before calls : List HostCall) → old ≡ Some before → new ≡ Some (before ++ calls) → IsEnd result (end_of (session_course reader.place reader.held (given_in calls)))
+    (before calls : List HostCall) → old ≡ Some before → new ≡ Some (before ++ calls)
+    → IsEnd result (end_of (session_course reader.place reader.held (given_in calls)))
 
 -- after some turns, whose commands were all taken, one more of this counter was needed than there are
 pub record RanOut (meaning : Meaning) (config : ConfigData) (reader : Reader) (calls : List HostCall) (counter : Counter) : Type 0 where
@@ -482,7 +499,9 @@ IsGoodEnd meaning config reader calls (Err NoMemory) = Unit {0}
 
 -- for a host that tells its calls: where the events hold an `exit` before all else that stops a session, and neither the host nor the sink has
 -- failed, the run ends well
-abbrev pub IsComplete : {T : Type 0} → Meaning → ConfigData → Reader → Option (List HostCall) → Option (List HostCall) → Type 0 → Type 0 → Result T SessionError → Type 0
+abbrev pub IsComplete : {T : Type 0} → Meaning → ConfigData → Reader → Option (List HostCall) → Option (List HostCall) → Type 0 → Type 0
+    → Result T SessionError → Type 0
 IsComplete meaning config reader old new HostFailed SinkFailed result =
-    (before calls : List HostCall) → old ≡ Some before → new ≡ Some (before ++ calls) → end_of (session_course reader.place reader.held (given_in calls)) ≡ Some exit
+    (before calls : List HostCall) → old ≡ Some before → new ≡ Some (before ++ calls)
+    → end_of (session_course reader.place reader.held (given_in calls)) ≡ Some exit
     → (HostFailed → ⊥) → (SinkFailed → ⊥) → IsGoodEnd meaning config reader calls result

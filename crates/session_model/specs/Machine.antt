@@ -1,5 +1,6 @@
 -- The session machine: one turn, as a composition of small parts.
-use Rattle.std.specs.Prelude.{ℕ, ◌+◌, ◌-◌, ◌^◌, ◌==◌, ◌&&◌, ℤ, Bool, true, false, not, List, [], ◌∷◌, ◌++◌, decimal, drop, length, Option, None, Some, is_some, Result, Ok, Err, if◌then◌else◌, ltb}
+use Rattle.std.specs.Prelude.{ℕ, ◌+◌, ◌-◌, ◌^◌, ◌==◌, ◌&&◌, ℤ, Bool, true, false, not, List, [], ◌∷◌, ◌++◌, decimal, drop, length, Option, None, Some}
+use Rattle.std.specs.Prelude.{is_some, Result, Ok, Err, if◌then◌else◌, ltb}
 use Rattle.std.specs.FinMap as map
 use Rattle.serde_json.specs.Data.{Data, null}
 use Rattle.lsp_frame.specs.Pending.{is_pending, id_of, registered, closed as closed_id}
@@ -29,7 +30,8 @@ use Rattle.session_port.specs.Record.{after_order}
 use Rattle.session_port.specs.declared.command.Command.{Command}
 use Rattle.session_port.specs.declared.command.Command.TheVariants.{Spawn, Revise, Log}
 use Rattle.session_port.specs.declared.command.LogCode.{LogCode}
-use Rattle.session_port.specs.declared.command.LogCode.TheVariants.{MalformedNotification, UnhandledNotification, UnknownRequest, UnknownResponse, DuplicateOpen, UnexpectedChange, SkippedChange, BadPath, StrangeResult}
+use Rattle.session_port.specs.declared.command.LogCode.TheVariants.{MalformedNotification, UnhandledNotification, UnknownRequest, UnknownResponse}
+use Rattle.session_port.specs.declared.command.LogCode.TheVariants.{DuplicateOpen, UnexpectedChange, SkippedChange, BadPath, StrangeResult}
 use Rattle.session_port.specs.declared.event.TaskMsg.{TaskMsg}
 use Rattle.session_port.specs.declared.job.Job.{Job}
 use Rattle.session_port.specs.declared.job.JobKind.{JobKind}
@@ -38,7 +40,8 @@ use Rattle.session_port.specs.declared.job.JobResult.{JobResult}
 use Rattle.session_model.specs.Changing.{text_after, has_skipped}
 use Rattle.session_model.specs.Meaning.{Meaning, can_read}
 use Rattle.session_model.specs.Notices.{notice_of}
-use Rattle.session_model.specs.Replies.{response_with, already_pending, shut_already, unknown_request, invalid_params, canceled_by_client, stopped_reply, finding_reply, finished_reply}
+use Rattle.session_model.specs.Replies.{response_with, already_pending, shut_already, unknown_request, invalid_params, canceled_by_client}
+use Rattle.session_model.specs.Replies.{stopped_reply, finding_reply, finished_reply}
 use Rattle.session_model.specs.State.{State, snapshot_of}
 use Rattle.session_model.specs.Texts.{same_text, id_text}
 use Rattle.session_model.specs.Written.{Written}
