@@ -62,7 +62,7 @@ batch-out : (batch : List TaskMsg) (out : Jobs) (n : ℕ) (job : Job) → map.ge
 batch-out [] out n job there = there
 batch-out (m ∷ ms) out n job there = message-out m out n job (batch-out ms (after_message m out) n job there)
 
-input-out : (input : Input) (out : Jobs) (n : ℕ) (job : Job) → map.get (after_input input out) n ≡ Some job → map.get out n ≡ Some job
+pub input-out : (input : Input) (out : Jobs) (n : ℕ) (job : Job) → map.get (after_input input out) n ≡ Some job → map.get out n ≡ Some job
 input-out Start out n job there = there
 input-out (Next (Lsp message)) out n job there = there
 input-out (Next (Task batch)) out n job there = batch-out batch out n job there
@@ -125,7 +125,7 @@ row-due meaning config (Next (Lsp (ResponseMessage r))) place s = tt
 row-due meaning config (Next (Task batch)) place s = batch-due meaning config batch place s.below
 
 -- a job out after jobs were handed over was out before, or is one of these
-jobs-out : (jobs : List Job) (out : Jobs) (n : ℕ) (job : Job) → map.get (with_jobs jobs out) n ≡ Some job → (map.get out n ≡ Some job) ⊎ Contains jobs job
+pub jobs-out : (jobs : List Job) (out : Jobs) (n : ℕ) (job : Job) → map.get (with_jobs jobs out) n ≡ Some job → (map.get out n ≡ Some job) ⊎ Contains jobs job
 jobs-out [] out n job there = inl there
 jobs-out (j ∷ js) out n job there = by_case (jobs-out js (map.insert out j.number j) n job there)
   where
