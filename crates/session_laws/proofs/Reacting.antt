@@ -23,7 +23,8 @@ use Rattle.session_port.specs.declared.job.JobKind.TheVariants.{Request as Reque
 use Rattle.session_port.specs.declared.job.JobResult.{JobResult}
 use Rattle.session_model.specs.Headline.{Place, Reaction, says, snapshot_at, hands_over, if_read, state_row, planned_row, class_row, method_row, new_row, stopped_row, result_row}
 use Rattle.session_model.specs.Meaning.{Meaning, can_read}
-use Rattle.session_model.specs.Replies.{response_with, shut_already, unknown_request, invalid_params, stopped_reply, finding_reply, finished_reply}
+use Rattle.dispatch.specs.Responses.{response_with}
+use Rattle.session_model.specs.Replies.{shut_already, unknown_request, invalid_params, stopped_reply, finding_reply, finished_reply}
 use Rattle.session_laws.proofs.Settling.{finding-id, finished-id, stopped-id}
 
 -- one response to this id, or one job for this ticket

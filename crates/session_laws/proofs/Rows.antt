@@ -33,7 +33,8 @@ use Rattle.session_laws.specs.Invariant.{StepFits, place_of}
 use Rattle.session_model.specs.Machine.{Working, and_then, next_number, counted, asked, noted, unknown, shut_down, admitted, requested, opened_at, open_noted, changed_at, cancelled, version_set, text_set, skip_noted, edited, edited_by, holds_text, world_changed, world_by, noticed, received, answered, replied, logged, ordered, batched, happened, taken_in, kept, revised, step}
 use Rattle.session_model.specs.Meaning.{Meaning}
 use Rattle.session_model.specs.Notices.{notice_of}
-use Rattle.session_model.specs.Replies.{already_pending, shut_already, unknown_request, invalid_params, canceled_by_client, response_with}
+use Rattle.dispatch.specs.Responses.{response_with}
+use Rattle.session_model.specs.Replies.{already_pending, shut_already, unknown_request, invalid_params, canceled_by_client}
 use Rattle.session_model.specs.Run.{Turn, Steps, begun, after_input}
 use Rattle.session_model.specs.State.{State}
 use Rattle.session_model.specs.Texts.{same_text}

@@ -35,7 +35,8 @@ use Rattle.session_port.specs.declared.job.JobValue.TheVariants.{Json}
 use Rattle.session_model.specs.Headline.{Place, Reaction, revision_after, closed_with, closed_by, silent, says, joined, snapshot_at, hands_over, if_read, state_row, planned_row, class_row, stopped_row, result_row, ticket_row, final_row, message_row, place_past, batch_row}
 use Rattle.session_model.specs.Machine.{Working, logged, ordered, replied, answered, dispatched, echoed, queried, submitted, stated, planned, classed, unknown, stopped, settled, delivered, ended, taken, batched}
 use Rattle.session_model.specs.Meaning.{Meaning, can_read}
-use Rattle.session_model.specs.Replies.{response_with, invalid_params, unknown_request, shut_already, stopped_reply, finding_reply, finished_reply}
+use Rattle.dispatch.specs.Responses.{response_with}
+use Rattle.session_model.specs.Replies.{invalid_params, unknown_request, shut_already, stopped_reply, finding_reply, finished_reply}
 use Rattle.session_model.specs.State.{State}
 use Rattle.session_laws.proofs.Appends.{closed_by-append, spawned-append, revision-append}
 use Rattle.session_laws.proofs.Fitting.{after_message-none, after_message-some}

@@ -40,7 +40,8 @@ use Rattle.session_port.specs.declared.job.JobResult.{JobResult}
 use Rattle.session_model.specs.Changing.{text_after, has_skipped}
 use Rattle.session_model.specs.Meaning.{Meaning, can_read}
 use Rattle.session_model.specs.Notices.{notice_of}
-use Rattle.session_model.specs.Replies.{response_with, already_pending, shut_already, unknown_request, invalid_params, canceled_by_client}
+use Rattle.dispatch.specs.Responses.{response_with}
+use Rattle.session_model.specs.Replies.{already_pending, shut_already, unknown_request, invalid_params, canceled_by_client}
 use Rattle.session_model.specs.Replies.{stopped_reply, finding_reply, finished_reply}
 use Rattle.session_model.specs.State.{State, snapshot_of}
 use Rattle.session_model.specs.Texts.{same_text, id_text}

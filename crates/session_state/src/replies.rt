@@ -2,44 +2,16 @@
 ghost use Rattle.std.specs.Prelude.{◌≡◌, true, IfOk, IfSome};
 ghost use Rattle.lsp_frame.specs.Written.{AreWritable};
 ghost use Rattle.lsp_frame.specs.declared.message.Message.TheVariants.{Response as ResponseMessage};
-ghost use Rattle.plain.specs.Plain.{is_plain};
 ghost use Rattle.session_port.specs.Jobs.{plain_result};
-ghost use Rattle.session_model.specs.Replies.{response_with, refusal, already_pending, shut_already, unknown_request, invalid_params, canceled_by_client, content_modified, server_cancelled, stopped_reply, fault_code, fault_reply, finished_reply};
+ghost use Rattle.session_model.specs.Replies.{already_pending, shut_already, unknown_request, invalid_params, canceled_by_client, content_modified, server_cancelled, stopped_reply, fault_reply, finished_reply};
 ghost use Rattle.session_model.specs.Texts.{id_text};
 
+use dispatch::{fault_code, refusal, response_with};
 use lsp_frame::{RequestId, Response, ResponseError};
 use method_table::Class;
 use plain::{Json, Members, Text};
 use session_port::{JobResult, JobValue};
 use std::alloc::{AllocError, Global};
-
-#[tactic(auto, using(crate::proofs::Writable::value_writable))]
-pub fn response_with(id: RequestId, value: Json) -> Response
-    requires { is_plain value ≡ true }
-    ensures value { result ≡ response_with id value }
-    ensures writable { AreWritable (ResponseMessage result) }
-{
-    Response {
-        id: Some(id),
-        result: Some(value),
-        error: None,
-    }
-}
-
-pub fn refusal(id: RequestId, code: i32, message: Text) -> Response
-    ensures value { result ≡ refusal id code message }
-    ensures writable { AreWritable (ResponseMessage result) }
-{
-    Response {
-        id: Some(id),
-        result: None,
-        error: Some(ResponseError {
-            code,
-            message,
-            extra: None,
-        }),
-    }
-}
 
 /// The refusal of a request whose id is pending.
 pub fn already_pending(alloc: Global, id: RequestId) -> Result<Response, AllocError>
@@ -128,16 +100,6 @@ pub fn stopped_reply(alloc: Global, class: Class, id: RequestId) -> Result<Respo
         | Class::Latency
         | Class::Worker
         | Class::Identity => content_modified(alloc, id),
-    }
-}
-
-// A fault's own code, but for the one that says that memory ran out.
-fn fault_code(code: Option<i32>) -> i32
-    ensures { result ≡ fault_code code }
-{
-    match code {
-        Some(code) if code != -31000 => code,
-        _ => -32603,
     }
 }
 

@@ -10,13 +10,15 @@ ghost use Rattle.state_params.specs.StateRequests.{request_of};
 ghost use Rattle.session_model.specs.Machine.{requested, replied, answered, admitted, shut_down, asked, unknown, classed, planned, stated, echoed, queried, submitted, dispatched};
 ghost use Rattle.session_model.specs.Meaning.{meaning_of, can_read};
 ghost use Rattle.session_model.specs.Meets.{Meets, Gives};
-ghost use Rattle.session_model.specs.Replies.{already_pending, shut_already, unknown_request, invalid_params, response_with, finding_reply};
+ghost use Rattle.dispatch.specs.Responses.{response_with};
+ghost use Rattle.session_model.specs.Replies.{already_pending, shut_already, unknown_request, invalid_params, finding_reply};
 ghost use Rattle.session_model.specs.State.{snapshot_of};
 
 use crate::global_state::{GlobalState, next_number};
 use crate::replies;
 use crate::turn_out::TurnOut;
 use analysis_host::{Analysis, Answer, Ask, Never, Outcome, RowId};
+use dispatch::response_with;
 use lsp_frame::{Registered, Request, RequestId, Response};
 use method_table::{Plan, PoolClass, SHUTDOWN, default_of, plan, row_of};
 use plain::{Json, SharedJson, Text};
@@ -91,7 +93,7 @@ impl GlobalState {
         let ask = Ask::Request { row, params };
         let mut never = Never::new();
         match analysis.query(&snapshot, &ask, &mut never)? {
-            Outcome::Value(Answer::Json(value)) => Ok(replies::response_with(id, value)),
+            Outcome::Value(Answer::Json(value)) => Ok(response_with(id, value)),
             Outcome::Fault { code, message } => Ok(replies::fault_reply(id, code, message)),
             Outcome::Cancelled { .. } => unreachable!(),
         }
@@ -131,7 +133,7 @@ impl GlobalState {
         ensures { Gives result (answered id.now (response_with id.now (default_of row)) (record { state = self.old; out = out.old })) self.new out.new }
     {
         let value = default_of(self.alloc, row)?;
-        let response = replies::response_with(id.clone()?, value);
+        let response = response_with(id.clone()?, value);
         self.answer(id, response, out)
     }
 
@@ -151,7 +153,7 @@ impl GlobalState {
         if !params.as_json().is_plain() || !analysis.decodes(row, params.as_json()) {
             return self.refuse_params(id, out);
         }
-        let response = replies::response_with(id.clone()?, params.into_json()?);
+        let response = response_with(id.clone()?, params.into_json()?);
         self.answer(id, response, out)
     }
 
@@ -210,7 +212,7 @@ impl GlobalState {
         match read_state_request(self.alloc, row, params.as_json())? {
             None => self.refuse_params(id, out),
             Some(_) => {
-                let response = replies::response_with(id.clone()?, Json::null());
+                let response = response_with(id.clone()?, Json::null());
                 self.answer(id, response, out)
             }
         }
@@ -309,7 +311,7 @@ impl GlobalState {
             return self.refuse_params(id, out);
         }
         self.shutdown = true;
-        let response = replies::response_with(id.clone()?, Json::null());
+        let response = response_with(id.clone()?, Json::null());
         self.answer(id, response, out)
     }
 
