@@ -17,7 +17,7 @@ fn is_inside(byte: u8) -> bool
 }
 
 /// The UTF-16 code units of the character that a byte begins.
-fn code_units(byte: u8) -> u32
+pub(crate) fn code_units(byte: u8) -> u32
     ensures { result ≡ code_units byte }
 {
     match byte {
