@@ -1,8 +1,8 @@
 -- A text has no more units than bytes.
-use Rattle.std.proofs.Common.{◌≡◌, ℕ, ◌+◌, ◌-◌, ◌/◌, ◌%◌, ◌<◌, ◌≤◌, inl, inr, refl, List, [], ◌∷◌, length, drop, ap, subst, ◌∙◌, arith}
+use Rattle.std.proofs.Common.{◌≡◌, ℕ, suc, ◌+◌, ◌-◌, ◌/◌, ◌%◌, ◌<◌, ◌≤◌, inl, inr, refl, List, [], ◌∷◌, length, drop, ap, subst, ◌∙◌, arith}
 use Rattle.std.specs.Prelude.{slice_range}
 use Rattle.std.specs.List.{sum_by}
-use Rattle.std.specs.Str.{IsUtf8}
+use Rattle.std.specs.Str.{IsAscii, IsUtf8}
 use Rattle.std.proofs.lemmas.Bool.{cases_lt, cond-true, cond-false, lt-ltb, le-ltb}
 use Rattle.std.proofs.lemmas.Bool.Decides.{nat_tests}
 use Rattle.std.proofs.lemmas.List.{length-append}
@@ -31,6 +31,15 @@ most b = grind (arith, nat_tests)
 
 next : (n : ℕ) → code_units (128 + n % 64) ≡ 0
 next n = follower (128 + n % 64) (omega arith) (omega arith)
+
+single_ascii : (b : ℕ) → b < 128 → code_units b ≡ 1
+single_ascii b low = grind (arith, nat_tests)
+
+-- ASCII has as many code units as bytes
+pub units_of_ascii : (front : List ℕ) → IsAscii front → units_of (Wide Utf16) front ≡ length front
+units_of_ascii [] ascii = refl
+units_of_ascii (b ∷ front) ascii =
+    omega (arith, sum_by-cons code_units b front, single_ascii b (ascii 0), units_of_ascii front (λ n. ascii (suc n)))
 
 two_bytes : (c : ℕ) → 128 ≤ c → c < 2048 → encode c ≡ (192 + c / 64) ∷ (128 + c % 64) ∷ []
 unfolding encode

@@ -8,16 +8,35 @@ ghost use Rattle.text_core.specs.Starts.{line_starts};
 ghost use Rattle.text_core.specs.declared.position.PositionEncoding.TheVariants.{Utf8, Wide};
 ghost use Rattle.text_core.specs.declared.position.WideEncoding.TheVariants.{Utf16};
 
-use crate::offsets::code_units;
+use crate::offsets::{BLOCK, code_units};
 use crate::position::{Position, PositionEncoding, WideEncoding};
 use crate::starts::starts_up_to;
 
-/// The UTF-16 code units of the front of a line.
+/// The UTF-16 code units of a part of a line.
+fn code_units_in(part: &[u8]) -> u32
+    requires { units_of (Wide Utf16) part.now < 2 ^ 32 }
+    ensures { result ≡ units_of (Wide Utf16) part.now }
+{
+    if part.is_ascii() {
+        part.len() as u32
+    } else {
+        part.iter().map(|byte| code_units(*byte)).sum()
+    }
+}
+
+/// The UTF-16 code units of the front of a line. A block of ASCII is counted at once.
 fn code_units_of(front: &[u8]) -> u32
     requires { units_of (Wide Utf16) front.now < 2 ^ 32 }
     ensures { result ≡ units_of (Wide Utf16) front.now }
 {
-    front.iter().map(|byte| code_units(*byte)).sum()
+    let mut units = 0;
+    let mut rest = front;
+    while BLOCK <= rest.len() {
+        let (block, next) = rest.split_at(BLOCK);
+        units += code_units_in(block);
+        rest = next;
+    }
+    units + code_units_in(rest)
 }
 
 /// The units of the front of a line.

@@ -1,7 +1,8 @@
 // Laws of the definitions.
 ghost use Rattle.std.specs.Prelude.{◌≡◌, ◌+◌, ◌<◌, ◌↔◌, ℕ, List, Option, Some, None, Result, Ok, map};
 ghost use Rattle.std.specs.List.{concat, count_by, range_with_len};
-ghost use Rattle.std.specs.Str.{IsCharBoundary};
+ghost use Rattle.std.specs.Str.{IsUtf8};
+ghost use Rattle.std.specs.String.Boundary.{IsSplitPoint};
 ghost use Rattle.text_core.specs.Columns.{StandsBehind};
 ghost use Rattle.text_core.specs.Lines.{EndsWithLf, line_of};
 ghost use Rattle.text_core.specs.Places.{clamped, position_of};
@@ -25,9 +26,9 @@ pub fn lines_are_the_text()
     ensures last { (text : List ℕ) → count_by ends_line (line_of text (count_by ends_line text)) ≡ 0 }
 {}
 
-/// The place of a place's position is that place, where it is the end of the text or a character begins.
+/// The place of a place's position is that place, where the text can be cut there.
 pub fn places_of_positions()
-    ensures { (encoding : PositionEncoding) (text : List ℕ) (place : ℕ) → IsCharBoundary text place →
+    ensures { (encoding : PositionEncoding) (text : List ℕ) (place : ℕ) → IsUtf8 text → IsSplitPoint text place →
         place_of encoding text (position_of encoding text place) ≡ Ok place }
 {}
 
