@@ -7,7 +7,10 @@ pub mod HashLemmas
 pub mod KeptLemmas
 pub mod LineEndLemmas
 pub mod LineLemmas
+pub mod LineTextLemmas
 pub mod MovedLemmas
 pub mod PlaceLemmas
+pub mod PositionLemmas
 pub mod StartLemmas
 pub mod TellLemmas
+pub mod UnitLemmas

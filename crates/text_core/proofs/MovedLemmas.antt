@@ -1,6 +1,6 @@
 -- Line starts of a text whose ends are those of another.
 use Rattle.std.proofs.Common.{◌≡◌, ℕ, ◌+◌, ◌-◌, ◌<◌, ◌≤◌, true, false, inl, inr, List, [], ◌∷◌, ◌++◌, length, get_or, take, drop, map, refl, ap, sym, ◌∙◌, arith, ⊎_elim, append_assoc}
-use Rattle.std.specs.Prelude.{All, nat_le}
+use Rattle.std.specs.Prelude.{All, count_by, nat_le}
 use Rattle.std.specs.List.Sorted.{IsPartitionedBy, IsPartitionPoint}
 use Rattle.std.proofs.lemmas.Bool.{cases_Bool, cases_lt, cond-true, cond-false, le-leb, leb-true, leb-false}
 use Rattle.std.proofs.lemmas.List.{take-append-drop, length-take, length-drop, length-append, drop-drop, take_rest, get_or_append_left, get_or-append_right}
@@ -9,6 +9,7 @@ use Rattle.text_core.specs.Ends.{HasEnds}
 use Rattle.text_core.specs.declared.ends.Ends.{Ends}
 use Rattle.text_core.specs.Positions.{ends_line}
 use Rattle.text_core.specs.Starts.{line_starts, starts_in}
+use Rattle.text_core.proofs.StartLemmas.{length-line_starts}
 
 -- those of two parts
 pub starts_in-append : (at : ℕ) (xs ys : List ℕ) → starts_in at (xs ++ ys) ≡ starts_in at xs ++ starts_in (at + length xs) ys
@@ -116,6 +117,17 @@ front_starts xs starts from to n rising within all splits =
     (All-weaker (Stands to (to + length (drop to xs))) (λ start. from < start) (λ start stands. omega (arith, stands.0)) _ (starts_in-stand to (drop to xs))) in
     let count = splits (first_starts from xs) (middle ++ last) here (first_low xs from (omega arith)) late in
     ap (take n) here ∙ take_low n (first_starts from xs) (middle ++ last) count
+
+-- as many starts are at most a place as LF stand before it, and one
+pub starts_up_to-count : (xs starts : List ℕ) (place n : ℕ) → place ≤ length xs → starts ≡ line_starts xs → Splits starts place n → n ≡ count_by ends_line (take place xs) + 1
+unfolding line_starts
+starts_up_to-count xs starts place n within all splits =
+    let size : 0 + length (take place xs) ≡ place = omega (arith, length-take place xs) in
+    let here : starts ≡ first_starts place xs ++ starts_in place (drop place xs) =
+    all ∙ ap (λ l. 0 ∷ starts_in 0 l) (sym (take-append-drop place xs))
+    ∙ ap (λ l. 0 ∷ l) (starts_in-append 0 (take place xs) (drop place xs) ∙ ap (λ k. starts_in 0 (take place xs) ++ starts_in k (drop place xs)) size) in
+    let late = All-weaker (Stands place (place + length (drop place xs))) (λ start. place < start) (λ start stands. stands.0) _ (starts_in-stand place (drop place xs)) in
+    splits (first_starts place xs) (starts_in place (drop place xs)) here (first_low xs place within) late ∙ length-line_starts (take place xs)
 
 pub back_starts : (xs starts : List ℕ) (from to n : ℕ) → from ≤ to → to ≤ length xs → starts ≡ line_starts xs → Splits starts to n → drop n starts ≡ starts_in to (drop to xs)
 back_starts xs starts from to n rising within all splits =

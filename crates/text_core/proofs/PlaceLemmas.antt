@@ -70,7 +70,7 @@ line_start-after_lf (suc line) (b ∷ rest) k h =
     (cases_Bool (ends_line b))
 
 -- where the next line begins, or the text ends
-line_end-cases : (line : ℕ) (text : List ℕ)
+pub line_end-cases : (line : ℕ) (text : List ℕ)
     → ((k : ℕ) × (line_start (suc line) text ≡ Some k) × (line_end line text ≡ k)) ⊎ (line_end line text ≡ length text)
 line_end-cases line text =
     let one : line + 1 ≡ suc line = add-one line in

@@ -12,7 +12,7 @@ use Rattle.text_core.specs.Positions.{ends_line, line_start, line_end, line_span
 use Rattle.text_core.specs.Starts.{line_starts, starts_in}
 use Rattle.text_core.proofs.LineLemmas.{further, further-zero}
 
-none_some : {A : Type 0} (x : A) → None ≡ Some x → ⊥
+pub none_some : {A : Type 0} (x : A) → None ≡ Some x → ⊥
 none_some x p = cc
 
 -- the places of LF, each one further and as far on as the part begins
@@ -134,9 +134,12 @@ line_start-within (suc line) (b ∷ rest) k h =
     (cases_Bool (ends_line b))
 
 -- the next line begins later
-pub line_start-next : (line : ℕ) (text : List ℕ) (j k : ℕ) → line_start line text ≡ Some j → line_start (suc line) text ≡ Some k → j ≤ k
+pub line_start-next : (line : ℕ) (text : List ℕ) (j k : ℕ) → line_start line text ≡ Some j → line_start (suc line) text ≡ Some k → j < k
 line_start-next line [] j k g h = cc
-line_start-next zero (b ∷ rest) j k g h = let first : 0 ≡ j = some_inj _ _ g in omega arith
+line_start-next zero (b ∷ rest) j k g h =
+    let first : 0 ≡ j = some_inj _ _ g in
+    let next = further_some 1 _ k h in
+    omega (arith, next.2)
 line_start-next (suc line) (b ∷ rest) j k g h =
     let here = further_some 1 _ j g in
     let next = further_some 1 _ k h in

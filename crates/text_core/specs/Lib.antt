@@ -1,6 +1,8 @@
 pub mod Positions
 pub mod Same
 pub mod Columns
+pub mod Lines
+pub mod Places
 pub mod Starts
 pub mod Ends
 pub mod Runs

@@ -3,6 +3,7 @@
 #![tactic(auto)]
 
 mod change;
+mod columns;
 mod completion;
 mod completion_hash;
 mod copies;
@@ -25,7 +26,9 @@ pub use disjoint::all_edits_are_disjoint;
 pub use editing::{
     EditedDocument, apply_document_changes, apply_with_limit, edit_document, edit_with_steps,
 };
-pub use laws::columns_stand_behind_their_units;
+pub use laws::{
+    columns_stand_behind_their_units, lines_are_the_text, places_of_positions, positions_of_places,
+};
 pub use line_endings::LineEndings;
 pub use position::{OffsetFault, Position, PositionEncoding, Range, WideEncoding};
 pub use steps::Steps;

@@ -17,7 +17,7 @@ fn is_inside(byte: u8) -> bool
 }
 
 /// The UTF-16 code units of the character that a byte begins.
-fn code_units(byte: u8) -> u32
+pub(crate) fn code_units(byte: u8) -> u32
     ensures { result ≡ code_units byte }
 {
     match byte {
@@ -43,7 +43,7 @@ fn past_bytes(line: &[u8], column: u32) -> Option<usize>
 }
 
 /// How many bytes are tested at once.
-const BLOCK: usize = 32;
+pub(crate) const BLOCK: usize = 32;
 
 /// Whether so many units stand left that a block of ASCII at a place is before the column.
 fn is_block_before(line: &[u8], i: usize, left: u32) -> bool

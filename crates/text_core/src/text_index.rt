@@ -1,19 +1,20 @@
 // Lines of a text, and the offsets of positions in it.
-ghost use Rattle.std.specs.Prelude.{◌≡◌, ◌≢◌, ◌+◌, ◌<◌, ◌≤◌, ◌↔◌, ◌^◌, ℕ, List, [], length, count_by, IsTrue, IfOk, IsNone, string_bytes, unwrap_or};
+ghost use Rattle.std.specs.Prelude.{◌≡◌, ◌≢◌, ◌+◌, ◌<◌, ◌≤◌, ◌↔◌, ◌^◌, ℕ, List, [], length, count_by, IsTrue, IfOk, IfSome, IsNone, IsSome, string_bytes, unwrap_or};
 ghost use Rattle.std.specs.Arc.{arc_value};
 ghost use Rattle.std.specs.String.Boundary.{IsSplitPoint};
 ghost use Rattle.text_core.specs.Changes.{IsOther};
 ghost use Rattle.text_core.specs.Ends.{HasEnds, ComesFrom};
 ghost use Rattle.text_core.specs.Kept.{IsNewDraft};
+ghost use Rattle.text_core.specs.Places.{position_of};
 ghost use Rattle.text_core.specs.Positions.{ends_line, line_span, place_of, range_of};
 ghost use Rattle.text_core.specs.Starts.{line_starts};
 
 use crate::draft::{Draft, copy_with_room};
 use crate::ends::Ends;
 use crate::line_endings::LineEndings;
-use crate::offsets;
 use crate::position::{OffsetFault, Position, PositionEncoding, Range};
 use crate::starts::{find_starts, push_moved, push_starts, starts_up_to};
+use crate::{columns, offsets};
 use plain::Text;
 use std::alloc::{AllocError, Global};
 use std::marker::Model;
@@ -192,6 +193,14 @@ impl TextIndex {
     {
         let place = offsets::place_of(encoding, self.text.as_str(), &self.starts, position)?;
         Ok(place as u32)
+    }
+
+    /// The position at which an offset stands. None where the text ends before it or a character goes on there.
+    pub fn position_of(&self, encoding: PositionEncoding, offset: u32) -> Option<Position>
+        ensures some { IsSome result ↔ IsSplitPoint self.now offset }
+        ensures value { IfSome result (λ position. position ≡ position_of encoding self.now offset) }
+    {
+        columns::position_of(encoding, self.text.as_str(), &self.starts, offset as usize)
     }
 
     /// The bytes from which and up to which a range goes.
