@@ -12,14 +12,14 @@ use Rattle.docs_vfs.specs.Roots.{greatest, first_greatest, include_length, root_
 use Rattle.docs_vfs.specs.RootLaws.{IsAmong, Holds, IsRootOf, IsInNone, IsChosen, LiesAbove, IsParent, HasNoParent, IsParentOf}
 
 -- at this place stands the greatest number, which isn't 0, and before it stand lesser ones
-record IsFirstGreatest {X : Type 0} (h : X → ℕ) (xs : List X) (at : ℕ) : Type 0 where
-  item : X
-  is : slice_get xs at ≡ Some item
-  positive : 0 < h item
-  greatest : (i : ℕ) (other : X) → slice_get xs i ≡ Some other → h other ≤ h item
-  earlier : (i : ℕ) (other : X) → slice_get xs i ≡ Some other → i < at → h other < h item
+pub record IsFirstGreatest {X : Type 0} (h : X → ℕ) (xs : List X) (at : ℕ) : Type 0 where
+  pub item : X
+  pub is : slice_get xs at ≡ Some item
+  pub positive : 0 < h item
+  pub greatest : (i : ℕ) (other : X) → slice_get xs i ≡ Some other → h other ≤ h item
+  pub earlier : (i : ℕ) (other : X) → slice_get xs i ≡ Some other → i < at → h other < h item
 
-abbrev AreZero : {X : Type 0} → (X → ℕ) → List X → Type 0
+abbrev pub AreZero : {X : Type 0} → (X → ℕ) → List X → Type 0
 AreZero {X} h xs = (i : ℕ) (other : X) → slice_get xs i ≡ Some other → h other ≡ 0
 
 abbrev from : {X : Type 0} → (X → ℕ) → ℕ → List X → ℕ
@@ -29,7 +29,7 @@ start : {X : Type 0} (h : X → ℕ) (a : ℕ) (xs : List X) → a ≤ from h a 
 start h a [] = omega arith
 start h a (x ∷ xs) = omega (arith, start h (max a (h x)) xs)
 
-some_is : {X : Type 0} (x y : X) → Some x ≡ Some y → x ≡ y
+pub some_is : {X : Type 0} (x y : X) → Some x ≡ Some y → x ≡ y
 some_is x y is = ap (λ o. unwrap_or o x) is
 
 bound : {X : Type 0} (h : X → ℕ) (a : ℕ) (xs : List X) (i : ℕ) (y : X) → slice_get xs i ≡ Some y → h y ≤ from h a xs
@@ -97,7 +97,7 @@ reached_within h n xs r =
     absurd (true≢false (sym (eq_true (h r.item) n r.has) ∙ ap (has h n) (sym (get_or_from_slice_get xs r.at r.item r.item r.is)) ∙ fails_before_first (has h n) xs r.at r.item before)))
     (cases_Bool (nat_lt (position_or_len (has h n) xs) (length xs)))
 
-chosen : {X : Type 0} (h : X → ℕ) (xs : List X) → MatchOption (first_greatest h xs) (AreZero h xs) (IsFirstGreatest h xs)
+pub chosen : {X : Type 0} (h : X → ℕ) (xs : List X) → MatchOption (first_greatest h xs) (AreZero h xs) (IsFirstGreatest h xs)
 chosen {X} h xs =
     let n = greatest h xs in
     ⊎_elim
@@ -131,18 +131,18 @@ longest_of h xs some =
 
 -- ---- the root of a path
 
-held_length : (path : List ℕ) (root : Root) (include : List ℕ) → Holds path root include → length include ≤ root_length path root
+pub held_length : (path : List ℕ) (root : Root) (include : List ℕ) → Holds path root include → length include ≤ root_length path root
 held_length path root include h =
     let kept : root_length path root ≡ greatest (include_length path) root.include = cond-false _ _ _ h.kept in
     let here : include_length path include ≡ length include = cond-true _ _ _ h.holds in
     omega (arith, kept, here, most_of (include_length path) root.include include h.among)
 
-record Held (path : List ℕ) (root : Root) : Type 0 where
-  include : List ℕ
-  holds : Holds path root include
-  long : length include ≡ root_length path root
+pub record Held (path : List ℕ) (root : Root) : Type 0 where
+  pub include : List ℕ
+  pub holds : Holds path root include
+  pub long : length include ≡ root_length path root
 
-held_by : (path : List ℕ) (root : Root) → 0 < root_length path root → Held path root
+pub held_by : (path : List ℕ) (root : Root) → 0 < root_length path root → Held path root
 held_by path root some =
     ⊎_elim
     (λ excluded. let none : root_length path root ≡ 0 = cond-true _ _ _ excluded in absurd (omega (arith, some, none)))

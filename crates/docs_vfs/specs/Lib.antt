@@ -9,3 +9,4 @@ pub mod Paths
 pub mod Resolve
 pub mod RootLaws
 pub mod Roots
+pub mod Includes

@@ -6,6 +6,7 @@ mod file_kinds;
 mod file_laws;
 mod file_table;
 mod file_url;
+mod includes;
 mod mem_docs;
 mod path;
 mod path_laws;

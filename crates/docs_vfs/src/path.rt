@@ -99,6 +99,14 @@ impl VfsPath {
         text.as_str()
     }
 
+    /// A copy of the text.
+    pub(crate) fn to_text(&self) -> Result<String, AllocError>
+        ensures text { IfOk result (λ text. string_bytes text ≡ self.now) }
+        ensures path { is_path self.now ≡ true }
+    {
+        String::from_str(self.alloc(), self.as_str())
+    }
+
     /// Whether this is `/`.
     pub fn is_root(&self) -> bool
         ensures { result ≡ (length self.now == 1) }

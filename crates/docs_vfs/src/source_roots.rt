@@ -1,12 +1,16 @@
-ghost use Rattle.std.specs.Prelude.{◌≡◌, ◌==◌, ◌++◌, ◌≤◌, ◌<◌, length, take, option_to_list, OnOk, IfOk, IfSome};
-ghost use Rattle.std.specs.List.{list_any, position, enumerate_from};
+ghost use Rattle.std.specs.Prelude.{false, ◌≡◌, ◌==◌, ◌++◌, ◌≤◌, ◌<◌, length, take, option_to_list, OnOk, IfOk, IfSome};
+ghost use Rattle.std.specs.List.{find, list_any, position, enumerate_from};
 ghost use Rattle.docs_vfs.specs.Paths.{is_within};
-ghost use Rattle.docs_vfs.specs.Roots.{most_roots, greatest, first_greatest, include_length, root_length, root_of, is_below, proper_length, parent_length, parent_of, parent_pair, parent_map, is_local_at};
+ghost use Rattle.docs_vfs.specs.Includes.{places, is_kept, IsIndex};
+ghost use Rattle.docs_vfs.specs.Roots.{most_roots, greatest, first_greatest, root_length, root_of, is_below, proper_length, parent_length, parent_of, parent_pair, parent_map, is_local_at};
 
+use crate::includes::Includes;
 use crate::path::VfsPath;
-use plain::{Copied, Items};
-use std::alloc::{AllocError, Global};
+use crate::relative::folder_above;
+use plain::{Copied, Items, NoMemory};
+use std::alloc::Global;
 use std::marker::Model;
+use std::sync::Arc;
 
 /// A part of the files: those below an include that are below no exclude.
 #[derive(Drop)]
@@ -19,7 +23,7 @@ pub struct Root {
 impl Clone for Root {
     ghost is_clone = { λ root copy. copy ≡ root };
 
-    fn clone(&self) -> Result<Root, AllocError> {
+    fn clone(&self) -> Result<Root, NoMemory> {
         Ok(Root {
             include: self.include.clone()?,
             exclude: self.exclude.clone()?,
@@ -40,29 +44,21 @@ const MOST_ROOTS: usize = 4_294_967_295;
 pub struct SourceRoots {
     alloc: Global,
     roots: Items<Root>,
+    index: Arc<Includes, Global>,
 }
 
 impl Model for SourceRoots {
-    ghost use Rattle.std.specs.Prelude.{List, length, ◌≤◌};
+    ghost use Rattle.std.specs.Prelude.{List, length, ◌≤◌, false};
+    ghost use Rattle.std.specs.Arc.{arc_value};
     ghost use Rattle.docs_vfs.specs.declared.source_roots.Root.{Root};
     ghost use Rattle.docs_vfs.specs.Roots.{most_roots};
+    ghost use Rattle.docs_vfs.specs.Includes.{IsIndex};
 
     ghost Value = { List Root };
 
     ghost view = { λ s. s.roots };
 
-    ghost invariant = { λ s. length s.roots ≤ most_roots };
-}
-
-/// The length of an include that is a prefix of a path.
-fn include_length(path: &VfsPath, include: &VfsPath) -> usize
-    ensures { result ≡ include_length path.now include.now }
-{
-    if path.starts_with(include) {
-        include.as_str().len()
-    } else {
-        0
-    }
+    ghost invariant = { λ s. (length s.roots ≤ most_roots) × IsIndex false s.roots (arc_value s.index) };
 }
 
 /// Whether an exclude of a root is a prefix of a path.
@@ -72,53 +68,42 @@ fn is_excluded(path: &VfsPath, root: &Root) -> bool
     root.exclude.iter().any(|exclude| path.starts_with(exclude))
 }
 
-/// The length of the longest include that is a prefix of a path.
-fn longest_include(path: &VfsPath, includes: &[VfsPath]) -> usize
-    ensures { result ≡ greatest (include_length path.now) includes.now }
+/// Whether none of the excludes of the root at a place holds a path.
+fn is_kept(path: &VfsPath, roots: &[Root], at: usize) -> bool
+    ensures { result ≡ is_kept roots.now path.now at }
 {
-    includes.iter().fold(
-        0,
-        |longest, include| longest.max(include_length(path, include)),
-    )
-}
-
-/// The same of a root's includes, unless an exclude of the root is a prefix of the path.
-fn root_length(path: &VfsPath, root: &Root) -> usize
-    ensures { result ≡ root_length path.now root.now }
-{
-    if is_excluded(path, root) {
-        return 0;
+    match roots.get(at) {
+        Some(root) => !is_excluded(path, root),
+        None => false,
     }
-    longest_include(path, root.include.as_slice())
 }
 
-/// The length of the longest include of all roots.
-fn longest_root(path: &VfsPath, roots: &[Root]) -> usize
-    ensures { result ≡ greatest (root_length path.now) roots.now }
+/// The first root with this include whose excludes don't hold a path.
+fn root_at(index: &Includes, roots: &[Root], path: &VfsPath, include: &str) -> Option<usize>
+    ensures { result ≡ find (is_kept roots.now path.now) (places index.now include.now) }
 {
-    roots
+    index
+        .get(include)
         .iter()
-        .fold(0, |longest, root| longest.max(root_length(path, root)))
+        .copied()
+        .find(|at| is_kept(path, roots, *at))
 }
 
-/// The first root whose longest include has this length.
-fn first_root(path: &VfsPath, roots: &[Root], longest: usize) -> Option<usize>
-    ensures { result ≡ position (λ root. root_length path.now root == longest) roots.now }
-{
-    roots
-        .iter()
-        .position(|root| root_length(path, root) == longest)
-}
-
-/// The root with the longest include.
-fn root_in(path: &VfsPath, roots: &[Root]) -> Option<usize>
+/// The root with the longest include that holds a path: the first one at the longest such folder that has one.
+fn root_above(index: &Includes, roots: &[Root], path: &VfsPath) -> Option<usize>
+    requires { IsIndex false roots.now index.now }
     ensures { result ≡ first_greatest (root_length path.now) roots.now }
 {
-    let longest = longest_root(path, roots);
-    if longest == 0 {
-        return None;
+    let mut folder = path.as_str();
+    'folders: loop {
+        if let Some(at) = root_at(index, roots, path, folder) {
+            return Some(at);
+        }
+        match folder_above(folder) {
+            Some(above) => folder = above,
+            None => return None,
+        }
     }
-    first_root(path, roots, longest)
 }
 
 /// Whether a path lies in a folder and isn't the folder itself.
@@ -204,7 +189,7 @@ fn push_parent(
     at: usize,
     root: &Root,
     roots: &[Root],
-) -> Result<(), AllocError>
+) -> Result<(), NoMemory>
     requires count { length roots.now ≤ most_roots }
     requires place { at < length roots.now }
     ensures { OnOk result (list.new ≡ list.old ++ option_to_list (parent_pair roots.now (at, root.now))) }
@@ -222,7 +207,7 @@ fn push_parent(
 }
 
 /// Each local root that has a parent, with its parent.
-fn parent_pairs(alloc: Global, roots: &[Root]) -> Result<Items<(u32, u32)>, AllocError>
+fn parent_pairs(alloc: Global, roots: &[Root]) -> Result<Items<(u32, u32)>, NoMemory>
     requires { length roots.now ≤ most_roots }
     ensures { IfOk result (λ list. list ≡ parent_map roots.now) }
 {
@@ -235,23 +220,26 @@ fn parent_pairs(alloc: Global, roots: &[Root]) -> Result<Items<(u32, u32)>, Allo
 
 impl SourceRoots {
     /// The first 4,294,967,295 of these roots.
-    pub fn new(roots: Items<Root>) -> SourceRoots
-        ensures { result ≡ take most_roots roots }
+    pub fn new(roots: Items<Root>) -> Result<SourceRoots, NoMemory>
+        ensures { IfOk result (λ made. made ≡ take most_roots roots) }
     {
         let mut roots = roots.into_vec();
         let alloc = *roots.allocator();
         roots.truncate(MOST_ROOTS);
-        SourceRoots {
+        let roots = Items::from_vec(roots);
+        let index = Includes::of(alloc, roots.as_slice(), false)?;
+        Ok(SourceRoots {
             alloc,
-            roots: Items::from_vec(roots),
-        }
+            roots,
+            index: Arc::new(alloc, index)?,
+        })
     }
 
     /// The number of the root that a path is in, or the number of roots where it is in none.
     pub fn root_of(&self, path: &VfsPath) -> u32
         ensures { result ≡ root_of self.now path.now }
     {
-        match root_in(path, self.roots.as_slice()) {
+        match root_above(&self.index, self.roots.as_slice(), path) {
             Some(at) => at as u32,
             None => self.roots.len() as u32,
         }
@@ -269,7 +257,7 @@ impl SourceRoots {
 
     /// Each local root that has a parent, with its parent: the local root with the longest include that is a
     /// proper prefix of one of its includes.
-    pub fn parent_map(&self) -> Result<Items<(u32, u32)>, AllocError>
+    pub fn parent_map(&self) -> Result<Items<(u32, u32)>, NoMemory>
         ensures { IfOk result (λ list. list ≡ parent_map self.now) }
     {
         parent_pairs(self.alloc, self.roots.as_slice())
@@ -279,10 +267,11 @@ impl SourceRoots {
 impl Clone for SourceRoots {
     ghost is_clone = { λ roots copy. copy ≡ roots };
 
-    fn clone(&self) -> Result<SourceRoots, AllocError> {
+    fn clone(&self) -> Result<SourceRoots, NoMemory> {
         Ok(SourceRoots {
             alloc: self.alloc,
             roots: self.roots.clone()?,
+            index: Arc::try_clone(&self.index)?,
         })
     }
 }

@@ -45,7 +45,7 @@ pub(crate) fn five_roots(alloc: Global) -> Result<SourceRoots, Fail> {
     )?;
     add_root(alloc, &mut roots, &["/w/out/gen"], &[], false)?;
     add_root(alloc, &mut roots, &["/v", "/w/lib/a/b"], &[], true)?;
-    Ok(SourceRoots::new(roots))
+    Ok(SourceRoots::new(roots)?)
 }
 
 /// Whether a path is in this root.
@@ -98,7 +98,7 @@ fn tied_roots(alloc: Global) -> Result<SourceRoots, Fail> {
     add_root(alloc, &mut roots, &["/w/a"], &[], true)?;
     add_root(alloc, &mut roots, &["/w/a"], &[], true)?;
     add_root(alloc, &mut roots, &["/w"], &[], false)?;
-    Ok(SourceRoots::new(roots))
+    Ok(SourceRoots::new(roots)?)
 }
 
 #[test]
