@@ -73,7 +73,7 @@ unfolding is_path
 path_some [] is = absurd (true≢false (sym is))
 path_some (b ∷ rest) is = omega arith
 
-not_true : (b : Bool) → not b ≡ true → b ≡ false
+pub not_true : (b : Bool) → not b ≡ true → b ≡ false
 not_true true e = sym e
 not_true false e = refl
 

@@ -23,3 +23,5 @@ pub mod WithinLemmas
 pub mod Ancestors
 pub mod Climbs
 pub mod Places
+pub mod Greatest
+pub mod Rises

@@ -32,7 +32,7 @@ start h a (x ∷ xs) = omega (arith, start h (max a (h x)) xs)
 pub some_is : {X : Type 0} (x y : X) → Some x ≡ Some y → x ≡ y
 some_is x y is = ap (λ o. unwrap_or o x) is
 
-bound : {X : Type 0} (h : X → ℕ) (a : ℕ) (xs : List X) (i : ℕ) (y : X) → slice_get xs i ≡ Some y → h y ≤ from h a xs
+pub bound : {X : Type 0} (h : X → ℕ) (a : ℕ) (xs : List X) (i : ℕ) (y : X) → slice_get xs i ≡ Some y → h y ≤ from h a xs
 bound h a [] i y is = absurd (none-some y is)
 bound h a (x ∷ xs) zero y is = omega (arith, start h (max a (h x)) xs, ap h (some_is x y is))
 bound h a (x ∷ xs) (suc i) y is = bound h (max a (h x)) xs i y is
@@ -114,15 +114,15 @@ chosen {X} h xs =
 
 -- ---- the longest of some texts
 
-most_of : {X : Type 0} (h : X → ℕ) (xs : List X) (x : X) → IsAmong x xs → h x ≤ greatest h xs
+pub most_of : {X : Type 0} (h : X → ℕ) (xs : List X) (x : X) → IsAmong x xs → h x ≤ greatest h xs
 most_of h xs x among = bound h 0 xs among.place x among.is
 
-record Longest {X : Type 0} (h : X → ℕ) (xs : List X) : Type 0 where
-  item : X
-  among : IsAmong item xs
-  has : h item ≡ greatest h xs
+pub record Longest {X : Type 0} (h : X → ℕ) (xs : List X) : Type 0 where
+  pub item : X
+  pub among : IsAmong item xs
+  pub has : h item ≡ greatest h xs
 
-longest_of : {X : Type 0} (h : X → ℕ) (xs : List X) → 0 < greatest h xs → Longest h xs
+pub longest_of : {X : Type 0} (h : X → ℕ) (xs : List X) → 0 < greatest h xs → Longest h xs
 longest_of h xs some =
     ⊎_elim
     (λ none. absurd (omega (arith, some, none)))
@@ -190,22 +190,22 @@ root_chosen roots path = root_by roots path (first_greatest (root_length path) r
 
 -- ---- the parent of a root
 
-above_length : (at : ℕ) (child : Root) (place : ℕ) (root : Root) (include : List ℕ) → LiesAbove at child place root include → length include ≤ parent_length at child (place, root)
+pub above_length : (at : ℕ) (child : Root) (place : ℕ) (root : Root) (include : List ℕ) → LiesAbove at child place root include → length include ≤ parent_length at child (place, root)
 above_length at child place root include l =
     let is : parent_length at child (place, root) ≡ greatest (proper_length child) root.include = cond-true _ _ _ (and_from root.is_local (not (place == at)) l.local (ap not l.other)) in
     let here : proper_length child include ≡ length include = cond-true _ _ _ l.above in
     omega (arith, is, here, most_of (proper_length child) root.include include l.among)
 
-record Above (at : ℕ) (child : Root) (place : ℕ) (root : Root) : Type 0 where
-  include : List ℕ
-  lies : LiesAbove at child place root include
-  long : length include ≡ parent_length at child (place, root)
+pub record Above (at : ℕ) (child : Root) (place : ℕ) (root : Root) : Type 0 where
+  pub include : List ℕ
+  pub lies : LiesAbove at child place root include
+  pub long : length include ≡ parent_length at child (place, root)
 
 not_is : (b : Bool) → not b ≡ true → b ≡ false
 not_is true e = sym e
 not_is false e = refl
 
-above_by : (at : ℕ) (child : Root) (place : ℕ) (root : Root) → 0 < parent_length at child (place, root) → Above at child place root
+pub above_by : (at : ℕ) (child : Root) (place : ℕ) (root : Root) → 0 < parent_length at child (place, root) → Above at child place root
 above_by at child place root some =
     ⊎_elim
     (λ fits.
@@ -236,16 +236,16 @@ enumerated n (r ∷ roots) (suc i) root is =
     let place : i + (n + 1) ≡ suc i + n = omega arith in
     enumerated (n + 1) roots i root is ∙ ap (λ k. Some (k, root)) place
 
-at_place : (roots : List Root) (i : ℕ) (root : Root) → slice_get roots i ≡ Some root → slice_get (enumerate_from 0 roots) i ≡ Some (i, root)
+pub at_place : (roots : List Root) (i : ℕ) (root : Root) → slice_get roots i ≡ Some root → slice_get (enumerate_from 0 roots) i ≡ Some (i, root)
 at_place roots i root is =
     let place : i + 0 ≡ i = omega arith in
     enumerated 0 roots i root is ∙ ap (λ k. Some (k, root)) place
 
-record Enumerated (n : ℕ) (roots : List Root) (i : ℕ) (item : ℕ × Root) : Type 0 where
-  is : slice_get roots i ≡ Some item.1
-  place : item.0 ≡ i + n
+pub record Enumerated (n : ℕ) (roots : List Root) (i : ℕ) (item : ℕ × Root) : Type 0 where
+  pub is : slice_get roots i ≡ Some item.1
+  pub place : item.0 ≡ i + n
 
-from_enumerated : (n : ℕ) (roots : List Root) (i : ℕ) (item : ℕ × Root) → slice_get (enumerate_from n roots) i ≡ Some item → Enumerated n roots i item
+pub from_enumerated : (n : ℕ) (roots : List Root) (i : ℕ) (item : ℕ × Root) → slice_get (enumerate_from n roots) i ≡ Some item → Enumerated n roots i item
 from_enumerated n [] i item is = absurd (none-some item is)
 from_enumerated n (r ∷ roots) zero item is =
     let same : (n, r) ≡ item = some_is (n, r) item is in

@@ -10,3 +10,4 @@ pub mod Resolve
 pub mod RootLaws
 pub mod Roots
 pub mod Includes
+pub mod Parents

@@ -1,6 +1,7 @@
-ghost use Rattle.std.specs.Prelude.{◌≡◌, ◌++◌, ◌∷◌, [], ℕ, List, true, length, map, string_bytes, OnOk, IfOk, if◌then◌else◌, bytes_eq};
+ghost use Rattle.std.specs.Prelude.{◌≡◌, ◌≤◌, ◌++◌, ◌∷◌, [], ℕ, List, true, length, map, string_bytes, OnOk, IfOk, if◌then◌else◌, bytes_eq};
 ghost use Rattle.std.specs.List.{filter, list_all};
 ghost use Rattle.docs_vfs.specs.Paths.{is_path};
+ghost use Rattle.docs_vfs.specs.Roots.{most_roots};
 ghost use Rattle.docs_vfs.specs.Includes.{places, places_in, is_asked, has_paths, IsIndex};
 
 use crate::path::VfsPath;
@@ -11,7 +12,7 @@ use std::collections::BTreeMap;
 /// The places of the roots by the texts of their includes.
 #[derive(Drop)]
 pub(crate) struct Includes {
-    rows: BTreeMap<String, Vec<usize>>,
+    rows: BTreeMap<String, Vec<u32>>,
 }
 
 impl Includes {
@@ -25,7 +26,7 @@ impl Includes {
     }
 
     /// Adds a place to those of a text.
-    fn add(&mut self, include: String, at: usize) -> Result<(), AllocError>
+    fn add(&mut self, include: String, at: u32) -> Result<(), AllocError>
         ensures { OnOk result ((text : List ℕ) → places self.new text
             ≡ places self.old text ++ (if bytes_eq text (string_bytes include) then at ∷ [] else [])) }
     {
@@ -34,7 +35,7 @@ impl Includes {
     }
 
     /// Adds a place to those of each of these texts.
-    fn add_all(&mut self, includes: &[VfsPath], at: usize) -> Result<(), AllocError>
+    fn add_all(&mut self, includes: &[VfsPath], at: u32) -> Result<(), AllocError>
         ensures places { OnOk result ((text : List ℕ) → places self.new text
             ≡ places self.old text ++ map (λ _. at) (filter (bytes_eq text) includes.now)) }
         ensures paths { OnOk result (list_all is_path includes.now ≡ true) }
@@ -46,7 +47,7 @@ impl Includes {
     }
 
     /// Adds the place of a root to those of its includes, if it is asked for.
-    fn add_root(&mut self, root: &Root, at: usize, only_local: bool) -> Result<(), AllocError>
+    fn add_root(&mut self, root: &Root, at: u32, only_local: bool) -> Result<(), AllocError>
         ensures places { OnOk result ((text : List ℕ) → places self.new text
             ≡ places self.old text ++ (if is_asked only_local root.now then places_in text at root.now else [])) }
         ensures paths { OnOk result (has_paths only_local root.now ≡ true) }
@@ -63,17 +64,18 @@ impl Includes {
         roots: &[Root],
         only_local: bool,
     ) -> Result<Includes, AllocError>
+        requires { length roots.now ≤ most_roots }
         ensures { IfOk result (IsIndex only_local roots.now) }
     {
         let mut index = Includes::new(alloc);
         for (at, root) in roots.iter().enumerate() {
-            index.add_root(root, at, only_local)?;
+            index.add_root(root, at as u32, only_local)?;
         }
         Ok(index)
     }
 
     /// The places of a text, in order.
-    pub(crate) fn get(&self, text: &str) -> &[usize]
+    pub(crate) fn get(&self, text: &str) -> &[u32]
         ensures { result.now ≡ places self.now text.now }
     {
         match self.rows.get(text) {

@@ -1,8 +1,9 @@
-ghost use Rattle.std.specs.Prelude.{false, ◌≡◌, ◌==◌, ◌++◌, ◌≤◌, ◌<◌, length, take, option_to_list, OnOk, IfOk, IfSome};
-ghost use Rattle.std.specs.List.{find, list_any, position, enumerate_from};
+ghost use Rattle.std.specs.Prelude.{true, false, not, ℕ, List, ◌∷◌, [], ◌≡◌, ◌==◌, ◌++◌, ◌≤◌, length, take, option_to_list, OnOk, IfOk};
+ghost use Rattle.std.specs.List.{find, list_any};
 ghost use Rattle.docs_vfs.specs.Paths.{is_within};
 ghost use Rattle.docs_vfs.specs.Includes.{places, is_kept, IsIndex};
-ghost use Rattle.docs_vfs.specs.Roots.{most_roots, greatest, first_greatest, root_length, root_of, is_below, proper_length, parent_length, parent_of, parent_pair, parent_map, is_local_at};
+ghost use Rattle.docs_vfs.specs.Parents.{parent_above, better};
+ghost use Rattle.docs_vfs.specs.Roots.{most_roots, first_greatest, root_length, root_of, parent_of, parent_pair, parent_map, is_local_at};
 
 use crate::includes::Includes;
 use crate::path::VfsPath;
@@ -44,11 +45,12 @@ const MOST_ROOTS: usize = 4_294_967_295;
 pub struct SourceRoots {
     alloc: Global,
     roots: Items<Root>,
-    index: Arc<Includes, Global>,
+    includes: Arc<Includes, Global>,
+    local_includes: Arc<Includes, Global>,
 }
 
 impl Model for SourceRoots {
-    ghost use Rattle.std.specs.Prelude.{List, length, ◌≤◌, false};
+    ghost use Rattle.std.specs.Prelude.{List, length, ◌≤◌, true, false};
     ghost use Rattle.std.specs.Arc.{arc_value};
     ghost use Rattle.docs_vfs.specs.declared.source_roots.Root.{Root};
     ghost use Rattle.docs_vfs.specs.Roots.{most_roots};
@@ -58,7 +60,8 @@ impl Model for SourceRoots {
 
     ghost view = { λ s. s.roots };
 
-    ghost invariant = { λ s. (length s.roots ≤ most_roots) × IsIndex false s.roots (arc_value s.index) };
+    ghost invariant = { λ s. (length s.roots ≤ most_roots) × IsIndex false s.roots (arc_value s.includes)
+        × IsIndex true s.roots (arc_value s.local_includes) };
 }
 
 /// Whether an exclude of a root is a prefix of a path.
@@ -69,17 +72,17 @@ fn is_excluded(path: &VfsPath, root: &Root) -> bool
 }
 
 /// Whether none of the excludes of the root at a place holds a path.
-fn is_kept(path: &VfsPath, roots: &[Root], at: usize) -> bool
+fn is_kept(path: &VfsPath, roots: &[Root], at: u32) -> bool
     ensures { result ≡ is_kept roots.now path.now at }
 {
-    match roots.get(at) {
+    match roots.get(at as usize) {
         Some(root) => !is_excluded(path, root),
         None => false,
     }
 }
 
 /// The first root with this include whose excludes don't hold a path.
-fn root_at(index: &Includes, roots: &[Root], path: &VfsPath, include: &str) -> Option<usize>
+fn root_at(index: &Includes, roots: &[Root], path: &VfsPath, include: &str) -> Option<u32>
     ensures { result ≡ find (is_kept roots.now path.now) (places index.now include.now) }
 {
     index
@@ -90,7 +93,7 @@ fn root_at(index: &Includes, roots: &[Root], path: &VfsPath, include: &str) -> O
 }
 
 /// The root with the longest include that holds a path: the first one at the longest such folder that has one.
-fn root_above(index: &Includes, roots: &[Root], path: &VfsPath) -> Option<usize>
+fn root_above(index: &Includes, roots: &[Root], path: &VfsPath) -> Option<u32>
     requires { IsIndex false roots.now index.now }
     ensures { result ≡ first_greatest (root_length path.now) roots.now }
 {
@@ -106,114 +109,101 @@ fn root_above(index: &Includes, roots: &[Root], path: &VfsPath) -> Option<usize>
     }
 }
 
-/// Whether a path lies in a folder and isn't the folder itself.
-fn is_below(folder: &VfsPath, path: &VfsPath) -> bool
-    ensures { result ≡ is_below folder.now path.now }
+/// The first of these places that isn't this one.
+fn other_place(places: &[u32], at: u32) -> Option<u32>
+    ensures { result ≡ find (λ place. not (place == at)) places.now }
 {
-    path.starts_with(folder) && folder != path
+    places.iter().copied().find(|place| *place != at)
 }
 
-/// Whether a folder lies above a path of these.
-fn is_above(folder: &VfsPath, paths: &[VfsPath]) -> bool
-    ensures { result ≡ list_any (λ path. is_below folder.now path) paths.now }
+/// The length of the longest include of a local root but one that lies above an include, and the first root that
+/// has it: the first one at the longest such folder that has one.
+fn parent_above(index: &Includes, at: u32, include: &VfsPath) -> Option<(usize, u32)>
+    ensures { (roots : List Root) → IsIndex true roots index.now → result ≡ parent_above at (include.now ∷ []) roots }
 {
-    paths.iter().any(|path| is_below(folder, path))
+    let mut folder = include.as_str();
+    'folders: while let Some(above) = folder_above(folder) {
+        if let Some(place) = other_place(index.get(above), at) {
+            return Some((above.len(), place));
+        }
+        folder = above;
+    }
+    None
 }
 
-/// The length of an include that is a proper prefix of an include of another root.
-fn proper_length(child: &Root, include: &VfsPath) -> usize
-    ensures { result ≡ proper_length child.now include.now }
+/// Of two the longer one, and of equal ones the earlier one.
+fn better(a: Option<(usize, u32)>, b: Option<(usize, u32)>) -> Option<(usize, u32)>
+    ensures { result ≡ better a b }
 {
-    if is_above(include, child.include.as_slice()) {
-        include.as_str().len()
-    } else {
-        0
+    match (a, b) {
+        (None, _) => b,
+        (_, None) => a,
+        (Some((length, place)), Some((longer, earlier))) => {
+            if length < longer || (length == longer && earlier < place) {
+                b
+            } else {
+                a
+            }
+        }
     }
 }
 
-/// The length of the longest such include.
-fn longest_proper(child: &Root, includes: &[VfsPath]) -> usize
-    ensures { result ≡ greatest (proper_length child.now) includes.now }
+/// The same for several includes.
+fn parent_in(index: &Includes, at: u32, includes: &[VfsPath]) -> Option<(usize, u32)>
+    ensures { (roots : List Root) → IsIndex true roots index.now → result ≡ parent_above at includes.now roots }
 {
-    includes.iter().fold(
-        0,
-        |longest, include| longest.max(proper_length(child, include)),
-    )
-}
-
-/// The same of a root's includes, where it is local and isn't the child.
-fn parent_length(at: usize, child: &Root, place: usize, root: &Root) -> usize
-    ensures { result ≡ parent_length at child.now (place, root.now) }
-{
-    if root.is_local && place != at {
-        longest_proper(child, root.include.as_slice())
-    } else {
-        0
+    let mut best = None;
+    for include in includes {
+        best = better(best, parent_above(index, at, include));
     }
-}
-
-/// The length of the longest such include of all roots.
-fn longest_parent(at: usize, child: &Root, roots: &[Root]) -> usize
-    ensures { result ≡ greatest (parent_length at child.now) (enumerate_from 0 roots.now) }
-{
-    roots.iter().enumerate().fold(
-        0,
-        |longest, (place, root)| longest.max(parent_length(at, child, place, root)),
-    )
-}
-
-/// The first root with such an include of this length.
-fn first_parent(at: usize, child: &Root, roots: &[Root], longest: usize) -> Option<usize>
-    ensures bound { IfSome result (λ place. place < length roots.now) }
-    ensures first { result ≡ position (λ root. parent_length at child.now root == longest) (enumerate_from 0 roots.now) }
-{
-    roots.iter().enumerate().position(|(place, root)| parent_length(at, child, place, root)
-        == longest)
+    best
 }
 
 /// The parent of a root.
-fn parent_of(at: usize, child: &Root, roots: &[Root]) -> Option<usize>
-    ensures bound { IfSome result (λ place. place < length roots.now) }
-    ensures first { result ≡ parent_of roots.now at child.now }
+fn parent_of(index: &Includes, at: u32, child: &Root) -> Option<u32>
+    ensures { (roots : List Root) → IsIndex true roots index.now → result ≡ parent_of roots at child.now }
 {
-    let longest = longest_parent(at, child, roots);
-    if longest == 0 {
-        return None;
+    match parent_in(index, at, child.include.as_slice()) {
+        Some((_length, parent)) => Some(parent),
+        None => None,
     }
-    first_parent(at, child, roots, longest)
 }
 
 /// Adds a local root with its parent, where it has one.
 fn push_parent(
     list: &mut Items<(u32, u32)>,
-    at: usize,
+    index: &Includes,
+    at: u32,
     root: &Root,
-    roots: &[Root],
 ) -> Result<(), NoMemory>
-    requires count { length roots.now ≤ most_roots }
-    requires place { at < length roots.now }
-    ensures { OnOk result (list.new ≡ list.old ++ option_to_list (parent_pair roots.now (at, root.now))) }
+    ensures { OnOk result ((roots : List Root) → IsIndex true roots index.now
+        → list.new ≡ list.old ++ option_to_list (parent_pair roots (at, root.now))) }
 {
     if !root.is_local {
         return Ok(());
     }
-    match parent_of(at, root, roots) {
+    match parent_of(index, at, root) {
         None => Ok(()),
         Some(parent) => {
-            list.push((at as u32, parent as u32))?;
+            list.push((at, parent))?;
             Ok(())
         }
     }
 }
 
 /// Each local root that has a parent, with its parent.
-fn parent_pairs(alloc: Global, roots: &[Root]) -> Result<Items<(u32, u32)>, NoMemory>
-    requires { length roots.now ≤ most_roots }
+fn parent_pairs(
+    alloc: Global,
+    index: &Includes,
+    roots: &[Root],
+) -> Result<Items<(u32, u32)>, NoMemory>
+    requires count { length roots.now ≤ most_roots }
+    requires index { IsIndex true roots.now index.now }
     ensures { IfOk result (λ list. list ≡ parent_map roots.now) }
 {
     let mut list = Items::new(alloc);
     for (at, root) in roots.iter().enumerate() {
-        push_parent(&mut list, at, root, roots)?;
+        push_parent(&mut list, index, at as u32, root)?;
     }
     Ok(list)
 }
@@ -227,11 +217,13 @@ impl SourceRoots {
         let alloc = *roots.allocator();
         roots.truncate(MOST_ROOTS);
         let roots = Items::from_vec(roots);
-        let index = Includes::of(alloc, roots.as_slice(), false)?;
+        let includes = Includes::of(alloc, roots.as_slice(), false)?;
+        let local_includes = Includes::of(alloc, roots.as_slice(), true)?;
         Ok(SourceRoots {
             alloc,
             roots,
-            index: Arc::new(alloc, index)?,
+            includes: Arc::new(alloc, includes)?,
+            local_includes: Arc::new(alloc, local_includes)?,
         })
     }
 
@@ -239,8 +231,8 @@ impl SourceRoots {
     pub fn root_of(&self, path: &VfsPath) -> u32
         ensures { result ≡ root_of self.now path.now }
     {
-        match root_above(&self.index, self.roots.as_slice(), path) {
-            Some(at) => at as u32,
+        match root_above(&self.includes, self.roots.as_slice(), path) {
+            Some(at) => at,
             None => self.roots.len() as u32,
         }
     }
@@ -260,7 +252,7 @@ impl SourceRoots {
     pub fn parent_map(&self) -> Result<Items<(u32, u32)>, NoMemory>
         ensures { IfOk result (λ list. list ≡ parent_map self.now) }
     {
-        parent_pairs(self.alloc, self.roots.as_slice())
+        parent_pairs(self.alloc, &self.local_includes, self.roots.as_slice())
     }
 }
 
@@ -271,7 +263,8 @@ impl Clone for SourceRoots {
         Ok(SourceRoots {
             alloc: self.alloc,
             roots: self.roots.clone()?,
-            index: Arc::try_clone(&self.index)?,
+            includes: Arc::try_clone(&self.includes)?,
+            local_includes: Arc::try_clone(&self.local_includes)?,
         })
     }
 }
