@@ -29,6 +29,7 @@ pub use file_url::{
 pub use mem_docs::{DocumentData, MemDocs, Paths};
 pub use path::VfsPath;
 pub use path_laws::resolved_texts_are_paths;
+pub use plain::NoMemory;
 pub use relative::EmptySegments;
 pub use root_laws::the_longest_root_is_chosen;
 pub use shared_bytes::SharedBytes;

@@ -13,7 +13,7 @@ use crate::path_text::{begins_with_folder_text, cut_at_last_slash, extension_tex
 use crate::relative::{
     EmptySegments, front_text, is_name_text, push_segment, walk_from, whole_text,
 };
-use plain::{Copied, Told};
+use plain::{Copied, TextKey, Told};
 use std::alloc::{AllocError, Global};
 use std::cmp::Ordering;
 use std::fmt;
@@ -235,6 +235,12 @@ impl Ord for VfsPath {
     fn cmp(&self, other: &VfsPath) -> Ordering {
         self.as_str().cmp(other.as_str())
     }
+}
+
+impl TextKey for VfsPath {
+    ghost text = { λ p. p };
+
+    ghost in_order = { λ x y. refl };
 }
 
 impl Hash for VfsPath {
