@@ -37,7 +37,11 @@ canceled_by_client id = refusal id (negsuc 32799) (codes "canceled by client")
 abbrev pub content_modified : RequestId → Response
 content_modified id = refusal id (negsuc 32800) (codes "content modified")
 
--- -32802, and the client is to ask again (LSP 3.17, DiagnosticServerCancellationData)
+-- the client is to ask again (LSP 3.17, DiagnosticServerCancellationData)
+abbrev pub retrigger_request : Data
+retrigger_request = object (member (codes "retriggerRequest") (boolean true) no_members)
+
+-- -32802
 abbrev pub server_cancelled : RequestId → Response
 server_cancelled id = record {
   id = Some id;
@@ -45,7 +49,7 @@ server_cancelled id = record {
   error = Some (record {
     code = negsuc 32801;
     message = codes "server cancelled the request";
-    extra = Some (object (member (codes "retriggerRequest") (boolean true) no_members));
+    extra = Some retrigger_request;
   });
 }
 

@@ -1,12 +1,19 @@
--- Whether an edit leaves another text.
-use Rattle.std.proofs.Common.{◌≡◌, ◌≢◌, ℕ, List, Bool, true, false, refl, sym, ap, ◌∙◌}
-use Rattle.std.specs.Prelude.{Option, None, Some}
+-- Whether an edit leaves another text, and what a notification tells.
+use Rattle.std.proofs.Common.{◌≡◌, ◌≢◌, ℕ, List, Bool, true, false, refl, sym, ap, subst, ◌∙◌}
+use Rattle.std.specs.Prelude.{Option, None, Some, Result}
 use Rattle.std.specs.Option.{unwrap_or}
 use Rattle.std.specs.Cmp.Lexicographic.{bytes_decides}
 use Rattle.text_core.specs.Changes.{IsOther}
 use Rattle.session_model.specs.Changing.{IsNews}
-use Rattle.session_model.specs.Machine.{holds_text}
+use Rattle.lsp_frame.specs.declared.message.Notification.{Notification}
+use Rattle.session_model.specs.Machine.{Working, holds_text, noticed}
+use Rattle.session_model.specs.Meets.{Meets}
+use Rattle.session_model.specs.Notices.{notice_of}
+use Rattle.session_model.specs.State.{State}
 use Rattle.session_model.specs.Texts.{same_text}
+use Rattle.session_model.specs.Written.{Written}
+use Rattle.session_model.specs.declared.fault.TurnError.{TurnError}
+use Rattle.session_model.specs.declared.notice.Notice.{Notice}
 
 some-same : (a b : List ℕ) → Some a ≡ Some b → a ≡ b
 some-same a b e = cc
@@ -32,3 +39,8 @@ either false held text same other = refl
 pub held_not : (held : Option (List ℕ)) (text : List ℕ) → held ≢ Some text → holds_text held text ≡ false
 held_not None text other = refl
 held_not (Some held) text other = either (same_text held text) held text refl other
+
+-- what is told by a notice that a notification is
+pub noticed_as : {T : Type 0} (notice : Notice) (n : Notification) (result : Result T TurnError) (w : Working) (state : State) (out : Written) → notice ≡ notice_of n
+    → Meets result (noticed notice n.method w) state out → Meets result (noticed (notice_of n) n.method w) state out
+noticed_as notice n result w state out is meets = subst (λ (x : Notice). Meets result (noticed x n.method w) state out) is meets

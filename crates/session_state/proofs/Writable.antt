@@ -2,16 +2,14 @@
 use Rattle.std.proofs.Common.{List, [], ◌∷◌, ◌++◌, refl}
 use Rattle.plain.specs.Plain.{most_levels}
 use Rattle.dispatch.proofs.Writable.{plain_writable}
-use Rattle.lsp_frame.specs.Written.{AreWritable}
+use Rattle.lsp_frame.specs.Written.{AreWritable, IsWritable}
 use Rattle.lsp_frame.specs.declared.message.Message.{Message}
-use Rattle.lsp_frame.specs.declared.message.Message.TheVariants.{Response as ResponseMessage}
-use Rattle.lsp_frame.specs.declared.message.RequestId.{RequestId}
-use Rattle.session_model.specs.Replies.{server_cancelled}
+use Rattle.session_model.specs.Replies.{retrigger_request}
 use Rattle.session_model.specs.Written.{AllWritable}
 
-pub cancelled_writable : (id : RequestId) → AreWritable (ResponseMessage (server_cancelled id))
+pub retrigger_writable : IsWritable retrigger_request
 unfolding most_levels
-cancelled_writable id = (tt, (plain_writable _ refl, tt))
+retrigger_writable = plain_writable retrigger_request refl
 
 pub writable_push : (messages : List Message) (message : Message) → AllWritable messages → AreWritable message → AllWritable (messages ++ message ∷ [])
 writable_push [] message all one = (one, tt)

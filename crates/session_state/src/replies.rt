@@ -3,7 +3,7 @@ ghost use Rattle.std.specs.Prelude.{◌≡◌, true, IfOk, IfSome};
 ghost use Rattle.lsp_frame.specs.Written.{AreWritable};
 ghost use Rattle.lsp_frame.specs.declared.message.Message.TheVariants.{Response as ResponseMessage};
 ghost use Rattle.session_port.specs.Jobs.{plain_result};
-ghost use Rattle.session_model.specs.Replies.{already_pending, shut_already, unknown_request, invalid_params, canceled_by_client, content_modified, server_cancelled, stopped_reply, fault_reply, finished_reply};
+ghost use Rattle.session_model.specs.Replies.{already_pending, shut_already, unknown_request, invalid_params, canceled_by_client, content_modified, retrigger_request, server_cancelled, stopped_reply, fault_reply, finished_reply};
 ghost use Rattle.session_model.specs.Texts.{id_text};
 
 use dispatch::{fault_code, refusal, response_with};
@@ -67,22 +67,29 @@ fn content_modified(alloc: Global, id: RequestId) -> Result<Response, AllocError
     Ok(refusal(id, -32801, message))
 }
 
+// That the client is to ask again.
+fn retrigger_request(alloc: Global) -> Result<Json, AllocError>
+    ensures { IfOk result (λ json. json ≡ retrigger_request) }
+{
+    let mut members = Members::new(alloc);
+    members.put(alloc, "retriggerRequest", Json::from_bool(true))?;
+    Ok(members.into_json())
+}
+
 // The same of a request that the client is to ask again.
-#[tactic(auto, using(crate::proofs::Writable::cancelled_writable))]
 fn server_cancelled(alloc: Global, id: RequestId) -> Result<Response, AllocError>
     ensures value { IfOk result (λ response. response ≡ server_cancelled id) }
     ensures writable { IfOk result (λ response. AreWritable (ResponseMessage response)) }
 {
     let message = Text::from_str(alloc, "server cancelled the request")?;
-    let mut extra = Members::new(alloc);
-    extra.put(alloc, "retriggerRequest", Json::from_bool(true))?;
+    let extra = retrigger_request(alloc)?;
     Ok(Response {
         id: Some(id),
         result: None,
         error: Some(ResponseError {
             code: -32802,
             message,
-            extra: Some(extra.into_json()),
+            extra: Some(extra),
         }),
     })
 }

@@ -6,7 +6,7 @@ ghost use Rattle.session_model.specs.Changing.{text_after, has_skipped, IsNews};
 ghost use Rattle.session_model.specs.Machine.{received, noticed, opened_at, open_noted, changed_at, edited, edited_by, skip_noted, cancelled, logged, version_set, text_set, holds_text, world_changed};
 ghost use Rattle.session_model.specs.Meaning.{meaning_of};
 ghost use Rattle.session_model.specs.Meets.{Meets, Gives};
-ghost use Rattle.session_model.specs.Notices.{FitsWorld};
+ghost use Rattle.session_model.specs.Notices.{notice_of, FitsWorld};
 ghost use Rattle.docs_vfs.specs.FileUrls.{path_of};
 
 use crate::global_state::GlobalState;
@@ -95,8 +95,7 @@ impl GlobalState {
         text: SharedText,
         out: &mut TurnOut,
     ) -> Result<(), TurnError>
-        ensures { let file = record { path = path; text = Some text } in
-            Meets result (world_changed (file ∷ []) (record { state = self.old; out = out.old })) self.new out.new }
+        ensures { Meets result (world_changed ((record { path = path; text = Some text }) ∷ []) (record { state = self.old; out = out.old })) self.new out.new }
     {
         let mut files = Items::new(self.alloc);
         files.push(FileChange {
@@ -332,6 +331,19 @@ impl GlobalState {
         }
     }
 
+    #[tactic(auto, using(crate::proofs::News::noticed_as))]
+    fn on_notification(
+        &mut self,
+        notification: Notification,
+        out: &mut TurnOut,
+    ) -> Result<(), TurnError>
+        ensures { Meets result (noticed (notice_of notification) notification.method (record { state = self.old; out = out.old })) self.new out.new }
+    {
+        let Notification { method, params } = notification;
+        let notice = notice_of(self.alloc, &method, params)?;
+        self.on_notice(notice, method, out)
+    }
+
     #[tactic(auto, unfolding(session_model::specs::Machine::received))]
     pub(super) fn on_message<A: Analysis>(
         &mut self,
@@ -344,10 +356,7 @@ impl GlobalState {
     {
         match message {
             Message::Request(request) => self.on_request(request, analysis, out),
-            Message::Notification(Notification { method, params }) => {
-                let notice = notice_of(self.alloc, &method, params)?;
-                self.on_notice(notice, method, out)
-            }
+            Message::Notification(notification) => self.on_notification(notification, out),
             Message::Response(response) => {
                 let text = replies::id_text(self.alloc, response.id)?;
                 self.log(LogCode::UnknownResponse, text, out)
