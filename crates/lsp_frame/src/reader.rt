@@ -123,8 +123,8 @@ impl FrameReader {
     fn first_frame(&self) -> Cut
         ensures { result ≡ cut_of self.now.held }
     {
-        let held = self.held.as_slice();
-        cut_at(held.len(), find_header(held, self.known).head)
+        let known = find_header(self.held.as_slice(), self.known);
+        cut_at(self.held.len(), known.head)
     }
 
     /// Takes the next piece of the stream.

@@ -6,5 +6,5 @@ use Rattle.lsp_frame.proofs.reader.FrameReader.first_frame.Goals as goal
 
 pub returns : goal.returns
 returns c =
-    cut_is _ _ _ _ c.cut_at.ensures c.len.ensures (rw c.as_slice-held.ensures at c.find_header.ensures.head)
+    cut_is _ _ _ _ c.cut_at.ensures c.len.ensures (rw c.as_slice.ensures at c.find_header-known.ensures.head)
     ∙ ap (λ (r : Reader). cut_of r.held) c.self.view_is

@@ -21,4 +21,4 @@ invariant_of-self-in-Ok-None c =
 
 pub returns-in-Ok-Some-clause-message : goal.returns-in-Ok-Some-clause-message
 returns-in-Ok-Some-clause-message c =
-    gives_from _ _ _ _ _ _ _ c.self.view_is c.requires.whole (sym c.in-Ok-Some.field-0-is ∙ c.in-Ok-Some.ensures ∙ ap (λ (held : List ℕ). message_of (slice_range held c.args.start c.args.end)) c.as_slice.ensures) c.if-self.false
+    rw c.consume.ensures (gives_from _ _ _ _ _ _ _ c.self.view_is c.requires.whole (sym c.in-Ok-Some.field-0-is ∙ c.in-Ok-Some.ensures ∙ ap (λ (held : List ℕ). message_of (slice_range held c.args.start c.args.end)) c.as_slice.ensures) c.if-self.false)
