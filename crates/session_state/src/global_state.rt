@@ -16,11 +16,11 @@ mod pending;
 mod requests;
 mod results;
 
-use crate::turn_out::TurnOut;
 use analysis_host::{Analysis, AnalysisHost, GlobalStateSnapshot, SnapshotParts, Versions};
 use lsp_frame::{Incoming, Message, RequestId, Response};
 use plain::{ByNumber, Text};
 use ra_config::Config;
+use session_messages::TurnOut;
 use session_model::{Counter, Event, TurnError};
 use session_port::{Command, Job, LogCode};
 use std::alloc::{AllocError, Global};

@@ -2,11 +2,6 @@
 #![tactic(auto)]
 
 mod global_state;
-mod names;
-mod notices;
-mod replies;
-mod turn_out;
 
 pub use global_state::GlobalState;
-pub use names::is_name;
-pub use turn_out::TurnOut;
+pub use session_messages::{TurnOut, is_name};

@@ -10,13 +10,11 @@ ghost use Rattle.session_model.specs.Notices.{notice_of, FitsWorld};
 ghost use Rattle.docs_vfs.specs.FileUrls.{path_of};
 
 use crate::global_state::GlobalState;
-use crate::notices::notice_of;
-use crate::replies;
-use crate::turn_out::TurnOut;
 use analysis_host::{Analysis, Change, FileChange, SharedText, WorldFault, columns};
 use docs_vfs::{UrlFault, VfsPath, path_of_url};
 use lsp_frame::{Message, Notification, RequestId};
 use plain::{Items, Text};
+use session_messages::{TurnOut, canceled_by_client, id_text, notice_of};
 use session_model::{Counter, DidChange, DidOpen, Notice, TurnError};
 use session_port::LogCode;
 use std::alloc::{AllocError, Global};
@@ -306,7 +304,7 @@ impl GlobalState {
         if !self.pending.has_id(id) {
             return Ok(());
         }
-        let response = replies::canceled_by_client(self.alloc, id.clone()?)?;
+        let response = canceled_by_client(self.alloc, id.clone()?)?;
         self.answer(id, response, out)
     }
 
@@ -358,7 +356,7 @@ impl GlobalState {
             Message::Request(request) => self.on_request(request, analysis, out),
             Message::Notification(notification) => self.on_notification(notification, out),
             Message::Response(response) => {
-                let text = replies::id_text(self.alloc, response.id)?;
+                let text = id_text(self.alloc, response.id)?;
                 self.log(LogCode::UnknownResponse, text, out)
             }
         }

@@ -6,10 +6,9 @@ ghost use Rattle.lsp_frame.specs.declared.message.Message.TheVariants.{Response 
 ghost use Rattle.session_model.specs.Machine.{cancelled, responded};
 
 use crate::global_state::GlobalState;
-use crate::replies;
-use crate::turn_out::TurnOut;
 use lsp_frame::{RequestId, Response};
 use plain::NoMemory;
+use session_messages::{TurnOut, canceled_by_client};
 
 impl GlobalState {
     /// Answers the request of a ticket under its id, and closes it; false where it isn't pending. After an `Err` the state is spent.
@@ -48,7 +47,7 @@ impl GlobalState {
         if !self.pending.has_id(id) {
             return Ok(false);
         }
-        let response = replies::canceled_by_client(self.alloc, id.clone()?)?;
+        let response = canceled_by_client(self.alloc, id.clone()?)?;
         self.pending.cancel(id);
         out.reply(response)?;
         Ok(true)

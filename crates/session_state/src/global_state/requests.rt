@@ -15,13 +15,14 @@ ghost use Rattle.session_model.specs.Replies.{already_pending, shut_already, unk
 ghost use Rattle.session_model.specs.State.{snapshot_of};
 
 use crate::global_state::{GlobalState, next_number};
-use crate::replies;
-use crate::turn_out::TurnOut;
 use analysis_host::{Analysis, Answer, Ask, Never, Outcome, RowId};
 use dispatch::response_with;
 use lsp_frame::{Registered, Request, RequestId, Response};
 use method_table::{Plan, PoolClass, SHUTDOWN, default_of, plan, row_of};
 use plain::{Json, SharedJson, Text};
+use session_messages::{
+    TurnOut, already_pending, fault_reply, invalid_params, shut_already, unknown_request,
+};
 use session_model::{Counter, TurnError};
 use session_port::{Command, Job, JobKind, LogCode};
 use state_params::{is_unit, read_state_request};
@@ -94,7 +95,7 @@ impl GlobalState {
         let mut never = Never::new();
         match analysis.query(&snapshot, &ask, &mut never)? {
             Outcome::Value(Answer::Json(value)) => Ok(response_with(id, value)),
-            Outcome::Fault { code, message } => Ok(replies::fault_reply(id, code, message)),
+            Outcome::Fault { code, message } => Ok(fault_reply(id, code, message)),
             Outcome::Cancelled { .. } => unreachable!(),
         }
     }
@@ -103,7 +104,7 @@ impl GlobalState {
     fn refuse_params(&mut self, id: &RequestId, out: &mut TurnOut) -> Result<(), TurnError>
         ensures { Gives result (answered id.now (invalid_params id.now) (record { state = self.old; out = out.old })) self.new out.new }
     {
-        let response = replies::invalid_params(self.alloc, id.clone()?)?;
+        let response = invalid_params(self.alloc, id.clone()?)?;
         self.answer(id, response, out)
     }
 
@@ -111,7 +112,7 @@ impl GlobalState {
     fn refuse_shut(&mut self, id: &RequestId, out: &mut TurnOut) -> Result<(), TurnError>
         ensures { Gives result (answered id.now (shut_already id.now) (record { state = self.old; out = out.old })) self.new out.new }
     {
-        let response = replies::shut_already(self.alloc, id.clone()?)?;
+        let response = shut_already(self.alloc, id.clone()?)?;
         self.answer(id, response, out)
     }
 
@@ -119,7 +120,7 @@ impl GlobalState {
     fn refuse_unknown(&mut self, id: &RequestId, out: &mut TurnOut) -> Result<(), TurnError>
         ensures { Gives result (answered id.now (unknown_request id.now) (record { state = self.old; out = out.old })) self.new out.new }
     {
-        let response = replies::unknown_request(self.alloc, id.clone()?)?;
+        let response = unknown_request(self.alloc, id.clone()?)?;
         self.answer(id, response, out)
     }
 
@@ -336,7 +337,7 @@ impl GlobalState {
     fn refuse_pending(&mut self, id: RequestId, out: &mut TurnOut) -> Result<(), TurnError>
         ensures { Gives result (replied (already_pending id) (record { state = self.old; out = out.old })) self.new out.new }
     {
-        let response = replies::already_pending(self.alloc, id)?;
+        let response = already_pending(self.alloc, id)?;
         self.reply(response, out)
     }
 

@@ -10,12 +10,11 @@ ghost use Rattle.session_model.specs.Meets.{Meets, Gives};
 ghost use Rattle.session_model.specs.Replies.{stopped_reply, finished_reply};
 
 use crate::global_state::GlobalState;
-use crate::replies;
-use crate::turn_out::TurnOut;
 use analysis_host::{Analysis, RowId};
 use lsp_frame::RequestId;
 use method_table::{class_of, retries};
 use plain::{Items, Text};
+use session_messages::{TurnOut, finished_reply, stopped_reply};
 use session_model::TurnError;
 use session_port::{Job, JobKind, JobResult, LogCode, TaskBody, TaskMsg};
 
@@ -29,7 +28,7 @@ impl GlobalState {
     ) -> Result<(), TurnError>
         ensures { Gives result (answered id.now (stopped_reply (class_of row) id.now) (record { state = self.old; out = out.old })) self.new out.new }
     {
-        let response = replies::stopped_reply(self.alloc, class_of(row), id.clone()?)?;
+        let response = stopped_reply(self.alloc, class_of(row), id.clone()?)?;
         self.answer(id, response, out)
     }
 
@@ -69,7 +68,7 @@ impl GlobalState {
         requires { plain_result outcome ≡ true }
         ensures { Meets result (settled (meaning_of A.decodes A.answer) (finished_reply id.now outcome) id.now job (record { state = self.old; out = out.old })) self.new out.new }
     {
-        match replies::finished_reply(self.alloc, id.clone()?, outcome)? {
+        match finished_reply(self.alloc, id.clone()?, outcome)? {
             Some(response) => self.answer(id, response, out),
             None => self.on_stopped(id, job, analysis, out),
         }

@@ -43,8 +43,9 @@ impl TurnOut {
         }
     }
 
+    /// Writes a response more.
     #[tactic(auto, using(crate::proofs::Writable::writable_push))]
-    pub(crate) fn reply(&mut self, response: Response) -> Result<(), AllocError>
+    pub fn reply(&mut self, response: Response) -> Result<(), AllocError>
         requires { AreWritable (ResponseMessage response) }
         ensures { OnOk result (self.new ≡ record self.old { messages = self.old.messages ++ ResponseMessage response ∷ [] }) }
     {
@@ -52,7 +53,8 @@ impl TurnOut {
         Ok(())
     }
 
-    pub(crate) fn order(&mut self, command: Command) -> Result<(), AllocError>
+    /// Orders a command more.
+    pub fn order(&mut self, command: Command) -> Result<(), AllocError>
         ensures { OnOk result (self.new ≡ record self.old { commands = self.old.commands ++ command ∷ [] }) }
     {
         self.commands.push(command)?;
