@@ -98,6 +98,22 @@ impl Index {
     }
 }
 
+impl Index {
+    /// The line and the column in code units at an offset.
+    fn position(&self, offset: u32) -> (u32, u32) {
+        let line = self.newlines.partition_point(|start| *start <= offset);
+        let start = if line == 0 { 0 } else { self.newlines[line - 1] };
+        let bytes = offset - start;
+        let mut column = bytes;
+        if let Some(wide) = self.wide.get(&(line as u32)) {
+            for w in wide.iter().take_while(|w| w.end <= bytes) {
+                column -= (w.end - w.start) - w.units;
+            }
+        }
+        (line as u32, column)
+    }
+}
+
 struct Change {
     range: ((u32, u32), (u32, u32)),
     text: String,
@@ -206,6 +222,24 @@ fn type_letters(name: &str, mut text: String, places: &[(u32, u32)]) {
     report(name, start, &text);
 }
 
+/// Positions of offsets all over a text.
+fn positions(name: &str, text: &str, count: u32) {
+    let index = Index::new(text);
+    let start = Instant::now();
+    let (mut lines, mut columns) = (0u64, 0u64);
+    for k in 0..count {
+        let offset = k.wrapping_mul(7919) % index.len;
+        if text.is_char_boundary(offset as usize) {
+            let (line, column) = index.position(offset);
+            lines += u64::from(line);
+            columns += u64::from(column);
+        }
+    }
+    let micros = start.elapsed().as_micros();
+    eprintln!("{name}: {micros} microseconds");
+    println!("{name}: lines {lines}, columns {columns}");
+}
+
 fn main() {
     let full = std::env::args().any(|word| word == "full");
     let (edits, rows) = if full { (10_000u32, 2_236_963) } else { (50, 1000) };
@@ -230,6 +264,8 @@ fn main() {
     report("edits of one long line", start, &apply(&long_line(len), &along));
     let ones: Vec<(u32, u32)> = (0..edits / 10).map(|k| (0, k * 7919 % len)).collect();
     type_letters("letters one by one in one long line", long_line(len), &ones);
+    positions("positions in lines", &lines(edits * 2, "\n"), edits);
+    positions("positions in one long line", &long_line(len), edits / 10);
     for (name, end) in [("lines that end with LF", "\n"), ("lines that end with CR LF", "\r\n")] {
         let text = lines(rows, end);
         let start = Instant::now();

@@ -178,6 +178,32 @@ fn along(alloc: Global, places: &[Position]) -> Result<Items<ContentChange>, All
     Ok(changes)
 }
 
+/// Positions of offsets all over a text.
+fn find_positions(rt: &HostRuntime, name: &str, index: &TextIndex, count: u32) -> io::Result<()> {
+    let mut lines = 0u64;
+    let mut columns = 0u64;
+    let start = Instant::now(rt)?;
+    for k in 0..count {
+        let offset = k.wrapping_mul(7919).checked_rem(index.len()).unwrap_or(0);
+        if let Some(position) = index.position_of(UTF16, offset) {
+            lines = lines.wrapping_add(u64::from(position.line));
+            columns = columns.wrapping_add(u64::from(position.character));
+        }
+    }
+    let micros = start.elapsed(rt)?.as_micros();
+    eprintln!(rt; "{name}: {micros} microseconds")?;
+    println!(rt; "{name}: lines {lines}, columns {columns}")
+}
+
+/// Positions of offsets of a text.
+fn positions(rt: &HostRuntime, name: &str, text: Text, count: u32) -> io::Result<()> {
+    if text.len() > u32::MAX as usize {
+        return Ok(());
+    }
+    let index = TextIndex::from_text(rt.alloc(), text)?;
+    find_positions(rt, name, &index, count)
+}
+
 /// Whether the full sizes are asked for.
 fn is_full(rt: &HostRuntime) -> io::Result<bool> {
     for word in env::args(rt)?.skip(1) {
@@ -212,6 +238,10 @@ fn main(rt: HostRuntime) -> io::Result<()> {
     )?;
     let name = Text::from_str(alloc, "letters one by one in one long line")?;
     type_letters(&rt, name, text, ones)?;
+    let text = lines(alloc, edits * 2, "\n")?;
+    positions(&rt, "positions in lines", text, edits)?;
+    let text = long_line(alloc, len)?;
+    positions(&rt, "positions in one long line", text, edits / 10)?;
     normalize(&rt, "lines that end with LF", lines(alloc, rows, "\n")?)?;
     normalize(
         &rt,
