@@ -91,42 +91,55 @@ fn root_at(alloc: Global, text: &str) -> Result<Root, AllocError> {
     })
 }
 
-/// A root for each of the 500 folders, and one for the tests in each.
-fn thousand_roots(alloc: Global) -> Result<SourceRoots, AllocError> {
+/// Roots of this many folders, and one of the tests in each.
+fn roots_of(alloc: Global, folders: u32) -> Result<SourceRoots, AllocError> {
     let mut roots = Items::new(alloc);
-    for folder in 0..500u32 {
+    for folder in 0..folders {
         let text = format!(in alloc; "/w/crates/part_{folder}")?;
         roots.push(root_at(alloc, text.as_str())?)?;
     }
-    for folder in 0..500u32 {
+    for folder in 0..folders {
         let text = format!(in alloc; "/w/crates/part_{folder}/tests")?;
         roots.push(root_at(alloc, text.as_str())?)?;
     }
-    Ok(SourceRoots::new(roots)?)
+    SourceRoots::new(roots)
 }
 
-/// Counts the paths that are in a root.
-fn find_roots(alloc: Global, roots: &SourceRoots) -> Result<u64, AllocError> {
-    let mut count = 0u64;
+/// The paths that are looked for in the roots.
+fn paths(alloc: Global) -> Result<Items<VfsPath>, AllocError> {
+    let mut paths = Items::new(alloc);
     for turn in 0..NAMES {
         if let Some(path) = path_of(alloc, scattered(turn))? {
-            if roots.root_of(&path) < 1_000 {
-                count = count.wrapping_add(1);
-            }
+            paths.push(path)?;
         }
     }
-    Ok(count)
+    Ok(paths)
 }
 
-/// Counts the roots that have a parent.
+/// Counts the paths that are in one of this many roots.
+fn find_roots(roots: &SourceRoots, paths: &[VfsPath], count: u32) -> u64 {
+    let mut found = 0u64;
+    for path in paths {
+        if roots.root_of(path) < count {
+            found = found.wrapping_add(1);
+        }
+    }
+    found
+}
+
+/// Counts the roots that have a parent, a hundred times.
 fn find_parents(roots: &SourceRoots) -> Result<u64, AllocError> {
-    Ok(roots.parent_map()?.len() as u64)
+    let mut found = 0u64;
+    for _ in 0..100u32 {
+        found = found.wrapping_add(roots.parent_map()?.len() as u64);
+    }
+    Ok(found)
 }
 
 /// Prints what was counted, and the time since the start on standard error.
 fn told(rt: &HostRuntime, name: &str, count: u64, start: &Instant) -> io::Result<()> {
-    let millis = start.elapsed(rt)?.as_millis();
-    eprintln!(rt; "{name}: {millis} ms")?;
+    let micros = start.elapsed(rt)?.as_micros();
+    eprintln!(rt; "{name}: {micros} us")?;
     println!(rt; "{name}: {count}")
 }
 
@@ -157,19 +170,35 @@ fn tables(rt: &HostRuntime) -> io::Result<()> {
     told(rt, "files found", count, &start)
 }
 
-/// Reads URLs, and finds roots.
-fn names(rt: &HostRuntime) -> io::Result<()> {
-    let alloc = rt.alloc();
+/// Reads URLs.
+fn urls(rt: &HostRuntime) -> io::Result<()> {
     let start = Instant::now(rt)?;
-    told(rt, "URLs read", read_urls(alloc)?, &start)?;
-    let roots = thousand_roots(alloc)?;
+    told(rt, "URLs read", read_urls(rt.alloc())?, &start)
+}
+
+/// Makes the roots of this many folders, and finds the roots of paths and the parents of the roots.
+fn roots(rt: &HostRuntime, paths: &[VfsPath], folders: u32) -> io::Result<()> {
     let start = Instant::now(rt)?;
-    told(rt, "roots found", find_roots(alloc, &roots)?, &start)?;
+    let roots = roots_of(rt.alloc(), folders)?;
+    told(rt, "folders of roots", u64::from(folders), &start)?;
+    let start = Instant::now(rt)?;
+    let found = find_roots(&roots, paths, folders.wrapping_mul(2));
+    told(rt, "roots found", found, &start)?;
     let start = Instant::now(rt)?;
     told(rt, "parents found", find_parents(&roots)?, &start)
 }
 
+/// Finds paths in 10, 100 and 1,000 roots.
+fn names(rt: &HostRuntime) -> io::Result<()> {
+    let paths = paths(rt.alloc())?;
+    for folders in [5, 50, 500] {
+        roots(rt, paths.as_slice(), folders)?;
+    }
+    Ok(())
+}
+
 fn main(rt: HostRuntime) -> io::Result<()> {
     tables(&rt)?;
+    urls(&rt)?;
     names(&rt)
 }

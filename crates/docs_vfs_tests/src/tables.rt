@@ -64,6 +64,11 @@ fn taken(table: &mut FileTable) -> Result<Items<ChangedFile>, Fail> {
     Ok(table.take_changes()?)
 }
 
+/// Whether there is no change to take.
+fn has_no_changes(table: &mut FileTable) -> Result<bool, Fail> {
+    Ok(taken(table)?.is_empty())
+}
+
 /// A table of `/b`, `/a` and a mark at `/c`, given in this order.
 pub(crate) fn three_files(alloc: Global) -> Result<FileTable, Fail> {
     let mut table = FileTable::new(alloc);
@@ -74,54 +79,63 @@ pub(crate) fn three_files(alloc: Global) -> Result<FileTable, Fail> {
 
 #[test]
 fn set_and_set_back(rt: HostRuntime) -> Result<(), Fail> {
-    let alloc = rt.alloc();
-    let mut table = FileTable::new(alloc);
+    let mut table = FileTable::new(rt.alloc());
     let rows = [
         ("/x", "a", true),
         ("/x", "a", false),
         ("/x", "-", true),
         ("/y", "-", false),
     ];
-    assert!(rt; calls(alloc, &mut table, &rows)?);
-    assert!(rt; taken(&mut table)?.is_empty());
+    assert!(rt; calls(rt.alloc(), &mut table, &rows)?);
+    assert!(rt; has_no_changes(&mut table)?);
     Ok(())
+}
+
+/// Whether a mark stays where contents are set.
+fn keeps_its_mark(alloc: Global, table: &mut FileTable) -> Result<bool, Fail> {
+    Ok(
+        calls(alloc, table, &[("/x", "#", false), ("/x", "b", false)])?
+            && has_number(alloc, table, "/x", 0, FileExcluded::Yes)?
+            && has_no_changes(table)?,
+    )
 }
 
 #[test]
 fn marks_stay(rt: HostRuntime) -> Result<(), Fail> {
-    let alloc = rt.alloc();
-    let mut table = FileTable::new(alloc);
-    assert!(rt; calls(alloc, &mut table, &[("/x", "#", false), ("/x", "b", false)])?);
-    assert!(rt; has_number(alloc, &table, "/x", 0, FileExcluded::Yes)?);
-    assert!(rt; taken(&mut table)?.is_empty());
+    let mut table = FileTable::new(rt.alloc());
+    assert!(rt; keeps_its_mark(rt.alloc(), &mut table)?);
     Ok(())
+}
+
+/// Whether the numbers 0 to 2 are of `/b`, `/a` and `/c`, and only the second has contents.
+fn are_in_order(table: &FileTable) -> bool {
+    is_path(table, 0, "/b", false)
+        && is_path(table, 1, "/a", true)
+        && is_path(table, 2, "/c", false)
+        && !is_path(table, 3, "/d", false)
 }
 
 #[test]
 fn numbers_in_order(rt: HostRuntime) -> Result<(), Fail> {
-    let alloc = rt.alloc();
-    let mut table = three_files(alloc)?;
-    assert!(rt; calls(alloc, &mut table, &[("/b", "-", true)])?);
-    for (number, path, exists) in [(0, "/b", false), (1, "/a", true), (2, "/c", false)] {
-        assert!(rt; is_path(&table, number, path, exists), "at {path}");
-    }
-    assert!(rt; !is_path(&table, 3, "/d", false));
-    assert!(rt; is_absent(alloc, &table, "/b")?);
+    let mut table = three_files(rt.alloc())?;
+    assert!(rt; calls(rt.alloc(), &mut table, &[("/b", "-", true)])?);
+    assert!(rt; are_in_order(&table));
+    assert!(rt; is_absent(rt.alloc(), &table, "/b")?);
     Ok(())
+}
+
+/// Whether a path keeps its number where its contents go and come again.
+fn keeps_its_number(alloc: Global, table: &mut FileTable) -> Result<bool, Fail> {
+    Ok(
+        calls(alloc, table, &[("/b", "-", true), ("/b", "again", true)])?
+            && has_number(alloc, table, "/b", 0, FileExcluded::No)?,
+    )
 }
 
 #[test]
 fn numbers_stay(rt: HostRuntime) -> Result<(), Fail> {
-    let alloc = rt.alloc();
-    let mut table = three_files(alloc)?;
-    assert!(rt;
-        calls(
-            alloc,
-            &mut table,
-            &[("/b", "-", true), ("/b", "again", true)]
-        )?
-    );
-    assert!(rt; has_number(alloc, &table, "/b", 0, FileExcluded::No)?);
+    let mut table = three_files(rt.alloc())?;
+    assert!(rt; keeps_its_number(rt.alloc(), &mut table)?);
     Ok(())
 }
 
@@ -164,13 +178,28 @@ fn are_changed(changes: &[ChangedFile]) -> bool {
     }
 }
 
+/// Whether the changes to take are those of two new files.
+fn takes_created(table: &mut FileTable) -> Result<bool, Fail> {
+    Ok(are_created(taken(table)?.as_slice()))
+}
+
+/// Whether the changes to take are that a file was deleted, and one modified.
+fn takes_changed(table: &mut FileTable) -> Result<bool, Fail> {
+    Ok(are_changed(taken(table)?.as_slice()))
+}
+
 #[test]
 fn changes_in_order(rt: HostRuntime) -> Result<(), Fail> {
-    let alloc = rt.alloc();
-    let mut table = three_files(alloc)?;
-    assert!(rt; are_created(taken(&mut table)?.as_slice()));
-    assert!(rt; calls(alloc, &mut table, &[("/b", "2", true), ("/a", "#", false)])?);
-    assert!(rt; are_changed(taken(&mut table)?.as_slice()));
+    let mut table = three_files(rt.alloc())?;
+    assert!(rt; takes_created(&mut table)?);
+    assert!(rt;
+        calls(
+            rt.alloc(),
+            &mut table,
+            &[("/b", "2", true), ("/a", "#", false)]
+        )?
+    );
+    assert!(rt; takes_changed(&mut table)?);
     Ok(())
 }
 
@@ -187,21 +216,26 @@ fn is_unmarked(alloc: Global, table: &mut FileTable, path: &str) -> Result<bool,
     Ok(table.insert_excluded(path).err() == Some(TableFault::Full))
 }
 
+/// Whether the last number is given, and no other.
+fn runs_out(alloc: Global, table: &mut FileTable) -> Result<bool, Fail> {
+    Ok(
+        calls(alloc, table, &[("/a", "a", true), ("/a", "b", true)])?
+            && has_number(alloc, table, "/a", 4_294_967_294, FileExcluded::No)?
+            && is_unset(alloc, table, "/b")?,
+    )
+}
+
 #[test]
 fn numbers_run_out(rt: HostRuntime) -> Result<(), Fail> {
-    let alloc = rt.alloc();
-    let mut table = FileTable::new_at(alloc, 4_294_967_294);
-    assert!(rt; calls(alloc, &mut table, &[("/a", "a", true), ("/a", "b", true)])?);
-    assert!(rt; has_number(alloc, &table, "/a", 4_294_967_294, FileExcluded::No)?);
-    assert!(rt; is_unset(alloc, &mut table, "/b")?);
+    let mut table = FileTable::new_at(rt.alloc(), 4_294_967_294);
+    assert!(rt; runs_out(rt.alloc(), &mut table)?);
     Ok(())
 }
 
 #[test]
 fn no_number_is_left(rt: HostRuntime) -> Result<(), Fail> {
-    let alloc = rt.alloc();
-    let mut table = FileTable::new_at(alloc, 4_294_967_295);
-    assert!(rt; is_unset(alloc, &mut table, "/a")?);
-    assert!(rt; is_unmarked(alloc, &mut table, "/a")?);
+    let mut table = FileTable::new_at(rt.alloc(), 4_294_967_295);
+    assert!(rt; is_unset(rt.alloc(), &mut table, "/a")?);
+    assert!(rt; is_unmarked(rt.alloc(), &mut table, "/a")?);
     Ok(())
 }

@@ -75,9 +75,9 @@ fn urls_of_paths(rt: HostRuntime) -> Result<(), Fail> {
     Ok(())
 }
 
-/// What the parser of URLs says of a text that is none.
-fn error_of(alloc: Global, text: &str) -> Option<ParseError> {
-    Url::parse(alloc, text).err()
+/// Whether the parser of URLs refuses a text for this reason.
+fn has_error(alloc: Global, text: &str, error: ParseError) -> bool {
+    Url::parse(alloc, text).err() == Some(error)
 }
 
 #[test]
@@ -91,7 +91,7 @@ fn texts_that_are_no_urls(rt: HostRuntime) {
         ("x://a b/", ParseError::InvalidDomainCharacter),
         ("/w/a.rs", ParseError::RelativeUrlWithoutBase),
     ] {
-        assert!(rt; error_of(rt.alloc(), text) == Some(error), "at {text}");
+        assert!(rt; has_error(rt.alloc(), text, error), "at {text}");
         assert!(rt;
             is_refused(rt.alloc(), text, UrlFault::NotFile),
             "at {text}"
