@@ -1,5 +1,5 @@
 -- A list of roots and the map of it hold the same.
-use Rattle.std.proofs.Common.{◌≡◌, ℕ, Bool, true, ◌||◌, List, [], ◌∷◌, ◌++◌, length, take, drop, map, Option, is_some, refl, sym, ap, ◌∙◌, append_assoc, take-append-drop, take_at, drop_at}
+use Rattle.std.proofs.Common.{◌≡◌, ℕ, Bool, true, List, [], ◌∷◌, ◌++◌, length, take, drop, map, filter, subst, Option, is_some, refl, sym, ap, ◌∙◌, append_assoc, take-append-drop, take_at, drop_at}
 use Rattle.std.specs.Prelude.{bytes_eq}
 use Rattle.std.specs.List.{list_any}
 use Rattle.std.specs.FinMap as by_key
@@ -7,10 +7,12 @@ use Rattle.std.specs.FinMap.Entries.{is_some-find}
 use Rattle.std.specs.Ordering.{eq_by_cmp}
 use Rattle.std.specs.Cmp.Lexicographic.{nat_list_cmp_total, texts_ties}
 use Rattle.docs_vfs.specs.Paths.{path_cmp}
+use Rattle.project_model.specs.declared.crates.CrateInfo.{CrateInfo}
 use Rattle.project_model.specs.declared.target_spec.TargetSpec.{TargetSpec}
 use Rattle.project_model.specs.declared.workspace.ProjectWorkspace.{ProjectWorkspace}
 use Rattle.check_restarts.specs.Among.{is_among, marked, as_map, holds}
-use Rattle.check_restarts.specs.Restarts.{alone, place_of, others_if, restarts}
+use Rattle.check_restarts.specs.Dependents.{AreAffected}
+use Rattle.check_restarts.specs.Restarts.{first_target, restart_at, alone, place_of, is_affected, or_all, others, AddsOthers, AreRestarts}
 use Rattle.check_restarts.specs.declared.scope.Restart.{Restart}
 
 roots_marked : (roots : List (List ℕ)) → map (λ e. e.0) (map marked roots) ≡ roots
@@ -36,14 +38,25 @@ cut_last whole rest front last is cut =
       sym (ap (take (length front)) parts ∙ take_at front (last ∷ behind) (length front) refl),
     )
 
--- the restarts of the package and then of the others are all
-pub both : (check_workspace : Bool) (workspaces : List ProjectWorkspace) (checks saved : List ℕ) (t target : Option TargetSpec) (affected : List (List ℕ)) (rows : by_key.FinMap path_cmp Bool)
-    (place : Option ℕ) (none one all : List Restart) → t ≡ target → rows ≡ as_map affected → none ≡ [] → one ≡ none ++ alone check_workspace workspaces checks saved t
-    → place ≡ place_of check_workspace workspaces t → all ≡ one ++ others_if check_workspace (holds rows) workspaces checks saved place
-    → all ≡ restarts check_workspace workspaces checks saved target affected
-both check_workspace workspaces checks saved t target affected rows place none one all same map_is none_is one_is place_is all_is =
-    let first : one ≡ alone check_workspace workspaces checks saved target =
-    one_is ∙ ap (λ l. l ++ alone check_workspace workspaces checks saved t) none_is ∙ ap (alone check_workspace workspaces checks saved) same in
-    let test : holds rows ≡ is_among affected = ap holds map_is ∙ holds_same affected in
-    let at : place ≡ place_of check_workspace workspaces target = place_is ∙ ap (place_of check_workspace workspaces) same in
-    all_is ∙ (λ i. first i ++ others_if check_workspace (test i) workspaces checks saved (at i))
+-- the restarts of the others, and the package's before them
+pub both : (check_workspace : Bool) (crates : List CrateInfo) (paths roots : List (List ℕ)) (workspaces : List ProjectWorkspace) (checks saved : List ℕ) (target : Option TargetSpec)
+    (place : Option ℕ) (none own list : List Restart) → target ≡ first_target workspaces roots → none ≡ [] → own ≡ none ++ alone check_workspace workspaces checks saved target
+    → place ≡ place_of check_workspace workspaces target → AddsOthers check_workspace crates paths roots workspaces checks saved place own list
+    → AreRestarts check_workspace crates paths roots workspaces checks saved list
+both check_workspace crates paths roots workspaces checks saved target place none own list same none_is own_is place_is adds =
+    let first : own ≡ alone check_workspace workspaces checks saved (first_target workspaces roots) =
+    own_is ∙ ap (λ (l : List Restart). l ++ alone check_workspace workspaces checks saved target) none_is ∙ ap (alone check_workspace workspaces checks saved) same in
+    let at : place ≡ place_of check_workspace workspaces (first_target workspaces roots) = place_is ∙ ap (place_of check_workspace workspaces) same in
+    let P : Option ℕ → List Restart → Type 0 = λ p o. AddsOthers check_workspace crates paths roots workspaces checks saved p o list in
+    subst (λ (o : List Restart). P (place_of check_workspace workspaces (first_target workspaces roots)) o) first (subst (λ (p : Option ℕ). P p own) at adds)
+
+-- the others that restart where these roots are affected
+pub others_are : (crates : List CrateInfo) (paths roots : List (List ℕ)) (workspaces : List ProjectWorkspace) (checks saved : List ℕ) (place : Option ℕ) (affected slice : List (List ℕ))
+    (rows : by_key.FinMap path_cmp Bool) (some some_slice ids : List ℕ) (old new : List Restart) → AreAffected crates paths roots affected → slice ≡ affected → rows ≡ as_map slice
+    → some ≡ filter (is_affected (holds rows) workspaces place) checks → some_slice ≡ some → ids ≡ or_all checks place some_slice → new ≡ old ++ map (restart_at saved) ids
+    → AddsOthers true crates paths roots workspaces checks saved place old new
+others_are crates paths roots workspaces checks saved place affected slice rows some some_slice ids old new are same rows_are some_are some_same ids_are all =
+    let test : holds rows ≡ is_among affected = ap holds rows_are ∙ ap (λ (l : List (List ℕ)). holds (as_map l)) same ∙ holds_same affected in
+    let which : ids ≡ others (is_among affected) workspaces checks place =
+    ids_are ∙ ap (or_all checks place) (some_same ∙ some_are ∙ ap (λ (t : List ℕ → Bool). filter (is_affected t workspaces place) checks) test) in
+    (ids, (affected, are, which), all)

@@ -1,2 +1,4 @@
 pub mod Among
+pub mod Dependents
 pub mod Restarts
+pub mod Walk

@@ -1,6 +1,7 @@
 -- Which checks restart for a saved file, and with what.
-use Rattle.std.specs.Prelude.{ℕ, Bool, true, false, not, ◌&&◌, ◌||◌, ◌==◌, List, [], ◌∷◌, ◌++◌, map, filter, position, bytes_eq, Option, Some, None, is_some, option_and_then, if◌then◌else◌}
+use Rattle.std.specs.Prelude.{◌≡◌, ℕ, Bool, true, false, not, ◌&&◌, ◌||◌, ◌==◌, List, [], ◌∷◌, ◌++◌, map, filter, position, bytes_eq, Option, Some, None, is_some, option_and_then, if◌then◌else◌}
 use Rattle.std.specs.List.{list_any}
+use Rattle.project_model.specs.declared.crates.CrateInfo.{CrateInfo}
 use Rattle.project_model.specs.declared.kinds.TargetKind.{TargetKind}
 use Rattle.project_model.specs.declared.kinds.TargetKind.TheVariants as kind
 use Rattle.project_model.specs.declared.package.PackageSpecifier.{PackageSpecifier}
@@ -11,6 +12,7 @@ use Rattle.project_model.specs.declared.workspace.ProjectWorkspace.{ProjectWorks
 use Rattle.project_model.specs.Dependencies.{all_deps}
 use Rattle.project_model.specs.Targets.{target_spec_for_file}
 use Rattle.check_restarts.specs.Among.{is_among, has_target_at}
+use Rattle.check_restarts.specs.Dependents.{AreAffected}
 use Rattle.check_restarts.specs.declared.scope.CheckScope.{CheckScope}
 use Rattle.check_restarts.specs.declared.scope.CheckScope.TheVariants as scope
 use Rattle.check_restarts.specs.declared.scope.Restart.{Restart}
@@ -96,12 +98,20 @@ or_all checks None (first ∷ rest) = first ∷ rest
 abbrev pub others : (List ℕ → Bool) → List ProjectWorkspace → List ℕ → Option ℕ → List ℕ
 others test workspaces checks place = or_all checks place (filter (is_affected test workspaces place) checks)
 
-abbrev pub others_if : Bool → (List ℕ → Bool) → List ProjectWorkspace → List ℕ → List ℕ → Option ℕ → List Restart
-others_if true test workspaces checks saved place = map (restart_at saved) (others test workspaces checks place)
-others_if false test workspaces checks saved place = []
+-- the others that restart: of the crates whose roots are given, and of all that depend on them, the roots decide
+abbrev pub AreOthers : List CrateInfo → List (List ℕ) → List (List ℕ) → List ProjectWorkspace → List ℕ → Option ℕ → List ℕ → Type 0
+AreOthers crates paths roots workspaces checks place ids =
+    (affected : List (List ℕ)) × AreAffected crates paths roots affected × (ids ≡ others (is_among affected) workspaces checks place)
+
+-- where whole workspaces are checked, the others come behind the package's own check
+abbrev pub AddsOthers : Bool → List CrateInfo → List (List ℕ) → List (List ℕ) → List ProjectWorkspace → List ℕ → List ℕ
+    → Option ℕ → List Restart → List Restart → Type 0
+AddsOthers true crates paths roots workspaces checks saved place own list =
+    (ids : List ℕ) × AreOthers crates paths roots workspaces checks place ids × (list ≡ own ++ map (restart_at saved) ids)
+AddsOthers false crates paths roots workspaces checks saved place own list = list ≡ own
 
 -- the package's own check first, and then, where whole workspaces are checked, the others
-abbrev pub restarts : Bool → List ProjectWorkspace → List ℕ → List ℕ → Option TargetSpec → List (List ℕ) → List Restart
-restarts check_workspace workspaces checks saved target affected =
-    alone check_workspace workspaces checks saved target
-    ++ others_if check_workspace (is_among affected) workspaces checks saved (place_of check_workspace workspaces target)
+abbrev pub AreRestarts : Bool → List CrateInfo → List (List ℕ) → List (List ℕ) → List ProjectWorkspace → List ℕ → List ℕ → List Restart → Type 0
+AreRestarts check_workspace crates paths roots workspaces checks saved list =
+    AddsOthers check_workspace crates paths roots workspaces checks saved (place_of check_workspace workspaces (first_target workspaces roots))
+    (alone check_workspace workspaces checks saved (first_target workspaces roots)) list

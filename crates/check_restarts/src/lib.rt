@@ -1,11 +1,15 @@
 //! Which checks restart for a saved file, and with what.
 #![tactic(auto)]
 
+mod affected;
 mod alone;
 mod among;
 mod copies;
+mod dependents;
 mod restarts;
 mod scope;
+mod walk;
 
+pub use affected::affected_roots;
 pub use restarts::check_restarts;
 pub use scope::{CheckScope, Restart};

@@ -1,16 +1,17 @@
 //! The checks that restart.
-ghost use Rattle.std.specs.Prelude.{◌≡◌, ◌==◌, ◌++◌, filter, map, IfOk, OnOk};
+ghost use Rattle.std.specs.Prelude.{◌≡◌, ◌==◌, ◌++◌, true, length, filter, map, IfOk, OnOk};
 ghost use Rattle.std.specs.List.{list_any};
 ghost use Rattle.check_restarts.specs.Among.{holds};
-ghost use Rattle.check_restarts.specs.Restarts.{first_target, restart_at, alone_at, alone, place_of, is_it, is_affected, or_all, others_if, restarts};
+ghost use Rattle.check_restarts.specs.Restarts.{first_target, restart_at, alone_at, alone, place_of, is_it, is_affected, or_all, AddsOthers, AreRestarts};
 
+use crate::affected::affected_roots;
 use crate::alone::{first_target, package_scope, place_alone};
 use crate::among::{as_map, has_target_at};
 use crate::copies::copy;
 use crate::scope::{CheckScope, Restart};
 use docs_vfs::{ByPath, VfsPath};
 use plain::{Items, NoMemory};
-use project_model::{ProjectWorkspace, TargetSpec};
+use project_model::{CrateInfo, ProjectWorkspace, TargetSpec};
 use std::alloc::Global;
 
 fn is_any(checks: &[u64], place: usize) -> bool
@@ -107,23 +108,50 @@ fn push_restarts(list: &mut Items<Restart>, saved: &VfsPath, ids: &[u64]) -> Res
     Ok(())
 }
 
-/// Adds the other checks, where whole workspaces are checked.
+/// Adds the other checks.
 fn push_others(
     alloc: Global,
     list: &mut Items<Restart>,
-    check_workspace: bool,
-    rows: &ByPath<bool>,
+    crates: &[CrateInfo],
+    paths: &[VfsPath],
+    roots: &[VfsPath],
     workspaces: &[ProjectWorkspace],
     checks: &[u64],
     saved: &VfsPath,
     place: Option<usize>,
 ) -> Result<(), NoMemory>
-    ensures { OnOk result (list.new ≡ list.old
-        ++ others_if check_workspace (holds rows.now) workspaces.now checks.now saved.now place) }
+    requires { length paths.now ≡ length crates.now }
+    ensures { OnOk result (AddsOthers true crates.now paths.now roots.now workspaces.now checks.now saved.now place
+        list.old list.new) }
+{
+    let affected = affected_roots(alloc, crates, paths, roots)?;
+    let rows = as_map(alloc, affected.as_slice())?;
+    let others = affected_checks(alloc, &rows, workspaces, checks, place)?;
+    push_restarts(list, saved, or_all(checks, place, others.as_slice()))?;
+    Ok(())
+}
+
+/// Adds the other checks, where whole workspaces are checked.
+fn push_others_if(
+    alloc: Global,
+    list: &mut Items<Restart>,
+    check_workspace: bool,
+    crates: &[CrateInfo],
+    paths: &[VfsPath],
+    roots: &[VfsPath],
+    workspaces: &[ProjectWorkspace],
+    checks: &[u64],
+    saved: &VfsPath,
+    place: Option<usize>,
+) -> Result<(), NoMemory>
+    requires { length paths.now ≡ length crates.now }
+    ensures { OnOk result (AddsOthers check_workspace crates.now paths.now roots.now workspaces.now checks.now saved.now place
+        list.old list.new) }
 {
     if check_workspace {
-        let others = affected_checks(alloc, rows, workspaces, checks, place)?;
-        push_restarts(list, saved, or_all(checks, place, others.as_slice()))
+        push_others(
+            alloc, list, crates, paths, roots, workspaces, checks, saved, place,
+        )
     } else {
         Ok(())
     }
@@ -152,22 +180,23 @@ fn push_alone(
     }
 }
 
-/// The checks that restart for a saved file. The roots are those of the crates that it belongs to, and affected are
-/// the roots of these crates and of all that depend on them; the number of a check is the place of its workspace.
+/// The checks that restart for a saved file. The roots are those of the crates that it belongs to, the paths those of
+/// the roots of all crates, in order; the number of a check is the place of its workspace.
 pub fn check_restarts(
     alloc: Global,
+    crates: &[CrateInfo],
+    paths: &[VfsPath],
     roots: &[VfsPath],
-    affected: &[VfsPath],
     saved: &VfsPath,
     workspaces: &[ProjectWorkspace],
     checks: &[u64],
     check_workspace: bool,
 ) -> Result<Items<Restart>, NoMemory>
-    ensures { IfOk result (λ list. list ≡ restarts check_workspace workspaces.now checks.now saved.now
-        (first_target workspaces.now roots.now) affected.now) }
+    requires { length paths.now ≡ length crates.now }
+    ensures { IfOk result (λ list. AreRestarts check_workspace crates.now paths.now roots.now workspaces.now checks.now
+        saved.now list) }
 {
     let target = first_target(workspaces, roots)?;
-    let rows = as_map(alloc, affected)?;
     let mut list = Items::new(alloc);
     let place = push_alone(
         alloc,
@@ -178,11 +207,13 @@ pub fn check_restarts(
         saved,
         &target,
     )?;
-    push_others(
+    push_others_if(
         alloc,
         &mut list,
         check_workspace,
-        &rows,
+        crates,
+        paths,
+        roots,
         workspaces,
         checks,
         saved,

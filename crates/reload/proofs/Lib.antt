@@ -2,5 +2,6 @@ pub mod Folders
 pub mod Found
 pub mod GraphLaws
 pub mod NameLaws
+pub mod PlaceLaws
 pub mod Pushed
 pub mod SwitchLaws

@@ -1,5 +1,5 @@
 -- Which files a client is to watch for a list of workspaces.
-use Rattle.std.specs.Prelude.{ℕ, Bool, true, false, List, [], ◌∷◌, ◌++◌, length, ◌==◌, codes, map, Option, Some, None, if◌then◌else◌}
+use Rattle.std.specs.Prelude.{ℕ, Bool, true, false, List, [], ◌∷◌, ◌++◌, codes, map, Option, Some, None, if◌then◌else◌}
 use Rattle.docs_vfs.specs.FileUrls.{url_of}
 use Rattle.docs_vfs.specs.declared.source_roots.Root.{Root}
 use Rattle.project_model.specs.declared.kinds.WorkspaceKind.{WorkspaceKind}
@@ -14,9 +14,9 @@ rust_files = codes "**/*.rs"
 abbrev pub settings_files : List ℕ
 settings_files = codes "**/rust-analyzer.toml"
 
--- a pattern below a folder, without a second slash behind `/`
+-- a pattern below a folder
 abbrev pub glob_below : List ℕ → List ℕ → List ℕ
-glob_below folder pattern = (if length folder == 1 then [] else folder) ++ codes "/" ++ pattern
+glob_below folder pattern = folder ++ codes "/" ++ pattern
 
 -- what is watched below an include of a local root: with patterns that are relative to its URL, else with whole ones
 abbrev pub below_include : Bool → List ℕ → List Watcher

@@ -5,8 +5,8 @@ ghost use Rattle.std.specs.List.{filter_map, range_with_len};
 ghost use Rattle.docs_vfs.specs.declared.file_kinds.FileId.{FileId};
 ghost use Rattle.project_model.specs.declared.crates.CrateEntry.{CrateEntry};
 ghost use Rattle.project_model.specs.declared.workspace.ProjectWorkspace.{ProjectWorkspace};
-ghost use Rattle.reload.specs.Graph.{Standing, most_crates, places_from, number_of, crate_of};
-ghost use Rattle.reload.specs.GraphLaws.{numbers_in, files_in, files_found};
+ghost use Rattle.reload.specs.Graph.{Standing, crate_roots, most_crates, places_from, number_of, crate_of, all_crates};
+ghost use Rattle.reload.specs.GraphLaws.{numbers_in, files_in, files_found, roots_in};
 ghost use Rattle.reload.specs.Names.{is_alike};
 ghost use Rattle.reload.specs.Switch.{Fetched, Runs, joined, runs_on, Switches};
 ghost use Rattle.reload.specs.declared.switch.Switch.TheVariants.{Join};
@@ -25,11 +25,13 @@ pub fn build_data_is_joined_to_its_version()
 {}
 
 /// The crates that are kept are the first of those whose roots have files, as many as there are numbers. Their numbers
-/// are 0, 1, 2 and so on, over all workspaces.
+/// are 0, 1, 2 and so on, over all workspaces, and each stands in the graph at the place of its number.
 pub fn kept_crates_are_numbered_in_order()
     ensures numbers { (files : List (Option FileId)) → numbers_in (places_from 0 files)
         ≡ range_with_len 0 (length (numbers_in (places_from 0 files))) }
     ensures kept { (files : List (Option FileId)) → files_in (places_from 0 files) ≡ take most_crates (files_found files) }
+    ensures places { (workspaces : List ProjectWorkspace) (files : List (Option FileId)) → length files ≡ length (crate_roots workspaces)
+        → roots_in (all_crates workspaces (places_from 0 files)) ≡ files_in (places_from 0 files) }
 {}
 
 /// Of the dependencies of a crate exactly those are renumbered that are kept, in order, and the others are left out. A

@@ -17,12 +17,7 @@ const SETTINGS_FILES: &str = "**/rust-analyzer.toml";
 fn glob_below(alloc: Global, folder: &VfsPath, pattern: &str) -> Result<Text, NoMemory>
     ensures { IfOk result (λ text. text ≡ glob_below folder.now pattern.now) }
 {
-    let front = if folder.is_root() {
-        ""
-    } else {
-        folder.as_str()
-    };
-    let mut text = Text::from_str(alloc, front)?;
+    let mut text = Text::from_str(alloc, folder.as_str())?;
     text.push_str("/")?;
     text.push_str(pattern)?;
     Ok(text)
