@@ -3,8 +3,8 @@ ghost use Rattle.std.specs.Prelude.{◌≡◌, [], ◌∷◌};
 ghost use Rattle.text_core.specs.Rebuilds.{rebuilds};
 ghost use Rattle.text_core_tests.specs.Examples.{utf16, three_lines, at_line, with_reversed};
 
-use crate::support::{UTF16, apply, edit, edits, limited, range, whole};
-use plain::{Items, Text};
+use crate::support::{UTF16, apply, changes, edits, limited, range};
+use plain::Text;
 use std::alloc::Global;
 use std::test::Fail;
 use text_core::Range;
@@ -145,38 +145,51 @@ fn counts_of_rebuilds() {
 
 #[test]
 fn a_whole_text(rt: HostRuntime) -> Result<(), Fail> {
-    let alloc = rt.alloc();
-    let mut changes = Items::new(alloc);
-    changes.push(edit(alloc, range(0, 0, 0, 0), "gone")?)?;
-    changes.push(whole(alloc, "the")?)?;
-    let text = apply(alloc, UTF16, "old", changes)?;
-    assert!(rt; text.is("the"));
+    let list = changes(
+        rt.alloc(),
+        &[(Some(range(0, 0, 0, 0)), "gone"), (None, "the")],
+    )?;
+    assert!(rt; apply(rt.alloc(), UTF16, "old", list)?.is("the"));
     Ok(())
 }
 
+/// Whether a text becomes another by changes within three bytes.
+fn becomes_within_three(
+    alloc: Global,
+    text: &str,
+    list: &[(Option<Range>, &str)],
+    after: &str,
+) -> Result<bool, Fail> {
+    Ok(limited(
+        alloc,
+        UTF16,
+        Text::from_str(alloc, text)?,
+        changes(alloc, list)?,
+        3,
+    )?
+    .is(after))
+}
+
+/// What passes the limit is dropped, if its own text does, or skipped.
 #[test]
 fn within_a_limit(rt: HostRuntime) -> Result<(), Fail> {
-    let alloc = rt.alloc();
-    let list = edits(
-        alloc,
-        &[(range(0, 0, 0, 0), "XY"), (range(0, 0, 0, 0), "X")],
-    )?;
-    let text = Text::from_str(alloc, "ab")?;
-    let after = limited(alloc, UTF16, text, list, 3)?;
-    assert_eq!(rt; after.as_str(), "Xab");
-    Ok(())
-}
-
-#[test]
-fn dropped_by_a_limit(rt: HostRuntime) -> Result<(), Fail> {
-    let alloc = rt.alloc();
-    let mut changes = Items::new(alloc);
-    changes.push(whole(alloc, "cd")?)?;
-    changes.push(whole(alloc, "four")?)?;
-    changes.push(edit(alloc, range(0, 0, 0, 2), "five!")?)?;
-    changes.push(edit(alloc, range(0, 2, 0, 2), "e")?)?;
-    let text = Text::from_str(alloc, "ab")?;
-    let after = limited(alloc, UTF16, text, changes, 3)?;
-    assert_eq!(rt; after.as_str(), "cde");
+    let front = Some(range(0, 0, 0, 0));
+    for (list, after) in [
+        (&[(front, "XY"), (front, "X")][..], "Xab"),
+        (
+            &[
+                (None, "cd"),
+                (None, "four"),
+                (Some(range(0, 0, 0, 2)), "five!"),
+                (Some(range(0, 2, 0, 2)), "e"),
+            ][..],
+            "cde",
+        ),
+    ] {
+        assert!(rt;
+            becomes_within_three(rt.alloc(), "ab", list, after)?,
+            "{after:?}"
+        );
+    }
     Ok(())
 }

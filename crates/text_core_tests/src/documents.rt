@@ -3,7 +3,7 @@ ghost use Rattle.std.specs.Prelude.{◌≡◌, [], ◌∷◌, codes, true, false
 ghost use Rattle.text_core.specs.Skips.{skips};
 ghost use Rattle.text_core_tests.specs.Examples.{utf16, at_line, whole_text, insert};
 
-use crate::support::{UTF16, document, edit, edits, indexed, range, same_lines, whole};
+use crate::support::{UTF16, changes, document, edits, indexed, is_index_of, range};
 use plain::Items;
 use std::alloc::Global;
 use std::test::Fail;
@@ -19,11 +19,13 @@ fn document_becomes(
 ) -> Result<bool, Fail> {
     let index = indexed(alloc, text)?;
     let edited = document(alloc, UTF16, &index, changes)?;
-    let is_after = match &edited.changed {
-        Some(changed) => same_lines(changed, &indexed(alloc, after)?) && text != after,
-        None => text == after,
-    };
-    Ok(is_after && edited.skipped == skipped)
+    if edited.skipped != skipped {
+        return Ok(false);
+    }
+    match &edited.changed {
+        Some(changed) => Ok(text != after && is_index_of(alloc, changed, after)?),
+        None => Ok(text == after),
+    }
 }
 
 #[test]
@@ -103,32 +105,28 @@ fn edits_of_a_document(rt: HostRuntime) -> Result<(), Fail> {
     Ok(())
 }
 
+/// What is skipped before a whole text isn't told, and what is skipped behind it is.
 #[test]
-fn a_skip_before_the_whole_text(rt: HostRuntime) -> Result<(), Fail> {
-    let alloc = rt.alloc();
-    let mut changes = Items::new(alloc);
-    changes.push(edit(alloc, range(7, 0, 7, 0), "gone")?)?;
-    changes.push(whole(alloc, "the")?)?;
-    assert!(rt; document_becomes(alloc, "old", changes, "the", false)?);
-    Ok(())
-}
-
-#[test]
-fn a_skip_after_the_whole_text(rt: HostRuntime) -> Result<(), Fail> {
-    let alloc = rt.alloc();
-    let mut changes = Items::new(alloc);
-    changes.push(whole(alloc, "the")?)?;
-    changes.push(edit(alloc, range(7, 0, 7, 0), "gone")?)?;
-    changes.push(edit(alloc, range(0, 3, 0, 3), "n")?)?;
-    assert!(rt; document_becomes(alloc, "old", changes, "then", true)?);
-    Ok(())
-}
-
-#[test]
-fn the_same_whole_text(rt: HostRuntime) -> Result<(), Fail> {
-    let alloc = rt.alloc();
-    let mut changes = Items::new(alloc);
-    changes.push(whole(alloc, "old")?)?;
-    assert!(rt; document_becomes(alloc, "old", changes, "old", false)?);
+fn whole_texts_of_a_document(rt: HostRuntime) -> Result<(), Fail> {
+    let past = Some(range(7, 0, 7, 0));
+    for (list, after, skipped) in [
+        (&[(past, "gone"), (None, "the")][..], "the", false),
+        (
+            &[
+                (None, "the"),
+                (past, "gone"),
+                (Some(range(0, 3, 0, 3)), "n"),
+            ][..],
+            "then",
+            true,
+        ),
+        (&[(None, "old")][..], "old", false),
+    ] {
+        let changes = changes(rt.alloc(), list)?;
+        assert!(rt;
+            document_becomes(rt.alloc(), "old", changes, after, skipped)?,
+            "{after:?}"
+        );
+    }
     Ok(())
 }

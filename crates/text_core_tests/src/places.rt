@@ -1,7 +1,7 @@
 // Lines, offsets and ranges.
 use crate::support::{UTF8, UTF16, at, indexed, range};
 use plain::Text;
-use std::alloc::Global;
+use std::alloc::{AllocError, Global};
 use std::sync::Arc;
 use std::test::Fail;
 use text_core::{LineEndings, LineIndex, OffsetFault, PositionEncoding, offset, text_range};
@@ -83,10 +83,53 @@ fn ranges(rt: HostRuntime) -> Result<(), Fail> {
     Ok(())
 }
 
-/// A line that is longer than what is tested at once.
+/// Offsets with their lines, and their columns in bytes and in code units.
 #[test]
-fn offsets_in_a_long_line(rt: HostRuntime) -> Result<(), Fail> {
-    let mut text = Text::new(rt.alloc());
+fn positions(rt: HostRuntime) -> Result<(), Fail> {
+    let index = indexed(rt.alloc(), "aé😀\r\nb\rc\n\n😀")?;
+    for (offset, line, bytes, units) in [
+        (0, 0, 0, 0),
+        (1, 0, 1, 1),
+        (3, 0, 3, 2),
+        (7, 0, 7, 4),
+        (8, 0, 8, 5),
+        (9, 1, 0, 0),
+        (10, 1, 1, 1),
+        (11, 1, 2, 2),
+        (12, 1, 3, 3),
+        (13, 2, 0, 0),
+        (14, 3, 0, 0),
+        (18, 3, 4, 2),
+    ] {
+        assert_eq!(rt; index.position_of(UTF8, offset), Some(at(line, bytes)));
+        assert_eq!(rt; index.position_of(UTF16, offset), Some(at(line, units)));
+    }
+    Ok(())
+}
+
+/// Offsets inside a character, and past the end.
+#[test]
+fn offsets_without_a_position(rt: HostRuntime) -> Result<(), Fail> {
+    let index = indexed(rt.alloc(), "aé😀\r\nb\rc\n\n😀")?;
+    for offset in [2, 4, 5, 6, 15, 16, 17, 19, u32::MAX] {
+        assert_eq!(rt; index.position_of(UTF8, offset), None);
+        assert_eq!(rt; index.position_of(UTF16, offset), None);
+    }
+    Ok(())
+}
+
+/// A text without bytes has one position.
+#[test]
+fn positions_of_an_empty_text(rt: HostRuntime) -> Result<(), Fail> {
+    let index = indexed(rt.alloc(), "")?;
+    assert_eq!(rt; index.position_of(UTF16, 0), Some(at(0, 0)));
+    assert_eq!(rt; index.position_of(UTF16, 1), None);
+    Ok(())
+}
+
+/// A line that is longer than what is tested at once.
+fn long_line(alloc: Global) -> Result<Text, AllocError> {
+    let mut text = Text::new(alloc);
     for _ in 0..40 {
         text.push_str("abcde")?;
     }
@@ -94,7 +137,12 @@ fn offsets_in_a_long_line(rt: HostRuntime) -> Result<(), Fail> {
     for _ in 0..20 {
         text.push_str("abcde")?;
     }
-    let index = index_of(rt.alloc(), UTF16, text.as_str())?;
+    Ok(text)
+}
+
+#[test]
+fn offsets_in_a_long_line(rt: HostRuntime) -> Result<(), Fail> {
+    let index = index_of(rt.alloc(), UTF16, long_line(rt.alloc())?.as_str())?;
     for (character, place) in [
         (0, Ok(0)),
         (31, Ok(31)),
@@ -109,6 +157,24 @@ fn offsets_in_a_long_line(rt: HostRuntime) -> Result<(), Fail> {
         (400, Ok(306)),
     ] {
         assert_eq!(rt; offset(&index, at(0, character)), place);
+    }
+    Ok(())
+}
+
+#[test]
+fn positions_in_a_long_line(rt: HostRuntime) -> Result<(), Fail> {
+    let index = indexed(rt.alloc(), long_line(rt.alloc())?.as_str())?;
+    for (offset, units) in [
+        (31, 31),
+        (32, 32),
+        (200, 200),
+        (202, 201),
+        (206, 203),
+        (243, 240),
+        (306, 303),
+    ] {
+        assert_eq!(rt; index.position_of(UTF8, offset), Some(at(0, offset)));
+        assert_eq!(rt; index.position_of(UTF16, offset), Some(at(0, units)));
     }
     Ok(())
 }

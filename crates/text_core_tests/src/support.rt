@@ -26,27 +26,42 @@ pub(crate) fn range(a: u32, b: u32, c: u32, d: u32) -> Range {
     }
 }
 
+fn change(alloc: Global, range: Option<Range>, text: &str) -> Result<ContentChange, AllocError> {
+    Ok(ContentChange {
+        range,
+        text: Text::from_str(alloc, text)?,
+    })
+}
+
 pub(crate) fn edit(alloc: Global, range: Range, text: &str) -> Result<ContentChange, AllocError> {
-    Ok(ContentChange {
-        range: Some(range),
-        text: Text::from_str(alloc, text)?,
-    })
+    change(alloc, Some(range), text)
 }
 
-pub(crate) fn whole(alloc: Global, text: &str) -> Result<ContentChange, AllocError> {
-    Ok(ContentChange {
-        range: None,
-        text: Text::from_str(alloc, text)?,
-    })
+fn add(changes: &mut Items<ContentChange>, change: ContentChange) -> Result<(), AllocError> {
+    changes.push(change)?;
+    Ok(())
 }
 
+/// Changes, some of them without a range.
+pub(crate) fn changes(
+    alloc: Global,
+    list: &[(Option<Range>, &str)],
+) -> Result<Items<ContentChange>, AllocError> {
+    let mut changes = Items::new(alloc);
+    for (range, text) in list {
+        add(&mut changes, change(alloc, *range, text)?)?;
+    }
+    Ok(changes)
+}
+
+/// Changes of ranges.
 pub(crate) fn edits(
     alloc: Global,
     list: &[(Range, &str)],
 ) -> Result<Items<ContentChange>, AllocError> {
     let mut changes = Items::new(alloc);
     for (range, text) in list {
-        changes.push(edit(alloc, *range, text)?)?;
+        add(&mut changes, edit(alloc, *range, text)?)?;
     }
     Ok(changes)
 }
@@ -127,8 +142,13 @@ pub(crate) fn indexed(alloc: Global, text: &str) -> Result<TextIndex, Fail> {
     Ok(TextIndex::new(alloc, text)?)
 }
 
+/// Whether an index has this text and its lines.
+pub(crate) fn is_index_of(alloc: Global, index: &TextIndex, text: &str) -> Result<bool, Fail> {
+    Ok(same_lines(index, &indexed(alloc, text)?))
+}
+
 /// Whether two indices have the same text and the same lines.
-pub(crate) fn same_lines(a: &TextIndex, b: &TextIndex) -> bool {
+fn same_lines(a: &TextIndex, b: &TextIndex) -> bool {
     if a.text() != b.text() || a.lines() != b.lines() {
         return false;
     }
