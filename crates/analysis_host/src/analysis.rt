@@ -5,11 +5,12 @@ ghost use Rattle.analysis_host.specs.Answers.{Finding, Answers, IsPlainOutcome};
 ghost use Rattle.analysis_host.specs.Polls.{HasPolled};
 ghost use Rattle.analysis_host.specs.SnapshotData.{SnapshotData};
 ghost use Rattle.analysis_host.specs.declared.ask.Ask.{Ask};
-ghost use Rattle.analysis_host.specs.declared.ask.RowId.{RowId};
+ghost use Rattle.method_table.specs.declared.row_id.RowId.{RowId};
 
-use crate::ask::{Ask, Outcome, RowId};
+use crate::ask::{Ask, Outcome};
 use crate::cancel::Cancel;
 use crate::snapshot::GlobalStateSnapshot;
+use method_table::RowId;
 use plain::Json;
 use std::alloc::AllocError;
 

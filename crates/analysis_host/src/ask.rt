@@ -1,15 +1,12 @@
 // Questions, and what they come to.
-use plain::{Copied, Json, Text};
-
-/// A row of the method table, by its number.
-#[derive(Clone, Copy, Debug, PartialEq, Eq, PartialOrd, Ord, Hash)]
-pub struct RowId(pub u8);
+use method_table::RowId;
+use plain::{Json, SharedJson, Text};
 
 /// A question on a snapshot.
 #[derive(Clone, Debug, Drop)]
 pub enum Ask {
     /// What the request of this row answers.
-    Request { row: RowId, params: Json },
+    Request { row: RowId, params: SharedJson },
 }
 
 /// The answer to a question, of the question's kind.
@@ -27,10 +24,4 @@ pub enum Outcome {
     Fault { code: Option<i32>, message: Text },
     /// The query stopped, since its poll gave this revision.
     Cancelled { saw: u64 },
-}
-
-impl Copied for RowId {
-    ghost use Rattle.std.proofs.Common.{rules};
-
-    ghost copies = { λ x y h. Prim.search rules };
 }

@@ -1,13 +1,14 @@
 // The world that changes: each change makes a new one, and those that were given out stay as they are.
-ghost use Rattle.std.specs.Prelude.{◌≡◌, ◌<◌, ◌+◌, length, All, IfOk, OnErr, option_copied};
+ghost use Rattle.std.specs.Prelude.{◌≡◌, ◌<◌, ◌+◌, length, IfOk, OnErr, option_copied};
 ghost use Rattle.std.specs.FinMap as map;
-ghost use Rattle.analysis_host.specs.HostData.{new_host, new_host_at, changed, Changes, Fits};
+ghost use Rattle.analysis_host.specs.HostData.{new_host, new_host_at, changed, Changes};
 ghost use Rattle.analysis_host.specs.Costs.{AreQuick};
 ghost use Rattle.analysis_host.specs.declared.host.WorldFault.TheVariants.{NoMemory as OutOfMemory};
 
+use crate::shared_text::SharedText;
 use crate::world::World;
 use docs_vfs::VfsPath;
-use plain::{Items, Text};
+use plain::Items;
 use shared_map::Steps;
 use std::alloc::{AllocError, Global};
 use std::marker::{Brand, Model};
@@ -18,7 +19,7 @@ use text_core::TextIndex;
 #[derive(Drop)]
 pub struct FileChange {
     pub path: VfsPath,
-    pub text: Option<Text>,
+    pub text: Option<SharedText>,
 }
 
 /// What changes in one step, in order.
@@ -46,7 +47,6 @@ impl From<AllocError> for WorldFault {
 /// A world with its revision.
 #[derive(Drop)]
 pub struct AnalysisHost {
-    alloc: Global,
     world: World,
     revision: u64,
 }
@@ -76,7 +76,6 @@ impl AnalysisHost {
         ensures { IfOk result (λ host. host ≡ new_host_at used) }
     {
         Ok(AnalysisHost {
-            alloc,
             world: World::new(alloc)?,
             revision: used,
         })
@@ -109,9 +108,8 @@ impl AnalysisHost {
         self.world.index(path)
     }
 
-    /// Makes one change, and so a new revision. A text has at most 4,294,967,295 bytes.
+    /// Makes one change, and so a new revision.
     pub fn apply_change(&mut self, change: Change) -> Result<(), WorldFault>
-        requires { All Fits change.files }
         ensures ok { Changes result (changed change.files self.old) self.old self.new }
         ensures err { OnErr result (self.new ≡ self.old) }
     {
@@ -123,7 +121,6 @@ impl AnalysisHost {
         requires name { blank.name ≡ L.name }
         requires parts { blank.parts ≡ L.parts }
         requires some { 0 < L.parts }
-        requires fits { All Fits change.files }
         ensures ok { Changes result (changed change.files self.old) self.old self.new }
         ensures err { OnErr result (self.new ≡ self.old) }
     {
@@ -138,7 +135,6 @@ impl AnalysisHost {
         change: Change,
         steps: &mut Steps<L>,
     ) -> Result<(), WorldFault>
-        requires { All Fits change.files }
         ensures ok { Changes result (changed change.files self.old) self.old self.new }
         ensures err { OnErr result (self.new ≡ self.old) }
         ensures cost { let count = length change.files in
@@ -147,7 +143,7 @@ impl AnalysisHost {
         if self.revision == u64::MAX {
             return Err(WorldFault::Exhausted);
         }
-        self.world = self.world.with_files(self.alloc, change.files, steps)?;
+        self.world = self.world.with_files(change.files, steps)?;
         self.revision += 1;
         Ok(())
     }

@@ -15,11 +15,12 @@ mod versions;
 mod world;
 
 pub use analysis::Analysis;
-pub use ask::{Answer, Ask, Outcome, RowId};
+pub use ask::{Answer, Ask, Outcome};
 pub use cancel::{Cancel, Never};
 pub use file_places::{FilePosition, FileRange, ProtoFault, file_position, file_range};
 pub use from_proto::{AssistKind, assist_kind, columns, position_of, range_of};
 pub use host::{AnalysisHost, Change, FileChange, WorldFault};
+pub use method_table::RowId;
 pub use path_map::{PathMap, TextTree};
 pub use shared_text::SharedText;
 pub use snapshot::{GlobalStateSnapshot, SnapshotParts};

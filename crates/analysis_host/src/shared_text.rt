@@ -27,7 +27,13 @@ impl SharedText {
         requires { length text < 2 ^ 32 }
         ensures { IfOk result (λ shared. shared ≡ text) }
     {
-        let index = TextIndex::from_text(alloc, text)?;
+        SharedText::from_index(alloc, TextIndex::from_text(alloc, text)?)
+    }
+
+    /// The text of an index.
+    pub fn from_index(alloc: Global, index: TextIndex) -> Result<SharedText, AllocError>
+        ensures { IfOk result (λ shared. shared ≡ index) }
+    {
         Ok(SharedText {
             index: Arc::new(alloc, index)?,
         })

@@ -1,14 +1,13 @@
 // The texts of a workspace at one moment.
-ghost use Rattle.std.specs.Prelude.{◌≡◌, ◌+◌, length, All, IfOk, option_copied};
+ghost use Rattle.std.specs.Prelude.{◌≡◌, ◌+◌, length, IfOk, option_copied};
 ghost use Rattle.std.specs.FinMap as map;
 ghost use Rattle.shared_map.specs.Costs.{IsQuick};
 ghost use Rattle.analysis_host.specs.SnapshotData.{empty_world};
-ghost use Rattle.analysis_host.specs.HostData.{with_files, with_text, Fits};
+ghost use Rattle.analysis_host.specs.HostData.{with_files, with_text};
 ghost use Rattle.analysis_host.specs.Costs.{AreQuick};
 
 use crate::host::FileChange;
 use crate::path_map::TextTree;
-use crate::shared_text::SharedText;
 use docs_vfs::VfsPath;
 use plain::{Copied, Items};
 use shared_map::Steps;
@@ -38,20 +37,15 @@ impl Model for World {
 /// The texts with one file's text set, or taken away.
 #[tactic(auto, using(crate::proofs::Counting::at_rest))]
 fn set_text<L: Ledger>(
-    alloc: Global,
     texts: &TextTree,
     file: FileChange,
     steps: &mut Steps<L>,
 ) -> Result<TextTree, AllocError>
-    requires { Fits file }
     ensures ok { IfOk result (λ new. new ≡ with_text file.path file.text texts.now) }
     ensures cost { IsQuick (map.len texts.now) steps.old steps.new }
 {
     let FileChange { path, text } = file;
-    match text {
-        Some(text) => texts.set(path, Some(SharedText::new(alloc, text)?), steps),
-        None => texts.set(path, None, steps),
-    }
+    texts.set(path, text, steps)
 }
 
 impl World {
@@ -88,17 +82,15 @@ impl World {
     /// the table of their paths but the nodes on the way to these files. Each step is one such node that is read.
     pub fn with_files<L: Ledger>(
         &self,
-        alloc: Global,
         files: Items<FileChange>,
         steps: &mut Steps<L>,
     ) -> Result<World, AllocError>
-        requires { All Fits files }
         ensures ok { IfOk result (λ world. world ≡ record { texts = with_files files self.now.texts }) }
         ensures cost { AreQuick (length files) (map.len self.now.texts + length files) steps.old steps.new }
     {
         let mut texts = self.texts.clone()?;
         for file in files.into_vec() {
-            texts = set_text(alloc, &texts, file, steps)?;
+            texts = set_text(&texts, file, steps)?;
         }
         Ok(World { texts })
     }

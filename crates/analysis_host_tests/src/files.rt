@@ -1,7 +1,4 @@
 // Files, hosts and snapshots that the tests stand on. Nothing is claimed of them but what calls require.
-ghost use Rattle.std.specs.Prelude.{All, IfOk, OnOk};
-ghost use Rattle.analysis_host.specs.HostData.{Fits};
-
 use analysis_host::{
     AnalysisHost, Change, FileChange, GlobalStateSnapshot, SharedText, SnapshotParts, Versions,
     World, WorldFault,
@@ -18,19 +15,15 @@ pub fn path_at(alloc: Global, text: &str) -> Result<VfsPath, Fail> {
     Ok(VfsPath::new(alloc, text)?.ok_or("no path")?)
 }
 
-/// One file more, or a failed test where its text is too long for a world.
+/// One file more, or a failed test where its text is too long for one.
 pub fn push_file(
     alloc: Global,
     files: &mut Items<FileChange>,
     path: &str,
     text: Option<&str>,
-) -> Result<(), Fail>
-    requires { All Fits files.old }
-    ensures { OnOk result (All Fits files.new) }
-{
+) -> Result<(), Fail> {
     let text = match text {
-        Some(text) if text.len() > u32::MAX as usize => return Err(Fail::from("too long")),
-        Some(text) => Some(Text::from_str(alloc, text)?),
+        Some(text) => Some(shared(alloc, text)?),
         None => None,
     };
     let path = path_at(alloc, path)?;
@@ -39,9 +32,7 @@ pub fn push_file(
 }
 
 /// The change of one file.
-pub fn files_of(alloc: Global, path: &str, text: Option<&str>) -> Result<Items<FileChange>, Fail>
-    ensures { IfOk result (All Fits) }
-{
+pub fn files_of(alloc: Global, path: &str, text: Option<&str>) -> Result<Items<FileChange>, Fail> {
     let mut files = Items::new(alloc);
     push_file(alloc, &mut files, path, text)?;
     Ok(files)

@@ -3,7 +3,7 @@ use crate::files::{files_of, shared};
 use analysis_host::{
     AnalysisHost, Answer, Ask, Never, Outcome, RowId, TextTree, Versions, World, WorldFault,
 };
-use plain::Json;
+use plain::{Json, SharedJson};
 use std::test::Fail;
 
 /// Lets go of a value that may go to another thread.
@@ -33,7 +33,7 @@ fn values_cross_threads(rt: HostRuntime) -> Result<(), Fail> {
 
 #[test]
 fn questions_cross_threads(rt: HostRuntime) -> Result<(), Fail> {
-    let params = Json::null();
+    let params = SharedJson::new(rt.alloc(), Json::null())?;
     let ask = Ask::Request {
         row: RowId(1),
         params,

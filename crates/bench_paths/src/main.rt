@@ -102,7 +102,7 @@ fn thousand_roots(alloc: Global) -> Result<SourceRoots, AllocError> {
         let text = format!(in alloc; "/w/crates/part_{folder}/tests")?;
         roots.push(root_at(alloc, text.as_str())?)?;
     }
-    Ok(SourceRoots::new(roots))
+    Ok(SourceRoots::new(roots)?)
 }
 
 /// Counts the paths that are in a root.

@@ -15,7 +15,7 @@ use Rattle.analysis_host.specs.contracts.versions.Versions as Versions
 use Rattle.analysis_host.specs.contracts.world.World as World
 use Rattle.session_port.proofs.command.LogCode.TheSendSync as LogCode
 use Rattle.session_port.proofs.job.JobKind.TheSendSync as JobKind
-use Rattle.session_port.proofs.job.PoolClass.TheSendSync as PoolClass
+use Rattle.method_table.proofs.class.PoolClass.TheSendSync as PoolClass
 use Rattle.session_port.specs.contracts.command.Command as Command
 use Rattle.session_port.specs.contracts.job.Job as Job
 

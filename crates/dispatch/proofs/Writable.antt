@@ -14,7 +14,7 @@ not_true : (b : Bool) → not b ≡ true → b ≡ false
 not_true true e = sym e
 not_true false e = refl
 
-plain_writable : (d : Data) → is_plain d ≡ true → IsWritable d
+pub plain_writable : (d : Data) → is_plain d ≡ true → IsWritable d
 unfolding most_levels value_depth
 plain_writable d plain =
     let parts = and_parts (not (has_float d)) (nat_le (depth d) 120) plain in

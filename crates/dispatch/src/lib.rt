@@ -12,4 +12,4 @@ pub use method_table::{
     Class, Plan, PoolClass, RowId, class_of, default_of, plan, retries, row_of,
 };
 pub use plain::NoMemory;
-pub use responding::result_to_response;
+pub use responding::{fault_code, refusal, response_with, result_to_response};

@@ -16,7 +16,8 @@ const OUT_OF_MEMORY: i32 = -31000;
 // What JSON-RPC answers where a request failed within the server.
 const INTERNAL_ERROR: i32 = -32603;
 
-fn response_with(id: RequestId, value: Json) -> Response
+/// The response that a request has this result.
+pub fn response_with(id: RequestId, value: Json) -> Response
     requires { is_plain value ≡ true }
     ensures value { result ≡ response_with id value }
     ensures writable { AreWritable (ResponseMessage result) }
@@ -28,7 +29,8 @@ fn response_with(id: RequestId, value: Json) -> Response
     }
 }
 
-fn refusal(id: RequestId, code: i32, message: Text) -> Response
+/// The response that a request failed.
+pub fn refusal(id: RequestId, code: i32, message: Text) -> Response
     ensures value { result ≡ refusal id code message }
     ensures writable { AreWritable (ResponseMessage result) }
 {
@@ -43,7 +45,8 @@ fn refusal(id: RequestId, code: i32, message: Text) -> Response
     }
 }
 
-fn fault_code(code: Option<i32>) -> i32
+/// A fault's own code, but for -31000, which says that memory ran out; else -32603.
+pub fn fault_code(code: Option<i32>) -> i32
     ensures { result ≡ fault_code code }
 {
     match code {

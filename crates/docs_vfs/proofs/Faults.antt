@@ -1,5 +1,5 @@
 -- What the errors of the URL parser and of the decoder say.
-use Rattle.std.proofs.Common.{◌≡◌, ℕ, false, List, Result, Ok, Err, sym, refl, ap, ◌∙◌, inl, inr, ⊎_elim, rules}
+use Rattle.std.proofs.Common.{◌≡◌, ℕ, List, Result, Err, sym, refl, ap, ◌∙◌, inl, inr, ⊎_elim, rules}
 use Rattle.std.specs.Prelude.{◌⊎◌, IsUtf8}
 use Rattle.std.specs.Str.{is_utf8}
 use Rattle.std.proofs.lemmas.Bool.{cases_Bool}
@@ -12,7 +12,7 @@ use Rattle.url.specs.declared.error.ParseError.{ParseError}
 use Rattle.url.specs.declared.error.ParseError.TheVariants.{EmptyHost, IdnaError, InvalidPort, InvalidIpv4Address, InvalidIpv6Address, InvalidDomainCharacter, RelativeUrlWithoutBase}
 use Rattle.url.specs.declared.error.ParseError.TheVariants.{RelativeUrlWithCannotBeABaseBase, SetHostOnCannotBeABaseUrl, Overflow, CannotSet, OutOfMemory}
 use Rattle.docs_vfs.specs.declared.file_url.UrlFault.{UrlFault}
-use Rattle.docs_vfs.specs.declared.file_url.UrlFault.TheVariants.{NotFile, NotText, NoMemory}
+use Rattle.docs_vfs.specs.declared.file_url.UrlFault.TheVariants.{NotFile, NoMemory}
 use Rattle.docs_vfs.specs.FileUrls.{path_of_parsed, fault_by, decode_fault_by, LacksText}
 
 fault_is : (e : ParseError) → (fault_by e ≡ NoMemory) ⊎ (fault_by e ≡ NotFile)

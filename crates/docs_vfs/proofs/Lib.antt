@@ -20,3 +20,8 @@ pub mod SegmentLemmas
 pub mod TableLemmas
 pub mod Walks
 pub mod WithinLemmas
+pub mod Ancestors
+pub mod Climbs
+pub mod Places
+pub mod Greatest
+pub mod Rises

@@ -1,6 +1,6 @@
 -- After every run the paths stand in the order in which they first got contents or a mark.
-use Rattle.std.proofs.Common.{◌≡◌, ℕ, ◌+◌, ◌-◌, ◌<◌, ◌≤◌, Bool, true, false, ◌||◌, List, [], ◌∷◌, ◌++◌, length, Option, Some, None, Ok, Err, Result, sym, refl, ap, subst, ◌∙◌, ⊎_elim, arith, zero, suc}
-use Rattle.std.specs.Prelude.{bytes_eq, is_some, nat_le, slice_get, if◌then◌else◌}
+use Rattle.std.proofs.Common.{◌≡◌, ℕ, ◌+◌, ◌-◌, Bool, true, false, ◌||◌, List, [], ◌∷◌, ◌++◌, length, Option, Some, None, Ok, Err, Result, sym, refl, ap, subst, ◌∙◌, ⊎_elim, arith, zero, suc}
+use Rattle.std.specs.Prelude.{bytes_eq, is_some, nat_le, slice_get}
 use Rattle.std.specs.List.{list_any}
 use Rattle.std.specs.Option.{option_map}
 use Rattle.std.specs.FinMap as map
@@ -13,11 +13,11 @@ use Rattle.docs_vfs.specs.declared.file_kinds.Kept.{Kept}
 use Rattle.docs_vfs.specs.declared.file_kinds.Kept.TheVariants.{Nothing, Excluded}
 use Rattle.docs_vfs.specs.declared.file_kinds.TableFault.{TableFault}
 use Rattle.docs_vfs.specs.declared.file_kinds.TableFault.TheVariants.{Full}
-use Rattle.docs_vfs.specs.Files.{Files, new_files, kept_in, kept_at, contents_of, contents_at, is_marked, kept_of, same_contents, number_in, put_at, put_in, set_in, mark_in, and_then}
+use Rattle.docs_vfs.specs.Files.{Files, kept_in, kept_at, contents_of, contents_at, is_marked, kept_of, same_contents, number_in, put_at, put_in, set_in, mark_in, and_then}
 use Rattle.docs_vfs.specs.FileLaws.{number_at, IsNumbered}
-use Rattle.docs_vfs.specs.FileRuns.{Call, set_or, mark_or, step, after, add_name, named}
+use Rattle.docs_vfs.specs.FileRuns.{Call, set_or, mark_or, after, add_name, named}
 use Rattle.docs_vfs.specs.FileRuns.Call.{Sets, Marks, Takes}
-use Rattle.docs_vfs.proofs.PutLemmas.{Put, put_is, itself, one_path}
+use Rattle.docs_vfs.proofs.PutLemmas.{put_is, itself, one_path}
 use Rattle.docs_vfs.proofs.NumberLaws.{found_at, place_at}
 use Rattle.docs_vfs.proofs.RunLaws.{run_numbered}
 

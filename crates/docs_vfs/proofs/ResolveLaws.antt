@@ -1,7 +1,7 @@
 -- What a text that is taken from a path comes to is a path, and where it is what was written.
 use Rattle.std.proofs.Common.{◌≡◌, ℕ, ◌<◌, Bool, true, false, not, ◌&&◌, ◌||◌, ◌==◌, List, [], ◌∷◌, ◌++◌, length, All, Option, Some, None, sym, refl, ap, ◌∙◌, arith, ⊎_elim, append_assoc, append-nil}
 use Rattle.std.specs.Prelude.{codes, bytes_eq, if◌then◌else◌}
-use Rattle.std.specs.List.{fold, list_all, list_any, before_last}
+use Rattle.std.specs.List.{fold, list_all, list_any}
 use Rattle.std.specs.Option.{option_and_then}
 use Rattle.std.proofs.lemmas.Bool.{cond-true, cond-false, and_from, and_parts, and_right, cases_Bool, eqb-true, true≢false}
 use Rattle.std.proofs.lemmas.List.{nil_from_length}

@@ -1,9 +1,8 @@
 -- What a text that is taken from a path comes to.
-use Rattle.std.proofs.Common.{◌≡◌, ◌≢◌, ℕ, ◌<◌, Bool, true, false, ◌==◌, List, [], ◌∷◌, ◌++◌, length, All, Option, Some, None, sym, refl, ap, ◌∙◌, subst, arith, ⊎_elim}
-use Rattle.std.specs.Prelude.{codes, bytes_eq, if◌then◌else◌}
-use Rattle.std.specs.List.{list_all, list_any}
-use Rattle.std.proofs.lemmas.Bool.{cond-true, cond-false, and_from, and_parts, cases_Bool, ne_eqb, true≢false}
-use Rattle.docs_vfs.specs.Paths.{is_slash, parts, is_segment, is_path, segments_of}
+use Rattle.std.proofs.Common.{◌≡◌, ◌≢◌, ℕ, true, false, ◌==◌, List, [], ◌∷◌, length, Some, refl, ap, ◌∙◌}
+use Rattle.std.specs.Prelude.{codes}
+use Rattle.std.proofs.lemmas.Bool.{cond-true, cond-false, ne_eqb}
+use Rattle.docs_vfs.specs.Paths.{parts, segments_of}
 use Rattle.docs_vfs.specs.declared.relative.EmptySegments.{EmptySegments}
 use Rattle.docs_vfs.specs.Resolve.{walk, begins_with_slash, resolve}
 

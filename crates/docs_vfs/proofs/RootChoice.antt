@@ -12,14 +12,14 @@ use Rattle.docs_vfs.specs.Roots.{greatest, first_greatest, include_length, root_
 use Rattle.docs_vfs.specs.RootLaws.{IsAmong, Holds, IsRootOf, IsInNone, IsChosen, LiesAbove, IsParent, HasNoParent, IsParentOf}
 
 -- at this place stands the greatest number, which isn't 0, and before it stand lesser ones
-record IsFirstGreatest {X : Type 0} (h : X → ℕ) (xs : List X) (at : ℕ) : Type 0 where
-  item : X
-  is : slice_get xs at ≡ Some item
-  positive : 0 < h item
-  greatest : (i : ℕ) (other : X) → slice_get xs i ≡ Some other → h other ≤ h item
-  earlier : (i : ℕ) (other : X) → slice_get xs i ≡ Some other → i < at → h other < h item
+pub record IsFirstGreatest {X : Type 0} (h : X → ℕ) (xs : List X) (at : ℕ) : Type 0 where
+  pub item : X
+  pub is : slice_get xs at ≡ Some item
+  pub positive : 0 < h item
+  pub greatest : (i : ℕ) (other : X) → slice_get xs i ≡ Some other → h other ≤ h item
+  pub earlier : (i : ℕ) (other : X) → slice_get xs i ≡ Some other → i < at → h other < h item
 
-abbrev AreZero : {X : Type 0} → (X → ℕ) → List X → Type 0
+abbrev pub AreZero : {X : Type 0} → (X → ℕ) → List X → Type 0
 AreZero {X} h xs = (i : ℕ) (other : X) → slice_get xs i ≡ Some other → h other ≡ 0
 
 abbrev from : {X : Type 0} → (X → ℕ) → ℕ → List X → ℕ
@@ -29,10 +29,10 @@ start : {X : Type 0} (h : X → ℕ) (a : ℕ) (xs : List X) → a ≤ from h a 
 start h a [] = omega arith
 start h a (x ∷ xs) = omega (arith, start h (max a (h x)) xs)
 
-some_is : {X : Type 0} (x y : X) → Some x ≡ Some y → x ≡ y
+pub some_is : {X : Type 0} (x y : X) → Some x ≡ Some y → x ≡ y
 some_is x y is = ap (λ o. unwrap_or o x) is
 
-bound : {X : Type 0} (h : X → ℕ) (a : ℕ) (xs : List X) (i : ℕ) (y : X) → slice_get xs i ≡ Some y → h y ≤ from h a xs
+pub bound : {X : Type 0} (h : X → ℕ) (a : ℕ) (xs : List X) (i : ℕ) (y : X) → slice_get xs i ≡ Some y → h y ≤ from h a xs
 bound h a [] i y is = absurd (none-some y is)
 bound h a (x ∷ xs) zero y is = omega (arith, start h (max a (h x)) xs, ap h (some_is x y is))
 bound h a (x ∷ xs) (suc i) y is = bound h (max a (h x)) xs i y is
@@ -97,7 +97,7 @@ reached_within h n xs r =
     absurd (true≢false (sym (eq_true (h r.item) n r.has) ∙ ap (has h n) (sym (get_or_from_slice_get xs r.at r.item r.item r.is)) ∙ fails_before_first (has h n) xs r.at r.item before)))
     (cases_Bool (nat_lt (position_or_len (has h n) xs) (length xs)))
 
-chosen : {X : Type 0} (h : X → ℕ) (xs : List X) → MatchOption (first_greatest h xs) (AreZero h xs) (IsFirstGreatest h xs)
+pub chosen : {X : Type 0} (h : X → ℕ) (xs : List X) → MatchOption (first_greatest h xs) (AreZero h xs) (IsFirstGreatest h xs)
 chosen {X} h xs =
     let n = greatest h xs in
     ⊎_elim
@@ -114,15 +114,15 @@ chosen {X} h xs =
 
 -- ---- the longest of some texts
 
-most_of : {X : Type 0} (h : X → ℕ) (xs : List X) (x : X) → IsAmong x xs → h x ≤ greatest h xs
+pub most_of : {X : Type 0} (h : X → ℕ) (xs : List X) (x : X) → IsAmong x xs → h x ≤ greatest h xs
 most_of h xs x among = bound h 0 xs among.place x among.is
 
-record Longest {X : Type 0} (h : X → ℕ) (xs : List X) : Type 0 where
-  item : X
-  among : IsAmong item xs
-  has : h item ≡ greatest h xs
+pub record Longest {X : Type 0} (h : X → ℕ) (xs : List X) : Type 0 where
+  pub item : X
+  pub among : IsAmong item xs
+  pub has : h item ≡ greatest h xs
 
-longest_of : {X : Type 0} (h : X → ℕ) (xs : List X) → 0 < greatest h xs → Longest h xs
+pub longest_of : {X : Type 0} (h : X → ℕ) (xs : List X) → 0 < greatest h xs → Longest h xs
 longest_of h xs some =
     ⊎_elim
     (λ none. absurd (omega (arith, some, none)))
@@ -131,18 +131,18 @@ longest_of h xs some =
 
 -- ---- the root of a path
 
-held_length : (path : List ℕ) (root : Root) (include : List ℕ) → Holds path root include → length include ≤ root_length path root
+pub held_length : (path : List ℕ) (root : Root) (include : List ℕ) → Holds path root include → length include ≤ root_length path root
 held_length path root include h =
     let kept : root_length path root ≡ greatest (include_length path) root.include = cond-false _ _ _ h.kept in
     let here : include_length path include ≡ length include = cond-true _ _ _ h.holds in
     omega (arith, kept, here, most_of (include_length path) root.include include h.among)
 
-record Held (path : List ℕ) (root : Root) : Type 0 where
-  include : List ℕ
-  holds : Holds path root include
-  long : length include ≡ root_length path root
+pub record Held (path : List ℕ) (root : Root) : Type 0 where
+  pub include : List ℕ
+  pub holds : Holds path root include
+  pub long : length include ≡ root_length path root
 
-held_by : (path : List ℕ) (root : Root) → 0 < root_length path root → Held path root
+pub held_by : (path : List ℕ) (root : Root) → 0 < root_length path root → Held path root
 held_by path root some =
     ⊎_elim
     (λ excluded. let none : root_length path root ≡ 0 = cond-true _ _ _ excluded in absurd (omega (arith, some, none)))
@@ -190,22 +190,22 @@ root_chosen roots path = root_by roots path (first_greatest (root_length path) r
 
 -- ---- the parent of a root
 
-above_length : (at : ℕ) (child : Root) (place : ℕ) (root : Root) (include : List ℕ) → LiesAbove at child place root include → length include ≤ parent_length at child (place, root)
+pub above_length : (at : ℕ) (child : Root) (place : ℕ) (root : Root) (include : List ℕ) → LiesAbove at child place root include → length include ≤ parent_length at child (place, root)
 above_length at child place root include l =
     let is : parent_length at child (place, root) ≡ greatest (proper_length child) root.include = cond-true _ _ _ (and_from root.is_local (not (place == at)) l.local (ap not l.other)) in
     let here : proper_length child include ≡ length include = cond-true _ _ _ l.above in
     omega (arith, is, here, most_of (proper_length child) root.include include l.among)
 
-record Above (at : ℕ) (child : Root) (place : ℕ) (root : Root) : Type 0 where
-  include : List ℕ
-  lies : LiesAbove at child place root include
-  long : length include ≡ parent_length at child (place, root)
+pub record Above (at : ℕ) (child : Root) (place : ℕ) (root : Root) : Type 0 where
+  pub include : List ℕ
+  pub lies : LiesAbove at child place root include
+  pub long : length include ≡ parent_length at child (place, root)
 
 not_is : (b : Bool) → not b ≡ true → b ≡ false
 not_is true e = sym e
 not_is false e = refl
 
-above_by : (at : ℕ) (child : Root) (place : ℕ) (root : Root) → 0 < parent_length at child (place, root) → Above at child place root
+pub above_by : (at : ℕ) (child : Root) (place : ℕ) (root : Root) → 0 < parent_length at child (place, root) → Above at child place root
 above_by at child place root some =
     ⊎_elim
     (λ fits.
@@ -236,16 +236,16 @@ enumerated n (r ∷ roots) (suc i) root is =
     let place : i + (n + 1) ≡ suc i + n = omega arith in
     enumerated (n + 1) roots i root is ∙ ap (λ k. Some (k, root)) place
 
-at_place : (roots : List Root) (i : ℕ) (root : Root) → slice_get roots i ≡ Some root → slice_get (enumerate_from 0 roots) i ≡ Some (i, root)
+pub at_place : (roots : List Root) (i : ℕ) (root : Root) → slice_get roots i ≡ Some root → slice_get (enumerate_from 0 roots) i ≡ Some (i, root)
 at_place roots i root is =
     let place : i + 0 ≡ i = omega arith in
     enumerated 0 roots i root is ∙ ap (λ k. Some (k, root)) place
 
-record Enumerated (n : ℕ) (roots : List Root) (i : ℕ) (item : ℕ × Root) : Type 0 where
-  is : slice_get roots i ≡ Some item.1
-  place : item.0 ≡ i + n
+pub record Enumerated (n : ℕ) (roots : List Root) (i : ℕ) (item : ℕ × Root) : Type 0 where
+  pub is : slice_get roots i ≡ Some item.1
+  pub place : item.0 ≡ i + n
 
-from_enumerated : (n : ℕ) (roots : List Root) (i : ℕ) (item : ℕ × Root) → slice_get (enumerate_from n roots) i ≡ Some item → Enumerated n roots i item
+pub from_enumerated : (n : ℕ) (roots : List Root) (i : ℕ) (item : ℕ × Root) → slice_get (enumerate_from n roots) i ≡ Some item → Enumerated n roots i item
 from_enumerated n [] i item is = absurd (none-some item is)
 from_enumerated n (r ∷ roots) zero item is =
     let same : (n, r) ≡ item = some_is (n, r) item is in

@@ -1,7 +1,6 @@
 -- What whole runs of calls leave in the table of files.
-use Rattle.std.proofs.Common.{◌≡◌, ℕ, Bool, true, false, List, [], ◌∷◌, ◌++◌, Option, Some, None, Ok, Err, Result, sym, refl, ap, subst, ◌∙◌, ⊎_elim}
+use Rattle.std.proofs.Common.{◌≡◌, ℕ, Bool, true, List, [], ◌∷◌, ◌++◌, Option, Some, Ok, Err, Result, sym, refl, ap, subst, ◌∙◌, ⊎_elim}
 use Rattle.std.specs.Prelude.{bytes_eq, if◌then◌else◌}
-use Rattle.std.specs.FinMap as map
 use Rattle.std.proofs.lemmas.Bool.{cases_Bool, cond-true, cond-false}
 use Rattle.docs_vfs.specs.declared.file_kinds.FileId.{FileId}
 use Rattle.docs_vfs.specs.declared.file_kinds.Kept.{Kept}

@@ -1,14 +1,14 @@
 -- Segments that are taken one after another.
-use Rattle.std.proofs.Common.{◌≡◌, ℕ, ◌+◌, ◌<◌, Bool, true, false, List, [], ◌∷◌, ◌++◌, length, get_or, take, drop, map, Option, Some, None, sym, refl, ap, ◌∙◌, subst, take-append-drop}
+use Rattle.std.proofs.Common.{◌≡◌, ℕ, ◌+◌, ◌<◌, Bool, true, false, List, [], ◌∷◌, ◌++◌, length, get_or, take, drop, Option, Some, None, sym, refl, ap, ◌∙◌, subst, take-append-drop}
 use Rattle.std.specs.Prelude.{codes, bytes_eq, if◌then◌else◌}
-use Rattle.std.specs.List.{fold, list_all, list_any, before_last}
+use Rattle.std.specs.List.{fold, list_any, before_last}
 use Rattle.std.specs.Option.{option_and_then}
 use Rattle.std.proofs.lemmas.Bool.{cond-true, cond-false}
 use Rattle.std.proofs.lemmas.List.{take_more}
 use Rattle.std.proofs.lemmas.List.Sums.{fold_push, fold-append}
-use Rattle.docs_vfs.specs.Paths.{is_slash, parts}
+use Rattle.docs_vfs.specs.Paths.{is_slash}
 use Rattle.docs_vfs.specs.declared.relative.EmptySegments.{EmptySegments}
-use Rattle.docs_vfs.specs.Resolve.{front, below, is_name, stays, step, walk}
+use Rattle.docs_vfs.specs.Resolve.{is_name, stays, step, walk}
 use Rattle.docs_vfs.specs.Fronts.{whole, IsFront, Reaches}
 use Rattle.docs_vfs.proofs.FrontLemmas.{up_none, up_some, name_from, name_below, whole_below}
 

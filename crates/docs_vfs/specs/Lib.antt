@@ -9,3 +9,5 @@ pub mod Paths
 pub mod Resolve
 pub mod RootLaws
 pub mod Roots
+pub mod Includes
+pub mod Parents

@@ -1,5 +1,5 @@
 -- What is chosen among roots, told by their includes and excludes.
-use Rattle.std.specs.Prelude.{◌≡◌, ◌<◌, ◌≤◌, ℕ, true, false, not, ◌==◌, List, length, slice_get, Option, Some, MatchOption}
+use Rattle.std.specs.Prelude.{◌≡◌, ◌<◌, ◌≤◌, ℕ, true, false, ◌==◌, List, length, slice_get, Option, Some, MatchOption}
 use Rattle.std.specs.List.{list_any}
 use Rattle.docs_vfs.specs.Paths.{is_within}
 use Rattle.docs_vfs.specs.Roots.{is_below}

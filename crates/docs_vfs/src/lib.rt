@@ -6,6 +6,7 @@ mod file_kinds;
 mod file_laws;
 mod file_table;
 mod file_url;
+mod includes;
 mod mem_docs;
 mod path;
 mod path_laws;
@@ -28,6 +29,7 @@ pub use file_url::{
 pub use mem_docs::{DocumentData, MemDocs, Paths};
 pub use path::VfsPath;
 pub use path_laws::resolved_texts_are_paths;
+pub use plain::NoMemory;
 pub use relative::EmptySegments;
 pub use root_laws::the_longest_root_is_chosen;
 pub use shared_bytes::SharedBytes;

@@ -13,7 +13,7 @@ use crate::path_text::{begins_with_folder_text, cut_at_last_slash, extension_tex
 use crate::relative::{
     EmptySegments, front_text, is_name_text, push_segment, walk_from, whole_text,
 };
-use plain::{Copied, Told};
+use plain::{Copied, TextKey, Told};
 use std::alloc::{AllocError, Global};
 use std::cmp::Ordering;
 use std::fmt;
@@ -97,6 +97,14 @@ impl VfsPath {
     {
         let text: &String = &self.text;
         text.as_str()
+    }
+
+    /// A copy of the text.
+    pub(crate) fn to_text(&self) -> Result<String, AllocError>
+        ensures text { IfOk result (λ text. string_bytes text ≡ self.now) }
+        ensures path { is_path self.now ≡ true }
+    {
+        String::from_str(self.alloc(), self.as_str())
     }
 
     /// Whether this is `/`.
@@ -227,6 +235,12 @@ impl Ord for VfsPath {
     fn cmp(&self, other: &VfsPath) -> Ordering {
         self.as_str().cmp(other.as_str())
     }
+}
+
+impl TextKey for VfsPath {
+    ghost text = { λ p. p };
+
+    ghost in_order = { λ x y. refl };
 }
 
 impl Hash for VfsPath {

@@ -1,8 +1,8 @@
-ghost use Rattle.std.specs.Prelude.{◌≡◌, ◌++◌, ◌∷◌, true, IfOk, OnOk, IsTrue, string_bytes, if◌then◌else◌};
+ghost use Rattle.std.specs.Prelude.{◌≡◌, ◌++◌, ◌∷◌, true, length, ◌<◌, MatchOption, IfOk, OnOk, IsTrue, string_bytes, if◌then◌else◌};
 ghost use Rattle.std.specs.List.{list_any, before_last};
 ghost use Rattle.docs_vfs.specs.Paths.{is_slash, is_path, parts};
 ghost use Rattle.docs_vfs.specs.Resolve.{front, is_name, drops, stays, step, walk};
-ghost use Rattle.docs_vfs.specs.Fronts.{whole, IsFront, Reaches};
+ghost use Rattle.docs_vfs.specs.Fronts.{whole, IsFront, IsFolderOf, Reaches};
 
 use crate::path::VfsPath;
 use crate::path_text::{cut_at_last_slash, has_slash_text, is_segment_text};
@@ -36,6 +36,19 @@ pub(crate) fn whole_text(text: &str) -> &str
     ensures { result.now ≡ whole text.now }
 {
     if text.is_empty() { "/" } else { text }
+}
+
+/// The folder that a path lies in, unless it is `/`.
+pub(crate) fn folder_above(path: &str) -> Option<&str>
+    requires { is_path path.now ≡ true }
+    ensures { MatchOption result (length path.now ≡ 1)
+        (λ folder. IsFolderOf folder.now path.now × (length folder.now < length path.now)) }
+{
+    if path.len() == 1 {
+        return None;
+    }
+    let (folder, _name) = cut_at_last_slash(path)?;
+    Some(whole_text(folder))
 }
 
 /// Whether empty segments are left out.

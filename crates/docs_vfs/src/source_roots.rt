@@ -1,12 +1,17 @@
-ghost use Rattle.std.specs.Prelude.{◌≡◌, ◌==◌, ◌++◌, ◌≤◌, ◌<◌, length, take, option_to_list, OnOk, IfOk, IfSome};
-ghost use Rattle.std.specs.List.{list_any, position, enumerate_from};
+ghost use Rattle.std.specs.Prelude.{true, false, not, ℕ, List, ◌∷◌, [], ◌≡◌, ◌==◌, ◌++◌, ◌≤◌, length, take, option_to_list, OnOk, IfOk};
+ghost use Rattle.std.specs.List.{find, list_any};
 ghost use Rattle.docs_vfs.specs.Paths.{is_within};
-ghost use Rattle.docs_vfs.specs.Roots.{most_roots, greatest, first_greatest, include_length, root_length, root_of, is_below, proper_length, parent_length, parent_of, parent_pair, parent_map, is_local_at};
+ghost use Rattle.docs_vfs.specs.Includes.{places, is_kept, IsIndex};
+ghost use Rattle.docs_vfs.specs.Parents.{parent_above, better};
+ghost use Rattle.docs_vfs.specs.Roots.{most_roots, first_greatest, root_length, root_of, parent_of, parent_pair, parent_map, is_local_at};
 
+use crate::includes::Includes;
 use crate::path::VfsPath;
-use plain::{Copied, Items};
-use std::alloc::{AllocError, Global};
+use crate::relative::folder_above;
+use plain::{Copied, Items, NoMemory};
+use std::alloc::Global;
 use std::marker::Model;
+use std::sync::Arc;
 
 /// A part of the files: those below an include that are below no exclude.
 #[derive(Drop)]
@@ -19,7 +24,7 @@ pub struct Root {
 impl Clone for Root {
     ghost is_clone = { λ root copy. copy ≡ root };
 
-    fn clone(&self) -> Result<Root, AllocError> {
+    fn clone(&self) -> Result<Root, NoMemory> {
         Ok(Root {
             include: self.include.clone()?,
             exclude: self.exclude.clone()?,
@@ -40,29 +45,23 @@ const MOST_ROOTS: usize = 4_294_967_295;
 pub struct SourceRoots {
     alloc: Global,
     roots: Items<Root>,
+    includes: Arc<Includes, Global>,
+    local_includes: Arc<Includes, Global>,
 }
 
 impl Model for SourceRoots {
-    ghost use Rattle.std.specs.Prelude.{List, length, ◌≤◌};
+    ghost use Rattle.std.specs.Prelude.{List, length, ◌≤◌, true, false};
+    ghost use Rattle.std.specs.Arc.{arc_value};
     ghost use Rattle.docs_vfs.specs.declared.source_roots.Root.{Root};
     ghost use Rattle.docs_vfs.specs.Roots.{most_roots};
+    ghost use Rattle.docs_vfs.specs.Includes.{IsIndex};
 
     ghost Value = { List Root };
 
     ghost view = { λ s. s.roots };
 
-    ghost invariant = { λ s. length s.roots ≤ most_roots };
-}
-
-/// The length of an include that is a prefix of a path.
-fn include_length(path: &VfsPath, include: &VfsPath) -> usize
-    ensures { result ≡ include_length path.now include.now }
-{
-    if path.starts_with(include) {
-        include.as_str().len()
-    } else {
-        0
-    }
+    ghost invariant = { λ s. (length s.roots ≤ most_roots) × IsIndex false s.roots (arc_value s.includes)
+        × IsIndex true s.roots (arc_value s.local_includes) };
 }
 
 /// Whether an exclude of a root is a prefix of a path.
@@ -72,187 +71,168 @@ fn is_excluded(path: &VfsPath, root: &Root) -> bool
     root.exclude.iter().any(|exclude| path.starts_with(exclude))
 }
 
-/// The length of the longest include that is a prefix of a path.
-fn longest_include(path: &VfsPath, includes: &[VfsPath]) -> usize
-    ensures { result ≡ greatest (include_length path.now) includes.now }
+/// Whether none of the excludes of the root at a place holds a path.
+fn is_kept(path: &VfsPath, roots: &[Root], at: u32) -> bool
+    ensures { result ≡ is_kept roots.now path.now at }
 {
-    includes.iter().fold(
-        0,
-        |longest, include| longest.max(include_length(path, include)),
-    )
-}
-
-/// The same of a root's includes, unless an exclude of the root is a prefix of the path.
-fn root_length(path: &VfsPath, root: &Root) -> usize
-    ensures { result ≡ root_length path.now root.now }
-{
-    if is_excluded(path, root) {
-        return 0;
+    match roots.get(at as usize) {
+        Some(root) => !is_excluded(path, root),
+        None => false,
     }
-    longest_include(path, root.include.as_slice())
 }
 
-/// The length of the longest include of all roots.
-fn longest_root(path: &VfsPath, roots: &[Root]) -> usize
-    ensures { result ≡ greatest (root_length path.now) roots.now }
+/// The first root with this include whose excludes don't hold a path.
+fn root_at(index: &Includes, roots: &[Root], path: &VfsPath, include: &str) -> Option<u32>
+    ensures { result ≡ find (is_kept roots.now path.now) (places index.now include.now) }
 {
-    roots
+    index
+        .get(include)
         .iter()
-        .fold(0, |longest, root| longest.max(root_length(path, root)))
+        .copied()
+        .find(|at| is_kept(path, roots, *at))
 }
 
-/// The first root whose longest include has this length.
-fn first_root(path: &VfsPath, roots: &[Root], longest: usize) -> Option<usize>
-    ensures { result ≡ position (λ root. root_length path.now root == longest) roots.now }
-{
-    roots
-        .iter()
-        .position(|root| root_length(path, root) == longest)
-}
-
-/// The root with the longest include.
-fn root_in(path: &VfsPath, roots: &[Root]) -> Option<usize>
+/// The root with the longest include that holds a path: the first one at the longest such folder that has one.
+fn root_above(index: &Includes, roots: &[Root], path: &VfsPath) -> Option<u32>
+    requires { IsIndex false roots.now index.now }
     ensures { result ≡ first_greatest (root_length path.now) roots.now }
 {
-    let longest = longest_root(path, roots);
-    if longest == 0 {
-        return None;
-    }
-    first_root(path, roots, longest)
-}
-
-/// Whether a path lies in a folder and isn't the folder itself.
-fn is_below(folder: &VfsPath, path: &VfsPath) -> bool
-    ensures { result ≡ is_below folder.now path.now }
-{
-    path.starts_with(folder) && folder != path
-}
-
-/// Whether a folder lies above a path of these.
-fn is_above(folder: &VfsPath, paths: &[VfsPath]) -> bool
-    ensures { result ≡ list_any (λ path. is_below folder.now path) paths.now }
-{
-    paths.iter().any(|path| is_below(folder, path))
-}
-
-/// The length of an include that is a proper prefix of an include of another root.
-fn proper_length(child: &Root, include: &VfsPath) -> usize
-    ensures { result ≡ proper_length child.now include.now }
-{
-    if is_above(include, child.include.as_slice()) {
-        include.as_str().len()
-    } else {
-        0
+    let mut folder = path.as_str();
+    'folders: loop {
+        if let Some(at) = root_at(index, roots, path, folder) {
+            return Some(at);
+        }
+        match folder_above(folder) {
+            Some(above) => folder = above,
+            None => return None,
+        }
     }
 }
 
-/// The length of the longest such include.
-fn longest_proper(child: &Root, includes: &[VfsPath]) -> usize
-    ensures { result ≡ greatest (proper_length child.now) includes.now }
+/// The first of these places that isn't this one.
+fn other_place(places: &[u32], at: u32) -> Option<u32>
+    ensures { result ≡ find (λ place. not (place == at)) places.now }
 {
-    includes.iter().fold(
-        0,
-        |longest, include| longest.max(proper_length(child, include)),
-    )
+    places.iter().copied().find(|place| *place != at)
 }
 
-/// The same of a root's includes, where it is local and isn't the child.
-fn parent_length(at: usize, child: &Root, place: usize, root: &Root) -> usize
-    ensures { result ≡ parent_length at child.now (place, root.now) }
+/// The length of the longest include of a local root but one that lies above an include, and the first root that
+/// has it: the first one at the longest such folder that has one.
+fn parent_above(index: &Includes, at: u32, include: &VfsPath) -> Option<(usize, u32)>
+    ensures { (roots : List Root) → IsIndex true roots index.now → result ≡ parent_above at (include.now ∷ []) roots }
 {
-    if root.is_local && place != at {
-        longest_proper(child, root.include.as_slice())
-    } else {
-        0
+    let mut folder = include.as_str();
+    'folders: while let Some(above) = folder_above(folder) {
+        if let Some(place) = other_place(index.get(above), at) {
+            return Some((above.len(), place));
+        }
+        folder = above;
+    }
+    None
+}
+
+/// Of two the longer one, and of equal ones the earlier one.
+fn better(a: Option<(usize, u32)>, b: Option<(usize, u32)>) -> Option<(usize, u32)>
+    ensures { result ≡ better a b }
+{
+    match (a, b) {
+        (None, _) => b,
+        (_, None) => a,
+        (Some((length, place)), Some((longer, earlier))) => {
+            if length < longer || (length == longer && earlier < place) {
+                b
+            } else {
+                a
+            }
+        }
     }
 }
 
-/// The length of the longest such include of all roots.
-fn longest_parent(at: usize, child: &Root, roots: &[Root]) -> usize
-    ensures { result ≡ greatest (parent_length at child.now) (enumerate_from 0 roots.now) }
+/// The same for several includes.
+fn parent_in(index: &Includes, at: u32, includes: &[VfsPath]) -> Option<(usize, u32)>
+    ensures { (roots : List Root) → IsIndex true roots index.now → result ≡ parent_above at includes.now roots }
 {
-    roots.iter().enumerate().fold(
-        0,
-        |longest, (place, root)| longest.max(parent_length(at, child, place, root)),
-    )
-}
-
-/// The first root with such an include of this length.
-fn first_parent(at: usize, child: &Root, roots: &[Root], longest: usize) -> Option<usize>
-    ensures bound { IfSome result (λ place. place < length roots.now) }
-    ensures first { result ≡ position (λ root. parent_length at child.now root == longest) (enumerate_from 0 roots.now) }
-{
-    roots.iter().enumerate().position(|(place, root)| parent_length(at, child, place, root)
-        == longest)
+    let mut best = None;
+    for include in includes {
+        best = better(best, parent_above(index, at, include));
+    }
+    best
 }
 
 /// The parent of a root.
-fn parent_of(at: usize, child: &Root, roots: &[Root]) -> Option<usize>
-    ensures bound { IfSome result (λ place. place < length roots.now) }
-    ensures first { result ≡ parent_of roots.now at child.now }
+fn parent_of(index: &Includes, at: u32, child: &Root) -> Option<u32>
+    ensures { (roots : List Root) → IsIndex true roots index.now → result ≡ parent_of roots at child.now }
 {
-    let longest = longest_parent(at, child, roots);
-    if longest == 0 {
-        return None;
+    match parent_in(index, at, child.include.as_slice()) {
+        Some((_length, parent)) => Some(parent),
+        None => None,
     }
-    first_parent(at, child, roots, longest)
 }
 
 /// Adds a local root with its parent, where it has one.
 fn push_parent(
     list: &mut Items<(u32, u32)>,
-    at: usize,
+    index: &Includes,
+    at: u32,
     root: &Root,
-    roots: &[Root],
-) -> Result<(), AllocError>
-    requires count { length roots.now ≤ most_roots }
-    requires place { at < length roots.now }
-    ensures { OnOk result (list.new ≡ list.old ++ option_to_list (parent_pair roots.now (at, root.now))) }
+) -> Result<(), NoMemory>
+    ensures { OnOk result ((roots : List Root) → IsIndex true roots index.now
+        → list.new ≡ list.old ++ option_to_list (parent_pair roots (at, root.now))) }
 {
     if !root.is_local {
         return Ok(());
     }
-    match parent_of(at, root, roots) {
+    match parent_of(index, at, root) {
         None => Ok(()),
         Some(parent) => {
-            list.push((at as u32, parent as u32))?;
+            list.push((at, parent))?;
             Ok(())
         }
     }
 }
 
 /// Each local root that has a parent, with its parent.
-fn parent_pairs(alloc: Global, roots: &[Root]) -> Result<Items<(u32, u32)>, AllocError>
-    requires { length roots.now ≤ most_roots }
+fn parent_pairs(
+    alloc: Global,
+    index: &Includes,
+    roots: &[Root],
+) -> Result<Items<(u32, u32)>, NoMemory>
+    requires count { length roots.now ≤ most_roots }
+    requires index { IsIndex true roots.now index.now }
     ensures { IfOk result (λ list. list ≡ parent_map roots.now) }
 {
     let mut list = Items::new(alloc);
     for (at, root) in roots.iter().enumerate() {
-        push_parent(&mut list, at, root, roots)?;
+        push_parent(&mut list, index, at as u32, root)?;
     }
     Ok(list)
 }
 
 impl SourceRoots {
     /// The first 4,294,967,295 of these roots.
-    pub fn new(roots: Items<Root>) -> SourceRoots
-        ensures { result ≡ take most_roots roots }
+    pub fn new(roots: Items<Root>) -> Result<SourceRoots, NoMemory>
+        ensures { IfOk result (λ made. made ≡ take most_roots roots) }
     {
         let mut roots = roots.into_vec();
         let alloc = *roots.allocator();
         roots.truncate(MOST_ROOTS);
-        SourceRoots {
+        let roots = Items::from_vec(roots);
+        let includes = Includes::of(alloc, roots.as_slice(), false)?;
+        let local_includes = Includes::of(alloc, roots.as_slice(), true)?;
+        Ok(SourceRoots {
             alloc,
-            roots: Items::from_vec(roots),
-        }
+            roots,
+            includes: Arc::new(alloc, includes)?,
+            local_includes: Arc::new(alloc, local_includes)?,
+        })
     }
 
     /// The number of the root that a path is in, or the number of roots where it is in none.
     pub fn root_of(&self, path: &VfsPath) -> u32
         ensures { result ≡ root_of self.now path.now }
     {
-        match root_in(path, self.roots.as_slice()) {
-            Some(at) => at as u32,
+        match root_above(&self.includes, self.roots.as_slice(), path) {
+            Some(at) => at,
             None => self.roots.len() as u32,
         }
     }
@@ -269,20 +249,22 @@ impl SourceRoots {
 
     /// Each local root that has a parent, with its parent: the local root with the longest include that is a
     /// proper prefix of one of its includes.
-    pub fn parent_map(&self) -> Result<Items<(u32, u32)>, AllocError>
+    pub fn parent_map(&self) -> Result<Items<(u32, u32)>, NoMemory>
         ensures { IfOk result (λ list. list ≡ parent_map self.now) }
     {
-        parent_pairs(self.alloc, self.roots.as_slice())
+        parent_pairs(self.alloc, &self.local_includes, self.roots.as_slice())
     }
 }
 
 impl Clone for SourceRoots {
     ghost is_clone = { λ roots copy. copy ≡ roots };
 
-    fn clone(&self) -> Result<SourceRoots, AllocError> {
+    fn clone(&self) -> Result<SourceRoots, NoMemory> {
         Ok(SourceRoots {
             alloc: self.alloc,
             roots: self.roots.clone()?,
+            includes: Arc::try_clone(&self.includes)?,
+            local_includes: Arc::try_clone(&self.local_includes)?,
         })
     }
 }

@@ -4,6 +4,9 @@ use plain::Items;
 use std::alloc::Global;
 use std::test::Fail;
 
+/// A root: its includes, its excludes, and whether it is local.
+type Row<'a> = (&'a [&'a str], &'a [&'a str], bool);
+
 /// Paths.
 fn paths_at(alloc: Global, texts: &[&str]) -> Result<Items<VfsPath>, Fail> {
     let mut paths = Items::new(alloc);
@@ -13,51 +16,59 @@ fn paths_at(alloc: Global, texts: &[&str]) -> Result<Items<VfsPath>, Fail> {
     Ok(paths)
 }
 
-/// Adds a root.
-fn add_root(
-    alloc: Global,
-    roots: &mut Items<Root>,
-    include: &[&str],
-    exclude: &[&str],
-    is_local: bool,
-) -> Result<(), Fail> {
-    let include = paths_at(alloc, include)?;
-    let exclude = paths_at(alloc, exclude)?;
-    roots.push(Root {
+/// A root.
+fn root_at(alloc: Global, row: &Row<'_>) -> Result<Root, Fail> {
+    let include = paths_at(alloc, row.0)?;
+    let exclude = paths_at(alloc, row.1)?;
+    Ok(Root {
         include,
         exclude,
-        is_local,
-    })?;
-    Ok(())
+        is_local: row.2,
+    })
+}
+
+/// These roots.
+fn roots_at(alloc: Global, rows: &[Row<'_>]) -> Result<SourceRoots, Fail> {
+    let mut roots = Items::new(alloc);
+    for row in rows {
+        roots.push(root_at(alloc, row)?)?;
+    }
+    Ok(SourceRoots::new(roots)?)
+}
+
+/// Whether each path is in the root with this number.
+fn are_in(alloc: Global, roots: &SourceRoots, rows: &[(&str, u32)]) -> Result<bool, Fail> {
+    for (text, number) in rows {
+        if roots.root_of(&path_at(alloc, text)?) != *number {
+            return Ok(false);
+        }
+    }
+    Ok(true)
+}
+
+/// Whether these are the roots that have parents, with their parents.
+fn has_parents(roots: &SourceRoots, pairs: &[(u32, u32)]) -> Result<bool, Fail> {
+    Ok(roots.parent_map()?.as_slice() == pairs)
 }
 
 /// Five roots.
 pub(crate) fn five_roots(alloc: Global) -> Result<SourceRoots, Fail> {
-    let mut roots = Items::new(alloc);
-    add_root(alloc, &mut roots, &["/w"], &["/w/out"], true)?;
-    add_root(alloc, &mut roots, &["/w/lib"], &[], true)?;
-    add_root(
+    roots_at(
         alloc,
-        &mut roots,
-        &["/w/lib", "/w/lib/deep/in"],
-        &["/w/lib/deep"],
-        true,
-    )?;
-    add_root(alloc, &mut roots, &["/w/out/gen"], &[], false)?;
-    add_root(alloc, &mut roots, &["/v", "/w/lib/a/b"], &[], true)?;
-    Ok(SourceRoots::new(roots))
-}
-
-/// Whether a path is in this root.
-fn is_in(alloc: Global, roots: &SourceRoots, text: &str, number: u32) -> Result<bool, Fail> {
-    Ok(roots.root_of(&path_at(alloc, text)?) == number)
+        &[
+            (&["/w"], &["/w/out"], true),
+            (&["/w/lib"], &[], true),
+            (&["/w/lib", "/w/lib/deep/in"], &["/w/lib/deep"], true),
+            (&["/w/out/gen"], &[], false),
+            (&["/v", "/w/lib/a/b"], &[], true),
+        ],
+    )
 }
 
 #[test]
 fn roots_of_paths(rt: HostRuntime) -> Result<(), Fail> {
     let alloc = rt.alloc();
-    let roots = five_roots(alloc)?;
-    for (text, number) in [
+    let rows = [
         ("/w/a.rs", 0),
         ("/w", 0),
         ("/w/library", 0),
@@ -68,9 +79,8 @@ fn roots_of_paths(rt: HostRuntime) -> Result<(), Fail> {
         ("/w/lib/a/b/c", 4),
         ("/u", 5),
         ("/", 5),
-    ] {
-        assert!(rt; is_in(alloc, &roots, text, number)?);
-    }
+    ];
+    assert!(rt; are_in(alloc, &five_roots(alloc)?, &rows)?);
     Ok(())
 }
 
@@ -85,27 +95,91 @@ fn local_roots(rt: HostRuntime) -> Result<(), Fail> {
 
 #[test]
 fn parents_of_roots(rt: HostRuntime) -> Result<(), Fail> {
-    let pairs = five_roots(rt.alloc())?.parent_map()?;
-    assert!(rt; pairs.as_slice() == [(1, 0), (2, 1), (4, 1)].as_slice());
+    assert!(rt; has_parents(&five_roots(rt.alloc())?, &[(1, 0), (2, 1), (4, 1)])?);
     Ok(())
 }
 
-/// Roots whose includes are alike, and a parent that stands later than its child.
-fn tied_roots(alloc: Global) -> Result<SourceRoots, Fail> {
-    let mut roots = Items::new(alloc);
-    add_root(alloc, &mut roots, &["/w/a/b", "/v/c"], &[], true)?;
-    add_root(alloc, &mut roots, &["/v"], &[], true)?;
-    add_root(alloc, &mut roots, &["/w/a"], &[], true)?;
-    add_root(alloc, &mut roots, &["/w/a"], &[], true)?;
-    add_root(alloc, &mut roots, &["/w"], &[], false)?;
-    Ok(SourceRoots::new(roots))
+/// Whether each path is in the root with this number, and these roots have these parents.
+fn is_told(
+    alloc: Global,
+    rows: &[Row<'_>],
+    paths: &[(&str, u32)],
+    pairs: &[(u32, u32)],
+) -> Result<bool, Fail> {
+    let roots = roots_at(alloc, rows)?;
+    Ok(are_in(alloc, &roots, paths)? && has_parents(&roots, pairs)?)
 }
 
 #[test]
-fn tied_parents(rt: HostRuntime) -> Result<(), Fail> {
-    let roots = tied_roots(rt.alloc())?;
-    assert!(rt; is_in(rt.alloc(), &roots, "/w/a/x", 2)?);
-    let pairs = roots.parent_map()?;
-    assert!(rt; pairs.as_slice() == [(0, 2)].as_slice());
+fn nested_includes(rt: HostRuntime) -> Result<(), Fail> {
+    let rows: [Row<'_>; 3] = [
+        (&["/a"], &[], true),
+        (&["/a/b"], &[], true),
+        (&["/a/b/c"], &[], true),
+    ];
+    let paths = [
+        ("/a/x", 0),
+        ("/a/bc", 0),
+        ("/a/b/x", 1),
+        ("/a/b/c", 2),
+        ("/b", 3),
+    ];
+    assert!(rt; is_told(rt.alloc(), &rows, &paths, &[(1, 0), (2, 1)])?);
+    Ok(())
+}
+
+#[test]
+fn equal_includes(rt: HostRuntime) -> Result<(), Fail> {
+    let rows: [Row<'_>; 5] = [
+        (&["/w/a/b", "/v/c"], &[], true),
+        (&["/v"], &[], true),
+        (&["/w/a"], &[], true),
+        (&["/w/a"], &[], true),
+        (&["/w"], &[], false),
+    ];
+    let paths = [("/w/a/x", 2), ("/w/x", 4)];
+    assert!(rt; is_told(rt.alloc(), &rows, &paths, &[(0, 2)])?);
+    Ok(())
+}
+
+#[test]
+fn excludes_below_includes(rt: HostRuntime) -> Result<(), Fail> {
+    let rows: [Row<'_>; 2] = [
+        (&["/a"], &["/a/b/c", "/a/e"], true),
+        (&["/a/b"], &["/a/b/d"], true),
+    ];
+    let paths = [("/a/b/c/x", 1), ("/a/b/d/x", 0), ("/a/b/x", 1), ("/a/e", 2)];
+    assert!(rt; is_told(rt.alloc(), &rows, &paths, &[(1, 0)])?);
+    Ok(())
+}
+
+#[test]
+fn excluded_by_the_first(rt: HostRuntime) -> Result<(), Fail> {
+    let rows: [Row<'_>; 3] = [
+        (&["/a"], &["/a/b"], true),
+        (&["/a"], &[], true),
+        (&["/"], &[], true),
+    ];
+    let paths = [("/a/b", 1), ("/a/x", 0), ("/x", 2), ("/", 2)];
+    assert!(rt; is_told(rt.alloc(), &rows, &paths, &[(0, 2), (1, 2)])?);
+    Ok(())
+}
+
+#[test]
+fn parents_of_two_includes(rt: HostRuntime) -> Result<(), Fail> {
+    let rows: [Row<'_>; 5] = [
+        (&["/a/x", "/b/y"], &[], true),
+        (&["/b"], &[], true),
+        (&["/a"], &[], true),
+        (&["/a/x"], &[], false),
+        (&["/a/x/z", "/c"], &[], true),
+    ];
+    assert!(rt; is_told(rt.alloc(), &rows, &[("/a/x/y", 0)], &[(0, 1), (4, 0)])?);
+    Ok(())
+}
+
+#[test]
+fn no_roots(rt: HostRuntime) -> Result<(), Fail> {
+    assert!(rt; is_told(rt.alloc(), &[], &[("/a", 0), ("/", 0)], &[])?);
     Ok(())
 }

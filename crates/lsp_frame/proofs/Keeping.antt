@@ -1,7 +1,6 @@
 -- What a reader knows stays true when bytes are added and moved.
-use Rattle.std.proofs.Common.{◌≡◌, ◌+◌, ◌-◌, ◌^◌, ◌<◌, ◌≤◌, ℕ, Bool, true, false, List, ◌++◌, None, length, drop, sym, ap, subst, ◌∙◌, arith, lit<, length-append}
+use Rattle.std.proofs.Common.{◌≡◌, ◌+◌, ◌-◌, ◌^◌, ◌<◌, ◌≤◌, ℕ, Bool, true, false, List, ◌++◌, None, length, sym, ap, subst, ◌∙◌, arith, lit<, length-append}
 use Rattle.std.proofs.lemmas.Bool.{false≢true}
-use Rattle.std.proofs.lemmas.List.{drop-append-le}
 use Rattle.memchr.specs.Find.{FindsNeedle}
 use Rattle.lsp_frame.specs.declared.frame.Head.{Head}
 use Rattle.lsp_frame.specs.declared.frame.Head.TheVariants.{Open, Broken, Body}
@@ -29,28 +28,18 @@ Knows-more held more head searched h = record {
   none = λ k lt occurs. h.none k lt (NoneBelow-more held more k (omega (arith, h.passed)) occurs);
 }
 
--- the same bytes at another place
-pub IsKept-moved : (place start to : ℕ) (buf new : List ℕ) (head : Head) (searched : ℕ) (failed : Bool) → drop to new ≡ drop start buf → to ≤ length new → IsKept place start buf head searched failed → IsKept place to new head searched failed
-IsKept-moved place start to buf new head searched failed same le h = record {
-  within = le;
-  counted = rw same h.counted;
-  knows = rw same h.knows;
-  faulty = rw same h.faulty;
-}
-
 -- a fault that was found
-pub IsKept-faulty : (place start : ℕ) (buf : List ℕ) (head : Head) (searched : ℕ) (failed now : Bool) → is_faulty (drop start buf) ≡ true → IsKept place start buf head searched failed → IsKept place start buf head searched now
-IsKept-faulty place start buf head searched failed now is h = record { within = h.within; counted = h.counted; knows = h.knows; faulty = λ _. is }
+pub IsKept-faulty : (place : ℕ) (held : List ℕ) (head : Head) (searched : ℕ) (failed now : Bool) → is_faulty held ≡ true → IsKept place held head searched failed → IsKept place held head searched now
+IsKept-faulty place held head searched failed now is h = record { counted = h.counted; knows = h.knows; faulty = λ _. is }
 
 -- more bytes behind them, where they fit
-pub IsKept-more : (place start : ℕ) (buf more : List ℕ) (head : Head) (searched : ℕ) (failed : Bool) → failed ≡ false → place + length (drop start buf) + length more < 2 ^ 64 → IsKept place start buf head searched failed → IsKept place start (buf ++ more) head searched failed
-IsKept-more place start buf more head searched failed sound fits h =
-    let e : drop start (buf ++ more) ≡ drop start buf ++ more = drop-append-le start buf more h.within in record {
-      within = omega (arith, h.within, length-append buf more);
-      counted = rw e (omega (arith, fits, length-append (drop start buf) more));
-      knows = rw e (Knows-more (drop start buf) more head searched h.knows);
-      faulty = λ is. absurd (false≢true (sym sound ∙ is));
-    }
+pub IsKept-more : (place : ℕ) (held more : List ℕ) (head : Head) (searched : ℕ) (failed : Bool) → failed ≡ false → place + length held + length more < 2 ^ 64 → IsKept place held head searched failed
+    → IsKept place (held ++ more) head searched failed
+IsKept-more place held more head searched failed sound fits h = record {
+  counted = omega (arith, fits, length-append held more);
+  knows = Knows-more held more head searched h.knows;
+  faulty = λ is. absurd (false≢true (sym sound ∙ is));
+}
 
 -- an open header has no empty line so far
 pub Knows-open : (held : List ℕ) → Open ≡ head_of held → Knows held Open (length held - 3)

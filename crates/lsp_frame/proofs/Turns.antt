@@ -1,7 +1,6 @@
 -- What a turn of a reader gives.
 use Rattle.std.proofs.Common.{◌≡◌, ◌+◌, ◌<◌, ◌≤◌, ℕ, Bool, true, false, List, Option, None, Some, length, drop, refl, sym, ap, ◌∙◌, arith, length-drop}
 use Rattle.std.specs.Prelude.{slice_range, is_none}
-use Rattle.std.proofs.lemmas.List.{drop-drop}
 use Rattle.std.proofs.lemmas.Bool.{false≢true, cond-false, le-ltb}
 use Rattle.lsp_frame.specs.declared.frame.Cut.{Cut}
 use Rattle.lsp_frame.specs.declared.frame.Cut.TheVariants.{NeedMore, Bad, Frame}
@@ -74,13 +73,13 @@ gives old new start end m whole reads sound after = record {
 }
 
 -- the same of a buffer's bytes from a place on
-pub gives_from : (old : Reader) (place start : ℕ) (buf : List ℕ) (failed : Bool) (from to : ℕ) (m : Message) → record { place = place; held = drop start buf; failed = failed } ≡ old
-    → cut_of old.held ≡ Frame from to → Some m ≡ message_of (slice_range (drop start buf) from to) → failed ≡ false
-    → GivesMessage old (record { place = place + to; held = drop (start + to) buf; failed = failed }) m
-gives_from old place start buf failed from to m is whole reads sound = gives old _ from to m whole
+pub gives_from : (old : Reader) (place : ℕ) (held : List ℕ) (failed : Bool) (from to : ℕ) (m : Message) → record { place = place; held = held; failed = failed } ≡ old
+    → cut_of old.held ≡ Frame from to → Some m ≡ message_of (slice_range held from to) → failed ≡ false
+    → GivesMessage old (record { place = place + to; held = drop to held; failed = failed }) m
+gives_from old place held failed from to m is whole reads sound = gives old _ from to m whole
     (ap (λ (r : Reader). message_of (slice_range r.held from to)) (sym is) ∙ sym reads)
     (ap (λ (r : Reader). r.failed) (sym is) ∙ sound)
-    (rw (← is, sound, drop-drop to start buf) refl)
+    (rw (← is, sound) refl)
 
 pub gives_shorter : (old new : Reader) (m : Message) → GivesMessage old new m → length new.held < length old.held
 gives_shorter old new m g =

@@ -1,5 +1,5 @@
 -- What a reader keeps beside the bytes: what it knows of the header of the next frame.
-use Rattle.std.specs.Prelude.{◌≡◌, ℕ, ◌+◌, ◌-◌, ◌^◌, ◌<◌, ◌≤◌, Bool, true, List, length, drop}
+use Rattle.std.specs.Prelude.{◌≡◌, ℕ, ◌+◌, ◌-◌, ◌^◌, ◌<◌, ◌≤◌, Bool, true, List, length}
 use Rattle.lsp_frame.specs.declared.frame.Head.{Head}
 use Rattle.lsp_frame.specs.declared.frame.Head.TheVariants.{Open, Broken, Body}
 use Rattle.lsp_frame.specs.Frames.{window, head_of, NoneBelow}
@@ -17,9 +17,8 @@ pub record Knows (held : List ℕ) (head : Head) (searched : ℕ) : Type 0 where
   pub passed : searched ≤ length (window held) - 3
   pub none : NoneBelow held searched
 
--- what a reader keeps: where its bytes begin in the buffer, that their places fit 64 bits, what it knows of them, and that it failed for a reason
-pub record IsKept (place start : ℕ) (buf : List ℕ) (head : Head) (searched : ℕ) (failed : Bool) : Type 0 where
-  pub within : start ≤ length buf
-  pub counted : place + length (drop start buf) < 2 ^ 64
-  pub knows : Knows (drop start buf) head searched
-  pub faulty : failed ≡ true → is_faulty (drop start buf) ≡ true
+-- what a reader keeps: that the places of its bytes fit 64 bits, what it knows of them, and that it failed for a reason
+pub record IsKept (place : ℕ) (held : List ℕ) (head : Head) (searched : ℕ) (failed : Bool) : Type 0 where
+  pub counted : place + length held < 2 ^ 64
+  pub knows : Knows held head searched
+  pub faulty : failed ≡ true → is_faulty held ≡ true

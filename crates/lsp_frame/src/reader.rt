@@ -1,5 +1,5 @@
 // A reader that is fed a stream in pieces, and gives the messages of its frames.
-ghost use Rattle.std.specs.Prelude.{◌≡◌, ◌+◌, ◌-◌, ◌<◌, ◌≤◌, ◌^◌, ◌↔◌, ◌++◌, [], ℕ, List, true, false, length, drop, slice_range, IsTrue, IfOk, IfErr, IfNone, IfSome, OnOk, OnErr, Ok, Err, None, vec_len};
+ghost use Rattle.std.specs.Prelude.{◌≡◌, ◌+◌, ◌-◌, ◌<◌, ◌≤◌, ◌^◌, ◌↔◌, ◌++◌, [], ℕ, List, true, false, length, slice_range, IsTrue, IfOk, IfErr, IfNone, IfSome, OnOk, OnErr, Ok, Err, None};
 ghost use Rattle.lsp_frame.specs.Frames.{header_limit, head_of, cut_of, LiesWithin};
 ghost use Rattle.lsp_frame.specs.Header.{size_limit};
 ghost use Rattle.lsp_frame.specs.Kept.{Knows};
@@ -10,7 +10,7 @@ use crate::fault::FrameFault;
 use crate::frame::{Cut, Head};
 use crate::message::Message;
 use crate::reading::read_body;
-use plain::NoMemory;
+use plain::{Buffered, NoMemory};
 use std::alloc::{AllocError, Global};
 use std::marker::Model;
 
@@ -32,48 +32,22 @@ impl Known {
 #[derive(Drop)]
 pub struct FrameReader {
     alloc: Global,
-    buf: Vec<u8>,
-    // Where in the buffer the bytes begin that belong to no message given so far, and where in the stream.
-    start: usize,
+    // The bytes that belong to no message given so far, and where in the stream they begin.
+    held: Buffered,
     place: u64,
     known: Known,
     failed: bool,
 }
 
 impl Model for FrameReader {
-    ghost use Rattle.std.specs.Prelude.{drop};
     ghost use Rattle.lsp_frame.specs.Reader.{Reader};
     ghost use Rattle.lsp_frame.specs.Kept.{IsKept};
 
     ghost Value = { Reader };
 
-    ghost view = { λ r. record { place = r.place; held = drop r.start r.buf.items; failed = r.failed } };
+    ghost view = { λ r. record { place = r.place; held = r.held; failed = r.failed } };
 
-    ghost invariant = { λ r. IsKept r.place r.start r.buf.items r.known.head r.known.searched r.failed };
-}
-
-/// The bytes from a place on.
-#[tactic(auto, using(std::proofs::lemmas::List::take_all))]
-fn tail(buf: &Vec<u8>, start: usize) -> &[u8]
-    requires { start ≤ vec_len buf.now }
-    ensures { result.now ≡ drop start buf.now.items }
-{
-    &buf[start..]
-}
-
-/// Gives up the bytes before a place where they are most of the buffer, and says where the others begin.
-fn compact(buf: &mut Vec<u8>, start: usize) -> usize
-    requires { start ≤ vec_len buf.old }
-    ensures kept { drop result buf.new.items ≡ drop start buf.old.items }
-    ensures within { result ≤ length buf.new.items }
-{
-    let live = buf.len() - start;
-    if start < live {
-        return start;
-    }
-    buf.copy_within(start.., 0);
-    buf.truncate(live);
-    0
+    ghost invariant = { λ r. IsKept r.place r.held r.known.head r.known.searched r.failed };
 }
 
 /// Looks for a header at the front of the bytes, where none is known yet.
@@ -110,8 +84,7 @@ impl FrameReader {
     {
         FrameReader {
             alloc,
-            buf: Vec::new(alloc),
-            start: 0,
+            held: Buffered::new(alloc),
             place: 0,
             known: Known::NOTHING,
             failed: false,
@@ -129,7 +102,7 @@ impl FrameReader {
     pub fn held(&self) -> usize
         ensures { result ≡ length self.now.held }
     {
-        self.buf.len() - self.start
+        self.held.len()
     }
 
     /// Where in the stream these bytes begin.
@@ -150,8 +123,8 @@ impl FrameReader {
     fn first_frame(&self) -> Cut
         ensures { result ≡ cut_of self.now.held }
     {
-        let known = find_header(tail(&self.buf, self.start), self.known);
-        cut_at(self.held(), known.head)
+        let known = find_header(self.held.as_slice(), self.known);
+        cut_at(self.held.len(), known.head)
     }
 
     /// Takes the next piece of the stream.
@@ -163,8 +136,7 @@ impl FrameReader {
         if self.failed {
             return Ok(());
         }
-        self.start = compact(&mut self.buf, self.start);
-        self.buf.extend_from_slice(bytes)?;
+        self.held.feed(bytes)?;
         Ok(())
     }
 
@@ -175,8 +147,8 @@ impl FrameReader {
         ensures same { self.new ≡ self.old }
         ensures faulty { self.old.failed ≡ true → is_faulty self.old.held ≡ true }
     {
-        self.known = find_header(tail(&self.buf, self.start), self.known);
-        cut_at(self.held(), self.known.head)
+        self.known = find_header(self.held.as_slice(), self.known);
+        cut_at(self.held.len(), self.known.head)
     }
 
     /// Takes out the message of the first frame.
@@ -192,10 +164,9 @@ impl FrameReader {
         if self.failed {
             return Err(FrameFault::BadMessage { at: self.place });
         }
-        let held = tail(&self.buf, self.start);
-        match read_body(self.alloc, &held[start..end]) {
+        match read_body(self.alloc, &self.held.as_slice()[start..end]) {
             Ok(Some(message)) => {
-                self.start += end;
+                self.held.consume(end);
                 self.place += end as u64;
                 self.known = Known::NOTHING;
                 Ok(message)

@@ -2,3 +2,4 @@ pub mod Tables
 pub mod Searching
 pub mod TableLaws
 pub mod PlanLaws
+pub mod Plainness

@@ -1,4 +1,5 @@
-ghost use Rattle.std.specs.Prelude.{◌≡◌, [], codes, IfOk};
+ghost use Rattle.std.specs.Prelude.{◌≡◌, [], codes, true, IfOk};
+ghost use Rattle.plain.specs.Plain.{is_plain};
 ghost use Rattle.serde_json.specs.Data.{array, no_items, object, no_members, member, string};
 ghost use Rattle.method_table.specs.Defaults.{value_of, empty_label, full_report, no_crates, no_tests};
 
@@ -70,7 +71,7 @@ fn no_tests(alloc: Global) -> Result<Json, NoMemory>
 }
 
 impl DefaultValue {
-    pub fn value(self, alloc: Global) -> Result<Json, NoMemory>
+    fn make(self, alloc: Global) -> Result<Json, NoMemory>
         ensures { IfOk result (λ json. json ≡ value_of self) }
     {
         match self {
@@ -83,5 +84,14 @@ impl DefaultValue {
             DefaultValue::NoCrates => no_crates(alloc),
             DefaultValue::NoTests => no_tests(alloc),
         }
+    }
+
+    /// The value. It is plain.
+    pub fn value(self, alloc: Global) -> Result<Json, NoMemory>
+        ensures value { IfOk result (λ json. json ≡ value_of self) }
+        ensures plain { IfOk result (λ json. is_plain json ≡ true) }
+    {
+        let json = self.make(alloc)?;
+        Ok(json)
     }
 }

@@ -1,8 +1,9 @@
 // What is found in the table.
-ghost use Rattle.std.specs.Prelude.{◌≡◌, IfOk, slice_get};
+ghost use Rattle.std.specs.Prelude.{◌≡◌, true, IfOk, slice_get};
 ghost use Rattle.std.specs.Cmp.Lexicographic.{slice_cmp};
 ghost use Rattle.std.specs.Option.{option_map};
 ghost use Rattle.std.specs.Ordering.{nat_cmp};
+ghost use Rattle.plain.specs.Plain.{is_plain};
 ghost use Rattle.method_table.specs.Rows.{facts_of, row_of, method_of, class_of, retries, default_of};
 ghost use Rattle.method_table.specs.Seen.{seen};
 
@@ -78,7 +79,8 @@ pub fn retries(row: RowId) -> bool
 
 /// What a request of the row is answered while it can't be worked on; null where it is never answered so.
 pub fn default_of(alloc: Global, row: RowId) -> Result<Json, NoMemory>
-    ensures { IfOk result (λ json. json ≡ default_of row) }
+    ensures value { IfOk result (λ json. json ≡ default_of row) }
+    ensures plain { IfOk result (λ json. is_plain json ≡ true) }
 {
     match facts_of(row) {
         Some(facts) => facts.default.value(alloc),

@@ -7,7 +7,6 @@ ghost use Rattle.op_board.specs.Checks.{all_fixes};
 ghost use Rattle.op_board.specs.Marked.{taken};
 
 use crate::by_file::ByFile;
-use crate::by_id::ById;
 use crate::check_package::{CheckEntry, push_all};
 use crate::checks::{Checks, add_check, all_fixes, push_checks};
 use crate::clearing::{clear_checks, clear_id, clear_older, clear_one};
@@ -15,7 +14,7 @@ use crate::diagnostic::{CheckFix, Diagnostic, Pass};
 use crate::marks::Marks;
 use crate::pass_list::{PassList, clear_list, set_lists};
 use docs_vfs::FileId;
-use plain::{Items, Text};
+use plain::{ByNumber, Items, Text};
 use std::alloc::{AllocError, Global};
 use std::marker::Model;
 
@@ -70,7 +69,7 @@ impl DiagnosticCollection {
             syntax: ByFile::new(alloc),
             semantic: ByFile::new(alloc),
             cleared: ByFile::new(alloc),
-            checks: ById::new(alloc),
+            checks: ByNumber::new(alloc),
             marks: Marks::new(alloc),
         }
     }

@@ -1,20 +1,19 @@
 ghost use Rattle.std.specs.Prelude.{◌≡◌, ◌++◌, OnOk, IfOk};
 ghost use Rattle.op_board.specs.Checks.{add_in, add_check, lists_in, checks_of, fixes_in, all_fixes};
 
-use crate::by_id::ById;
 use crate::by_package::ByPackage;
 use crate::check_package::{CheckEntry, CheckPackage, add_to, new_package, push_fixes, push_list};
 use crate::diagnostic::{CheckFix, Diagnostic};
 use crate::marks::Marks;
 use docs_vfs::FileId;
-use plain::{Items, Text};
+use plain::{ByNumber, Items, Text};
 use std::alloc::{AllocError, Global};
 
 /// What the packages of one check say.
 pub type Packages = ByPackage<CheckPackage>;
 
 /// What all checks say.
-pub type Checks = ById<Packages>;
+pub type Checks = ByNumber<Packages>;
 
 /// Adds an entry to its package.
 fn add_in(
@@ -54,7 +53,8 @@ pub(crate) fn add_check(
     }
     let mut packages = ByPackage::new(alloc);
     add_in(alloc, &mut packages, marks, generation, name, entry)?;
-    checks.insert(id, packages)
+    checks.insert(id, packages)?;
+    Ok(())
 }
 
 fn push_lists(

@@ -2,11 +2,10 @@ ghost use Rattle.std.specs.Prelude.{◌≡◌, OnOk};
 ghost use Rattle.std.specs.FinMap as map;
 ghost use Rattle.op_board.specs.Checks.{mark_packages, mark_checks, older_than, drops_at, mark_dropped, drop_package, clear_id, clear_one, clear_older};
 
-use crate::by_id::ById;
 use crate::check_package::{CheckPackage, mark_package};
 use crate::checks::{Checks, Packages};
 use crate::marks::Marks;
-use plain::Text;
+use plain::{ByNumber, Text};
 use std::alloc::{AllocError, Global};
 
 /// Whether a package is of an older generation.
@@ -68,7 +67,7 @@ pub(crate) fn clear_checks(
         × (marks.new ≡ mark_checks (map.values checks.old) marks.old)) }
 {
     mark_checks(checks, marks)?;
-    *checks = ById::new(alloc);
+    *checks = ByNumber::new(alloc);
     Ok(())
 }
 
@@ -78,7 +77,7 @@ pub(crate) fn clear_id(checks: &mut Checks, marks: &mut Marks, id: u64) -> Resul
 {
     if let Some(packages) = checks.get(id) {
         mark_packages(packages, marks)?;
-        checks.remove(id);
+        let _ = checks.remove(id);
     }
     Ok(())
 }
@@ -118,7 +117,7 @@ pub(crate) fn clear_one(
     };
     drop_package(packages, marks, name, older_than)?;
     if packages.is_empty() {
-        checks.remove(id);
+        let _ = checks.remove(id);
     }
     Ok(())
 }
@@ -139,7 +138,7 @@ pub(crate) fn clear_older(
     mark_older(packages, marks, generation)?;
     packages.drop_older(generation);
     if packages.is_empty() {
-        checks.remove(id);
+        let _ = checks.remove(id);
     }
     Ok(())
 }

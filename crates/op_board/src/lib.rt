@@ -3,7 +3,6 @@
 
 mod board;
 mod by_file;
-mod by_id;
 mod by_package;
 mod check_package;
 mod checks;
@@ -21,3 +20,4 @@ pub use laws::{
     the_last_accepted_list_is_stored,
 };
 pub use op_queue::OpQueue;
+pub use plain::NoMemory;

@@ -1,4 +1,2 @@
 pub mod InitialLaws
-pub mod SearchLaws
-pub mod PathEnds
 pub mod ProjectLaws

@@ -5,7 +5,7 @@ use Rattle.ra_settings.specs.declared.row.Row.{Row}
 use Rattle.ra_settings.specs.declared.value.LinkedProject.{LinkedProject}
 use Rattle.ra_config.specs.Config.{ConfigData, named_projects, projects_of, linked_in, roots_used, HaveSameSources}
 use Rattle.ra_config.specs.Projects.{as_project, manifests, or_manifests}
-use Rattle.ra_config.specs.Search.{setting}
+use Rattle.layered_settings.specs.Search.{setting}
 
 by_none : (projects : List LinkedProject) (xs ys : List (List ℕ)) (b : Bool) → cond b xs [] ≡ cond b ys []
     → cond b (manifests xs) projects ≡ cond b (manifests ys) projects

@@ -7,9 +7,9 @@ use Rattle.serde_json.specs.Find.{get, as_str, as_array}
 use Rattle.docs_vfs.specs.FileUrls.{path_of}
 use Rattle.ra_config.specs.Config.{ConfigData, config_at}
 use Rattle.ra_config.specs.Capabilities.{capabilities_of}
-use Rattle.ra_config.specs.Change.{no_settings}
+use Rattle.layered_settings.specs.Change.{no_settings}
 use Rattle.ra_settings.specs.Layers.{Values, layer_of, nothing_set}
-use Rattle.ra_config.specs.Search.{SettingsData}
+use Rattle.layered_settings.specs.Search.{SettingsData}
 use Rattle.ra_settings.specs.declared.layer.Source.{Source}
 use Rattle.ra_config.specs.declared.initialize.ConfigFault.{ConfigFault}
 use Rattle.ra_config.specs.declared.initialize.ConfigFault.TheVariants.{NoRoot}

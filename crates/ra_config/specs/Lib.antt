@@ -6,12 +6,11 @@ pub use Rattle.ra_settings.specs.Read
 pub use Rattle.ra_settings.specs.Layers
 pub use Rattle.ra_settings.specs.Toml
 pub use Rattle.ra_settings.specs.Shown
-pub mod Search
-pub mod Order
-pub mod Change
+pub use Rattle.layered_settings.specs.Search
+pub use Rattle.layered_settings.specs.Change
+pub use Rattle.layered_settings.specs.PathLaws
 pub mod Projects
 pub mod Capabilities
 pub mod Config
 pub mod Initialize
 pub mod Codes
-pub mod PathLaws

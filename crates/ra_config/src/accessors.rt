@@ -3,7 +3,7 @@ ghost use Rattle.std.specs.Prelude.{◌≡◌, None};
 ghost use Rattle.std.specs.Option.{option_copied};
 ghost use Rattle.ra_settings.specs.declared.row.Row.{Row};
 ghost use Rattle.ra_settings.specs.declared.value.SettingValue.{SettingValue};
-ghost use Rattle.ra_config.specs.Search.{setting};
+ghost use Rattle.layered_settings.specs.Search.{setting};
 ghost use Rattle.ra_config.specs.Config.{thread_count_of};
 
 use crate::config::Config;

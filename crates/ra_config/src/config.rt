@@ -1,17 +1,16 @@
 ghost use Rattle.std.specs.Prelude.{◌≡◌, ◌↔◌, ◌++◌, None, IsTrue, IfOk, OnOk, OnErr};
 ghost use Rattle.ra_config.specs.Projects.{with_discovered, without};
-ghost use Rattle.ra_config.specs.Change.{after, errors_after, passed_over, HasChanged};
+ghost use Rattle.layered_settings.specs.Change.{after, errors_after, passed_over, HasChanged};
 ghost use Rattle.ra_config.specs.Config.{config_at, projects_of, roots_used, HaveSameSources};
-ghost use Rattle.ra_config.specs.Search.{setting};
+ghost use Rattle.layered_settings.specs.Search.{setting};
 
 use crate::capabilities::Capabilities;
-use crate::change::ConfigChange;
 use crate::projects::{
     Discovered, are_same_discovered, are_same_paths, push_discovered, push_linked, push_manifests,
     remove_root, with_discovered,
 };
-use crate::settings::Settings;
 use docs_vfs::VfsPath;
+use layered_settings::{ConfigChange, Settings};
 use plain::{Copied, Items, Json, Text};
 use ra_settings::{ConfigErrors, Layer, LinkedProject, Row};
 use std::alloc::{AllocError, Global};
@@ -47,7 +46,7 @@ impl Model for Config {
     ghost use Rattle.ra_config.specs.Config.{ConfigData};
     ghost use Rattle.ra_config.specs.contracts.capabilities.Capabilities as capabilities_row;
     ghost use Rattle.ra_config.specs.contracts.projects.Discovered as discovered_row;
-    ghost use Rattle.ra_config.specs.contracts.settings.Settings as settings_row;
+    ghost use Rattle.layered_settings.specs.contracts.settings.Settings as settings_row;
 
     ghost Value = { ConfigData };
 

@@ -1,57 +1,44 @@
 -- A text with an empty segment names no path.
-use Rattle.std.proofs.Common.{◌≡◌, ℕ, List, [], ◌∷◌, Bool, true, false, cond, Option, Some, None, refl, sym, ap, ◌∙◌, length, not, ◌&&◌, ◌==◌, suc, arith}
+use Rattle.std.proofs.Common.{◌≡◌, ℕ, List, [], ◌∷◌, Bool, true, false, Option, Some, None, refl, sym, ap, ◌∙◌, length, ◌==◌, suc, arith}
 use Rattle.std.proofs.lemmas.Bool.Decides.{nat_tests}
-use Rattle.std.proofs.lemmas.Bool.{cond-true, cond-false, false≢true}
-use Rattle.std.proofs.lemmas.List.Splits.{slice_split-cons_yes, slice_split-cons_no}
-use Rattle.std.specs.Prelude.{◌||◌, codes, bytes_eq, option_and_then}
-use Rattle.std.specs.List.{list_any, slice_split, onto_first}
+use Rattle.std.proofs.lemmas.Bool.{cond-false, false≢true}
+use Rattle.std.specs.Prelude.{◌||◌, codes, option_and_then, if◌then◌else◌}
+use Rattle.std.specs.List.{list_any, fold}
 use Rattle.docs_vfs.specs.Paths.{is_slash, parts}
-use Rattle.ra_settings.specs.Paths.{step, steps, taken, resolve}
-use Rattle.ra_settings.specs.PathLaws.{segments, is_empty, EmptySegmentsRefused, NothingRefused}
+use Rattle.docs_vfs.specs.Resolve.{step, walk, resolve}
+use Rattle.docs_vfs.specs.declared.relative.EmptySegments.TheVariants.{Refused}
+use Rattle.ra_settings.specs.PathLaws.{is_empty, EmptySegmentsRefused, NothingRefused}
 
 not_none : (n : ℕ) → (suc n == 0) ≡ false
 not_none n = grind (arith, nat_tests)
 
-and_none : (x : Bool) → (x && false) ≡ false
-and_none true = refl
-and_none false = refl
+-- the walk goes on from where it is, if it is anywhere
+abbrev on : Option (List ℕ) → List (List ℕ) → Option (List ℕ)
+on at segments = fold (λ at segment. option_and_then (λ path. step Refused path segment) at) at segments
 
-then_none : (o : Option (List ℕ)) (rest : List (List ℕ)) → ((next : List ℕ) → steps next rest ≡ None) → option_and_then (λ next. steps next rest) o ≡ None
-then_none None rest h = refl
-then_none (Some next) rest h = h next
+from_none : (segments : List (List ℕ)) → on None segments ≡ None
+from_none [] = refl
+from_none (segment ∷ rest) = from_none rest
 
--- no steps are taken through an empty part
-no_steps : (path : List ℕ) (texts : List (List ℕ)) → list_any is_empty texts ≡ true → steps path texts ≡ None
-no_steps path [] h = absurd (false≢true h)
-no_steps path ([] ∷ rest) h = refl
-no_steps path ((b ∷ part) ∷ rest) h =
-    let more : list_any is_empty rest ≡ true = ap (λ z. z || list_any is_empty rest) (sym (not_none (length part))) ∙ h in
-    then_none (step path (b ∷ part)) rest (λ next. no_steps next rest more)
+no_step : (at : Option (List ℕ)) → option_and_then (λ path. step Refused path []) at ≡ None
+no_step None = refl
+no_step (Some path) = refl
 
--- where the first part isn't empty, the parts are taken from the base
-by_first : (base first : List ℕ) (rest : List (List ℕ)) (n : ℕ) → length first ≡ suc n → taken base (first ∷ rest) ≡ steps base (first ∷ rest)
-by_first base first rest n long = cond-false _ _ _ (ap (λ k. (k == 0) && not (length rest == 0)) long ∙ ap (λ z. z && not (length rest == 0)) (not_none n))
+-- no walk leads through an empty segment
+no_walk : (at : Option (List ℕ)) (segments : List (List ℕ)) → list_any is_empty segments ≡ true → on at segments ≡ None
+no_walk at [] h = absurd (false≢true h)
+no_walk at ([] ∷ rest) h = ap (λ o. on o rest) (no_step at) ∙ from_none rest
+no_walk at ((b ∷ part) ∷ rest) h =
+    no_walk (option_and_then (λ path. step Refused path (b ∷ part)) at) rest (ap (λ z. z || list_any is_empty rest) (sym (not_none (length part))) ∙ h)
 
-some_first : (b : ℕ) (texts base : List ℕ) (more : List (List ℕ)) → list_any is_empty (onto_first b more) ≡ true → taken base (onto_first b more) ≡ None
-some_first b texts base [] h = by_first base (b ∷ []) [] 0 refl ∙ no_steps base (onto_first b []) h
-some_first b texts base (first ∷ rest) h = by_first base (b ∷ first) rest (length first) refl ∙ no_steps base ((b ∷ first) ∷ rest) h
-
-after_slash : (base : List ℕ) (more : List (List ℕ)) → list_any is_empty more ≡ true → taken base ([] ∷ more) ≡ None
-after_slash base [] h = absurd (false≢true h)
-after_slash base (first ∷ rest) h = cond-true _ _ _ (ap not (not_none (length rest))) ∙ no_steps (codes "/") (first ∷ rest) h
-
-by_slash : (base : List ℕ) (b : ℕ) (text : List ℕ) (slash : Bool) → is_slash b ≡ slash → list_any is_empty (cond slash (parts text) (parts (b ∷ text))) ≡ true → taken base (parts (b ∷ text)) ≡ None
-by_slash base b text true is h = ap (taken base) (slice_split-cons_yes is_slash b text is) ∙ after_slash base (parts text) h
-by_slash base b text false is h =
-    ap (taken base) (slice_split-cons_no is_slash b text is)
-    ∙ some_first b text base (parts text) (ap (list_any is_empty) (sym (slice_split-cons_no is_slash b text is)) ∙ h)
-
-longer : (b c : ℕ) (text : List ℕ) → bytes_eq (b ∷ c ∷ text) (codes "/") ≡ false
-longer b c text = and_none (b == 47)
+by_slash : (base : List ℕ) (b c : ℕ) (text : List ℕ) (slash : Bool) → list_any is_empty (if slash then parts (c ∷ text) else parts (b ∷ c ∷ text)) ≡ true
+    → (if slash then walk Refused (codes "/") (if length (c ∷ text) == 0 then [] else parts (c ∷ text)) else walk Refused base (parts (b ∷ c ∷ text))) ≡ None
+by_slash base b c text true h = ap (walk Refused (codes "/")) (cond-false _ _ _ (not_none (length text))) ∙ no_walk (Some (codes "/")) (parts (c ∷ text)) h
+by_slash base b c text false h = no_walk (Some base) (parts (b ∷ c ∷ text)) h
 
 pub empty_segments_refused : EmptySegmentsRefused
 unfolding resolve
-empty_segments_refused base b c text h = cond-false _ _ _ (longer b c text) ∙ by_slash base b (c ∷ text) (is_slash b) refl h
+empty_segments_refused base b c text h = by_slash base b c text (is_slash b) h
 
 pub nothing_refused : NothingRefused
 unfolding resolve

@@ -155,7 +155,7 @@ fn paths_of(
 {
     let mut paths = Items::new(alloc);
     for text in texts {
-        match resolve(alloc, root, text.as_str())? {
+        match resolve(root, text.as_str())? {
             Some(path) => paths.push(path)?,
             None => return Ok(None),
         }
@@ -334,14 +334,10 @@ fn are_projects(list: &[Value]) -> bool
     true
 }
 
-fn manifest_of(
-    alloc: Global,
-    root: &VfsPath,
-    text: &str,
-) -> Result<Option<LinkedProject>, AllocError>
+fn manifest_of(root: &VfsPath, text: &str) -> Result<Option<LinkedProject>, AllocError>
     ensures { IfOk result (λ p. p ≡ option_map LinkedProject.ProjectManifest (resolve root.now text.now)) }
 {
-    match resolve(alloc, root, text)? {
+    match resolve(root, text)? {
         Some(path) => Ok(Some(LinkedProject::ProjectManifest(path))),
         None => Ok(None),
     }
@@ -355,7 +351,7 @@ fn project_of(
     ensures { IfOk result (λ p. p ≡ project_of root.now (view value.now)) }
 {
     match value {
-        Value::String(text) => manifest_of(alloc, root, text.as_str()),
+        Value::String(text) => manifest_of(root, text.as_str()),
         Value::Object(_) => Ok(Some(LinkedProject::InlineProjectJson {
             project: Json::new(value.clone()?),
             buildfiles: Items::new(alloc),

@@ -1,6 +1,7 @@
 // The text that a request speaks of.
 use analysis_host::{
-    AnalysisHost, Change, FileChange, GlobalStateSnapshot, Outcome, SnapshotParts, Versions,
+    AnalysisHost, Change, FileChange, GlobalStateSnapshot, Outcome, SharedText, SnapshotParts,
+    Versions,
 };
 use docs_vfs::VfsPath;
 use plain::{Items, Text};
@@ -19,7 +20,7 @@ fn snapshot(alloc: Global) -> Result<GlobalStateSnapshot, Fail> {
     let mut files = Items::new(alloc);
     files.push(FileChange {
         path: path(alloc, "/w/a.rs")?,
-        text: Some(Text::from_str(alloc, "fn a() {}")?),
+        text: Some(SharedText::new(alloc, Text::from_str(alloc, "fn a() {}")?)?),
     })?;
     let mut host = AnalysisHost::new(alloc)?;
     host.apply_change(Change { files })?;

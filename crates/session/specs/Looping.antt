@@ -55,12 +55,14 @@ pub record Goes (meaning : Meaning) (before now : State) (reader reader_now : Re
 -- what came of the next event
 abbrev pub AdvancesByEvent : {T : Type 0} → Meaning → State → State → Reader → Reader → Told → Told → Bool → Jobs → Jobs → Result T SessionError → Type 0
 AdvancesByEvent meaning before now reader reader_now old new honest out out_now (Ok x) = Goes meaning before now reader reader_now old new honest out out_now
-AdvancesByEvent meaning before now reader reader_now old new honest out out_now (Err e) = EndsBy meaning before (course_from reader) (fed_bytes reader) old new honest out e
+AdvancesByEvent meaning before now reader reader_now old new honest out out_now (Err e) =
+    EndsBy meaning before (course_from reader) (fed_bytes reader) old new honest out e
 
 abbrev pub Advances : Meaning → State → State → Reader → Reader → Told → Told → Bool → Jobs → Jobs → Result Turned SessionError → Type 0
 Advances meaning before now reader reader_now old new honest out out_now (Ok Going) = Goes meaning before now reader reader_now old new honest out out_now
 Advances meaning before now reader reader_now old new honest out out_now (Ok Stopped) = EndsWell (course_from reader) old new
-Advances meaning before now reader reader_now old new honest out out_now (Err e) = EndsBy meaning before (course_from reader) (fed_bytes reader) old new honest out e
+Advances meaning before now reader reader_now old new honest out out_now (Err e) =
+    EndsBy meaning before (course_from reader) (fed_bytes reader) old new honest out e
 
 -- why bytes could not be fed: there are more than can be counted, or memory ran out
 abbrev pub IsFeedError : ℕ → ℕ → SessionError → Type 0

@@ -18,7 +18,9 @@ use Rattle.session_model.specs.State.{State, fresh}
 use Rattle.session_model.specs.declared.fault.Counter.{Counter}
 use Rattle.session_model.specs.declared.fault.SessionError.{SessionError}
 use Rattle.session_model.specs.declared.fault.SessionError.TheVariants.{ClientExited, BadFrame, BadMessage, HostFault, WriteFault, Exhausted, NoMemory}
+use Rattle.session_laws.specs.Answering.{answered_by, AreAccountedFor}
 use Rattle.session_laws.specs.Invariant.{SoundAt, Stands, place_of}
+use Rattle.session_laws.proofs.Accounted.{accounted-beginning, turns-accounted}
 use Rattle.session_laws.proofs.Asking.{asks-on, asks-events, no-event, given-append, given-giving, taken-append, taken-giving, taking-append}
 use Rattle.session_laws.proofs.Exhausting.{step-needs}
 use Rattle.session_laws.proofs.Held.{turn-sound, turn-once, sound-beginning}
@@ -61,6 +63,8 @@ turned meaning config s before turn mid stands steps =
         place = place ∙ sym (after-one before turn);
         sound = subst SoundAt (sym (after-one before turn)) sound;
         handed = subst (λ (p : Place). AreHandedOver config (before ++ turn ∷ []) p.out) (sym (after-one before turn)) handed;
+        accounted = subst (λ (p : Place). AreAccountedFor p.pending (answered_by (before ++ turn ∷ []) beginning) p.out) (sym (after-one before turn))
+            (turns-accounted meaning config before turn does stands.accounted);
       };
       revised = subst (λ (p : Place). Revises here p) place (subst (λ (p : Place). Revises p (place_of mid)) stands.place fit.revised);
     }
@@ -88,7 +92,7 @@ all-stand meaning config s before (turn ∷ turns) last stands (mid, steps, runs
     subst (λ (ts : List Turn). Stands config ts last) (append_assoc before (turn ∷ []) turns) (all-stand meaning config mid (before ++ turn ∷ []) turns last t.next runs)
 
 stands-fresh : (config : ConfigData) → Stands config [] (fresh config)
-stands-fresh config = record { settings = refl; place = refl; sound = sound-beginning; handed = handed-beginning config }
+stands-fresh config = record { settings = refl; place = refl; sound = sound-beginning; handed = handed-beginning config; accounted = accounted-beginning }
 
 -- after each list of turns the machine stands where they say
 pub runs-stand : (meaning : Meaning) (config : ConfigData) (turns : List Turn) (last : State) → Runs meaning (fresh config) turns last → Stands config turns last

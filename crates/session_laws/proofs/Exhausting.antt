@@ -3,11 +3,9 @@ use Rattle.std.proofs.Common.{◌≡◌, ℕ, ◌+◌, ◌-◌, ◌^◌, ◌≤�
 use Rattle.std.proofs.lemmas.Bool.{ltb-false}
 use Rattle.std.proofs.lemmas.List.{length-append}
 use Rattle.std.proofs.lemmas.Result.{IfErr-at_err, IfOk-at_ok}
-use Rattle.std.specs.Prelude.{Result, Ok, Err, IfErr, ℤ, Option, None, Some, ◌&&◌, not, is_some, if◌then◌else◌, ltb, codes, nat_eq}
-use Rattle.std.specs.List.{starts_with}
+use Rattle.std.specs.Prelude.{Result, Ok, Err, IfErr, ℤ, Option, None, Some, ◌&&◌, not, is_some, if◌then◌else◌, ltb}
 use Rattle.std.specs.FinMap as map
 use Rattle.serde_json.specs.Data.{Data}
-use Rattle.plain.specs.Plain.{is_plain}
 use Rattle.docs_vfs.specs.FileUrls.{path_of}
 use Rattle.docs_vfs.specs.declared.file_url.UrlFault.{UrlFault}
 use Rattle.lsp_frame.specs.Pending.{is_pending, id_of}
@@ -19,28 +17,29 @@ use Rattle.lsp_frame.specs.declared.message.Message.{Message}
 use Rattle.lsp_frame.specs.declared.message.Message.TheVariants.{Request as RequestMessage, Notification as NotificationMessage, Response as ResponseMessage}
 use Rattle.ra_config.specs.Config.{ConfigData}
 use Rattle.analysis_host.specs.HostData.{HostData}
-use Rattle.analysis_host.specs.declared.ask.RowId.{RowId}
-use Rattle.analysis_host.specs.declared.ask.Ask.TheVariants.{Request as RequestAsk}
+use Rattle.method_table.specs.Plans.{plan, is_shutdown}
+use Rattle.method_table.specs.Rows.{row_of, class_of, retries}
+use Rattle.method_table.specs.declared.class.PoolClass.{PoolClass}
+use Rattle.method_table.specs.declared.planned.Plan.{Plan}
+use Rattle.method_table.specs.declared.planned.Plan.TheVariants as plans
+use Rattle.method_table.specs.declared.row_id.RowId.{RowId}
 use Rattle.analysis_host.specs.declared.host.WorldFault.TheVariants.{Exhausted}
 use Rattle.session_port.specs.Jobs.{ticket_of, final_of, fitting_job, after_message}
 use Rattle.session_port.specs.declared.command.LogCode.{LogCode}
-use Rattle.session_port.specs.declared.command.LogCode.TheVariants.{UnhandledNotification, DuplicateOpen, UnexpectedChange, SkippedChange}
+use Rattle.session_port.specs.declared.command.LogCode.TheVariants.{DuplicateOpen, UnexpectedChange, SkippedChange}
 use Rattle.session_port.specs.declared.event.TaskMsg.{TaskMsg}
 use Rattle.session_port.specs.declared.job.Job.{Job}
 use Rattle.session_port.specs.declared.job.JobKind.{JobKind}
 use Rattle.session_port.specs.declared.job.JobKind.TheVariants.{Request as RequestJob}
 use Rattle.session_port.specs.declared.job.JobResult.{JobResult}
-use Rattle.session_model.specs.Cancelling.{cancel_of}
-use Rattle.session_model.specs.Changing.{changed_of, text_after, has_skipped}
-use Rattle.session_model.specs.Headline.{Place, NeedsMore, Reaction, row, says, new_row, hands_over, granted_row, class_row, stopped_row, result_row, ticket_row, final_row, message_row, batch_row, place_past}
-use Rattle.session_model.specs.Machine.{Working, and_then, next_number, counted, dispatched, granted, classed, asked, noted, shut_down, admitted, requested, answered, opened, opened_at, open_noted, is_open, changed, changed_at, cancelled, skip_noted, version_set, text_set, edited, edited_by, holds_text, world_changed, world_by, notified, received, logged, ordered, retried, stopped, settled, delivered, ended, taken, batched, happened, taken_in, step}
-use Rattle.session_model.specs.Meaning.{Meaning}
-use Rattle.session_model.specs.Methods.{row_of, is_on_loop, retries}
-use Rattle.session_model.specs.Opening.{opened_of}
-use Rattle.session_model.specs.Replies.{shut_already, invalid_params, content_modified, finding_reply, finished_reply}
+use Rattle.session_model.specs.Changing.{text_after, has_skipped}
+use Rattle.session_model.specs.Headline.{Place, NeedsMore, Reaction, row, says, new_row, snapshot_at, hands_over, if_read, planned_row, class_row, stopped_row, result_row, ticket_row, final_row, message_row, batch_row, place_past}
+use Rattle.session_model.specs.Machine.{Working, and_then, next_number, counted, dispatched, submitted, planned, classed, asked, noted, shut_down, admitted, requested, answered, opened_at, open_noted, is_open, changed_at, skip_noted, version_set, text_set, edited, edited_by, holds_text, world_changed, world_by, noticed, received, logged, ordered, stopped, settled, delivered, ended, taken, batched, happened, taken_in, step}
+use Rattle.session_model.specs.Meaning.{Meaning, can_read}
+use Rattle.session_model.specs.Notices.{notice_of}
+use Rattle.session_model.specs.Replies.{stopped_reply, finished_reply}
 use Rattle.session_model.specs.Run.{begun}
-use Rattle.session_model.specs.State.{State, snapshot_of}
-use Rattle.session_model.specs.Texts.{same_text}
+use Rattle.session_model.specs.State.{State}
 use Rattle.session_model.specs.declared.fault.Counter.{Counter}
 use Rattle.session_model.specs.declared.fault.Counter.TheVariants.{Turns, Jobs, Revisions}
 use Rattle.session_model.specs.declared.input.Event.{Event}
@@ -49,6 +48,8 @@ use Rattle.session_model.specs.declared.input.Input.{Input}
 use Rattle.session_model.specs.declared.input.Input.TheVariants.{Start, Next}
 use Rattle.session_model.specs.declared.notice.DidChange.{DidChange}
 use Rattle.session_model.specs.declared.notice.DidOpen.{DidOpen}
+use Rattle.session_model.specs.declared.notice.Notice.{Notice}
+use Rattle.session_model.specs.declared.notice.Notice.TheVariants.{Opened, Changed, Cancel, Malformed, Unhandled, Silent}
 use Rattle.session_laws.specs.Invariant.{place_of}
 use Rattle.session_laws.proofs.Rows.{counted_turn}
 use Rattle.session_laws.proofs.Settling.{Settled, place_at, without, message-settles, settled-place}
@@ -78,41 +79,43 @@ err-weaker (Err e) P Q p q = q e p
 abbrev TooMany : ℕ → Reaction → Counter → Type 0
 TooMany given done counter = (counter ≡ Jobs) × (2 ^ 64 ≤ given + length done.jobs)
 
-dispatch-errs : (n ticket : ℕ) (row : RowId) (params : Data) (w : Working) → IfErr (dispatched ticket row params w) (TooMany w.state.jobs_given (hands_over w.state.config (place_at n w.state) ticket row params))
+dispatch-errs : (n : ℕ) (class : PoolClass) (ticket : ℕ) (row : RowId) (params : Data) (w : Working)
+    → IfErr (dispatched class ticket row params w) (TooMany w.state.jobs_given (hands_over w.state.jobs_given (snapshot_at w.state.config (place_at n w.state)) class ticket row params))
 unfolding dispatched
-dispatch-errs n ticket row params w =
-    err-next w.state.jobs_given Jobs _ (TooMany w.state.jobs_given (hands_over w.state.config (place_at n w.state) ticket row params)) (λ last. (refl, omega (arith, last))) tt
+dispatch-errs n class ticket row params w =
+    let done = hands_over w.state.jobs_given (snapshot_at w.state.config (place_at n w.state)) class ticket row params in
+    err-next w.state.jobs_given Jobs _ (TooMany w.state.jobs_given done) (λ last. (refl, omega (arith, last))) tt
 
-grant-errs : (meaning : Meaning) (n ticket : ℕ) (id : RequestId) (row : RowId) (params : Data) (w : Working) (b : Bool)
-    → IfErr (if b then Ok (answered id (finding_reply id (meaning.answer (snapshot_of w.state) (RequestAsk row params))) w) else dispatched ticket row params w)
-    (TooMany w.state.jobs_given (if b then says (finding_reply id (meaning.answer (snapshot_of w.state) (RequestAsk row params))) else hands_over w.state.config (place_at n w.state) ticket row params))
-grant-errs meaning n ticket id row params w true = tt
-grant-errs meaning n ticket id row params w false = dispatch-errs n ticket row params w
+submit-errs : (n : ℕ) (reads : Bool) (class : PoolClass) (ticket : ℕ) (id : RequestId) (row : RowId) (params : Data) (w : Working)
+    → IfErr (submitted reads class ticket id row params w)
+    (TooMany w.state.jobs_given (if_read reads id (hands_over w.state.jobs_given (snapshot_at w.state.config (place_at n w.state)) class ticket row params)))
+unfolding submitted
+submit-errs n true class ticket id row params w = dispatch-errs n class ticket row params w
+submit-errs n false class ticket id row params w = tt
 
-class-cases : (meaning : Meaning) (n ticket : ℕ) (id : RequestId) (row : RowId) (params : Data) (w : Working) (b : Bool)
-    → IfErr (if b then granted meaning ticket id row params w else Ok (answered id (invalid_params id) w))
-    (TooMany w.state.jobs_given (if b then granted_row meaning w.state.config (place_at n w.state) ticket id row params else says (invalid_params id)))
-unfolding granted
-class-cases meaning n ticket id row params w true = grant-errs meaning n ticket id row params w (is_on_loop row)
-class-cases meaning n ticket id row params w false = tt
+plan-errs : (meaning : Meaning) (n : ℕ) (p : Plan) (ticket : ℕ) (id : RequestId) (row : RowId) (params : Data) (w : Working)
+    → IfErr (planned meaning p ticket id row params w)
+    (TooMany w.state.jobs_given (planned_row meaning w.state.jobs_given (snapshot_at w.state.config (place_at n w.state)) p ticket id row params))
+unfolding planned
+plan-errs meaning n plans.Shutdown ticket id row params w = tt
+plan-errs meaning n plans.Refuse ticket id row params w = tt
+plan-errs meaning n plans.Unknown ticket id row params w = tt
+plan-errs meaning n plans.Default ticket id row params w = tt
+plan-errs meaning n plans.Identity ticket id row params w = tt
+plan-errs meaning n plans.State ticket id row params w = tt
+plan-errs meaning n plans.OnLoop ticket id row params w = tt
+plan-errs meaning n (plans.Job class) ticket id row params w = submit-errs n (can_read meaning row params) class ticket id row params w
 
 class-errs : (meaning : Meaning) (n ticket : ℕ) (id : RequestId) (row : RowId) (params : Data) (w : Working)
     → IfErr (classed meaning ticket id row params w) (TooMany w.state.jobs_given (class_row meaning w.state.config (place_at n w.state) ticket id row params))
 unfolding classed
-class-errs meaning n ticket id row params w = class-cases meaning n ticket id row params w (is_plain params && meaning.decodes row params)
-
-retry-cases : (meaning : Meaning) (n ticket : ℕ) (id : RequestId) (row : RowId) (params : Data) (w : Working) (b : Bool)
-    → IfErr (if b then Ok (answered id (shut_already id) w) else classed meaning ticket id row params w)
-    (TooMany w.state.jobs_given (if b then says (shut_already id) else class_row meaning w.state.config (place_at n w.state) ticket id row params))
-retry-cases meaning n ticket id row params w true = tt
-retry-cases meaning n ticket id row params w false = class-errs meaning n ticket id row params w
+class-errs meaning n ticket id row params w = plan-errs meaning n (plan (Some row) w.state.loading false w.state.shutdown) ticket id row params w
 
 stop-cases : (meaning : Meaning) (n ticket : ℕ) (id : RequestId) (row : RowId) (params : Data) (w : Working) (b : Bool)
-    → IfErr (if b then Ok (answered id (content_modified id) w) else retried meaning ticket id row params w)
-    (TooMany w.state.jobs_given (if b then says (content_modified id) else if w.state.shutdown then says (shut_already id) else class_row meaning w.state.config (place_at n w.state) ticket id row params))
-unfolding retried
+    → IfErr (if b then Ok (answered id (stopped_reply (class_of row) id) w) else classed meaning ticket id row params w)
+    (TooMany w.state.jobs_given (if b then says (stopped_reply (class_of row) id) else class_row meaning w.state.config (place_at n w.state) ticket id row params))
 stop-cases meaning n ticket id row params w true = tt
-stop-cases meaning n ticket id row params w false = retry-cases meaning n ticket id row params w w.state.shutdown
+stop-cases meaning n ticket id row params w false = class-errs meaning n ticket id row params w
 
 stop-errs : (meaning : Meaning) (n number : ℕ) (id : RequestId) (revision : ℕ) (kind : JobKind) (w : Working)
     → IfErr (stopped meaning id revision kind (without number w)) (TooMany w.state.jobs_given (stopped_row meaning w.state.config (place_at n w.state) id revision kind))
@@ -172,32 +175,30 @@ needs-jobs meaning s input done counter is h =
 abbrev request_input : Request → Input
 request_input r = Next (Lsp (RequestMessage r))
 
-method-errs : (meaning : Meaning) (s : State) (r : Request) (o : Option RowId) → is_pending r.id s.pending ≡ false → same_text r.method (codes "shutdown") ≡ false → s.shutdown ≡ false → row_of r.method ≡ o
+none-errs : (b : Bool) (refused answered : Working) (P : Counter → Type 0) → IfErr (if b then Ok refused else Ok answered) P
+none-errs true refused answered P = tt
+none-errs false refused answered P = tt
+
+method-errs : (meaning : Meaning) (s : State) (r : Request) (o : Option RowId) → is_pending r.id s.pending ≡ false → is_shutdown (row_of r.method) ≡ false → row_of r.method ≡ o
     → IfErr (asked meaning o r (noted r.id (counted_turn s))) (Needs meaning s (request_input r))
 unfolding asked noted
-method-errs meaning s r None new other stays is = tt
-method-errs meaning s r (Some row_id) new other stays is =
+method-errs meaning s r None new other is = none-errs s.shutdown _ _ (Needs meaning s (request_input r))
+method-errs meaning s r (Some row_id) new other is =
     let done = class_row meaning s.config (place_of s) (s.turns + 1) r.id row_id r.params in
     err-weaker _ (TooMany s.jobs_given done) (Needs meaning s (request_input r))
     (class-errs meaning (s.turns + 1) (s.turns + 1) r.id row_id r.params (noted r.id (counted_turn s)))
-    (λ c h. needs-jobs meaning s (request_input r) done c (rw (new, other, stays, is) refl) h)
+    (λ c h. needs-jobs meaning s (request_input r) done c (rw (new, other, is) refl) h)
 
-open-errs : (meaning : Meaning) (s : State) (r : Request) (b : Bool) → is_pending r.id s.pending ≡ false → same_text r.method (codes "shutdown") ≡ false → s.shutdown ≡ b
-    → IfErr (if b then Ok (answered r.id (shut_already r.id) (noted r.id (counted_turn s))) else asked meaning (row_of r.method) r (noted r.id (counted_turn s))) (Needs meaning s (request_input r))
-open-errs meaning s r true new other shut = tt
-open-errs meaning s r false new other stays = method-errs meaning s r (row_of r.method) new other stays refl
-
-admit-errs : (meaning : Meaning) (s : State) (r : Request) (b : Bool) → is_pending r.id s.pending ≡ false → same_text r.method (codes "shutdown") ≡ b
-    → IfErr (if b then Ok (shut_down r.id r.params (noted r.id (counted_turn s)))
-    else if s.shutdown then Ok (answered r.id (shut_already r.id) (noted r.id (counted_turn s))) else asked meaning (row_of r.method) r (noted r.id (counted_turn s))) (Needs meaning s (request_input r))
+admit-errs : (meaning : Meaning) (s : State) (r : Request) (b : Bool) → is_pending r.id s.pending ≡ false → is_shutdown (row_of r.method) ≡ b
+    → IfErr (if b then Ok (shut_down r.id r.params (noted r.id (counted_turn s))) else asked meaning (row_of r.method) r (noted r.id (counted_turn s))) (Needs meaning s (request_input r))
 admit-errs meaning s r true new named = tt
-admit-errs meaning s r false new other = open-errs meaning s r s.shutdown new other refl
+admit-errs meaning s r false new other = method-errs meaning s r (row_of r.method) new other refl
 
 request-cases : (meaning : Meaning) (s : State) (r : Request) (b : Bool) (refused : Working) → is_pending r.id s.pending ≡ b
     → IfErr (if b then Ok refused else admitted meaning r (noted r.id (counted_turn s))) (Needs meaning s (request_input r))
 unfolding admitted noted
 request-cases meaning s r true refused is = tt
-request-cases meaning s r false refused is = admit-errs meaning s r (same_text r.method (codes "shutdown")) is refl
+request-cases meaning s r false refused is = admit-errs meaning s r (is_shutdown (row_of r.method)) is refl
 
 request-errs : (meaning : Meaning) (s : State) (r : Request) → IfErr (requested meaning r (counted_turn s)) (Needs meaning s (request_input r))
 unfolding requested
@@ -235,11 +236,6 @@ unfolding opened_at open_noted
 open-path-errs (Err fault) document w = tt
 open-path-errs (Ok path) document w = noted-errs DuplicateOpen path document.version document.text w (is_open path w)
 
-opened-errs : (o : Option DidOpen) (method : List ℕ) (w : Working) → IfErr (opened o method w) (AtLast w.state.host.revision)
-unfolding opened
-opened-errs None method w = tt
-opened-errs (Some document) method w = open-path-errs (path_of document.uri) document w
-
 is_open-errs : (path : List ℕ) (change : DidChange) (w : Working) (b : Bool) → IfErr (if b then edited path change w else Ok (logged UnexpectedChange path w)) (AtLast w.state.host.revision)
 unfolding edited edited_by skip_noted
 is_open-errs path change w true =
@@ -251,24 +247,14 @@ unfolding changed_at
 change-path-errs (Err fault) change w = tt
 change-path-errs (Ok path) change w = is_open-errs path change w (is_open path w)
 
-changed-errs : (o : Option DidChange) (method : List ℕ) (w : Working) → IfErr (changed o method w) (AtLast w.state.host.revision)
-unfolding changed
-changed-errs None method w = tt
-changed-errs (Some change) method w = change-path-errs (path_of change.uri) change w
-
-notify-cases : (n : Notification) (w quiet unhandled : Working) (named_open is_change is_cancel is_quiet : Bool)
-    → IfErr (if named_open then opened (opened_of n.params) n.method w else if is_change then changed (changed_of n.params) n.method w
-    else if is_cancel then Ok (cancelled (cancel_of n.params) n.method w) else if is_quiet then Ok quiet else Ok unhandled) (AtLast w.state.host.revision)
-notify-cases n w quiet unhandled true is_change is_cancel is_quiet = opened-errs (opened_of n.params) n.method w
-notify-cases n w quiet unhandled false true is_cancel is_quiet = changed-errs (changed_of n.params) n.method w
-notify-cases n w quiet unhandled false false true is_quiet = tt
-notify-cases n w quiet unhandled false false false true = tt
-notify-cases n w quiet unhandled false false false false = tt
-
-notify-errs : (n : Notification) (w : Working) → IfErr (notified n w) (AtLast w.state.host.revision)
-unfolding notified
-notify-errs n w = notify-cases n w w (logged UnhandledNotification n.method w) (same_text n.method (codes "textDocument/didOpen")) (same_text n.method (codes "textDocument/didChange"))
-    (same_text n.method (codes "$/cancelRequest")) (starts_with nat_eq n.method (codes "$/"))
+notice-errs : (notice : Notice) (method : List ℕ) (w : Working) → IfErr (noticed notice method w) (AtLast w.state.host.revision)
+unfolding noticed
+notice-errs (Opened document) method w = open-path-errs (path_of document.uri) document w
+notice-errs (Changed change) method w = change-path-errs (path_of change.uri) change w
+notice-errs (Cancel id) method w = tt
+notice-errs Malformed method w = tt
+notice-errs Unhandled method w = tt
+notice-errs Silent method w = tt
 
 needs-revision : (meaning : Meaning) (s : State) (input : Input) (counter : Counter) → AtLast s.host.revision counter → Needs meaning s input counter
 needs-revision meaning s input counter h = subst (Needs meaning s input) (sym h.0) h.1
@@ -279,7 +265,7 @@ event-errs : (meaning : Meaning) (s : State) (event : Event) → IfErr (happened
 unfolding happened received
 event-errs meaning s (Lsp (RequestMessage r)) = request-errs meaning s r
 event-errs meaning s (Lsp (NotificationMessage n)) =
-    err-weaker _ (AtLast s.host.revision) _ (notify-errs n (counted_turn s)) (λ c h. needs-revision meaning s (Next (Lsp (NotificationMessage n))) c h)
+    err-weaker _ (AtLast s.host.revision) _ (notice-errs (notice_of n) n.method (counted_turn s)) (λ c h. needs-revision meaning s (Next (Lsp (NotificationMessage n))) c h)
 event-errs meaning s (Lsp (ResponseMessage r)) = tt
 event-errs meaning s (Task batch) =
     let done = batch_row meaning s.config batch (place_of s) in

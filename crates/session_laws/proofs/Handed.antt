@@ -1,6 +1,6 @@
 -- Each job out was handed over by the turn that read its request, or a later one, on the documents of all inputs before that turn.
 use Rattle.std.proofs.Common.{◌≡◌, ℕ, ◌<◌, ◌≤◌, List, [], ◌∷◌, ◌++◌, Bool, true, false, refl, sym, ap, ◌∙◌, subst, arith, append_assoc, inl, inr}
-use Rattle.std.specs.Prelude.{Option, None, Some, Contains, ◌⊎◌, codes, if◌then◌else◌}
+use Rattle.std.specs.Prelude.{Option, None, Some, Contains, ◌⊎◌, if◌then◌else◌}
 use Rattle.std.specs.List.{All}
 use Rattle.std.specs.FinMap as map
 use Rattle.std.proofs.lemmas.List.Elements.{All-cons, All-contains, Contains-append_left, Contains-append_right, Contains-push}
@@ -13,13 +13,14 @@ use Rattle.session_port.specs.Record.{spawned, with_jobs}
 use Rattle.session_port.specs.declared.event.TaskMsg.{TaskMsg}
 use Rattle.session_port.specs.declared.job.Job.{Job}
 use Rattle.session_port.specs.declared.job.JobResult.{JobResult}
-use Rattle.session_model.specs.Cancelling.{cancel_of}
-use Rattle.session_model.specs.Headline.{Place, Reaction, reaction_of, row, says, silent, new_row, cancel_row, ticket_row, final_row, message_row, batch_row, place_past, snapshot_at, beginning, place_after, place_after_all, WasHandedOver, AreHandedOver}
+use Rattle.session_model.specs.Notices.{notice_of}
+use Rattle.session_model.specs.Headline.{Place, Reaction, reaction_of, row, says, silent, new_row, notice_row, ticket_row, final_row, message_row, batch_row, place_past, snapshot_at, beginning, place_after, place_after_all, WasHandedOver, AreHandedOver}
 use Rattle.session_laws.specs.Invariant.{SoundAt}
 use Rattle.session_model.specs.Meaning.{Meaning}
 use Rattle.session_model.specs.Replies.{already_pending, canceled_by_client, finished_reply}
 use Rattle.session_model.specs.Run.{Turn, after_input}
-use Rattle.session_model.specs.Texts.{same_text}
+use Rattle.session_model.specs.declared.notice.Notice.{Notice}
+use Rattle.session_model.specs.declared.notice.Notice.TheVariants.{Opened, Changed, Cancel, Malformed, Unhandled, Silent}
 use Rattle.session_model.specs.declared.input.Event.TheVariants.{Lsp, Task}
 use Rattle.session_model.specs.declared.input.Input.{Input}
 use Rattle.session_model.specs.declared.input.Input.TheVariants.{Start, Next}
@@ -61,7 +62,7 @@ batch-out : (batch : List TaskMsg) (out : Jobs) (n : ℕ) (job : Job) → map.ge
 batch-out [] out n job there = there
 batch-out (m ∷ ms) out n job there = message-out m out n job (batch-out ms (after_message m out) n job there)
 
-input-out : (input : Input) (out : Jobs) (n : ℕ) (job : Job) → map.get (after_input input out) n ≡ Some job → map.get out n ≡ Some job
+pub input-out : (input : Input) (out : Jobs) (n : ℕ) (job : Job) → map.get (after_input input out) n ≡ Some job → map.get out n ≡ Some job
 input-out Start out n job there = there
 input-out (Next (Lsp message)) out n job there = there
 input-out (Next (Task batch)) out n job there = batch-out batch out n job there
@@ -70,7 +71,7 @@ input-out (Next (Task batch)) out n job there = batch-out batch out n job there
 
 reacts-due : (config : ConfigData) (place : Place) (ticket : ℕ) (id : RequestId) (done : Reaction) → ticket ≤ place.number → Reacts config place ticket id done → AreDue config place done.jobs
 reacts-due config place ticket id done by_then (inl (response, is, says_it)) = subst (λ (d : Reaction). AreDue config place d.jobs) (sym says_it) tt
-reacts-due config place ticket id done by_then (inr (row_id, params, hands)) = subst (λ (d : Reaction). AreDue config place d.jobs) (sym hands) (record { not_before = by_then; snapshot = refl }, tt)
+reacts-due config place ticket id done by_then (inr (class, row_id, params, hands)) = subst (λ (d : Reaction). AreDue config place d.jobs) (sym hands) (record { not_before = by_then; snapshot = refl }, tt)
 
 -- the jobs out are for requests that were read before
 IsBelow : Place → Type 0
@@ -106,21 +107,25 @@ either-due : (config : ConfigData) (place : Place) (b : Bool) (x y : Reaction) �
 either-due config place true x y p q = p
 either-due config place false x y p q = q
 
-cancel-due : (config : ConfigData) (o : Option RequestId) (place : Place) → AreDue config place (cancel_row o place).jobs
-cancel-due config None place = tt
-cancel-due config (Some id) place = either-due config place (is_pending id place.pending) (says (canceled_by_client id)) silent tt tt
+notice-due : (config : ConfigData) (notice : Notice) (place : Place) → AreDue config place (notice_row notice place).jobs
+notice-due config (Cancel id) place = either-due config place (is_pending id place.pending) (says (canceled_by_client id)) silent tt tt
+notice-due config (Opened document) place = tt
+notice-due config (Changed change) place = tt
+notice-due config Malformed place = tt
+notice-due config Unhandled place = tt
+notice-due config Silent place = tt
 
 row-due : (meaning : Meaning) (config : ConfigData) (input : Input) (place : Place) → SoundAt place → AreDue config place (row meaning config input place).jobs
 unfolding IsBelow
 row-due meaning config Start place s = tt
 row-due meaning config (Next (Lsp (RequestMessage r))) place s =
     either-due config place (is_pending r.id place.pending) (says (already_pending r.id)) (new_row meaning config place r) tt (reacts-due config place place.number r.id (new_row meaning config place r) (omega arith) (new-reacts meaning config place r))
-row-due meaning config (Next (Lsp (NotificationMessage n))) place s = either-due config place (same_text n.method (codes "$/cancelRequest")) (cancel_row (cancel_of n.params) place) silent (cancel-due config (cancel_of n.params) place) tt
+row-due meaning config (Next (Lsp (NotificationMessage n))) place s = notice-due config (notice_of n) place
 row-due meaning config (Next (Lsp (ResponseMessage r))) place s = tt
 row-due meaning config (Next (Task batch)) place s = batch-due meaning config batch place s.below
 
 -- a job out after jobs were handed over was out before, or is one of these
-jobs-out : (jobs : List Job) (out : Jobs) (n : ℕ) (job : Job) → map.get (with_jobs jobs out) n ≡ Some job → (map.get out n ≡ Some job) ⊎ Contains jobs job
+pub jobs-out : (jobs : List Job) (out : Jobs) (n : ℕ) (job : Job) → map.get (with_jobs jobs out) n ≡ Some job → (map.get out n ≡ Some job) ⊎ Contains jobs job
 jobs-out [] out n job there = inl there
 jobs-out (j ∷ js) out n job there = by_case (jobs-out js (map.insert out j.number j) n job there)
   where

@@ -1,6 +1,6 @@
 -- A row keeps the turn invariant, and answers each request once.
 use Rattle.std.proofs.Common.{◌≡◌, ◌≢◌, ℕ, ◌+◌, ◌<◌, ◌≤◌, List, [], ◌∷◌, ◌++◌, length, Bool, true, false, refl, sym, ap, ◌∙◌, subst, arith, append-nil, append_assoc, inl, inr}
-use Rattle.std.specs.Prelude.{Option, None, Some, is_some, codes, if◌then◌else◌}
+use Rattle.std.specs.Prelude.{Option, None, Some, is_some, if◌then◌else◌}
 use Rattle.std.specs.FinMap as map
 use Rattle.std.proofs.lemmas.List.{length-append}
 use Rattle.lsp_frame.specs.Pending.{Pending, id_of, ticket_of as ticket_with, is_pending, registered, completed, closed, closed_at, none_pending}
@@ -13,21 +13,22 @@ use Rattle.lsp_frame.specs.declared.message.Message.TheVariants.{Request as Requ
 use Rattle.ra_config.specs.Config.{ConfigData}
 use Rattle.serde_json.specs.Data.{Data}
 use Rattle.lsp_frame.proofs.InStep.{none-distinct, registered-distinct, completed-distinct, completed-closed, closed-registered, ticket_of-is, is_pending-found, id_of-registered}
-use Rattle.analysis_host.specs.declared.ask.RowId.{RowId}
+use Rattle.method_table.specs.declared.class.PoolClass.{PoolClass}
+use Rattle.method_table.specs.declared.row_id.RowId.{RowId}
 use Rattle.session_port.specs.Jobs.{Jobs, ticket_of, final_of, fitting_job, after_message, after_batch}
 use Rattle.session_port.specs.Record.{with_jobs}
 use Rattle.session_port.specs.declared.event.TaskMsg.{TaskMsg}
 use Rattle.session_port.specs.declared.job.Job.{Job}
 use Rattle.session_port.specs.declared.job.JobKind.TheVariants.{Request as RequestJob}
 use Rattle.session_port.specs.declared.job.JobResult.{JobResult}
-use Rattle.session_model.specs.Cancelling.{cancel_of}
-use Rattle.session_model.specs.Headline.{Place, Reaction, reaction_of, row, silent, says, joined, hands_over, snapshot_at, new_row, cancel_row, ticket_row, final_row, message_row, batch_row, place_past, beginning, IsHeld, AreAnswers, AnswersOnce, closed_by, closed_with, pending_after, place_after, number_after}
+use Rattle.session_model.specs.Notices.{notice_of}
+use Rattle.session_model.specs.Headline.{Place, Reaction, reaction_of, row, silent, says, joined, hands_over, snapshot_at, new_row, notice_row, ticket_row, final_row, message_row, batch_row, place_past, beginning, IsHeld, AreAnswers, AnswersOnce, closed_by, closed_with, pending_after, place_after, number_after}
 use Rattle.session_laws.specs.Invariant.{Sound, SoundAt}
 use Rattle.session_model.specs.Meaning.{Meaning}
-use Rattle.session_model.specs.Methods.{class_of}
 use Rattle.session_model.specs.Replies.{already_pending, canceled_by_client, finished_reply}
 use Rattle.session_model.specs.Run.{Turn, after_input}
-use Rattle.session_model.specs.Texts.{same_text}
+use Rattle.session_model.specs.declared.notice.Notice.{Notice}
+use Rattle.session_model.specs.declared.notice.Notice.TheVariants.{Opened, Changed, Cancel, Malformed, Unhandled, Silent}
 use Rattle.session_model.specs.declared.input.Event.TheVariants.{Lsp, Task}
 use Rattle.session_model.specs.declared.input.Input.{Input}
 use Rattle.session_model.specs.declared.input.Input.TheVariants.{Start, Next}
@@ -385,16 +386,16 @@ going-said first place js message found id response waits is t = (
 )
 
 -- the job that is handed over for a ticket
-abbrev job_for : ConfigData → Place → ℕ → RowId → Data → Job
-job_for config place ticket row_id params = record { number = place.handed + 1; class = class_of row_id; kind = RequestJob ticket row_id params; snapshot = snapshot_at config place }
+abbrev job_for : ConfigData → Place → PoolClass → ℕ → RowId → Data → Job
+job_for config place class ticket row_id params = record { number = place.handed + 1; class = class; kind = RequestJob ticket row_id params; snapshot = snapshot_at config place }
 
 -- a job is handed over for it
-going-again : (first : ℕ) (config : ConfigData) (place : Place) (js : List Job) (message : TaskMsg) (found : Job) (row_id : RowId) (params : Data) → Took first place js message found
-    → Going first place js message (hands_over config place (ticket_of found.kind) row_id params)
-going-again first config place js message found row_id params t = (
+going-again : (first : ℕ) (config : ConfigData) (place : Place) (js : List Job) (message : TaskMsg) (found : Job) (class : PoolClass) (row_id : RowId) (params : Data) → Took first place js message found
+    → Going first place js message (hands_over place.handed (snapshot_at config place) class (ticket_of found.kind) row_id params)
+going-again first config place js message found class row_id params t = (
   record {
-    sound = subst (λ out. Sound place.number place.pending out (place.handed + 1) place.revision) (sym (with_jobs-append js (job_for config place (ticket_of found.kind) row_id params ∷ []) (after_message message place.out) ∙ ap (λ out. map.insert out (place.handed + 1) (job_for config place (ticket_of found.kind) row_id params)) t.left))
-        (sound-again place.number place.pending (with_jobs js place.out) place.handed place.revision message.job found (job_for config place (ticket_of found.kind) row_id params) t.is_there refl (omega arith) t.before.sound);
+    sound = subst (λ out. Sound place.number place.pending out (place.handed + 1) place.revision) (sym (with_jobs-append js (job_for config place class (ticket_of found.kind) row_id params ∷ []) (after_message message place.out) ∙ ap (λ out. map.insert out (place.handed + 1) (job_for config place class (ticket_of found.kind) row_id params)) t.left))
+        (sound-again place.number place.pending (with_jobs js place.out) place.handed place.revision message.job found (job_for config place class (ticket_of found.kind) row_id params) t.is_there refl (omega arith) t.before.sound);
     early = early-on first place js message found t;
     late = above-append first js _ t.before.late (let g = t.before.given in omega arith, tt);
     given = let g = t.before.given in omega arith;
@@ -405,7 +406,7 @@ going-again first config place js message found row_id params t = (
 going-reacts : (first : ℕ) (config : ConfigData) (place : Place) (js : List Job) (message : TaskMsg) (found : Job) (id : RequestId) (done : Reaction) → id_of (ticket_of found.kind) place.pending ≡ Some id
     → Reacts config place (ticket_of found.kind) id done → Took first place js message found → Going first place js message done
 going-reacts first config place js message found id done waits (inl (response, is, says_it)) t = subst (Going first place js message) (sym says_it) (going-said first place js message found id response waits is t)
-going-reacts first config place js message found id done waits (inr (row_id, params, hands)) t = subst (Going first place js message) (sym hands) (going-again first config place js message found row_id params t)
+going-reacts first config place js message found id done waits (inr (class, row_id, params, hands)) t = subst (Going first place js message) (sym hands) (going-again first config place js message found class row_id params t)
 
 going-ticket : (meaning : Meaning) (first : ℕ) (config : ConfigData) (place : Place) (js : List Job) (message : TaskMsg) (found : Job) (o : Option RequestId) (result : JobResult) → id_of (ticket_of found.kind) place.pending ≡ o
     → Took first place js message found → Going first place js message (ticket_row meaning config place o found result)
@@ -470,8 +471,8 @@ registered-waits p ticket id = is_pending-found ticket id (registered ticket id 
 new-sound : (config : ConfigData) (r : Request) (place : Place) (done : Reaction) → is_pending r.id place.pending ≡ false → Reacts config place place.number r.id done → SoundAt place → SoundAfter (request_input r) place done
 new-sound config r place done new (inl (response, is, says_it)) s =
     subst (SoundAfter (request_input r) place) (sym says_it) (rw (new, is) (said-sound place r.id new s, (r.id, refl, registered-waits place.pending place.number r.id, tt)))
-new-sound config r place done new (inr (row_id, params, hands)) s =
-    subst (SoundAfter (request_input r) place) (sym hands) (rw new (sound-request place.number place.pending place.out place.handed place.revision r.id (job_for config place place.number row_id params) new refl (omega arith) s, tt))
+new-sound config r place done new (inr (class, row_id, params, hands)) s =
+    subst (SoundAfter (request_input r) place) (sym hands) (rw new (sound-request place.number place.pending place.out place.handed place.revision r.id (job_for config place class place.number row_id params) new refl (omega arith) s, tt))
 
 request-sound : (meaning : Meaning) (config : ConfigData) (r : Request) (place : Place) (b : Bool) → is_pending r.id place.pending ≡ b → SoundAt place
     → SoundAfter (request_input r) place (if b then says (already_pending r.id) else new_row meaning config place r)
@@ -482,13 +483,13 @@ waits-sound : (n : Notification) (id : RequestId) (place : Place) (b : Bool) →
 waits-sound n id place true waits s = (sound-stays _ _ _ _ _ (sound-closed place.number place.pending place.out place.handed place.revision id s), (id, refl, waits, tt))
 waits-sound n id place false waits s = (sound-idle _ _ _ _ _ s, tt)
 
-cancel-sound : (n : Notification) (o : Option RequestId) (place : Place) → SoundAt place → SoundAfter (Next (Lsp (NotificationMessage n))) place (cancel_row o place)
-cancel-sound n None place s = (sound-idle _ _ _ _ _ s, tt)
-cancel-sound n (Some id) place s = waits-sound n id place (is_pending id place.pending) refl s
-
-notification-sound : (n : Notification) (place : Place) (b : Bool) → SoundAt place → SoundAfter (Next (Lsp (NotificationMessage n))) place (if b then cancel_row (cancel_of n.params) place else silent)
-notification-sound n place true s = cancel-sound n (cancel_of n.params) place s
-notification-sound n place false s = (sound-idle _ _ _ _ _ s, tt)
+notice-sound : (n : Notification) (notice : Notice) (place : Place) → SoundAt place → SoundAfter (Next (Lsp (NotificationMessage n))) place (notice_row notice place)
+notice-sound n (Cancel id) place s = waits-sound n id place (is_pending id place.pending) refl s
+notice-sound n (Opened document) place s = (sound-idle _ _ _ _ _ s, tt)
+notice-sound n (Changed change) place s = (sound-idle _ _ _ _ _ s, tt)
+notice-sound n Malformed place s = (sound-idle _ _ _ _ _ s, tt)
+notice-sound n Unhandled place s = (sound-idle _ _ _ _ _ s, tt)
+notice-sound n Silent place s = (sound-idle _ _ _ _ _ s, tt)
 
 batch-after : (meaning : Meaning) (config : ConfigData) (batch : List TaskMsg) (place : Place) → SoundAt place → SoundAfter (Next (Task batch)) place (batch_row meaning config batch place)
 batch-after meaning config batch place s =
@@ -498,7 +499,7 @@ batch-after meaning config batch place s =
 row-sound : (meaning : Meaning) (config : ConfigData) (input : Input) (place : Place) → SoundAt place → SoundAfter input place (row meaning config input place)
 row-sound meaning config Start place s = (sound-stays _ _ _ _ _ s, tt)
 row-sound meaning config (Next (Lsp (RequestMessage r))) place s = request-sound meaning config r place (is_pending r.id place.pending) refl s
-row-sound meaning config (Next (Lsp (NotificationMessage n))) place s = notification-sound n place (same_text n.method (codes "$/cancelRequest")) s
+row-sound meaning config (Next (Lsp (NotificationMessage n))) place s = notice-sound n (notice_of n) place s
 row-sound meaning config (Next (Lsp (ResponseMessage r))) place s = (sound-idle _ _ _ _ _ s, tt)
 row-sound meaning config (Next (Task batch)) place s = batch-after meaning config batch place s
 

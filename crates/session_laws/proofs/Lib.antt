@@ -1,3 +1,4 @@
+pub mod Accounted
 pub mod Answered
 pub mod Appends
 pub mod Asking

@@ -8,14 +8,14 @@ use Rattle.lsp_frame.specs.declared.message.Response.{Response}
 use Rattle.lsp_frame.specs.declared.message.Message.{Message}
 use Rattle.lsp_frame.specs.declared.message.Message.TheVariants.{Request as RequestMessage, Notification as NotificationMessage, Response as ResponseMessage}
 use Rattle.lsp_frame.proofs.Above.{none_above}
-use Rattle.lsp_frame.proofs.InStep.{ticket_of-is, waited, id_of-registered, id_of-completed, waits-completed, closed-is}
+use Rattle.lsp_frame.proofs.InStep.{ticket_of-is, waited, id_of-registered, id_of-completed, id_of-completed_other, waits-completed, closed-is}
 use Rattle.session_model.specs.Headline.{Place, AreAnswers, after_request, beginning, closed_by, closed_with, number_after, pending_after, place_after}
 use Rattle.session_model.specs.Run.{Turn}
 use Rattle.session_model.specs.declared.input.Event.TheVariants.{Lsp, Task}
 use Rattle.session_model.specs.declared.input.Input.{Input}
 use Rattle.session_model.specs.declared.input.Input.TheVariants.{Start, Next}
-use Rattle.session_laws.specs.Answering.{answered_with, answered_in, answered_request, answered_at, answered_by, AllDiffer, IsAmong, responses_in}
-use Rattle.session_laws.proofs.Keyed.{by_key}
+use Rattle.session_laws.specs.Answering.{answered_with, answered_in, answered_request, answered_at, answered_by, AllDiffer, IsAmong, IsThere, responses_in}
+use Rattle.session_laws.proofs.Keyed.{by_key, get-insert_other}
 use Rattle.session_laws.proofs.Orders.{by_number_total, by_number_same}
 
 none-some : {X P : Type 0} (x : X) → None ≡ Some x → P
@@ -42,19 +42,16 @@ differ-append (x ∷ xs) ys a b apart = (λ h. neither (among-cases xs ys x h), 
 
 -- ---- one list of messages
 
--- the request of a ticket waits
-abbrev IsThere : ℕ → Pending → Type 0
-IsThere t p = (id : RequestId) × (id_of t p ≡ Some id)
-
 -- what messages answer waited before and does not wait any more, and what waits after them waited before
-record Closes (answered : List ℕ) (before after : Pending) : Type 0 where
+pub record Closes (answered : List ℕ) (before after : Pending) : Type 0 where
   differ : AllDiffer answered
   were : (t : ℕ) → IsAmong answered t → IsThere t before
   gone : (t : ℕ) → IsAmong answered t → id_of t after ≡ None
-  kept : (t : ℕ) (id : RequestId) → id_of t after ≡ Some id → id_of t before ≡ Some id
+  pub kept : (t : ℕ) (id : RequestId) → id_of t after ≡ Some id → id_of t before ≡ Some id
+  pub lost : (t : ℕ) → IsThere t before → IsThere t after ⊎ IsAmong answered t
 
 closes-none : (p : Pending) → Closes [] p p
-closes-none p = record { differ = tt; were = λ t h. absurd h; gone = λ t h. absurd h; kept = λ t id is. is }
+closes-none p = record { differ = tt; were = λ t h. absurd h; gone = λ t h. absurd h; kept = λ t id is. is; lost = λ t w. inl w }
 
 -- what waits nowhere any more
 stays-gone : (t : ℕ) (before after : Pending) (o : Option RequestId) → id_of t after ≡ o → ((id : RequestId) → id_of t after ≡ Some id → id_of t before ≡ Some id) → id_of t before ≡ None → id_of t after ≡ None
@@ -67,8 +64,14 @@ closes-one ticket id rest p after there c = record {
   were = were;
   gone = gone;
   kept = λ t i is. (waits-completed ticket t i p (c.kept t i is)).before;
+  lost = λ t w. by_key by_number_total by_number_same t ticket
+      (λ same. inr (inl same)) (λ other. later t (c.lost t (w.0, id_of-completed_other ticket t p other ∙ w.1)));
 }
   where
+    later : (t : ℕ) → IsThere t after ⊎ IsAmong rest t → IsThere t after ⊎ IsAmong (ticket ∷ rest) t
+    later t (inl w) = inl w
+    later t (inr h) = inr (inr h)
+
     were : (t : ℕ) → IsAmong (ticket ∷ rest) t → IsThere t p
     were t (inl is) = (id, ap (λ u. id_of u p) is ∙ there)
     were t (inr h) = let w = c.were t h in (w.0, (waits-completed ticket t w.0 p w.1).before)
@@ -88,7 +91,7 @@ closes-id None rest after p on = on p
 closes-id (Some id) rest after p on =
     subst (λ q. Closes (option_to_list (ticket_of id p) ++ rest q) p (after q)) (sym (closed-is id p (ticket_of id p) refl)) (closes-with id (ticket_of id p) rest after p refl on)
 
-closes : (messages : List Message) (p : Pending) → Closes (answered_in messages p) p (closed_by messages p)
+pub closes : (messages : List Message) (p : Pending) → Closes (answered_in messages p) p (closed_by messages p)
 closes [] p = closes-none p
 closes (ResponseMessage response ∷ messages) p = closes-id response.id (answered_in messages) (closed_by messages) p (closes messages)
 closes (RequestMessage r ∷ messages) p = closes messages p
@@ -97,26 +100,34 @@ closes (NotificationMessage n ∷ messages) p = closes messages p
 -- ---- one turn
 
 -- the same of a turn, which may read one more request
-record Turns (number next : ℕ) (answered : List ℕ) (before after : Pending) : Type 0 where
+pub record Turns (number next : ℕ) (answered : List ℕ) (before after : Pending) : Type 0 where
   differ : AllDiffer answered
   were : (t : ℕ) → IsAmong answered t → IsThere t before ⊎ ((t ≡ number) × (next ≡ number + 1))
   gone : (t : ℕ) → IsAmong answered t → id_of t after ≡ None
-  kept : (t : ℕ) → IsThere t after → IsThere t before ⊎ ((t ≡ number) × (next ≡ number + 1))
+  pub kept : (t : ℕ) → IsThere t after → IsThere t before ⊎ ((t ≡ number) × (next ≡ number + 1))
+  pub lost : (t : ℕ) → IsThere t before → IsThere t after ⊎ IsAmong answered t
   later : number ≤ next
 
 turns-closing : (number next : ℕ) (messages : List Message) (p : Pending) → number ≤ next → Turns number next (answered_in messages p) p (closed_by messages p)
 turns-closing number next messages p later =
     let c = closes messages p in
-    record { differ = c.differ; were = λ t h. inl (c.were t h); gone = c.gone; kept = λ t w. inl (w.0, c.kept t w.0 w.1); later = later }
+    record { differ = c.differ; were = λ t h. inl (c.were t h); gone = c.gone; kept = λ t w. inl (w.0, c.kept t w.0 w.1); lost = c.lost; later = later }
 
 there-before : (number : ℕ) (id : RequestId) (p : Pending) (t : ℕ) → IsThere t (registered number id p) → IsThere t p ⊎ ((t ≡ number) × (number + 1 ≡ number + 1))
 there-before number id p t w = by_key by_number_total by_number_same t number
     (λ same. inr (same, refl)) (λ other. inl (w.0, waited number id p t w.0 other w.1))
 
+-- what waits still waits beside a request that comes
+there-beside : (number : ℕ) (id : RequestId) (p : Pending) (t : ℕ) → IsThere t p → IsThere t (registered number id p)
+unfolding registered
+there-beside number id p t w = by_key by_number_total by_number_same t number
+    (λ same. (id, ap (λ u. id_of u (registered number id p)) same ∙ id_of-registered number id p))
+    (λ other. (w.0, get-insert_other by_number_total by_number_same p number id t other ∙ w.1))
+
 turns-request : (number : ℕ) (id : RequestId) (messages : List Message) (p : Pending) (b : Bool)
     → Turns number (number + 1) (answered_request b number id messages p) p (after_request b number id messages p)
 turns-request number id messages p true =
-    record { differ = tt; were = λ t h. absurd h; gone = λ t h. absurd h; kept = λ t w. inl w; later = omega arith }
+    record { differ = tt; were = λ t h. absurd h; gone = λ t h. absurd h; kept = λ t w. inl w; lost = λ t w. inl w; later = omega arith }
 turns-request number id messages p false =
     let c = closes messages (registered number id p) in
     record {
@@ -124,10 +135,11 @@ turns-request number id messages p false =
       were = λ t h. there-before number id p t (c.were t h);
       gone = c.gone;
       kept = λ t w. there-before number id p t (w.0, c.kept t w.0 w.1);
+      lost = λ t w. c.lost t (there-beside number id p t w);
       later = omega arith;
     }
 
-turn-closes : (number : ℕ) (input : Input) (messages : List Message) (p : Pending) → Turns number (number_after input number) (answered_at number input messages p) p (pending_after number input messages p)
+pub turn-closes : (number : ℕ) (input : Input) (messages : List Message) (p : Pending) → Turns number (number_after input number) (answered_at number input messages p) p (pending_after number input messages p)
 turn-closes number Start messages p = turns-closing number number messages p (omega arith)
 turn-closes number (Next (Lsp (RequestMessage r))) messages p =
     turns-request number r.id messages p (is_pending r.id p)

@@ -1,35 +1,34 @@
 -- The jobs that a turn hands over have the numbers after those that were given.
-use Rattle.std.proofs.Common.{◌≡◌, ℕ, ◌+◌, List, [], ◌∷◌, ◌++◌, length, Bool, true, false, refl, sym, ap, ◌∙◌, subst, arith}
-use Rattle.std.specs.Prelude.{Option, None, Some, ◌&&◌, not, ltb, codes, if◌then◌else◌}
+use Rattle.std.proofs.Common.{◌≡◌, ℕ, ◌+◌, List, [], ◌∷◌, ◌++◌, length, Bool, true, false, refl, sym, ap, ◌∙◌, subst, arith, inl, inr}
+use Rattle.std.specs.Prelude.{Option, None, Some, if◌then◌else◌}
 use Rattle.std.proofs.lemmas.List.{length-append}
 use Rattle.serde_json.specs.Data.{Data}
-use Rattle.plain.specs.Plain.{is_plain}
 use Rattle.lsp_frame.specs.Pending.{is_pending, id_of}
 use Rattle.lsp_frame.specs.declared.message.Request.{Request}
 use Rattle.lsp_frame.specs.declared.message.RequestId.{RequestId}
-use Rattle.lsp_frame.specs.declared.message.Response.{Response}
 use Rattle.lsp_frame.specs.declared.message.Message.TheVariants.{Request as RequestMessage, Notification as NotificationMessage, Response as ResponseMessage}
 use Rattle.ra_config.specs.Config.{ConfigData}
-use Rattle.analysis_host.specs.declared.ask.RowId.{RowId}
+use Rattle.analysis_host.specs.SnapshotData.{SnapshotData}
+use Rattle.method_table.specs.declared.class.PoolClass.{PoolClass}
+use Rattle.method_table.specs.declared.row_id.RowId.{RowId}
 use Rattle.session_port.specs.Jobs.{ticket_of, final_of, fitting_job}
 use Rattle.session_port.specs.Record.{AreRising, last_number, spawned}
 use Rattle.session_port.specs.declared.event.TaskMsg.{TaskMsg}
 use Rattle.session_port.specs.declared.job.Job.{Job}
-use Rattle.session_port.specs.declared.job.JobKind.{JobKind}
-use Rattle.session_port.specs.declared.job.JobKind.TheVariants.{Request as RequestJob}
 use Rattle.session_port.specs.declared.job.JobResult.{JobResult}
-use Rattle.session_model.specs.Cancelling.{cancel_of, is_unit}
-use Rattle.session_model.specs.Headline.{Place, Reaction, says, hands_over, class_row, method_row, request_row, cancel_row, stopped_row, result_row, ticket_row, final_row, message_row, place_past, batch_row, row}
+use Rattle.session_model.specs.Notices.{notice_of}
+use Rattle.session_model.specs.Headline.{Place, Reaction, snapshot_at, hands_over, new_row, request_row, notice_row, ticket_row, final_row, message_row, place_past, batch_row, row}
 use Rattle.session_model.specs.Meaning.{Meaning}
-use Rattle.session_model.specs.Methods.{row_of, is_on_loop, retries}
-use Rattle.session_model.specs.Replies.{invalid_params, finished_reply}
+use Rattle.session_model.specs.Replies.{finished_reply}
 use Rattle.session_model.specs.Run.{Turn, Steps}
 use Rattle.session_model.specs.State.{State}
-use Rattle.session_model.specs.Texts.{same_text}
+use Rattle.session_model.specs.declared.notice.Notice.{Notice}
+use Rattle.session_model.specs.declared.notice.Notice.TheVariants.{Opened, Changed, Cancel, Malformed, Unhandled, Silent}
 use Rattle.session_model.specs.declared.input.Event.TheVariants.{Lsp, Task}
 use Rattle.session_model.specs.declared.input.Input.{Input}
 use Rattle.session_model.specs.declared.input.Input.TheVariants.{Start, Next}
 use Rattle.session_laws.specs.Invariant.{place_of}
+use Rattle.session_laws.proofs.Reacting.{Reacts, new-reacts, result-reacts}
 use Rattle.session_laws.proofs.Rows.{steps-fit}
 
 -- each number is above the one before, and the last one says how many were given
@@ -40,8 +39,8 @@ pub record Follow (given : ℕ) (jobs : List Job) : Type 0 where
 none-follow : (given : ℕ) → Follow given []
 none-follow given = record { rising = tt; last = omega arith }
 
-one-follows : (config : ConfigData) (place : Place) (ticket : ℕ) (row_id : RowId) (params : Data) → Follow place.handed (hands_over config place ticket row_id params).jobs
-one-follows config place ticket row_id params = record { rising = (omega arith, tt); last = refl }
+one-follows : (given : ℕ) (snapshot : SnapshotData) (class : PoolClass) (ticket : ℕ) (row_id : RowId) (params : Data) → Follow given (hands_over given snapshot class ticket row_id params).jobs
+one-follows given snapshot class ticket row_id params = record { rising = (omega arith, tt); last = refl }
 
 last-append : (given : ℕ) (xs ys : List Job) → last_number given (xs ++ ys) ≡ last_number (last_number given xs) ys
 last-append given [] ys = refl
@@ -61,47 +60,33 @@ follow-on given xs ys a b = record {
     more : given + length xs + length ys ≡ given + length (xs ++ ys)
     more = omega (arith, length-append xs ys)
 
-granted-follow : (b : Bool) (config : ConfigData) (place : Place) (ticket : ℕ) (row_id : RowId) (params : Data) (response : Response)
-    → Follow place.handed (if b then says response else hands_over config place ticket row_id params).jobs
-granted-follow true config place ticket row_id params response = none-follow place.handed
-granted-follow false config place ticket row_id params response = one-follows config place ticket row_id params
-
 either-follow : (given : ℕ) (b : Bool) (x y : Reaction) → Follow given x.jobs → Follow given y.jobs → Follow given (if b then x else y).jobs
 either-follow given true x y p q = p
 either-follow given false x y p q = q
 
-class-follow : (meaning : Meaning) (config : ConfigData) (place : Place) (ticket : ℕ) (id : RequestId) (row_id : RowId) (params : Data) → Follow place.handed (class_row meaning config place ticket id row_id params).jobs
-class-follow meaning config place ticket id row_id params =
-    either-follow place.handed (is_plain params && meaning.decodes row_id params) _ (says (invalid_params id)) (granted-follow (is_on_loop row_id) config place ticket row_id params _) (none-follow place.handed)
-
-method-follow : (meaning : Meaning) (config : ConfigData) (place : Place) (o : Option RowId) (r : Request) → Follow place.handed (method_row meaning config place o r).jobs
-method-follow meaning config place None r = none-follow place.handed
-method-follow meaning config place (Some row_id) r = class-follow meaning config place place.number r.id row_id r.params
+-- what answers a request, or hands over a job for it
+reacts-follow : (config : ConfigData) (place : Place) (ticket : ℕ) (id : RequestId) (done : Reaction) → Reacts config place ticket id done → Follow place.handed done.jobs
+reacts-follow config place ticket id done (inl (response, is, said)) = subst (λ (d : Reaction). Follow place.handed d.jobs) (sym said) (none-follow place.handed)
+reacts-follow config place ticket id done (inr (class, row_id, params, handed)) =
+    subst (λ (d : Reaction). Follow place.handed d.jobs) (sym handed) (one-follows place.handed (snapshot_at config place) class ticket row_id params)
 
 request-follow : (meaning : Meaning) (config : ConfigData) (place : Place) (r : Request) → Follow place.handed (request_row meaning config place r).jobs
 request-follow meaning config place r =
-    let none = none-follow place.handed in
-    either-follow place.handed (is_pending r.id place.pending) _ _ none
-    (either-follow place.handed (same_text r.method (codes "shutdown")) _ _ (either-follow place.handed (is_unit r.params) _ _ none none)
-    (either-follow place.handed place.shutdown _ _ none (method-follow meaning config place (row_of r.method) r)))
+    either-follow place.handed (is_pending r.id place.pending) _ _ (none-follow place.handed)
+    (reacts-follow config place place.number r.id (new_row meaning config place r) (new-reacts meaning config place r))
 
-cancel-follow : (o : Option RequestId) (place : Place) → Follow place.handed (cancel_row o place).jobs
-cancel-follow None place = none-follow place.handed
-cancel-follow (Some id) place = either-follow place.handed (is_pending id place.pending) _ _ (none-follow place.handed) (none-follow place.handed)
-
-stop-follow : (meaning : Meaning) (config : ConfigData) (place : Place) (id : RequestId) (revision : ℕ) (kind : JobKind) → Follow place.handed (stopped_row meaning config place id revision kind).jobs
-stop-follow meaning config place id revision (RequestJob ticket row_id params) =
-    let none = none-follow place.handed in
-    either-follow place.handed (ltb revision place.revision && not (retries row_id)) _ _ none
-    (either-follow place.handed place.shutdown _ _ none (class-follow meaning config place ticket id row_id params))
-
-result-follow : (meaning : Meaning) (config : ConfigData) (place : Place) (o : Option Response) (id : RequestId) (job : Job) → Follow place.handed (result_row meaning config place o id job).jobs
-result-follow meaning config place (Some response) id job = none-follow place.handed
-result-follow meaning config place None id job = stop-follow meaning config place id job.snapshot.revision job.kind
+notice-follow : (notice : Notice) (place : Place) → Follow place.handed (notice_row notice place).jobs
+notice-follow (Cancel id) place = either-follow place.handed (is_pending id place.pending) _ _ (none-follow place.handed) (none-follow place.handed)
+notice-follow (Opened document) place = none-follow place.handed
+notice-follow (Changed change) place = none-follow place.handed
+notice-follow Malformed place = none-follow place.handed
+notice-follow Unhandled place = none-follow place.handed
+notice-follow Silent place = none-follow place.handed
 
 ticket-follow : (meaning : Meaning) (config : ConfigData) (place : Place) (o : Option RequestId) (job : Job) (result : JobResult) → Follow place.handed (ticket_row meaning config place o job result).jobs
 ticket-follow meaning config place None job result = none-follow place.handed
-ticket-follow meaning config place (Some id) job result = result-follow meaning config place (finished_reply id result) id job
+ticket-follow meaning config place (Some id) job result =
+    reacts-follow config place (ticket_of job.kind) id _ (result-reacts meaning config place id job result (finished_reply id result) refl)
 
 final-follow : (meaning : Meaning) (config : ConfigData) (place : Place) (o : Option Job) (message : TaskMsg) → Follow place.handed (final_row meaning config place o message).jobs
 final-follow meaning config place None message = none-follow place.handed
@@ -117,7 +102,7 @@ batch-follow meaning config (m ∷ ms) place =
 row-follow : (meaning : Meaning) (config : ConfigData) (input : Input) (place : Place) → Follow place.handed (row meaning config input place).jobs
 row-follow meaning config Start place = none-follow place.handed
 row-follow meaning config (Next (Lsp (RequestMessage r))) place = request-follow meaning config place r
-row-follow meaning config (Next (Lsp (NotificationMessage n))) place = either-follow place.handed (same_text n.method (codes "$/cancelRequest")) _ _ (cancel-follow (cancel_of n.params) place) (none-follow place.handed)
+row-follow meaning config (Next (Lsp (NotificationMessage n))) place = notice-follow (notice_of n) place
 row-follow meaning config (Next (Lsp (ResponseMessage r))) place = none-follow place.handed
 row-follow meaning config (Next (Task batch)) place = batch-follow meaning config batch place
 

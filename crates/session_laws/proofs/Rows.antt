@@ -2,9 +2,8 @@
 use Rattle.std.proofs.Common.{◌≡◌, ◌≢◌, ℕ, ◌+◌, ◌-◌, ◌^◌, ◌≤◌, List, [], ◌∷◌, ◌++◌, length, Bool, true, false, refl, sym, ap, ◌∙◌, arith, eqb-true, append-nil, inl, inr}
 use Rattle.std.proofs.lemmas.Bool.{true≢false}
 use Rattle.docs_vfs.specs.Paths.{path_cmp}
-use Rattle.std.specs.Prelude.{◌⊎◌, Result, Ok, Err, IfOk, ℤ, Option, None, Some, ◌==◌, ◌&&◌, is_some, if◌then◌else◌, ltb, codes, nat_eq}
+use Rattle.std.specs.Prelude.{◌⊎◌, Result, Ok, Err, IfOk, ℤ, Option, None, Some, ◌==◌, ◌&&◌, is_some, if◌then◌else◌, ltb}
 use Rattle.std.specs.Cmp.Lexicographic.{bytes_decides}
-use Rattle.std.specs.List.{starts_with}
 use Rattle.std.specs.FinMap as map
 use Rattle.std.proofs.lemmas.Result.{IfOk-at_ok}
 use Rattle.serde_json.specs.Data.{null}
@@ -17,23 +16,25 @@ use Rattle.lsp_frame.specs.declared.message.Notification.{Notification}
 use Rattle.lsp_frame.specs.declared.message.Message.{Message}
 use Rattle.lsp_frame.specs.declared.message.Message.TheVariants.{Request as RequestMessage, Notification as NotificationMessage, Response as ResponseMessage}
 use Rattle.analysis_host.specs.HostData.{HostData}
-use Rattle.analysis_host.specs.declared.ask.RowId.{RowId}
+use Rattle.method_table.specs.Plans.{is_shutdown}
+use Rattle.method_table.specs.Rows.{row_of}
+use Rattle.method_table.specs.declared.row_id.RowId.{RowId}
+use Rattle.state_params.specs.Unit.{is_unit}
 use Rattle.analysis_host.specs.declared.host.WorldFault.TheVariants.{Exhausted}
 use Rattle.session_port.specs.Record.{spawned, with_jobs}
 use Rattle.session_port.specs.declared.command.Command.TheVariants.{Revise}
 use Rattle.session_port.specs.declared.command.LogCode.{LogCode}
-use Rattle.session_port.specs.declared.command.LogCode.TheVariants.{UnhandledNotification, DuplicateOpen, UnexpectedChange, SkippedChange}
+use Rattle.session_port.specs.declared.command.LogCode.TheVariants.{DuplicateOpen, UnexpectedChange, SkippedChange}
 use Rattle.session_port.specs.declared.event.TaskMsg.{TaskMsg}
 use Rattle.session_port.specs.declared.job.Job.{Job}
-use Rattle.session_model.specs.Cancelling.{cancel_of, is_unit}
-use Rattle.session_model.specs.Changing.{changed_of, text_after, has_skipped}
-use Rattle.session_model.specs.Headline.{Documents, Reaction, Revises, silent, says, reaction_of, row, class_row, new_row, notification_row, batch_row, place_after, number_after, documents_after, pending_after, revision_after, shutdown_after, closed_by}
+use Rattle.session_model.specs.Changing.{text_after, has_skipped}
+use Rattle.session_model.specs.Headline.{Documents, Reaction, Revises, silent, says, reaction_of, row, class_row, new_row, notice_row, batch_row, place_after, number_after, documents_after, pending_after, revision_after, shutdown_after, closed_by}
 use Rattle.session_laws.specs.Invariant.{StepFits, place_of}
-use Rattle.session_model.specs.Machine.{Working, and_then, next_number, counted, asked, noted, shut_down, admitted, requested, opened, opened_at, open_noted, changed, changed_at, cancelled, version_set, text_set, skip_noted, edited, edited_by, holds_text, world_changed, world_by, notified, received, answered, replied, logged, ordered, batched, happened, taken_in, kept, revised, step}
+use Rattle.session_model.specs.Machine.{Working, and_then, next_number, counted, asked, noted, unknown, shut_down, admitted, requested, opened_at, open_noted, changed_at, cancelled, version_set, text_set, skip_noted, edited, edited_by, holds_text, world_changed, world_by, noticed, received, answered, replied, logged, ordered, batched, happened, taken_in, kept, revised, step}
 use Rattle.session_model.specs.Meaning.{Meaning}
-use Rattle.session_model.specs.Methods.{row_of}
-use Rattle.session_model.specs.Opening.{opened_of}
-use Rattle.session_model.specs.Replies.{already_pending, shut_already, unknown_request, invalid_params, canceled_by_client, response_with}
+use Rattle.session_model.specs.Notices.{notice_of}
+use Rattle.dispatch.specs.Responses.{response_with}
+use Rattle.session_model.specs.Replies.{already_pending, shut_already, unknown_request, invalid_params, canceled_by_client}
 use Rattle.session_model.specs.Run.{Turn, Steps, begun, after_input}
 use Rattle.session_model.specs.State.{State}
 use Rattle.session_model.specs.Texts.{same_text}
@@ -45,6 +46,8 @@ use Rattle.session_model.specs.declared.input.Input.{Input}
 use Rattle.session_model.specs.declared.input.Input.TheVariants.{Start, Next}
 use Rattle.session_model.specs.declared.notice.DidChange.{DidChange}
 use Rattle.session_model.specs.declared.notice.DidOpen.{DidOpen}
+use Rattle.session_model.specs.declared.notice.Notice.{Notice}
+use Rattle.session_model.specs.declared.notice.Notice.TheVariants.{Opened, Changed, Cancel, Malformed, Unhandled, Silent}
 use Rattle.session_laws.proofs.Appends.{spawned-append, revision-append}
 use Rattle.session_laws.proofs.Keyed.{insert-there, get-insert_same}
 use Rattle.session_laws.proofs.Orders.{by_path_total, by_path_same}
@@ -74,6 +77,7 @@ pub record Mid (meaning : Meaning) (s : State) (input : Input) (u : Working) : T
   pub jobs : u.state.jobs ≡ after_input input s.jobs
   pub handed : u.state.jobs_given ≡ s.jobs_given + length (spawned u.out.commands)
   pub shutdown : u.state.shutdown ≡ shutdown_after input u.out.messages s.shutdown
+  pub loading : u.state.loading ≡ s.loading
   pub unrevised : (r : ℕ) → revision_after u.out.commands r ≡ r
   pub later : s.host.revision ≤ u.state.host.revision
   pub raised : Raises s.host u.state.host
@@ -97,30 +101,38 @@ request-mid meaning s r done u new is stays a = record {
   jobs = a.out;
   handed = a.given ∙ ap (λ (js : List Job). s.jobs_given + length js) (sym a.spawns);
   shutdown = ap (λ (t : State). t.shutdown) a.same ∙ sym stays;
+  loading = ap (λ (t : State). t.loading) a.same;
   unrevised = a.unrevised;
   later = omega (arith, ap (λ (t : State). t.host.revision) a.same);
   raised = inl (ap (λ (t : State). t.host) a.same);
 }
 
--- the same of a method by another name than shutdown
+-- the same of a method that isn't shutdown
 other-mid : (meaning : Meaning) (s : State) (r : Request) (done : Reaction) (u : Working) → is_pending r.id s.pending ≡ false → new_row meaning s.config (place_of s) r ≡ done
-    → same_text r.method (codes "shutdown") ≡ false → Settled (noted r.id (counted_turn s)) u done s.jobs → Mid meaning s (request_input r) u
+    → is_shutdown (row_of r.method) ≡ false → Settled (noted r.id (counted_turn s)) u done s.jobs → Mid meaning s (request_input r) u
 other-mid meaning s r done u new is other a = request-mid meaning s r done u new is (rw other refl) a
 
-method-cases : (meaning : Meaning) (s : State) (r : Request) (o : Option RowId) → is_pending r.id s.pending ≡ false → same_text r.method (codes "shutdown") ≡ false → s.shutdown ≡ false → row_of r.method ≡ o
+-- a request of a method that has no row
+unknown-cases : (meaning : Meaning) (s : State) (r : Request) (b : Bool) → is_pending r.id s.pending ≡ false → is_shutdown (row_of r.method) ≡ false → row_of r.method ≡ None → s.shutdown ≡ b
+    → IfOk {E = Counter} (if b then Ok (answered r.id (shut_already r.id) (noted r.id (counted_turn s))) else Ok (unknown r.id r.method (noted r.id (counted_turn s)))) (Mid meaning s (request_input r))
+unfolding noted
+unknown-cases meaning s r true new other is shut =
+    other-mid meaning s r (says (shut_already r.id)) _ new (rw (other, is, shut) refl) other (answer-settles r.id (shut_already r.id) (noted r.id (counted_turn s)) refl)
+unknown-cases meaning s r false new other is stays =
+    other-mid meaning s r (says (unknown_request r.id)) _ new (rw (other, is, stays) refl) other (unknown-settles r.id r.method (noted r.id (counted_turn s)))
+
+method-cases : (meaning : Meaning) (s : State) (r : Request) (o : Option RowId) → is_pending r.id s.pending ≡ false → is_shutdown (row_of r.method) ≡ false → row_of r.method ≡ o
     → IfOk (asked meaning o r (noted r.id (counted_turn s))) (Mid meaning s (request_input r))
 unfolding asked noted
-method-cases meaning s r None new other stays is =
-    other-mid meaning s r (says (unknown_request r.id)) _ new (rw (other, stays, is) refl) other
-    (unknown-settles r.id r.method (noted r.id (counted_turn s)))
-method-cases meaning s r (Some row_id) new other stays is =
+method-cases meaning s r None new other is = unknown-cases meaning s r s.shutdown new other is refl
+method-cases meaning s r (Some row_id) new other is =
     let done = class_row meaning s.config (place_of s) (s.turns + 1) r.id row_id r.params in
     IfOk-weaker _ (λ u. Settled (noted r.id (counted_turn s)) u done s.jobs) (Mid meaning s (request_input r))
     (class-settles meaning (s.turns + 1) (s.turns + 1) r.id row_id r.params (noted r.id (counted_turn s)))
-    (λ u a. other-mid meaning s r done u new (rw (other, stays, is) refl) other a)
+    (λ u a. other-mid meaning s r done u new (rw (other, is) refl) other a)
 
 -- shutdown is requested
-shutdown-cases : (meaning : Meaning) (s : State) (r : Request) (b : Bool) → is_pending r.id s.pending ≡ false → same_text r.method (codes "shutdown") ≡ true → is_unit r.params ≡ b
+shutdown-cases : (meaning : Meaning) (s : State) (r : Request) (b : Bool) → is_pending r.id s.pending ≡ false → is_shutdown (row_of r.method) ≡ true → is_unit r.params ≡ b
     → Mid meaning s (request_input r) (if b then answered r.id (response_with r.id null) (record (noted r.id (counted_turn s)) { state = record (noted r.id (counted_turn s)).state { shutdown = true } }) else answered r.id (invalid_params r.id) (noted r.id (counted_turn s)))
 unfolding noted answered replied
 shutdown-cases meaning s r true new named unit = record {
@@ -133,6 +145,7 @@ shutdown-cases meaning s r true new named unit = record {
   jobs = refl;
   handed = omega arith;
   shutdown = rw named refl;
+  loading = refl;
   unrevised = λ q. refl;
   later = omega arith;
   raised = inl refl;
@@ -140,19 +153,11 @@ shutdown-cases meaning s r true new named unit = record {
 shutdown-cases meaning s r false new named unit =
     request-mid meaning s r (says (invalid_params r.id)) _ new (rw (named, unit) refl) (rw named refl) (answer-settles r.id (invalid_params r.id) (noted r.id (counted_turn s)) refl)
 
-open-cases : (meaning : Meaning) (s : State) (r : Request) (b : Bool) → is_pending r.id s.pending ≡ false → same_text r.method (codes "shutdown") ≡ false → s.shutdown ≡ b
-    → IfOk (if b then Ok (answered r.id (shut_already r.id) (noted r.id (counted_turn s))) else asked meaning (row_of r.method) r (noted r.id (counted_turn s))) (Mid meaning s (request_input r))
-unfolding noted
-open-cases meaning s r true new other shut =
-    other-mid meaning s r (says (shut_already r.id)) _ new (rw (other, shut) refl) other (answer-settles r.id (shut_already r.id) (noted r.id (counted_turn s)) refl)
-open-cases meaning s r false new other stays = method-cases meaning s r (row_of r.method) new other stays refl
-
-admit-cases : (meaning : Meaning) (s : State) (r : Request) (b : Bool) → is_pending r.id s.pending ≡ false → same_text r.method (codes "shutdown") ≡ b
-    → IfOk (if b then Ok (shut_down r.id r.params (noted r.id (counted_turn s)))
-    else if s.shutdown then Ok (answered r.id (shut_already r.id) (noted r.id (counted_turn s))) else asked meaning (row_of r.method) r (noted r.id (counted_turn s))) (Mid meaning s (request_input r))
+admit-cases : (meaning : Meaning) (s : State) (r : Request) (b : Bool) → is_pending r.id s.pending ≡ false → is_shutdown (row_of r.method) ≡ b
+    → IfOk (if b then Ok (shut_down r.id r.params (noted r.id (counted_turn s))) else asked meaning (row_of r.method) r (noted r.id (counted_turn s))) (Mid meaning s (request_input r))
 unfolding shut_down
 admit-cases meaning s r true new named = shutdown-cases meaning s r (is_unit r.params) new named refl
-admit-cases meaning s r false new other = open-cases meaning s r s.shutdown new other refl
+admit-cases meaning s r false new other = method-cases meaning s r (row_of r.method) new other refl
 
 -- the id is pending: nothing is registered
 refused-mid : (meaning : Meaning) (s : State) (r : Request) → is_pending r.id s.pending ≡ true → Mid meaning s (request_input r) (replied (already_pending r.id) (counted_turn s))
@@ -166,7 +171,8 @@ refused-mid meaning s r is = record {
   pending = rw is refl;
   jobs = refl;
   handed = omega arith;
-  shutdown = sym (no-null (same_text r.method (codes "shutdown")));
+  shutdown = sym (no-null (is_shutdown (row_of r.method)));
+  loading = refl;
   unrevised = λ q. refl;
   later = omega arith;
   raised = inl refl;
@@ -180,7 +186,7 @@ request-cases : (meaning : Meaning) (s : State) (r : Request) (b : Bool) → is_
     → IfOk (if b then Ok (replied (already_pending r.id) (counted_turn s)) else admitted meaning r (noted r.id (counted_turn s))) (Mid meaning s (request_input r))
 unfolding admitted noted
 request-cases meaning s r true is = refused-mid meaning s r is
-request-cases meaning s r false is = admit-cases meaning s r (same_text r.method (codes "shutdown")) is refl
+request-cases meaning s r false is = admit-cases meaning s r (is_shutdown (row_of r.method)) is refl
 
 requested-mid : (meaning : Meaning) (s : State) (r : Request) → IfOk (requested meaning r (counted_turn s)) (Mid meaning s (request_input r))
 unfolding requested
@@ -192,7 +198,7 @@ abbrev notification_input : Notification → Input
 notification_input n = Next (Lsp (NotificationMessage n))
 
 -- a notification that leaves the documents as they are, and what was done for it
-notification-mid : (meaning : Meaning) (s : State) (n : Notification) (done : Reaction) (u : Working) → notification_row n (place_of s) ≡ done → documents_after (notification_input n) (place_of s).documents ≡ (place_of s).documents
+notification-mid : (meaning : Meaning) (s : State) (n : Notification) (done : Reaction) (u : Working) → notice_row (notice_of n) (place_of s) ≡ done → documents_after (notification_input n) (place_of s).documents ≡ (place_of s).documents
     → Settled (counted_turn s) u done s.jobs → Mid meaning s (notification_input n) u
 notification-mid meaning s n done u is same a = record {
   turns = ap (λ (t : State). t.turns + 1) a.same;
@@ -204,6 +210,7 @@ notification-mid meaning s n done u is same a = record {
   jobs = a.out;
   handed = a.given ∙ ap (λ (js : List Job). s.jobs_given + length js) (sym a.spawns);
   shutdown = ap (λ (t : State). t.shutdown) a.same;
+  loading = ap (λ (t : State). t.loading) a.same;
   unrevised = a.unrevised;
   later = omega (arith, ap (λ (t : State). t.host.revision) a.same);
   raised = inl (ap (λ (t : State). t.host) a.same);
@@ -218,10 +225,6 @@ record IsQuiet (out : Written) : Type 0 where
 same_text-is : (a b : List ℕ) → same_text a b ≡ true → a ≡ b
 same_text-is a b e = (bytes_decides a b).0 e
 
--- a text that is one name is no other
-other-name : (m a b : List ℕ) → same_text m a ≡ true → same_text a b ≡ false → same_text m b ≡ false
-other-name m a b is apart = ap (λ x. same_text x b) (same_text-is m a is) ∙ apart
-
 -- where the world has the text, it has it
 held-there : (o : Option (List ℕ)) (text : List ℕ) → holds_text o text ≡ true → o ≡ Some text
 held-there None text e = absurd cc
@@ -229,7 +232,7 @@ held-there (Some held) text e = ap Some (same_text-is held text e)
 
 -- the notification sets the version and the text of a path
 record Sets (s : State) (n : Notification) (path : List ℕ) (version : ℤ) (text : List ℕ) : Type 0 where
-  other : same_text n.method (codes "$/cancelRequest") ≡ false
+  silent : notice_row (notice_of n) (place_of s) ≡ silent
   texts : (documents_after (notification_input n) (place_of s).documents).texts ≡ map.insert s.host.world.texts path text
   versions : (documents_after (notification_input n) (place_of s).documents).versions ≡ map.insert s.versions path version
 
@@ -244,13 +247,14 @@ set-mid : (meaning : Meaning) (s : State) (n : Notification) (path : List ℕ) (
 set-mid meaning s n path version text out host quiet sets texts later raised = record {
   turns = refl;
   config = refl;
-  does = (λ i. record { messages = quiet.written i; jobs = quiet.none i }) ∙ sym (rw sets.other refl);
+  does = (λ i. record { messages = quiet.written i; jobs = quiet.none i }) ∙ sym sets.silent;
   texts = texts ∙ sym sets.texts;
   versions = sym sets.versions;
   pending = sym (ap (λ (ms : List Message). closed_by ms s.pending) quiet.written);
   jobs = refl;
   handed = omega (arith, ap (λ (js : List Job). length js) quiet.none);
   shutdown = refl;
+  loading = refl;
   unrevised = quiet.unrevised;
   later = later;
   raised = raised;
@@ -296,87 +300,47 @@ noted-cases meaning s n code path version text true sets = text-mid meaning s n 
 noted-cases meaning s n code path version text false sets = text-mid meaning s n path version text _ (record { written = refl; none = refl; unrevised = λ q. refl }) sets
 
 -- a log line alone
-logged-mid : (meaning : Meaning) (s : State) (n : Notification) (code : LogCode) (text : List ℕ) → same_text n.method (codes "$/cancelRequest") ≡ false → documents_after (notification_input n) (place_of s).documents ≡ (place_of s).documents
-    → Mid meaning s (notification_input n) (logged code text (counted_turn s))
-logged-mid meaning s n code text other same = notification-mid meaning s n silent _ (rw other refl) same (log-settles code text (counted_turn s))
+logged-mid : (meaning : Meaning) (s : State) (n : Notification) (code : LogCode) (text : List ℕ) → notice_row (notice_of n) (place_of s) ≡ silent
+    → documents_after (notification_input n) (place_of s).documents ≡ (place_of s).documents → Mid meaning s (notification_input n) (logged code text (counted_turn s))
+logged-mid meaning s n code text quiet same = notification-mid meaning s n silent _ quiet same (log-settles code text (counted_turn s))
 
-open-path-cases : (meaning : Meaning) (s : State) (n : Notification) (document : DidOpen) (o : Result (List ℕ) UrlFault) → same_text n.method (codes "textDocument/didOpen") ≡ true → opened_of n.params ≡ Some document → path_of document.uri ≡ o
+opened-cases : (meaning : Meaning) (s : State) (n : Notification) (document : DidOpen) (o : Result (List ℕ) UrlFault) → notice_of n ≡ Opened document → path_of document.uri ≡ o
     → IfOk (opened_at o document (counted_turn s)) (Mid meaning s (notification_input n))
 unfolding opened_at open_noted
-open-path-cases meaning s n document (Err fault) named reads is = logged-mid meaning s n _ _ (other-name n.method _ _ named refl) (rw (named, reads, is) refl)
-open-path-cases meaning s n document (Ok path) named reads is =
+opened-cases meaning s n document (Err fault) told is = logged-mid meaning s n _ _ (rw told refl) (rw (told, is) refl)
+opened-cases meaning s n document (Ok path) told is =
     noted-cases meaning s n DuplicateOpen path document.version document.text (is_some (map.get s.versions path))
-    (record { other = other-name n.method _ _ named refl; texts = rw (named, reads, is) refl; versions = rw (named, reads, is) refl })
+    (record { silent = rw told refl; texts = rw (told, is) refl; versions = rw (told, is) refl })
 
-opened-cases : (meaning : Meaning) (s : State) (n : Notification) (o : Option DidOpen) → same_text n.method (codes "textDocument/didOpen") ≡ true → opened_of n.params ≡ o
-    → IfOk (opened o n.method (counted_turn s)) (Mid meaning s (notification_input n))
-unfolding opened
-opened-cases meaning s n None named reads = logged-mid meaning s n _ _ (other-name n.method _ _ named refl) (rw (named, reads) refl)
-opened-cases meaning s n (Some document) named reads = open-path-cases meaning s n document (path_of document.uri) named reads refl
-
--- the notification is a change
-record IsChange (n : Notification) : Type 0 where
-  unlike : same_text n.method (codes "textDocument/didOpen") ≡ false
-  named : same_text n.method (codes "textDocument/didChange") ≡ true
-  other : same_text n.method (codes "$/cancelRequest") ≡ false
-
-is_open-cases : (meaning : Meaning) (s : State) (n : Notification) (change : DidChange) (path : List ℕ) (b : Bool) → IsChange n → changed_of n.params ≡ Some change → path_of change.uri ≡ Ok path → is_some (map.get s.versions path) ≡ b
+is_open-cases : (meaning : Meaning) (s : State) (n : Notification) (change : DidChange) (path : List ℕ) (b : Bool) → notice_of n ≡ Changed change → path_of change.uri ≡ Ok path → is_some (map.get s.versions path) ≡ b
     → IfOk (if b then edited path change (counted_turn s) else Ok (logged UnexpectedChange path (counted_turn s))) (Mid meaning s (notification_input n))
 unfolding edited edited_by skip_noted
-is_open-cases meaning s n change path true named reads is stays =
+is_open-cases meaning s n change path true told is stays =
     let held = map.get s.host.world.texts path in
     noted-cases meaning s n SkippedChange path change.version (text_after change.changes held) (has_skipped change.changes held)
-    (record { other = named.other; texts = rw (named.unlike, named.named, reads, is, stays) refl; versions = rw (named.unlike, named.named, reads, is, stays) refl })
-is_open-cases meaning s n change path false named reads is shut = logged-mid meaning s n _ _ named.other (rw (named.unlike, named.named, reads, is, shut) refl)
+    (record { silent = rw told refl; texts = rw (told, is, stays) refl; versions = rw (told, is, stays) refl })
+is_open-cases meaning s n change path false told is shut = logged-mid meaning s n _ _ (rw told refl) (rw (told, is, shut) refl)
 
-change-path-cases : (meaning : Meaning) (s : State) (n : Notification) (change : DidChange) (o : Result (List ℕ) UrlFault) → IsChange n → changed_of n.params ≡ Some change → path_of change.uri ≡ o
+changed-cases : (meaning : Meaning) (s : State) (n : Notification) (change : DidChange) (o : Result (List ℕ) UrlFault) → notice_of n ≡ Changed change → path_of change.uri ≡ o
     → IfOk (changed_at o change (counted_turn s)) (Mid meaning s (notification_input n))
 unfolding changed_at
-change-path-cases meaning s n change (Err fault) named reads is = logged-mid meaning s n _ _ named.other (rw (named.unlike, named.named, reads, is) refl)
-change-path-cases meaning s n change (Ok path) named reads is = is_open-cases meaning s n change path (is_some (map.get s.versions path)) named reads is refl
+changed-cases meaning s n change (Err fault) told is = logged-mid meaning s n _ _ (rw told refl) (rw (told, is) refl)
+changed-cases meaning s n change (Ok path) told is = is_open-cases meaning s n change path (is_some (map.get s.versions path)) told is refl
 
-changed-cases : (meaning : Meaning) (s : State) (n : Notification) (o : Option DidChange) → IsChange n → changed_of n.params ≡ o
-    → IfOk (changed o n.method (counted_turn s)) (Mid meaning s (notification_input n))
-unfolding changed
-changed-cases meaning s n None named reads = logged-mid meaning s n _ _ named.other (rw (named.unlike, named.named, reads) refl)
-changed-cases meaning s n (Some change) named reads = change-path-cases meaning s n change (path_of change.uri) named reads refl
-
--- the notification cancels a request
-record IsCancel (n : Notification) : Type 0 where
-  no_open : same_text n.method (codes "textDocument/didOpen") ≡ false
-  no_change : same_text n.method (codes "textDocument/didChange") ≡ false
-  named : same_text n.method (codes "$/cancelRequest") ≡ true
-
-waits-cases : (meaning : Meaning) (s : State) (n : Notification) (id : RequestId) (b : Bool) → IsCancel n → cancel_of n.params ≡ Some id → is_pending id s.pending ≡ b
+cancel-cases : (meaning : Meaning) (s : State) (n : Notification) (id : RequestId) (b : Bool) → notice_of n ≡ Cancel id → is_pending id s.pending ≡ b
     → Mid meaning s (notification_input n) (if b then answered id (canceled_by_client id) (counted_turn s) else counted_turn s)
-waits-cases meaning s n id true named reads waits =
-    notification-mid meaning s n (says (canceled_by_client id)) _ (rw (named.named, reads, waits) refl) (rw (named.no_open, named.no_change) refl) (answer-settles id (canceled_by_client id) (counted_turn s) refl)
-waits-cases meaning s n id false named reads none =
-    notification-mid meaning s n silent _ (rw (named.named, reads, none) refl) (rw (named.no_open, named.no_change) refl) (nothing-settles (counted_turn s))
+cancel-cases meaning s n id true told waits =
+    notification-mid meaning s n (says (canceled_by_client id)) _ (rw (told, waits) refl) (rw told refl) (answer-settles id (canceled_by_client id) (counted_turn s) refl)
+cancel-cases meaning s n id false told none = notification-mid meaning s n silent _ (rw (told, none) refl) (rw told refl) (nothing-settles (counted_turn s))
 
-cancel-cases : (meaning : Meaning) (s : State) (n : Notification) (o : Option RequestId) → IsCancel n → cancel_of n.params ≡ o → Mid meaning s (notification_input n) (cancelled o n.method (counted_turn s))
-unfolding cancelled
-cancel-cases meaning s n None named reads = notification-mid meaning s n silent _ (rw (named.named, reads) refl) (rw (named.no_open, named.no_change) refl) (log-settles _ _ (counted_turn s))
-cancel-cases meaning s n (Some id) named reads = waits-cases meaning s n id (is_pending id s.pending) named reads refl
-
-other-cases : (meaning : Meaning) (s : State) (n : Notification) (b c : Bool) → same_text n.method (codes "textDocument/didOpen") ≡ false → same_text n.method (codes "textDocument/didChange") ≡ false → same_text n.method (codes "$/cancelRequest") ≡ b
-    → IfOk {E = Counter} (if b then Ok (cancelled (cancel_of n.params) n.method (counted_turn s)) else if c then Ok (counted_turn s) else Ok (logged UnhandledNotification n.method (counted_turn s))) (Mid meaning s (notification_input n))
-other-cases meaning s n true c no_open no_change named = cancel-cases meaning s n (cancel_of n.params) (record { no_open = no_open; no_change = no_change; named = named }) refl
-other-cases meaning s n false true no_open no_change other = notification-mid meaning s n silent _ (rw other refl) (rw (no_open, no_change) refl) (nothing-settles (counted_turn s))
-other-cases meaning s n false false no_open no_change other = logged-mid meaning s n _ _ other (rw (no_open, no_change) refl)
-
-change-cases : (meaning : Meaning) (s : State) (n : Notification) (b : Bool) → same_text n.method (codes "textDocument/didOpen") ≡ false → same_text n.method (codes "textDocument/didChange") ≡ b
-    → IfOk (if b then changed (changed_of n.params) n.method (counted_turn s) else if same_text n.method (codes "$/cancelRequest") then Ok (cancelled (cancel_of n.params) n.method (counted_turn s))
-    else if starts_with nat_eq n.method (codes "$/") then Ok (counted_turn s) else Ok (logged UnhandledNotification n.method (counted_turn s))) (Mid meaning s (notification_input n))
-change-cases meaning s n true no_open named = changed-cases meaning s n (changed_of n.params) (record { unlike = no_open; named = named; other = other-name n.method _ _ named refl }) refl
-change-cases meaning s n false no_open other = other-cases meaning s n (same_text n.method (codes "$/cancelRequest")) (starts_with nat_eq n.method (codes "$/")) no_open other refl
-
-notify-cases : (meaning : Meaning) (s : State) (n : Notification) (b : Bool) → same_text n.method (codes "textDocument/didOpen") ≡ b
-    → IfOk (if b then opened (opened_of n.params) n.method (counted_turn s) else if same_text n.method (codes "textDocument/didChange") then changed (changed_of n.params) n.method (counted_turn s)
-    else if same_text n.method (codes "$/cancelRequest") then Ok (cancelled (cancel_of n.params) n.method (counted_turn s))
-    else if starts_with nat_eq n.method (codes "$/") then Ok (counted_turn s) else Ok (logged UnhandledNotification n.method (counted_turn s))) (Mid meaning s (notification_input n))
-notify-cases meaning s n true named = opened-cases meaning s n (opened_of n.params) named refl
-notify-cases meaning s n false other = change-cases meaning s n (same_text n.method (codes "textDocument/didChange")) other refl
+notice-cases : (meaning : Meaning) (s : State) (n : Notification) (notice : Notice) → notice_of n ≡ notice → IfOk (noticed notice n.method (counted_turn s)) (Mid meaning s (notification_input n))
+unfolding noticed cancelled
+notice-cases meaning s n (Opened document) told = opened-cases meaning s n document (path_of document.uri) told refl
+notice-cases meaning s n (Changed change) told = changed-cases meaning s n change (path_of change.uri) told refl
+notice-cases meaning s n (Cancel id) told = cancel-cases meaning s n id (is_pending id s.pending) told refl
+notice-cases meaning s n Malformed told = logged-mid meaning s n _ _ (rw told refl) (rw told refl)
+notice-cases meaning s n Unhandled told = logged-mid meaning s n _ _ (rw told refl) (rw told refl)
+notice-cases meaning s n Silent told = notification-mid meaning s n silent _ (rw told refl) (rw told refl) (nothing-settles (counted_turn s))
 
 -- ---- whole turns
 
@@ -394,15 +358,16 @@ settled-mid meaning s input done u number is same closes stays a = record {
   jobs = a.out;
   handed = a.given ∙ ap (λ (js : List Job). s.jobs_given + length js) (sym a.spawns);
   shutdown = ap (λ (t : State). t.shutdown) a.same ∙ sym (stays u.out.messages);
+  loading = ap (λ (t : State). t.loading) a.same;
   unrevised = a.unrevised;
   later = omega (arith, ap (λ (t : State). t.host.revision) a.same);
   raised = inl (ap (λ (t : State). t.host) a.same);
 }
 
 message-mid : (meaning : Meaning) (s : State) (message : Message) → IfOk (received meaning message (counted_turn s)) (Mid meaning s (Next (Lsp message)))
-unfolding received notified
+unfolding received
 message-mid meaning s (RequestMessage r) = requested-mid meaning s r
-message-mid meaning s (NotificationMessage n) = notify-cases meaning s n (same_text n.method (codes "textDocument/didOpen")) refl
+message-mid meaning s (NotificationMessage n) = notice-cases meaning s n (notice_of n) refl
 message-mid meaning s (ResponseMessage r) = settled-mid meaning s (Next (Lsp (ResponseMessage r))) silent _ refl refl refl (λ ms. refl) (λ ms. refl) (log-settles _ _ (counted_turn s))
 
 batch-mid : (meaning : Meaning) (s : State) (batch : List TaskMsg) → IfOk (batched meaning batch (counted_turn s)) (Mid meaning s (Next (Task batch)))
@@ -427,7 +392,7 @@ counted-gives s f Q q = and_then-and_then (next_number s.turns _) _ f Q (IfOk-ne
 
 mid-fits : (meaning : Meaning) (s : State) (input : Input) → IfOk (taken_in meaning input (begun s)) (Mid meaning s input)
 unfolding taken_in
-mid-fits meaning s Start = record { turns = refl; config = refl; does = refl; texts = refl; versions = refl; pending = refl; jobs = refl; handed = omega arith; shutdown = refl; unrevised = λ q. refl; later = omega arith; raised = inl refl }
+mid-fits meaning s Start = record { turns = refl; config = refl; does = refl; texts = refl; versions = refl; pending = refl; jobs = refl; handed = omega arith; shutdown = refl; loading = refl; unrevised = λ q. refl; later = omega arith; raised = inl refl }
 mid-fits meaning s (Next event) = counted-gives s _ (Mid meaning s (Next event)) (event-mid meaning s event)
 
 -- a turn of the machine is a row, and what it leaves is the next place
@@ -445,7 +410,7 @@ close-cases meaning s input u true h mid =
     let same : u.state.host.revision ≡ revision_after u.out.commands s.host.revision = eqb-true _ _ h ∙ sym (mid.unrevised s.host.revision) in
     record {
       does = mid.does;
-      place = same_place _ _ mid.turns mid.texts mid.versions same mid.pending (ap (with_jobs (spawned u.out.commands)) mid.jobs) mid.handed mid.shutdown;
+      place = same_place _ _ mid.turns mid.texts mid.versions same mid.pending (ap (with_jobs (spawned u.out.commands)) mid.jobs) mid.handed mid.shutdown mid.loading;
       config = mid.config;
       later = mid.later;
       raised = mid.raised;
@@ -456,7 +421,7 @@ close-cases meaning s input u false h mid =
     record {
       does = rw jobs mid.does;
       place = same_place _ _ mid.turns mid.texts mid.versions (sym revision) mid.pending
-          (ap (with_jobs (spawned u.out.commands)) mid.jobs ∙ ap (λ js. with_jobs js (after_input input s.jobs)) (sym jobs)) (mid.handed ∙ ap (λ js. s.jobs_given + length js) (sym jobs)) mid.shutdown;
+          (ap (with_jobs (spawned u.out.commands)) mid.jobs ∙ ap (λ js. with_jobs js (after_input input s.jobs)) (sym jobs)) (mid.handed ∙ ap (λ js. s.jobs_given + length js) (sym jobs)) mid.shutdown mid.loading;
       config = mid.config;
       later = mid.later;
       raised = mid.raised;

@@ -3,8 +3,7 @@ use Rattle.std.proofs.Common.{◌≡◌, ℕ, ◌+◌, List, [], ◌∷◌, ◌+
 use Rattle.std.proofs.lemmas.List.{length-append}
 use Rattle.std.specs.Prelude.{Ok, IfOk, Option, None, Some, ◌&&◌, not, ltb, if◌then◌else◌}
 use Rattle.std.specs.FinMap as map
-use Rattle.serde_json.specs.Data.{Data}
-use Rattle.plain.specs.Plain.{is_plain}
+use Rattle.serde_json.specs.Data.{Data, null}
 use Rattle.lsp_frame.specs.Pending.{id_of}
 use Rattle.lsp_frame.specs.declared.message.Message.{Message}
 use Rattle.lsp_frame.specs.declared.message.RequestId.{RequestId}
@@ -12,8 +11,16 @@ use Rattle.lsp_frame.specs.declared.message.Response.{Response}
 use Rattle.ra_config.specs.Config.{ConfigData}
 use Rattle.analysis_host.specs.Answers.{Finding, answer, fault}
 use Rattle.analysis_host.specs.declared.ask.Answer.TheVariants.{Json as JsonAnswer}
-use Rattle.analysis_host.specs.declared.ask.Ask.TheVariants.{Request as RequestAsk}
-use Rattle.analysis_host.specs.declared.ask.RowId.{RowId}
+use Rattle.method_table.specs.Plans.{plan}
+use Rattle.method_table.specs.Rows.{class_of, retries, default_of}
+use Rattle.method_table.specs.declared.class.Class.{Class}
+use Rattle.method_table.specs.declared.class.Class.TheVariants as classes
+use Rattle.method_table.specs.declared.class.PoolClass.{PoolClass}
+use Rattle.method_table.specs.declared.planned.Plan.{Plan}
+use Rattle.method_table.specs.declared.planned.Plan.TheVariants as plans
+use Rattle.method_table.specs.declared.row_id.RowId.{RowId}
+use Rattle.state_params.specs.StateRequests.{request_of}
+use Rattle.state_params.specs.declared.request.StateRequest.{StateRequest}
 use Rattle.session_port.specs.Jobs.{Jobs, ticket_of, final_of, fitting_job, after_message, after_batch}
 use Rattle.session_port.specs.Record.{spawned}
 use Rattle.session_port.specs.declared.command.LogCode.{LogCode}
@@ -25,12 +32,12 @@ use Rattle.session_port.specs.declared.job.JobKind.TheVariants.{Request as Reque
 use Rattle.session_port.specs.declared.job.JobResult.{JobResult}
 use Rattle.session_port.specs.declared.job.JobResult.TheVariants.{Value, Fault, Cancelled, NoMemory}
 use Rattle.session_port.specs.declared.job.JobValue.TheVariants.{Json}
-use Rattle.session_model.specs.Headline.{Place, Reaction, revision_after, closed_with, closed_by, silent, says, joined, hands_over, granted_row, class_row, stopped_row, result_row, ticket_row, final_row, message_row, place_past, batch_row}
-use Rattle.session_model.specs.Machine.{Working, logged, ordered, replied, answered, dispatched, granted, classed, unknown, retried, stopped, settled, delivered, ended, taken, batched}
-use Rattle.session_model.specs.Meaning.{Meaning}
-use Rattle.session_model.specs.Methods.{is_on_loop, retries}
-use Rattle.session_model.specs.Replies.{invalid_params, unknown_request, shut_already, content_modified, finding_reply, finished_reply}
-use Rattle.session_model.specs.State.{State, snapshot_of}
+use Rattle.session_model.specs.Headline.{Place, Reaction, revision_after, closed_with, closed_by, silent, says, joined, snapshot_at, hands_over, if_read, state_row, planned_row, class_row, stopped_row, result_row, ticket_row, final_row, message_row, place_past, batch_row}
+use Rattle.session_model.specs.Machine.{Working, logged, ordered, replied, answered, dispatched, echoed, queried, submitted, stated, planned, classed, unknown, stopped, settled, delivered, ended, taken, batched}
+use Rattle.session_model.specs.Meaning.{Meaning, can_read}
+use Rattle.dispatch.specs.Responses.{response_with}
+use Rattle.session_model.specs.Replies.{invalid_params, unknown_request, shut_already, stopped_reply, finding_reply, finished_reply}
+use Rattle.session_model.specs.State.{State}
 use Rattle.session_laws.proofs.Appends.{closed_by-append, spawned-append, revision-append}
 use Rattle.session_laws.proofs.Fitting.{after_message-none, after_message-some}
 use Rattle.session_laws.proofs.Results.{IfOk-and_then, IfOk-next, IfOk-weaker}
@@ -45,6 +52,7 @@ place_at n s = record {
   out = s.jobs;
   handed = s.jobs_given;
   shutdown = s.shutdown;
+  loading = s.loading;
 }
 
 -- this was done, and these jobs of earlier turns are out; nothing else changed but the log
@@ -117,49 +125,72 @@ unknown-settles id method w =
     settled-on w (answered id (unknown_request id) w) (logged UnknownRequest method (answered id (unknown_request id) w)) (says (unknown_request id)) silent w.state.jobs w.state.jobs
     (answer-settles id (unknown_request id) w refl) (log-settles UnknownRequest method (answered id (unknown_request id) w))
 
-dispatch-settles : (n ticket : ℕ) (row : RowId) (params : Data) (w : Working) → IfOk (dispatched ticket row params w) (λ v. Settled w v (hands_over w.state.config (place_at n w.state) ticket row params) w.state.jobs)
+dispatch-settles : (n : ℕ) (class : PoolClass) (ticket : ℕ) (row : RowId) (params : Data) (w : Working)
+    → IfOk (dispatched class ticket row params w) (λ v. Settled w v (hands_over w.state.jobs_given (snapshot_at w.state.config (place_at n w.state)) class ticket row params) w.state.jobs)
 unfolding dispatched ordered
-dispatch-settles n ticket row params w = IfOk-next w.state.jobs_given _ _ (λ v. Settled w v (hands_over w.state.config (place_at n w.state) ticket row params) w.state.jobs) (record {
-  messages = sym (append-nil _);
-  spawns = spawned-append w.out.commands _;
-  pending = refl;
-  out = refl;
-  given = refl;
-  unrevised = λ r. revision-append w.out.commands _ r;
-  same = refl;
-})
+dispatch-settles n class ticket row params w =
+    let done = hands_over w.state.jobs_given (snapshot_at w.state.config (place_at n w.state)) class ticket row params in
+    IfOk-next w.state.jobs_given _ _ (λ v. Settled w v done w.state.jobs) (record {
+      messages = sym (append-nil _);
+      spawns = spawned-append w.out.commands _;
+      pending = refl;
+      out = refl;
+      given = refl;
+      unrevised = λ r. revision-append w.out.commands _ r;
+      same = refl;
+    })
 
-grant-settles : (meaning : Meaning) (n ticket : ℕ) (id : RequestId) (row : RowId) (params : Data) (w : Working) (b : Bool)
-    → IfOk (if b then Ok (answered id (finding_reply id (meaning.answer (snapshot_of w.state) (RequestAsk row params))) w) else dispatched ticket row params w)
-    (λ v. Settled w v (if b then says (finding_reply id (meaning.answer (snapshot_of w.state) (RequestAsk row params))) else hands_over w.state.config (place_at n w.state) ticket row params) w.state.jobs)
-grant-settles meaning n ticket id row params w true = answer-settles id _ w (finding-id id _)
-grant-settles meaning n ticket id row params w false = dispatch-settles n ticket row params w
+-- a request is answered where its params can be read, and refused else
+read-settles : (reads : Bool) (id : RequestId) (response : Response) (w : Working) → response.id ≡ Some id
+    → Settled w (if reads then answered id response w else answered id (invalid_params id) w) (if_read reads id (says response)) w.state.jobs
+read-settles true id response w is = answer-settles id response w is
+read-settles false id response w is = answer-settles id (invalid_params id) w refl
 
-class-cases : (meaning : Meaning) (n ticket : ℕ) (id : RequestId) (row : RowId) (params : Data) (w : Working) (b : Bool)
-    → IfOk (if b then granted meaning ticket id row params w else Ok (answered id (invalid_params id) w))
-    (λ v. Settled w v (if b then granted_row meaning w.state.config (place_at n w.state) ticket id row params else says (invalid_params id)) w.state.jobs)
-unfolding granted
-class-cases meaning n ticket id row params w true = grant-settles meaning n ticket id row params w (is_on_loop row)
-class-cases meaning n ticket id row params w false = answer-settles id (invalid_params id) w refl
+state-settles : (id : RequestId) (o : Option StateRequest) (w : Working) → Settled w (stated id o w) (state_row id o) w.state.jobs
+unfolding stated
+state-settles id None w = answer-settles id (invalid_params id) w refl
+state-settles id (Some request) w = answer-settles id (response_with id null) w refl
+
+submit-settles : (n : ℕ) (reads : Bool) (class : PoolClass) (ticket : ℕ) (id : RequestId) (row : RowId) (params : Data) (w : Working)
+    → IfOk (submitted reads class ticket id row params w)
+    (λ v. Settled w v (if_read reads id (hands_over w.state.jobs_given (snapshot_at w.state.config (place_at n w.state)) class ticket row params)) w.state.jobs)
+unfolding submitted
+submit-settles n true class ticket id row params w = dispatch-settles n class ticket row params w
+submit-settles n false class ticket id row params w = answer-settles id (invalid_params id) w refl
+
+plan-settles : (meaning : Meaning) (n : ℕ) (p : Plan) (ticket : ℕ) (id : RequestId) (row : RowId) (params : Data) (w : Working)
+    → IfOk (planned meaning p ticket id row params w)
+    (λ v. Settled w v (planned_row meaning w.state.jobs_given (snapshot_at w.state.config (place_at n w.state)) p ticket id row params) w.state.jobs)
+unfolding planned echoed queried
+plan-settles meaning n plans.Shutdown ticket id row params w = state-settles id (request_of row params) w
+plan-settles meaning n plans.Refuse ticket id row params w = answer-settles id (shut_already id) w refl
+plan-settles meaning n plans.Unknown ticket id row params w = answer-settles id (unknown_request id) w refl
+plan-settles meaning n plans.Default ticket id row params w = answer-settles id (response_with id (default_of row)) w refl
+plan-settles meaning n plans.Identity ticket id row params w = read-settles (can_read meaning row params) id (response_with id params) w refl
+plan-settles meaning n plans.State ticket id row params w = state-settles id (request_of row params) w
+plan-settles meaning n plans.OnLoop ticket id row params w = read-settles (can_read meaning row params) id _ w (finding-id id _)
+plan-settles meaning n (plans.Job class) ticket id row params w = submit-settles n (can_read meaning row params) class ticket id row params w
 
 -- a request of a row
 pub class-settles : (meaning : Meaning) (n ticket : ℕ) (id : RequestId) (row : RowId) (params : Data) (w : Working)
     → IfOk (classed meaning ticket id row params w) (λ v. Settled w v (class_row meaning w.state.config (place_at n w.state) ticket id row params) w.state.jobs)
 unfolding classed
-class-settles meaning n ticket id row params w = class-cases meaning n ticket id row params w (is_plain params && meaning.decodes row params)
+class-settles meaning n ticket id row params w = plan-settles meaning n (plan (Some row) w.state.loading false w.state.shutdown) ticket id row params w
 
-retry-cases : (meaning : Meaning) (n ticket : ℕ) (id : RequestId) (row : RowId) (params : Data) (w : Working) (b : Bool)
-    → IfOk (if b then Ok (answered id (shut_already id) w) else classed meaning ticket id row params w)
-    (λ v. Settled w v (if b then says (shut_already id) else class_row meaning w.state.config (place_at n w.state) ticket id row params) w.state.jobs)
-retry-cases meaning n ticket id row params w true = answer-settles id (shut_already id) w refl
-retry-cases meaning n ticket id row params w false = class-settles meaning n ticket id row params w
+pub stopped-id : (class : Class) (id : RequestId) → (stopped_reply class id).id ≡ Some id
+stopped-id classes.State id = refl
+stopped-id classes.OnLoop id = refl
+stopped-id classes.Formatting id = refl
+stopped-id classes.Latency id = refl
+stopped-id classes.DocumentDiagnostic id = refl
+stopped-id classes.Worker id = refl
+stopped-id classes.Identity id = refl
 
 stop-cases : (meaning : Meaning) (n ticket : ℕ) (id : RequestId) (row : RowId) (params : Data) (w : Working) (b : Bool)
-    → IfOk (if b then Ok (answered id (content_modified id) w) else retried meaning ticket id row params w)
-    (λ v. Settled w v (if b then says (content_modified id) else if w.state.shutdown then says (shut_already id) else class_row meaning w.state.config (place_at n w.state) ticket id row params) w.state.jobs)
-unfolding retried
-stop-cases meaning n ticket id row params w true = answer-settles id (content_modified id) w refl
-stop-cases meaning n ticket id row params w false = retry-cases meaning n ticket id row params w w.state.shutdown
+    → IfOk (if b then Ok (answered id (stopped_reply (class_of row) id) w) else classed meaning ticket id row params w)
+    (λ v. Settled w v (if b then says (stopped_reply (class_of row) id) else class_row meaning w.state.config (place_at n w.state) ticket id row params) w.state.jobs)
+stop-cases meaning n ticket id row params w true = answer-settles id (stopped_reply (class_of row) id) w (stopped-id (class_of row) id)
+stop-cases meaning n ticket id row params w false = class-settles meaning n ticket id row params w
 
 stop-settles : (meaning : Meaning) (n : ℕ) (id : RequestId) (revision : ℕ) (kind : JobKind) (w : Working)
     → IfOk (stopped meaning id revision kind w) (λ v. Settled w v (stopped_row meaning w.state.config (place_at n w.state) id revision kind) w.state.jobs)
@@ -217,8 +248,8 @@ message-settles meaning config place message w settings here =
     (job-settles meaning place.number (fitting_job message w.state.jobs) message w refl))
 
 pub same_place : (p q : Place) → p.number ≡ q.number → p.documents.texts ≡ q.documents.texts → p.documents.versions ≡ q.documents.versions → p.revision ≡ q.revision → p.pending ≡ q.pending → p.out ≡ q.out → p.handed ≡ q.handed
-    → p.shutdown ≡ q.shutdown → p ≡ q
-same_place p q number texts versions revision pending out handed shutdown = λ i. record {
+    → p.shutdown ≡ q.shutdown → p.loading ≡ q.loading → p ≡ q
+same_place p q number texts versions revision pending out handed shutdown loading = λ i. record {
   number = number i;
   documents = record { texts = texts i; versions = versions i };
   revision = revision i;
@@ -226,13 +257,14 @@ same_place p q number texts versions revision pending out handed shutdown = λ i
   out = out i;
   handed = handed i;
   shutdown = shutdown i;
+  loading = loading i;
 }
 
 -- what a message leaves
 pub settled-place : (n : ℕ) (w v : Working) (message : TaskMsg) (done : Reaction) → Settled w v done (after_message message w.state.jobs) → place_at n v.state ≡ place_past message done (place_at n w.state)
 settled-place n w v message done a = same_place _ _ refl
     (ap (λ (s : State). s.host.world.texts) a.same) (ap (λ (s : State). s.versions) a.same) (ap (λ (s : State). s.host.revision) a.same)
-    a.pending a.out a.given (ap (λ (s : State). s.shutdown) a.same)
+    a.pending a.out a.given (ap (λ (s : State). s.shutdown) a.same) (ap (λ (s : State). s.loading) a.same)
 
 -- a batch is its messages, one after another
 pub batch-settles : (meaning : Meaning) (config : ConfigData) (place : Place) (batch : List TaskMsg) (w : Working) → w.state.config ≡ config → place_at place.number w.state ≡ place

@@ -1,11 +1,14 @@
 -- Which requests a run answers, each by its ticket, the number of the turn that read it.
 use Rattle.std.specs.Prelude.{◌≡◌, ◌⊎◌, ℕ, List, [], ◌∷◌, ◌++◌, Bool, true, false, Option, None, Some}
+use Rattle.std.specs.FinMap as map
 use Rattle.std.specs.Option.{option_to_list}
-use Rattle.lsp_frame.specs.Pending.{Pending, is_pending, registered, ticket_of}
+use Rattle.lsp_frame.specs.Pending.{Pending, id_of, is_pending, registered, ticket_of as pending_ticket}
 use Rattle.lsp_frame.specs.declared.message.RequestId.{RequestId}
 use Rattle.lsp_frame.specs.declared.message.Response.{Response}
 use Rattle.lsp_frame.specs.declared.message.Message.{Message}
 use Rattle.lsp_frame.specs.declared.message.Message.TheVariants.{Request as RequestMessage, Notification as NotificationMessage, Response as ResponseMessage}
+use Rattle.session_port.specs.Jobs.{Jobs, ticket_of}
+use Rattle.session_port.specs.declared.job.Job.{Job}
 use Rattle.session_model.specs.Headline.{Place, closed_with, place_after}
 use Rattle.session_model.specs.Run.{Turn}
 use Rattle.session_model.specs.declared.input.Event.TheVariants.{Lsp, Task}
@@ -15,7 +18,7 @@ use Rattle.session_model.specs.declared.input.Input.TheVariants.{Start, Next}
 -- the request that a response answers: the pending one of its id
 abbrev pub answered_with : Option RequestId → Pending → List ℕ
 answered_with None pending = []
-answered_with (Some id) pending = option_to_list (ticket_of id pending)
+answered_with (Some id) pending = option_to_list (pending_ticket id pending)
 
 -- those that messages answer, one after another
 abbrev pub answered_in : List Message → Pending → List ℕ
@@ -57,3 +60,12 @@ responses_in [] = []
 responses_in (ResponseMessage response ∷ messages) = response ∷ responses_in messages
 responses_in (RequestMessage r ∷ messages) = responses_in messages
 responses_in (NotificationMessage n ∷ messages) = responses_in messages
+
+-- the request of a ticket waits
+abbrev pub IsThere : ℕ → Pending → Type 0
+IsThere ticket pending = (id : RequestId) × (id_of ticket pending ≡ Some id)
+
+-- each job out is for a request that waits, or for one that was answered
+abbrev pub AreAccountedFor : Pending → List ℕ → Jobs → Type 0
+AreAccountedFor pending answered out =
+    (number : ℕ) (job : Job) → map.get out number ≡ Some job → IsThere (ticket_of job.kind) pending ⊎ IsAmong answered (ticket_of job.kind)

@@ -10,6 +10,7 @@ use Rattle.session_model.specs.Headline.{Place, AreHeld, AreHandedOver, Revises,
 use Rattle.session_model.specs.Meaning.{Meaning}
 use Rattle.session_model.specs.Run.{Turn}
 use Rattle.session_model.specs.State.{State}
+use Rattle.session_laws.specs.Answering.{answered_by, AreAccountedFor}
 
 -- the ids that wait are distinct, and the turns of their tickets were before the next one; the jobs out have numbers that were given, are for
 -- turns before the next one, and have snapshots of no later revision; and each request that waits is held by exactly one of them
@@ -34,6 +35,7 @@ place_of s = record {
   out = s.jobs;
   handed = s.jobs_given;
   shutdown = s.shutdown;
+  loading = s.loading;
 }
 
 -- a turn of the machine is its row of the reply table, and what it leaves is the next place
@@ -44,9 +46,11 @@ pub record StepFits (meaning : Meaning) (s : State) (turn : Turn) (new : State) 
   pub later : s.host.revision ≤ new.host.revision
   pub revised : Revises (place_of s) (place_of new)
 
--- after some turns of a fresh machine: it stands where the lists say, the invariant holds, and each job out was handed over by one of the turns
+-- after some turns of a fresh machine: it stands where the lists say, the invariant holds, and each job out was handed over by one of the turns,
+-- for a request that waits or was answered
 pub record Stands (config : ConfigData) (turns : List Turn) (s : State) : Type 0 where
   pub settings : s.config ≡ config
   pub place : place_of s ≡ place_after_all turns beginning
   pub sound : SoundAt (place_after_all turns beginning)
   pub handed : AreHandedOver config turns (place_after_all turns beginning).out
+  pub accounted : let place = place_after_all turns beginning in AreAccountedFor place.pending (answered_by turns beginning) place.out

@@ -46,7 +46,8 @@ pub fn no_request_is_answered_twice()
         → length (answered_in messages pending) ≡ length (responses_in messages) }
 {}
 
-/// The turn invariant holds after each list of the machine's turns, and the machine stands where these lists say.
+/// The turn invariant holds after each list of the machine's turns, and the machine stands where these lists say. Each job out
+/// was handed over by one of the turns, for a request that waits or was answered.
 pub fn runs_keep_the_invariant()
     ensures { (meaning : Meaning) (config : ConfigData) (turns : List Turn) (last : State)
         → Runs meaning (fresh config) turns last → Stands config turns last }

@@ -1,5 +1,5 @@
 -- What a `textDocument/didChange` says (LSP 3.17, DidChangeTextDocumentParams), and what it makes of a document's text.
-use Rattle.std.specs.Prelude.{ℕ, List, [], ◌∷◌, codes, Bool, if◌then◌else◌, Option, Some, None, option_map, option_and_then, unwrap_or}
+use Rattle.std.specs.Prelude.{◌≡◌, ◌≢◌, ℕ, List, [], ◌∷◌, codes, Bool, if◌then◌else◌, Option, Some, None, option_map, option_and_then, unwrap_or}
 use Rattle.plain.specs.Reading.{as_i32, is_null}
 use Rattle.plain.specs.Plain.{is_plain}
 use Rattle.serde_json.specs.Data.{Data, Members, Items, no_items, item}
@@ -59,3 +59,8 @@ text_after changes held = document columns text_limit (text_held held) changes
 -- one of them was skipped
 unfoldable pub has_skipped : List ContentChange → Option (List ℕ) → Bool
 has_skipped changes held = skips columns text_limit (text_held held) changes
+
+-- the text, where it is another one than the one held
+abbrev pub IsNews : Option (List ℕ) → List ℕ → Option (List ℕ) → Type 0
+IsNews held text None = held ≡ Some text
+IsNews held text (Some news) = (news ≡ text) × (held ≢ Some text)

@@ -1,8 +1,8 @@
 -- What a session's record says of requests and answers: by the lists of inputs, messages and commands alone.
-use Rattle.std.specs.Prelude.{◌≡◌, ◌≢◌, ◌≤◌, ℕ, ◌+◌, ◌-◌, ◌^◌, ◌⊎◌, ◌&&◌, ℤ, List, [], ◌∷◌, ◌++◌, codes, length, Contains, Bool, true, false, not, ltb, IsTrue, Option, None, Some, is_some, Result, Ok, Err, if◌then◌else◌}
+use Rattle.std.specs.Prelude.{◌≡◌, ◌≢◌, ◌≤◌, ℕ, ◌+◌, ◌-◌, ◌^◌, ◌⊎◌, ◌&&◌, ℤ, List, [], ◌∷◌, ◌++◌, length, Contains, Bool, true, false, not, ltb}
+use Rattle.std.specs.Prelude.{IsTrue, Option, None, Some, is_some, Result, Ok, Err, if◌then◌else◌}
 use Rattle.std.specs.FinMap as map
 use Rattle.serde_json.specs.Data.{Data, null}
-use Rattle.plain.specs.Plain.{is_plain}
 use Rattle.plain.specs.Reading.{is_null}
 use Rattle.docs_vfs.specs.Paths.{path_cmp}
 use Rattle.docs_vfs.specs.FileUrls.{path_of}
@@ -11,14 +11,21 @@ use Rattle.lsp_frame.specs.Reader.{Reader}
 use Rattle.lsp_frame.specs.Pending.{Pending, none_pending, is_pending, id_of, registered, closed}
 use Rattle.lsp_frame.specs.declared.message.RequestId.{RequestId}
 use Rattle.lsp_frame.specs.declared.message.Request.{Request}
-use Rattle.lsp_frame.specs.declared.message.Notification.{Notification}
 use Rattle.lsp_frame.specs.declared.message.Response.{Response}
 use Rattle.lsp_frame.specs.declared.message.Message.{Message}
 use Rattle.lsp_frame.specs.declared.message.Message.TheVariants.{Request as RequestMessage, Notification as NotificationMessage, Response as ResponseMessage}
 use Rattle.ra_config.specs.Config.{ConfigData}
 use Rattle.analysis_host.specs.SnapshotData.{SnapshotData}
 use Rattle.analysis_host.specs.declared.ask.Ask.TheVariants.{Request as RequestAsk}
-use Rattle.analysis_host.specs.declared.ask.RowId.{RowId}
+use Rattle.method_table.specs.Plans.{plan, is_shutdown}
+use Rattle.method_table.specs.Rows.{row_of, class_of, retries, default_of}
+use Rattle.method_table.specs.declared.class.PoolClass.{PoolClass}
+use Rattle.method_table.specs.declared.planned.Plan.{Plan}
+use Rattle.method_table.specs.declared.planned.Plan.TheVariants as plans
+use Rattle.method_table.specs.declared.row_id.RowId.{RowId}
+use Rattle.state_params.specs.StateRequests.{request_of}
+use Rattle.state_params.specs.Unit.{is_unit}
+use Rattle.state_params.specs.declared.request.StateRequest.{StateRequest}
 use Rattle.session_port.specs.Jobs.{Jobs, ticket_of, final_of, fitting_job, after_message}
 use Rattle.session_port.specs.Record.{HostCall, given_in, taken_in, spawned}
 use Rattle.session_port.specs.declared.command.Command.{Command}
@@ -28,15 +35,15 @@ use Rattle.session_port.specs.declared.job.Job.{Job}
 use Rattle.session_port.specs.declared.job.JobKind.{JobKind}
 use Rattle.session_port.specs.declared.job.JobKind.TheVariants.{Request as RequestJob}
 use Rattle.session_port.specs.declared.job.JobResult.{JobResult}
-use Rattle.session_model.specs.Course.{Course, Stop as CourseStop, takes, stops, waits, exit, client_gone, bad_frame, bad_message, end_of, session_course, bytes_in}
-use Rattle.session_model.specs.Cancelling.{cancel_of, is_unit}
-use Rattle.session_model.specs.Changing.{changed_of, text_after}
-use Rattle.session_model.specs.Meaning.{Meaning}
-use Rattle.session_model.specs.Methods.{row_of, class_of, is_on_loop, retries}
-use Rattle.session_model.specs.Opening.{opened_of}
-use Rattle.session_model.specs.Replies.{response_with, already_pending, shut_already, unknown_request, invalid_params, canceled_by_client, content_modified, finding_reply, finished_reply}
+use Rattle.session_model.specs.Course.{Course, Stop as CourseStop, takes, stops, waits, exit, client_gone, bad_frame, bad_message, end_of}
+use Rattle.session_model.specs.Course.{session_course, bytes_in}
+use Rattle.session_model.specs.Changing.{text_after}
+use Rattle.session_model.specs.Meaning.{Meaning, can_read}
+use Rattle.session_model.specs.Notices.{notice_of}
+use Rattle.dispatch.specs.Responses.{response_with}
+use Rattle.session_model.specs.Replies.{already_pending, shut_already, unknown_request, invalid_params, canceled_by_client}
+use Rattle.session_model.specs.Replies.{stopped_reply, finding_reply, finished_reply}
 use Rattle.session_model.specs.Run.{Turn, Told, AllRead, AsksLast, IsHonestInput, commands_of, fed_bytes, out_after, taking, telling}
-use Rattle.session_model.specs.Texts.{same_text}
 use Rattle.session_model.specs.declared.fault.Counter.{Counter}
 use Rattle.session_model.specs.declared.fault.Counter.TheVariants.{Turns, Bytes, Jobs as JobsCounter, Revisions}
 use Rattle.session_model.specs.declared.fault.SessionError.{SessionError}
@@ -46,6 +53,8 @@ use Rattle.session_model.specs.declared.input.Input.{Input}
 use Rattle.session_model.specs.declared.input.Input.TheVariants.{Start, Next}
 use Rattle.session_model.specs.declared.notice.DidChange.{DidChange}
 use Rattle.session_model.specs.declared.notice.DidOpen.{DidOpen}
+use Rattle.session_model.specs.declared.notice.Notice.{Notice}
+use Rattle.session_model.specs.declared.notice.Notice.TheVariants.{Opened, Changed, Cancel, Malformed, Unhandled, Silent}
 
 -- ---- what the lists say before a turn
 
@@ -68,16 +77,32 @@ pub record Place : Type 0 where
   pub handed : ℕ
   -- a request `shutdown` was answered with null
   pub shutdown : Bool
+  -- files are loading; nothing tells of it yet
+  pub loading : Bool
 
 abbrev pub no_documents : Documents
 no_documents = record { texts = map.empty; versions = map.empty }
 
 abbrev pub beginning : Place
-beginning = record { number = 1; documents = no_documents; revision = 0; pending = none_pending; out = map.empty; handed = 0; shutdown = false }
+beginning = record {
+  number = 1;
+  documents = no_documents;
+  revision = 0;
+  pending = none_pending;
+  out = map.empty;
+  handed = 0;
+  shutdown = false;
+  loading = false;
+}
 
 -- what a job works on that is handed over here
 abbrev pub snapshot_at : ConfigData → Place → SnapshotData
-snapshot_at config place = record { world = record { texts = place.documents.texts }; versions = place.documents.versions; config = config; revision = place.revision }
+snapshot_at config place = record {
+  world = record { texts = place.documents.texts };
+  versions = place.documents.versions;
+  config = config;
+  revision = place.revision;
+}
 
 -- ---- what a turn changes of it
 
@@ -88,31 +113,34 @@ number_after (Next event) number = number + 1
 -- a document is opened at a path
 abbrev pub opened_at : Result (List ℕ) UrlFault → DidOpen → Documents → Documents
 opened_at (Err fault) document documents = documents
-opened_at (Ok path) document documents = record { texts = map.insert documents.texts path document.text; versions = map.insert documents.versions path document.version }
-
-abbrev pub with_opened : Option DidOpen → Documents → Documents
-with_opened None documents = documents
-with_opened (Some document) documents = opened_at (path_of document.uri) document documents
+opened_at (Ok path) document documents = record {
+  texts = map.insert documents.texts path document.text;
+  versions = map.insert documents.versions path document.version;
+}
 
 -- a document is changed at a path, where it is open: its text is what the changes make of it, one after another
 abbrev pub changed_at : Result (List ℕ) UrlFault → DidChange → Documents → Documents
 changed_at (Err fault) change documents = documents
 changed_at (Ok path) change documents =
     if is_some (map.get documents.versions path)
-    then record { texts = map.insert documents.texts path (text_after change.changes (map.get documents.texts path)); versions = map.insert documents.versions path change.version }
+    then record {
+      texts = map.insert documents.texts path (text_after change.changes (map.get documents.texts path));
+      versions = map.insert documents.versions path change.version;
+    }
     else documents
 
-abbrev pub with_changed : Option DidChange → Documents → Documents
-with_changed None documents = documents
-with_changed (Some change) documents = changed_at (path_of change.uri) change documents
+abbrev pub documents_noticed : Notice → Documents → Documents
+documents_noticed (Opened document) documents = opened_at (path_of document.uri) document documents
+documents_noticed (Changed change) documents = changed_at (path_of change.uri) change documents
+documents_noticed (Cancel id) documents = documents
+documents_noticed Malformed documents = documents
+documents_noticed Unhandled documents = documents
+documents_noticed Silent documents = documents
 
 abbrev pub documents_after : Input → Documents → Documents
 documents_after Start documents = documents
 documents_after (Next (Lsp (RequestMessage r))) documents = documents
-documents_after (Next (Lsp (NotificationMessage n))) documents =
-    if same_text n.method (codes "textDocument/didOpen") then with_opened (opened_of n.params) documents
-    else if same_text n.method (codes "textDocument/didChange") then with_changed (changed_of n.params) documents
-    else documents
+documents_after (Next (Lsp (NotificationMessage n))) documents = documents_noticed (notice_of n) documents
 documents_after (Next (Lsp (ResponseMessage r))) documents = documents
 documents_after (Next (Task batch)) documents = documents
 
@@ -158,7 +186,7 @@ answers_null (NotificationMessage n ∷ messages) = answers_null messages
 
 abbrev pub shutdown_after : Input → List Message → Bool → Bool
 shutdown_after Start messages shutdown = shutdown
-shutdown_after (Next (Lsp (RequestMessage r))) messages shutdown = if same_text r.method (codes "shutdown") && answers_null messages then true else shutdown
+shutdown_after (Next (Lsp (RequestMessage r))) messages shutdown = if is_shutdown (row_of r.method) && answers_null messages then true else shutdown
 shutdown_after (Next (Lsp (NotificationMessage n))) messages shutdown = shutdown
 shutdown_after (Next (Lsp (ResponseMessage r))) messages shutdown = shutdown
 shutdown_after (Next (Task batch)) messages shutdown = shutdown
@@ -172,6 +200,7 @@ place_after turn place = record {
   out = out_after turn place.out;
   handed = place.handed + length (spawned turn.commands);
   shutdown = shutdown_after turn.input turn.messages place.shutdown;
+  loading = place.loading;
 }
 
 abbrev pub place_after_all : List Turn → Place → Place
@@ -197,26 +226,43 @@ says response = record { messages = ResponseMessage response ∷ []; jobs = [] }
 abbrev pub joined : Reaction → Reaction → Reaction
 joined a b = record { messages = a.messages ++ b.messages; jobs = a.jobs ++ b.jobs }
 
--- one job for the request with this ticket, on the documents of all earlier inputs
-abbrev pub hands_over : ConfigData → Place → ℕ → RowId → Data → Reaction
-hands_over config place ticket row params = record {
+-- one job for the request with this ticket, behind so many that were handed over
+abbrev pub hands_over : ℕ → SnapshotData → PoolClass → ℕ → RowId → Data → Reaction
+hands_over handed snapshot class ticket row params = record {
   messages = [];
-  jobs = (record { number = place.handed + 1; class = class_of row; kind = RequestJob ticket row params; snapshot = snapshot_at config place }) ∷ [];
+  jobs = (record { number = handed + 1; class = class; kind = RequestJob ticket row params; snapshot = snapshot }) ∷ [];
 }
 
--- a row whose params can be read: the answer on the documents of all earlier inputs at once, or a job
-abbrev pub granted_row : Meaning → ConfigData → Place → ℕ → RequestId → RowId → Data → Reaction
-granted_row meaning config place ticket id row params =
-    if is_on_loop row then says (finding_reply id (meaning.answer (snapshot_at config place) (RequestAsk row params)))
-    else hands_over config place ticket row params
+-- this is done where the params can be read
+abbrev pub if_read : Bool → RequestId → Reaction → Reaction
+if_read reads id done = if reads then done else says (invalid_params id)
 
+-- a request to change the session's own state
+abbrev pub state_row : RequestId → Option StateRequest → Reaction
+state_row id None = says (invalid_params id)
+state_row id (Some request) = says (response_with id null)
+
+-- a request of a row, by what is planned for it
+abbrev pub planned_row : Meaning → ℕ → SnapshotData → Plan → ℕ → RequestId → RowId → Data → Reaction
+planned_row meaning handed snapshot plans.Shutdown ticket id row params = state_row id (request_of row params)
+planned_row meaning handed snapshot plans.Refuse ticket id row params = says (shut_already id)
+planned_row meaning handed snapshot plans.Unknown ticket id row params = says (unknown_request id)
+planned_row meaning handed snapshot plans.Default ticket id row params = says (response_with id (default_of row))
+planned_row meaning handed snapshot plans.Identity ticket id row params = if_read (can_read meaning row params) id (says (response_with id params))
+planned_row meaning handed snapshot plans.State ticket id row params = state_row id (request_of row params)
+planned_row meaning handed snapshot plans.OnLoop ticket id row params =
+    if_read (can_read meaning row params) id (says (finding_reply id (meaning.answer snapshot (RequestAsk row params))))
+planned_row meaning handed snapshot (plans.Job class) ticket id row params =
+    if_read (can_read meaning row params) id (hands_over handed snapshot class ticket row params)
+
+-- on the documents of all earlier inputs; the crate graph counts as complete
 abbrev pub class_row : Meaning → ConfigData → Place → ℕ → RequestId → RowId → Data → Reaction
 class_row meaning config place ticket id row params =
-    if is_plain params && meaning.decodes row params then granted_row meaning config place ticket id row params
-    else says (invalid_params id)
+    planned_row meaning place.handed (snapshot_at config place) (plan (Some row) place.loading false place.shutdown) ticket id row params
 
+-- a request that isn't `shutdown`
 abbrev pub method_row : Meaning → ConfigData → Place → Option RowId → Request → Reaction
-method_row meaning config place None r = says (unknown_request r.id)
+method_row meaning config place None r = if place.shutdown then says (shut_already r.id) else says (unknown_request r.id)
 method_row meaning config place (Some row) r = class_row meaning config place place.number r.id row r.params
 
 abbrev pub shutdown_row : RequestId → Data → Reaction
@@ -225,27 +271,25 @@ shutdown_row id params = if is_unit params then says (response_with id null) els
 -- a request whose id isn't pending
 abbrev pub new_row : Meaning → ConfigData → Place → Request → Reaction
 new_row meaning config place r =
-    if same_text r.method (codes "shutdown") then shutdown_row r.id r.params
-    else if place.shutdown then says (shut_already r.id)
-    else method_row meaning config place (row_of r.method) r
+    if is_shutdown (row_of r.method) then shutdown_row r.id r.params else method_row meaning config place (row_of r.method) r
 
 abbrev pub request_row : Meaning → ConfigData → Place → Request → Reaction
 request_row meaning config place r = if is_pending r.id place.pending then says (already_pending r.id) else new_row meaning config place r
 
 -- a notification: one that cancels a pending request answers it
-abbrev pub cancel_row : Option RequestId → Place → Reaction
-cancel_row None place = silent
-cancel_row (Some id) place = if is_pending id place.pending then says (canceled_by_client id) else silent
-
-abbrev pub notification_row : Notification → Place → Reaction
-notification_row n place = if same_text n.method (codes "$/cancelRequest") then cancel_row (cancel_of n.params) place else silent
+abbrev pub notice_row : Notice → Place → Reaction
+notice_row (Cancel id) place = if is_pending id place.pending then says (canceled_by_client id) else silent
+notice_row (Opened document) place = silent
+notice_row (Changed change) place = silent
+notice_row Malformed place = silent
+notice_row Unhandled place = silent
+notice_row Silent place = silent
 
 -- a job that stopped, of a request that is pending: where the revision is above the job's snapshot's and the row isn't to be tried again, the request is
 -- refused; else it is taken as one that is read here, under its ticket
 abbrev pub stopped_row : Meaning → ConfigData → Place → RequestId → ℕ → JobKind → Reaction
 stopped_row meaning config place id revision (RequestJob ticket row params) =
-    if ltb revision place.revision && not (retries row) then says (content_modified id)
-    else if place.shutdown then says (shut_already id)
+    if ltb revision place.revision && not (retries row) then says (stopped_reply (class_of row) id)
     else class_row meaning config place ticket id row params
 
 -- a result, of a request that is pending
@@ -284,7 +328,7 @@ batch_row meaning config (message ∷ messages) place =
 abbrev pub row : Meaning → ConfigData → Input → Place → Reaction
 row meaning config Start place = silent
 row meaning config (Next (Lsp (RequestMessage r))) place = request_row meaning config place r
-row meaning config (Next (Lsp (NotificationMessage n))) place = notification_row n place
+row meaning config (Next (Lsp (NotificationMessage n))) place = notice_row (notice_of n) place
 row meaning config (Next (Lsp (ResponseMessage r))) place = silent
 row meaning config (Next (Task batch)) place = batch_row meaning config batch place
 
@@ -387,7 +431,8 @@ NeedsMore meaning config place input Revisions = 2 ^ 64 - 1 ≤ place.revision
 -- one more of a counter was needed than there are, by the turn of the next input, or for the bytes that were given
 abbrev pub IsUsedUp : Meaning → ConfigData → Reader → List HostCall → List Turn → Course → Counter → Type 0
 IsUsedUp meaning config reader calls turns left counter =
-    NextInput left (λ input. NeedsMore meaning config (place_after_all turns beginning) input counter) ⊎ ((counter ≡ Bytes) × (2 ^ 64 ≤ fed_bytes reader + bytes_in (given_in calls)))
+    NextInput left (λ input. NeedsMore meaning config (place_after_all turns beginning) input counter)
+    ⊎ ((counter ≡ Bytes) × (2 ^ 64 ≤ fed_bytes reader + bytes_in (given_in calls)))
 
 -- how the lists of a run end, and what is left of its course: for each result what ended the run
 abbrev pub EndsAt : {T : Type 0} → Meaning → ConfigData → Reader → List HostCall → List Turn → Course → Result T SessionError → Type 0
@@ -401,7 +446,8 @@ EndsAt meaning config reader calls turns left (Err (Exhausted counter)) = AllTak
 EndsAt meaning config reader calls turns left (Err NoMemory) = AllTaken calls turns ⊎ LastUntaken calls turns
 
 -- what was told of the run are these calls and turns, and each turn is as it should be
-pub record IsAnswered {T : Type 0} (meaning : Meaning) (config : ConfigData) (reader : Reader) (old new : Told) (honest : Bool) (result : Result T SessionError) : Type 0 where
+pub record IsAnswered {T : Type 0} (meaning : Meaning) (config : ConfigData) (reader : Reader) (old new : Told) (honest : Bool)
+    (result : Result T SessionError) : Type 0 where
   pub calls : List HostCall
   -- the turns that were written, one string for each: none but whole turns, and no part of another
   pub turns : List Turn
@@ -430,7 +476,8 @@ IsEnd (Err NoMemory) end = Unit {0}
 -- for a host that tells its calls: what ended the run is what ends the course of its events
 abbrev pub EndsByCause : {T : Type 0} → Reader → Option (List HostCall) → Option (List HostCall) → Result T SessionError → Type 0
 EndsByCause reader old new result =
-    (before calls : List HostCall) → old ≡ Some before → new ≡ Some (before ++ calls) → IsEnd result (end_of (session_course reader.place reader.held (given_in calls)))
+    (before calls : List HostCall) → old ≡ Some before → new ≡ Some (before ++ calls)
+    → IsEnd result (end_of (session_course reader.place reader.held (given_in calls)))
 
 -- after some turns, whose commands were all taken, one more of this counter was needed than there are
 pub record RanOut (meaning : Meaning) (config : ConfigData) (reader : Reader) (calls : List HostCall) (counter : Counter) : Type 0 where
@@ -453,7 +500,9 @@ IsGoodEnd meaning config reader calls (Err NoMemory) = Unit {0}
 
 -- for a host that tells its calls: where the events hold an `exit` before all else that stops a session, and neither the host nor the sink has
 -- failed, the run ends well
-abbrev pub IsComplete : {T : Type 0} → Meaning → ConfigData → Reader → Option (List HostCall) → Option (List HostCall) → Type 0 → Type 0 → Result T SessionError → Type 0
+abbrev pub IsComplete : {T : Type 0} → Meaning → ConfigData → Reader → Option (List HostCall) → Option (List HostCall) → Type 0 → Type 0
+    → Result T SessionError → Type 0
 IsComplete meaning config reader old new HostFailed SinkFailed result =
-    (before calls : List HostCall) → old ≡ Some before → new ≡ Some (before ++ calls) → end_of (session_course reader.place reader.held (given_in calls)) ≡ Some exit
+    (before calls : List HostCall) → old ≡ Some before → new ≡ Some (before ++ calls)
+    → end_of (session_course reader.place reader.held (given_in calls)) ≡ Some exit
     → (HostFailed → ⊥) → (SinkFailed → ⊥) → IsGoodEnd meaning config reader calls result

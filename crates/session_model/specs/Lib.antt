@@ -6,7 +6,7 @@ pub mod Headline
 pub mod Machine
 pub mod Meaning
 pub mod Meets
-pub mod Methods
+pub mod Notices
 pub mod Opening
 pub mod Replies
 pub mod Run

@@ -1,9 +1,8 @@
 -- The session machine: one turn, as a composition of small parts.
-use Rattle.std.specs.Prelude.{ℕ, ◌+◌, ◌-◌, ◌^◌, ◌==◌, ◌&&◌, ℤ, Bool, true, false, not, nat_eq, List, [], ◌∷◌, ◌++◌, codes, decimal, drop, length, Option, None, Some, is_some, Result, Ok, Err, if◌then◌else◌, ltb}
-use Rattle.std.specs.List.{starts_with}
+use Rattle.std.specs.Prelude.{ℕ, ◌+◌, ◌-◌, ◌^◌, ◌==◌, ◌&&◌, ℤ, Bool, true, false, not, List, [], ◌∷◌, ◌++◌, decimal, drop, length, Option, None, Some}
+use Rattle.std.specs.Prelude.{is_some, Result, Ok, Err, if◌then◌else◌, ltb}
 use Rattle.std.specs.FinMap as map
 use Rattle.serde_json.specs.Data.{Data, null}
-use Rattle.plain.specs.Plain.{is_plain}
 use Rattle.lsp_frame.specs.Pending.{is_pending, id_of, registered, closed as closed_id}
 use Rattle.lsp_frame.specs.declared.message.RequestId.{RequestId}
 use Rattle.lsp_frame.specs.declared.message.Request.{Request}
@@ -15,7 +14,15 @@ use Rattle.docs_vfs.specs.FileUrls.{path_of}
 use Rattle.docs_vfs.specs.declared.file_url.UrlFault.{UrlFault}
 use Rattle.analysis_host.specs.HostData.{HostData, changed as changed_world}
 use Rattle.analysis_host.specs.declared.ask.Ask.TheVariants.{Request as RequestAsk}
-use Rattle.analysis_host.specs.declared.ask.RowId.{RowId}
+use Rattle.method_table.specs.Plans.{plan, is_shutdown}
+use Rattle.method_table.specs.Rows.{row_of, class_of, retries, default_of}
+use Rattle.method_table.specs.declared.class.PoolClass.{PoolClass}
+use Rattle.method_table.specs.declared.planned.Plan.{Plan}
+use Rattle.method_table.specs.declared.planned.Plan.TheVariants as plans
+use Rattle.method_table.specs.declared.row_id.RowId.{RowId}
+use Rattle.state_params.specs.StateRequests.{request_of}
+use Rattle.state_params.specs.Unit.{is_unit}
+use Rattle.state_params.specs.declared.request.StateRequest.{StateRequest}
 use Rattle.analysis_host.specs.declared.host.FileChange.{FileChange}
 use Rattle.analysis_host.specs.declared.host.WorldFault.{WorldFault}
 use Rattle.session_port.specs.Jobs.{ticket_of, final_of, fitting_job}
@@ -23,18 +30,19 @@ use Rattle.session_port.specs.Record.{after_order}
 use Rattle.session_port.specs.declared.command.Command.{Command}
 use Rattle.session_port.specs.declared.command.Command.TheVariants.{Spawn, Revise, Log}
 use Rattle.session_port.specs.declared.command.LogCode.{LogCode}
-use Rattle.session_port.specs.declared.command.LogCode.TheVariants.{MalformedNotification, UnhandledNotification, UnknownRequest, UnknownResponse, DuplicateOpen, UnexpectedChange, SkippedChange, BadPath, StrangeResult}
+use Rattle.session_port.specs.declared.command.LogCode.TheVariants.{MalformedNotification, UnhandledNotification, UnknownRequest, UnknownResponse}
+use Rattle.session_port.specs.declared.command.LogCode.TheVariants.{DuplicateOpen, UnexpectedChange, SkippedChange, BadPath, StrangeResult}
 use Rattle.session_port.specs.declared.event.TaskMsg.{TaskMsg}
 use Rattle.session_port.specs.declared.job.Job.{Job}
 use Rattle.session_port.specs.declared.job.JobKind.{JobKind}
 use Rattle.session_port.specs.declared.job.JobKind.TheVariants.{Request as RequestJob}
 use Rattle.session_port.specs.declared.job.JobResult.{JobResult}
-use Rattle.session_model.specs.Cancelling.{cancel_of, is_unit}
-use Rattle.session_model.specs.Changing.{changed_of, text_after, has_skipped}
-use Rattle.session_model.specs.Meaning.{Meaning}
-use Rattle.session_model.specs.Methods.{row_of, class_of, is_on_loop, retries}
-use Rattle.session_model.specs.Opening.{opened_of}
-use Rattle.session_model.specs.Replies.{response_with, already_pending, shut_already, unknown_request, invalid_params, canceled_by_client, content_modified, finding_reply, finished_reply}
+use Rattle.session_model.specs.Changing.{text_after, has_skipped}
+use Rattle.session_model.specs.Meaning.{Meaning, can_read}
+use Rattle.session_model.specs.Notices.{notice_of}
+use Rattle.dispatch.specs.Responses.{response_with}
+use Rattle.session_model.specs.Replies.{already_pending, shut_already, unknown_request, invalid_params, canceled_by_client}
+use Rattle.session_model.specs.Replies.{stopped_reply, finding_reply, finished_reply}
 use Rattle.session_model.specs.State.{State, snapshot_of}
 use Rattle.session_model.specs.Texts.{same_text, id_text}
 use Rattle.session_model.specs.Written.{Written}
@@ -46,6 +54,8 @@ use Rattle.session_model.specs.declared.input.Input.{Input}
 use Rattle.session_model.specs.declared.input.Input.TheVariants.{Start, Next}
 use Rattle.session_model.specs.declared.notice.DidChange.{DidChange}
 use Rattle.session_model.specs.declared.notice.DidOpen.{DidOpen}
+use Rattle.session_model.specs.declared.notice.Notice.{Notice}
+use Rattle.session_model.specs.declared.notice.Notice.TheVariants.{Opened, Changed, Cancel, Malformed, Unhandled, Silent}
 
 -- the state within a turn, and what the turn has done so far
 pub record Working : Type 0 where
@@ -87,28 +97,53 @@ unfoldable pub noted : RequestId → Working → Working
 noted id w = record w { state = record w.state { pending = registered w.state.turns id w.state.pending } }
 
 -- a job on the present snapshot is handed over; it is out from the end of the turn on
-unfoldable pub dispatched : ℕ → RowId → Data → Working → Result Working Counter
-dispatched ticket row params w = and_then (next_number w.state.jobs_given Jobs) (λ n.
-    let job : Job = record { number = n; class = class_of row; kind = RequestJob ticket row params; snapshot = snapshot_of w.state } in
+unfoldable pub dispatched : PoolClass → ℕ → RowId → Data → Working → Result Working Counter
+dispatched class ticket row params w = and_then (next_number w.state.jobs_given Jobs) (λ n.
+    let job : Job = record { number = n; class = class; kind = RequestJob ticket row params; snapshot = snapshot_of w.state } in
     Ok (ordered (Spawn job) (record w { state = record w.state { jobs_given = n } })))
 
--- a request that can be read: it is answered at once on the present snapshot, or by a job
-unfoldable pub granted : Meaning → ℕ → RequestId → RowId → Data → Working → Result Working Counter
-granted meaning ticket id row params w =
-    if is_on_loop row then Ok (answered id (finding_reply id (meaning.answer (snapshot_of w.state) (RequestAsk row params))) w)
-    else dispatched ticket row params w
+-- a request is answered by its own params, where they can be read
+unfoldable pub echoed : Bool → RequestId → Data → Working → Working
+echoed reads id params w = if reads then answered id (response_with id params) w else answered id (invalid_params id) w
 
--- a request of a row
+-- the same by a query on the present snapshot
+unfoldable pub queried : Meaning → Bool → RequestId → RowId → Data → Working → Working
+queried meaning reads id row params w =
+    if reads then answered id (finding_reply id (meaning.answer (snapshot_of w.state) (RequestAsk row params))) w
+    else answered id (invalid_params id) w
+
+-- the same by a job
+unfoldable pub submitted : Bool → PoolClass → ℕ → RequestId → RowId → Data → Working → Result Working Counter
+submitted reads class ticket id row params w =
+    if reads then dispatched class ticket row params w else Ok (answered id (invalid_params id) w)
+
+-- a request to change the session's own state is answered by null; nothing else is done for it yet
+unfoldable pub stated : RequestId → Option StateRequest → Working → Working
+stated id None w = answered id (invalid_params id) w
+stated id (Some request) w = answered id (response_with id null) w
+
+-- what is planned for a request of a row
+unfoldable pub planned : Meaning → Plan → ℕ → RequestId → RowId → Data → Working → Result Working Counter
+planned meaning plans.Shutdown ticket id row params w = Ok (stated id (request_of row params) w)
+planned meaning plans.Refuse ticket id row params w = Ok (answered id (shut_already id) w)
+planned meaning plans.Unknown ticket id row params w = Ok (answered id (unknown_request id) w)
+planned meaning plans.Default ticket id row params w = Ok (answered id (response_with id (default_of row)) w)
+planned meaning plans.Identity ticket id row params w = Ok (echoed (can_read meaning row params) id params w)
+planned meaning plans.State ticket id row params w = Ok (stated id (request_of row params) w)
+planned meaning plans.OnLoop ticket id row params w = Ok (queried meaning (can_read meaning row params) id row params w)
+planned meaning (plans.Job class) ticket id row params w = submitted (can_read meaning row params) class ticket id row params w
+
+-- a request of a row; the crate graph counts as complete
 unfoldable pub classed : Meaning → ℕ → RequestId → RowId → Data → Working → Result Working Counter
 classed meaning ticket id row params w =
-    if is_plain params && meaning.decodes row params then granted meaning ticket id row params w
-    else Ok (answered id (invalid_params id) w)
+    planned meaning (plan (Some row) w.state.loading false w.state.shutdown) ticket id row params w
 
 unfoldable pub unknown : RequestId → List ℕ → Working → Working
 unknown id method w = logged UnknownRequest method (answered id (unknown_request id) w)
 
+-- a request that isn't `shutdown`
 unfoldable pub asked : Meaning → Option RowId → Request → Working → Result Working Counter
-asked meaning None r w = Ok (unknown r.id r.method w)
+asked meaning None r w = if w.state.shutdown then Ok (answered r.id (shut_already r.id) w) else Ok (unknown r.id r.method w)
 asked meaning (Some row) r w = classed meaning w.state.turns r.id row r.params w
 
 -- the request `shutdown`: from now on no other request is taken
@@ -120,9 +155,7 @@ shut_down id params w =
 -- a request that waits now
 unfoldable pub admitted : Meaning → Request → Working → Result Working Counter
 admitted meaning r w =
-    if same_text r.method (codes "shutdown") then Ok (shut_down r.id r.params w)
-    else if w.state.shutdown then Ok (answered r.id (shut_already r.id) w)
-    else asked meaning (row_of r.method) r w
+    if is_shutdown (row_of r.method) then Ok (shut_down r.id r.params w) else asked meaning (row_of r.method) r w
 
 unfoldable pub requested : Meaning → Request → Working → Result Working Counter
 requested meaning r w =
@@ -163,10 +196,6 @@ unfoldable pub opened_at : Result (List ℕ) UrlFault → DidOpen → Working �
 opened_at (Err fault) document w = Ok (logged BadPath document.uri w)
 opened_at (Ok path) document w = text_set path document.text (version_set path document.version (open_noted path w))
 
-unfoldable pub opened : Option DidOpen → List ℕ → Working → Result Working Counter
-opened None method w = Ok (logged MalformedNotification method w)
-opened (Some document) method w = opened_at (path_of document.uri) document w
-
 -- that an edit was skipped is logged once
 unfoldable pub skip_noted : List ℕ → Bool → Working → Working
 skip_noted path skipped w = if skipped then logged SkippedChange path w else w
@@ -184,41 +213,32 @@ unfoldable pub changed_at : Result (List ℕ) UrlFault → DidChange → Working
 changed_at (Err fault) change w = Ok (logged BadPath change.uri w)
 changed_at (Ok path) change w = if is_open path w then edited path change w else Ok (logged UnexpectedChange path w)
 
-unfoldable pub changed : Option DidChange → List ℕ → Working → Result Working Counter
-changed None method w = Ok (logged MalformedNotification method w)
-changed (Some change) method w = changed_at (path_of change.uri) change w
-
 -- the request of an id is cancelled, where it is pending; its job stays out
-unfoldable pub cancelled : Option RequestId → List ℕ → Working → Working
-cancelled None method w = logged MalformedNotification method w
-cancelled (Some id) method w = if is_pending id w.state.pending then answered id (canceled_by_client id) w else w
+unfoldable pub cancelled : RequestId → Working → Working
+cancelled id w = if is_pending id w.state.pending then answered id (canceled_by_client id) w else w
 
-unfoldable pub notified : Notification → Working → Result Working Counter
-notified n w =
-    if same_text n.method (codes "textDocument/didOpen") then opened (opened_of n.params) n.method w
-    else if same_text n.method (codes "textDocument/didChange") then changed (changed_of n.params) n.method w
-    else if same_text n.method (codes "$/cancelRequest") then Ok (cancelled (cancel_of n.params) n.method w)
-    else if starts_with nat_eq n.method (codes "$/") then Ok w
-    else Ok (logged UnhandledNotification n.method w)
+-- what a notification of this method tells
+unfoldable pub noticed : Notice → List ℕ → Working → Result Working Counter
+noticed (Opened document) method w = opened_at (path_of document.uri) document w
+noticed (Changed change) method w = changed_at (path_of change.uri) change w
+noticed (Cancel id) method w = Ok (cancelled id w)
+noticed Malformed method w = Ok (logged MalformedNotification method w)
+noticed Unhandled method w = Ok (logged UnhandledNotification method w)
+noticed Silent method w = Ok w
 
 unfoldable pub received : Meaning → Message → Working → Result Working Counter
 received meaning (RequestMessage r) w = requested meaning r w
-received meaning (NotificationMessage n) w = notified n w
+received meaning (NotificationMessage n) w = noticed (notice_of n) n.method w
 received meaning (ResponseMessage r) w = Ok (logged UnknownResponse (id_text r.id) w)
 
 -- ---- results
 
--- a request whose job stopped, as one that is read now, under the ticket that it has
-unfoldable pub retried : Meaning → ℕ → RequestId → RowId → Data → Working → Result Working Counter
-retried meaning ticket id row params w =
-    if w.state.shutdown then Ok (answered id (shut_already id) w)
-    else classed meaning ticket id row params w
-
--- where the revision is above that of the job's snapshot, a row that isn't to be tried again is refused
+-- where the revision is above that of the job's snapshot, a row that isn't to be tried again is refused; else the request is taken as one that is
+-- read now, under the ticket that it has
 unfoldable pub stopped : Meaning → RequestId → ℕ → JobKind → Working → Result Working Counter
 stopped meaning id revision (RequestJob ticket row params) w =
-    if ltb revision w.state.host.revision && not (retries row) then Ok (answered id (content_modified id) w)
-    else retried meaning ticket id row params w
+    if ltb revision w.state.host.revision && not (retries row) then Ok (answered id (stopped_reply (class_of row) id) w)
+    else classed meaning ticket id row params w
 
 unfoldable pub settled : Meaning → Option Response → RequestId → Job → Working → Result Working Counter
 settled meaning (Some response) id job w = Ok (answered id response w)

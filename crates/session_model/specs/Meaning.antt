@@ -1,10 +1,11 @@
 -- What an analysis reads and answers.
-use Rattle.std.specs.Prelude.{Bool}
+use Rattle.std.specs.Prelude.{Bool, ◌&&◌}
+use Rattle.plain.specs.Plain.{is_plain}
 use Rattle.serde_json.specs.Data.{Data}
 use Rattle.analysis_host.specs.Answers.{Finding}
 use Rattle.analysis_host.specs.SnapshotData.{SnapshotData}
 use Rattle.analysis_host.specs.declared.ask.Ask.{Ask}
-use Rattle.analysis_host.specs.declared.ask.RowId.{RowId}
+use Rattle.method_table.specs.declared.row_id.RowId.{RowId}
 
 pub record Meaning : Type 0 where
   -- can these params of a row be read
@@ -14,3 +15,7 @@ pub record Meaning : Type 0 where
 
 abbrev pub meaning_of : (RowId → Data → Bool) → (SnapshotData → Ask → Finding) → Meaning
 meaning_of decodes answer = record { decodes = decodes; answer = answer }
+
+-- the params of a row can be read
+abbrev pub can_read : Meaning → RowId → Data → Bool
+can_read meaning row params = is_plain params && meaning.decodes row params

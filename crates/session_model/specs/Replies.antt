@@ -1,21 +1,17 @@
 -- The responses of a session (JSON-RPC 2.0, "Error object"; LSP 3.17, "ErrorCodes").
-use Rattle.std.specs.Prelude.{ℕ, ℤ, negsuc, List, codes, Option, None, Some, if◌then◌else◌}
-use Rattle.std.specs.Ordering.{int_eq}
-use Rattle.serde_json.specs.Data.{Data}
+use Rattle.std.specs.Prelude.{ℕ, ℤ, negsuc, true, List, codes, Option, None, Some}
+use Rattle.serde_json.specs.Data.{Data, boolean, object, member, no_members}
 use Rattle.lsp_frame.specs.declared.message.RequestId.{RequestId}
 use Rattle.lsp_frame.specs.declared.message.Response.{Response}
 use Rattle.analysis_host.specs.Answers.{Finding, answer, fault}
+use Rattle.dispatch.specs.Responses.{response_with, refusal, fault_code}
+use Rattle.method_table.specs.declared.class.Class.{Class}
+use Rattle.method_table.specs.declared.class.Class.TheVariants.{State, OnLoop, Formatting, Latency, DocumentDiagnostic, Worker, Identity}
 use Rattle.session_port.specs.Jobs.{value_of}
 use Rattle.session_port.specs.declared.job.JobResult.{JobResult}
 use Rattle.session_port.specs.declared.job.JobResult.TheVariants.{Value, Fault, Cancelled, NoMemory}
 use Rattle.session_port.specs.declared.job.JobValue.{JobValue}
 use Rattle.session_port.specs.declared.job.JobValue.TheVariants.{Json}
-
-abbrev pub response_with : RequestId → Data → Response
-response_with id value = record { id = Some id; result = Some value; error = None }
-
-abbrev pub refusal : RequestId → ℤ → List ℕ → Response
-refusal id code message = record { id = Some id; result = None; error = Some (record { code = code; message = message; extra = None }) }
 
 -- -32600
 abbrev pub already_pending : RequestId → Response
@@ -41,10 +37,31 @@ canceled_by_client id = refusal id (negsuc 32799) (codes "canceled by client")
 abbrev pub content_modified : RequestId → Response
 content_modified id = refusal id (negsuc 32800) (codes "content modified")
 
--- a fault's own code, but for -31000, which says that memory ran out; else -32603
-abbrev pub fault_code : Option ℤ → ℤ
-fault_code None = negsuc 32602
-fault_code (Some code) = if int_eq code (negsuc 30999) then negsuc 32602 else code
+-- the client is to ask again (LSP 3.17, DiagnosticServerCancellationData)
+abbrev pub retrigger_request : Data
+retrigger_request = object (member (codes "retriggerRequest") (boolean true) no_members)
+
+-- -32802
+abbrev pub server_cancelled : RequestId → Response
+server_cancelled id = record {
+  id = Some id;
+  result = None;
+  error = Some (record {
+    code = negsuc 32801;
+    message = codes "server cancelled the request";
+    extra = Some retrigger_request;
+  });
+}
+
+-- why a request is refused whose job stopped for a later revision
+abbrev pub stopped_reply : Class → RequestId → Response
+stopped_reply DocumentDiagnostic id = server_cancelled id
+stopped_reply State id = content_modified id
+stopped_reply OnLoop id = content_modified id
+stopped_reply Formatting id = content_modified id
+stopped_reply Latency id = content_modified id
+stopped_reply Worker id = content_modified id
+stopped_reply Identity id = content_modified id
 
 abbrev pub fault_reply : RequestId → Option ℤ → List ℕ → Response
 fault_reply id code message = refusal id (fault_code code) message

@@ -40,7 +40,8 @@ begun state = record { state = state; out = nothing_done }
 
 -- the machine takes this turn
 abbrev pub Steps : Meaning → State → Turn → State → Type 0
-Steps meaning old turn new = step meaning turn.input (begun old) ≡ Ok (record { state = new; out = record { messages = turn.messages; commands = turn.commands } })
+Steps meaning old turn new =
+    step meaning turn.input (begun old) ≡ Ok (record { state = new; out = record { messages = turn.messages; commands = turn.commands } })
 
 -- the machine takes these turns, one after another
 abbrev pub Runs : Meaning → State → List Turn → State → Type 0
@@ -111,10 +112,12 @@ pub record HadTurns (from : List HostEvent → Course) (before : List HostCall) 
 
 -- it was so for each event
 abbrev pub AsksLast : (List HostEvent → Course) → List HostCall → List Turn → Type 0
-AsksLast from calls turns = (before : List HostCall) (event : HostEvent) (after : List HostCall) → calls ≡ before ++ gave event ∷ after → HadTurns from before turns
+AsksLast from calls turns =
+    (before : List HostCall) (event : HostEvent) (after : List HostCall) → calls ≡ before ++ gave event ∷ after → HadTurns from before turns
 
 -- a stretch of a run, in which the course goes on from one function of the events to come to another
-pub record Stretch (meaning : Meaning) (before now : State) (from to : List HostEvent → Course) (used used_now : ℕ) (old new : Told) (honest : Bool) (out out_now : Jobs) : Type 0 where
+pub record Stretch (meaning : Meaning) (before now : State) (from to : List HostEvent → Course) (used used_now : ℕ) (old new : Told)
+    (honest : Bool) (out out_now : Jobs) : Type 0 where
   pub calls : List HostCall
   pub turns : List Turn
   pub runs : Runs meaning before turns now
@@ -188,10 +191,12 @@ pub record StaysAt (to : List HostEvent → Course) (stop : Course) (old new : T
 
 -- how a run ends at this place: for each error its cause. The host fails where it is asked for an event, behind a turn that was written, or at the last order
 abbrev pub EndsBy : Meaning → State → (List HostEvent → Course) → ℕ → Told → Told → Bool → Jobs → SessionError → Type 0
-EndsBy meaning state to used old new honest out ClientExited = (to [] ≡ waits) × (to (Ended ∷ []) ≡ stops client_gone) × (new ≡ telling (gave Ended ∷ []) [] old)
+EndsBy meaning state to used old new honest out ClientExited =
+    (to [] ≡ waits) × (to (Ended ∷ []) ≡ stops client_gone) × (new ≡ telling (gave Ended ∷ []) [] old)
 EndsBy meaning state to used old new honest out (BadFrame at) = StaysAt to (stops (bad_frame at)) old new
 EndsBy meaning state to used old new honest out (BadMessage at) = StaysAt to (stops (bad_message at)) old new
-EndsBy meaning state to used old new honest out HostFault = (StaysAt to waits old new ⊎ StaysAt to (stops exit) old new) ⊎ BreaksOffWritten meaning state to old new honest out
+EndsBy meaning state to used old new honest out HostFault =
+    (StaysAt to waits old new ⊎ StaysAt to (stops exit) old new) ⊎ BreaksOffWritten meaning state to old new honest out
 EndsBy meaning state to used old new honest out WriteFault = BreaksOffBefore to old new
 EndsBy meaning state to used old new honest out (Exhausted counter) = RunsOut meaning counter state to old new ⊎ TooManyBytes counter used to old new
 EndsBy meaning state to used old new honest out NoMemory = BreaksOffUnwritten to old new ⊎ BreaksOffWritten meaning state to old new honest out
@@ -213,13 +218,15 @@ abbrev pub fed_bytes : Reader → ℕ
 fed_bytes reader = reader.place + length reader.held
 
 -- a whole run: its turns are the machine's, over the inputs of its events; the lists grew by exactly these; and then it ended
-pub record IsRun {T : Type 0} (meaning : Meaning) (config : ConfigData) (reader : Reader) (old new : Told) (honest : Bool) (result : Result T SessionError) : Type 0 where
+pub record IsRun {T : Type 0} (meaning : Meaning) (config : ConfigData) (reader : Reader) (old new : Told) (honest : Bool)
+    (result : Result T SessionError) : Type 0 where
   pub last : State
   pub to : List HostEvent → Course
   pub used_last : ℕ
   pub told_last : Told
   pub out_last : Jobs
-  pub stretch : Stretch meaning (fresh config) last (session_course reader.place reader.held) to (fed_bytes reader) used_last old told_last honest maps.empty out_last
+  pub stretch : Stretch meaning (fresh config) last (session_course reader.place reader.held) to (fed_bytes reader) used_last
+      old told_last honest maps.empty out_last
   pub ends : Ends meaning last to used_last told_last new honest out_last result
 
 abbrev pub turn_error_of : TurnError → SessionError

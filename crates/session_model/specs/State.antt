@@ -24,6 +24,8 @@ pub record State : Type 0 where
   pub jobs : Jobs
   -- `shutdown` was requested
   pub shutdown : Bool
+  -- files are loading
+  pub loading : Bool
 
 -- the snapshot of the present
 abbrev pub snapshot_of : State → SnapshotData
@@ -31,4 +33,14 @@ snapshot_of state = record { world = state.host.world; versions = state.versions
 
 -- the state before any turn
 abbrev pub fresh : ConfigData → State
-fresh config = record { config = config; host = new_host; versions = map.empty; turns = 0; jobs_given = 0; pending = none_pending; jobs = map.empty; shutdown = false }
+fresh config = record {
+  config = config;
+  host = new_host;
+  versions = map.empty;
+  turns = 0;
+  jobs_given = 0;
+  pending = none_pending;
+  jobs = map.empty;
+  shutdown = false;
+  loading = false;
+}

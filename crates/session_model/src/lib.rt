@@ -8,4 +8,4 @@ mod notice;
 
 pub use fault::{Counter, SessionError, TurnError};
 pub use input::{Event, Input};
-pub use notice::{DidChange, DidOpen};
+pub use notice::{DidChange, DidOpen, Notice};

@@ -1,4 +1,5 @@
 // What a client tells.
+use lsp_frame::RequestId;
 use plain::{Items, Text};
 use text_core::ContentChange;
 
@@ -17,4 +18,21 @@ pub struct DidChange {
     pub version: i32,
     /// One after another: each is made on the text that those before it leave.
     pub changes: Items<ContentChange>,
+}
+
+/// What a notification tells the session.
+#[derive(Drop)]
+pub enum Notice {
+    /// A document is open.
+    Opened(DidOpen),
+    /// An open document is another one.
+    Changed(DidChange),
+    /// The request of this id needs no answer.
+    Cancel(RequestId),
+    /// Its method is known, and its params can't be read.
+    Malformed,
+    /// Its method is not known.
+    Unhandled,
+    /// It may be passed over.
+    Silent,
 }

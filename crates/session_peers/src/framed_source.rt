@@ -1,11 +1,12 @@
 // A source whose bytes are given frame by frame.
-ghost use Rattle.std.specs.Prelude.{◌≡◌, ◌≢◌, ◌≤◌, false, [], length, take, drop, vec_len, IfNone, IfSome, IfOk, OnErr};
+ghost use Rattle.std.specs.Prelude.{◌≡◌, ◌≢◌, ◌≤◌, false, [], length, take, drop, IfNone, IfSome, IfOk, OnErr};
 ghost use Rattle.lsp_frame.specs.Frames.{cut_of};
 ghost use Rattle.lsp_frame.specs.declared.frame.Cut.TheVariants.{NeedMore};
 ghost use Rattle.session_peers.specs.Framed.{waiting, IsRead, EndsPiece};
 ghost use Rattle.session_port.specs.Record.{HasCause};
 
 use lsp_frame::{Cut, cut};
+use plain::Buffered;
 use session_port::{HostError, Source};
 use std::alloc::{AllocError, Global};
 use std::marker::Model;
@@ -17,43 +18,15 @@ const PIECE: usize = 65536;
 #[derive(Drop)]
 pub(crate) struct FramedSource<S: Source> {
     source: S,
-    buf: Vec<u8>,
-    // Where in the buffer the bytes begin that were not given.
-    start: usize,
+    held: Buffered,
 }
 
 impl<S: Source> Model for FramedSource<S> {
-    ghost use Rattle.std.specs.Prelude.{◌≤◌, length, drop};
     ghost use Rattle.session_peers.specs.Framed.{FramedData};
 
     ghost Value = { FramedData };
 
-    ghost view = { λ s. record { held = drop s.start s.buf.items; left = S.left s.source; faults = S.faults s.source; spent = S.spent s.source } };
-
-    ghost invariant = { λ s. s.start ≤ length s.buf.items };
-}
-
-/// The bytes from a place on.
-fn tail(buf: &Vec<u8>, start: usize) -> &[u8]
-    requires { start ≤ vec_len buf.now }
-    ensures { result.now ≡ drop start buf.now.items }
-{
-    &buf[start..]
-}
-
-/// Gives up the bytes before a place where they are most of the buffer, and says where the others begin.
-fn compact(buf: &mut Vec<u8>, start: usize) -> usize
-    requires { start ≤ vec_len buf.old }
-    ensures kept { drop result buf.new.items ≡ drop start buf.old.items }
-    ensures within { result ≤ length buf.new.items }
-{
-    let live = buf.len() - start;
-    if start < live {
-        return start;
-    }
-    buf.rotate_left(start);
-    buf.truncate(live);
-    0
+    ghost view = { λ s. record { held = s.held; left = S.left s.source; faults = S.faults s.source; spent = S.spent s.source } };
 }
 
 impl<S: Source> FramedSource<S> {
@@ -63,15 +36,14 @@ impl<S: Source> FramedSource<S> {
     {
         Ok(FramedSource {
             source,
-            buf: Vec::with_capacity(alloc, PIECE)?,
-            start: 0,
+            held: Buffered::with_capacity(alloc, PIECE)?,
         })
     }
 
     fn held(&self) -> &[u8]
         ensures { result.now ≡ self.now.held }
     {
-        tail(&self.buf, self.start)
+        self.held.as_slice()
     }
 
     /// The first of the bytes held.
@@ -87,7 +59,7 @@ impl<S: Source> FramedSource<S> {
         requires { end ≤ length self.old.held }
         ensures { self.new ≡ record self.old { held = drop end self.old.held } }
     {
-        self.start += end;
+        self.held.consume(end);
     }
 
     /// Reads more, and says whether there was more.
@@ -99,13 +71,12 @@ impl<S: Source> FramedSource<S> {
         ensures left { OnErr result (self.new.left ≡ self.old.left) }
         ensures cause { HasCause self.old.faults self.new.faults result }
     {
-        self.start = compact(&mut self.buf, self.start);
         // With the room made first, no piece is lost for want of memory.
-        self.buf.reserve(PIECE)?;
+        self.held.reserve(PIECE)?;
         let Some(piece) = self.source.read_piece(PIECE)? else {
             return Ok(false);
         };
-        self.buf.extend_from_slice(piece.as_slice())?;
+        self.held.feed(piece.as_slice())?;
         Ok(true)
     }
 

@@ -1,5 +1,5 @@
 //! The host that runs everything on one thread, and peers in memory: hosts that follow a list, a sink and a source that
-//! fail at listed calls.
+//! fail at listed calls, and an analysis that knows nothing.
 #![tactic(auto)]
 
 mod fail_plan;
@@ -9,6 +9,7 @@ mod inline_host;
 mod jobs_out;
 mod memory_sink;
 mod memory_source;
+mod null_analysis;
 mod numbered_jobs;
 mod queue;
 mod recorded_call;
@@ -20,6 +21,7 @@ pub use hostile_host::HostileHost;
 pub use inline_host::InlineHost;
 pub use memory_sink::MemorySink;
 pub use memory_source::MemorySource;
+pub use null_analysis::NullAnalysis;
 pub use recorded_call::RecordedCall;
 pub use script::ScriptStep;
 pub use script_host::ScriptHost;

@@ -2,17 +2,10 @@
 ghost use Rattle.std.specs.Prelude.{◌≡◌, IfOk};
 ghost use Rattle.session_port.specs.Jobs.{ask_of, plain_result};
 
-use analysis_host::{Ask, GlobalStateSnapshot, RowId};
-use plain::{Copied, Json, Text};
+use analysis_host::{Ask, GlobalStateSnapshot};
+use method_table::{PoolClass, RowId};
+use plain::{Copied, Json, SharedJson, Text};
 use std::alloc::AllocError;
-
-/// Which workers a job is for.
-#[derive(Clone, Copy, Debug, PartialEq, Eq, PartialOrd, Ord, Hash)]
-pub enum PoolClass {
-    Worker,
-    Latency,
-    Formatting,
-}
 
 /// What a job is to find out.
 #[derive(Clone, Debug, Drop)]
@@ -21,7 +14,7 @@ pub enum JobKind {
     Request {
         ticket: u64,
         row: RowId,
-        params: Json,
+        params: SharedJson,
     },
 }
 

@@ -1,53 +1,19 @@
-// An analysis that answers null, jobs for it, and events in words.
+// Jobs, and events in words.
 ghost use Rattle.std.specs.Prelude.{◌≡◌, IfOk};
 ghost use Rattle.session_port.specs.Record.{AreRising, spawned};
 
-use analysis_host::{
-    Analysis, Answer, Ask, Cancel, GlobalStateSnapshot, Outcome, RowId, SnapshotParts, Versions,
-    World,
-};
+use analysis_host::{GlobalStateSnapshot, RowId, SnapshotParts, Versions, World};
 use docs_vfs::VfsPath;
-use plain::{Items, Json};
+use method_table::PoolClass;
+use plain::{Items, Json, SharedJson};
 use ra_config::Config;
-use session_peers::{HostileHost, RecordedCall, ScriptHost};
+use session_peers::{HostileHost, NullAnalysis, RecordedCall, ScriptHost};
 use session_port::{
-    Command, Host, HostError, HostEvent, Job, JobKind, JobResult, JobValue, PoolClass, TaskBody,
-    TaskMsg,
+    Command, Host, HostError, HostEvent, Job, JobKind, JobResult, JobValue, TaskBody, TaskMsg,
 };
 use std::alloc::{AllocError, Global};
 use std::sync::Arc;
 use std::test::Fail;
-
-/// Answers null to everything.
-#[derive(Drop)]
-pub struct Null;
-
-impl Analysis for Null {
-    ghost use Rattle.std.specs.Prelude.{true};
-    ghost use Rattle.serde_json.specs.Data.{null};
-    ghost use Rattle.analysis_host.specs.Answers.{answer as finding};
-    ghost use Rattle.analysis_host.specs.declared.ask.Answer.TheVariants.{Json as json_answer};
-
-    ghost decodes = { λ _ _. true };
-
-    ghost answer = { λ _ _. finding (json_answer null) };
-
-    fn decodes(&self, _row: RowId, _params: &Json) -> bool {
-        true
-    }
-
-    fn query<C: Cancel>(
-        &self,
-        _snapshot: &GlobalStateSnapshot,
-        _ask: &Ask,
-        cancel: &mut C,
-    ) -> Result<Outcome, AllocError> {
-        match cancel.poll() {
-            Some(saw) => Ok(Outcome::Cancelled { saw }),
-            None => Ok(Outcome::Value(Answer::Json(Json::null()))),
-        }
-    }
-}
 
 fn snapshot(alloc: Global) -> Result<GlobalStateSnapshot, Fail>
     ensures { IfOk result (λ snapshot. snapshot.revision ≡ 0) }
@@ -72,7 +38,7 @@ pub fn job(alloc: Global, number: u64) -> Result<Job, Fail>
         kind: JobKind::Request {
             ticket: 1,
             row: RowId(0),
-            params: Json::null(),
+            params: SharedJson::new(alloc, Json::null())?,
         },
         snapshot: snapshot(alloc)?,
     })
@@ -133,7 +99,7 @@ pub trait Tireless {
     fn give(&mut self) -> Result<HostEvent, HostError>;
 }
 
-impl Tireless for ScriptHost<'_, Null> {
+impl Tireless for ScriptHost<'_, NullAnalysis> {
     fn give(&mut self) -> Result<HostEvent, HostError> {
         self.next()
     }
@@ -141,7 +107,7 @@ impl Tireless for ScriptHost<'_, Null> {
 
 impl Tireless for HostileHost {
     fn give(&mut self) -> Result<HostEvent, HostError> {
-        Host::<Null>::next(self)
+        Host::<NullAnalysis>::next(self)
     }
 }
 

@@ -1,9 +1,9 @@
 // The host that runs everything on one thread.
 ghost use Rattle.std.specs.Prelude.{◌≡◌, false, IfOk};
 
-use crate::fixtures::{Null, event_text, two_jobs};
+use crate::fixtures::{event_text, two_jobs};
 use crate::memory::{Small, source};
-use session_peers::InlineHost;
+use session_peers::{InlineHost, NullAnalysis};
 use session_port::Host;
 use std::alloc::Global;
 use std::test::Fail;
@@ -13,9 +13,9 @@ fn host<'a>(
     alloc: Global,
     text: &str,
     fails: &[u64],
-    analysis: &'a Null,
+    analysis: &'a NullAnalysis,
     busy: bool,
-) -> Result<InlineHost<'a, Small, Null>, Fail>
+) -> Result<InlineHost<'a, Small, NullAnalysis>, Fail>
     ensures { IfOk result (λ host. host.spent ≡ false) }
 {
     let source: Small = source(alloc, text, fails)?;
@@ -27,7 +27,11 @@ fn host<'a>(
 }
 
 /// So many events of a host in words, or fewer where a call fails, after which none may be made.
-fn told(alloc: Global, host: &mut InlineHost<'_, Small, Null>, count: u32) -> Result<String, Fail>
+fn told(
+    alloc: Global,
+    host: &mut InlineHost<'_, Small, NullAnalysis>,
+    count: u32,
+) -> Result<String, Fail>
     requires { host.old.spent ≡ false }
 {
     let mut all = String::new(alloc);
@@ -51,7 +55,7 @@ fn events(
     busy: bool,
     count: u32,
 ) -> Result<(String, Option<usize>), Fail> {
-    let mut host = host(alloc, text, fails, &Null, busy)?;
+    let mut host = host(alloc, text, fails, &NullAnalysis, busy)?;
     let told = told(alloc, &mut host, count)?;
     Ok((told, host.calls().map(|calls| calls.len())))
 }

@@ -1,7 +1,8 @@
 // Jobs that run, and what crosses threads.
-use crate::fixtures::{Null, job, result_text};
+use crate::fixtures::{job, result_text};
 use analysis_host::{Cancel, Never};
 use plain::Json;
+use session_peers::NullAnalysis;
 use session_port::{HostEvent, JobResult, JobValue, TaskBody, TaskMsg, run_job};
 use std::alloc::Global;
 use std::test::Fail;
@@ -46,9 +47,9 @@ fn run_told(alloc: Global, stops: bool) -> Result<&'static str, Fail> {
             seen: false,
             polls: 0,
         };
-        run_job(&job, &Null, &mut third)
+        run_job(&job, &NullAnalysis, &mut third)
     } else {
-        run_job(&job, &Null, &mut Never::new())
+        run_job(&job, &NullAnalysis, &mut Never::new())
     };
     Ok(result_text(TaskBody::Final(result)))
 }

@@ -1,9 +1,9 @@
 // Hosts that follow a script, and hosts that give whatever they were told to give.
 ghost use Rattle.std.specs.Prelude.{◌≡◌, false};
 
-use crate::fixtures::{Null, calls_text, event_text, numbers, told, two_jobs};
+use crate::fixtures::{calls_text, event_text, numbers, told, two_jobs};
 use plain::{Bytes, Items, Json};
-use session_peers::{HostileHost, ScriptHost, ScriptStep};
+use session_peers::{HostileHost, NullAnalysis, ScriptHost, ScriptStep};
 use session_port::{Host, HostError, HostEvent, JobResult, JobValue, TaskBody, TaskMsg};
 use std::alloc::{AllocError, Global};
 use std::test::Fail;
@@ -29,7 +29,7 @@ fn script_told(
     fails: &[u64],
     count: u32,
 ) -> Result<(String, String), Fail> {
-    let mut host = ScriptHost::new(alloc, &Null, steps, numbers(alloc, fails)?)?;
+    let mut host = ScriptHost::new(alloc, &NullAnalysis, steps, numbers(alloc, fails)?)?;
     host.order(two_jobs(alloc)?)?;
     let told = told(alloc, &mut host, count)?;
     Ok((told, calls_text(alloc, host.calls())?))
@@ -81,7 +81,7 @@ fn a_script_stops_jobs(rt: HostRuntime) -> Result<(), Fail> {
 /// Whether the first order of a host fails, and what it gives then.
 fn first_order(alloc: Global, fails: &[u64]) -> Result<(bool, String), Fail> {
     let steps = finishing(alloc)?;
-    let mut host = ScriptHost::new(alloc, &Null, steps, numbers(alloc, fails)?)?;
+    let mut host = ScriptHost::new(alloc, &NullAnalysis, steps, numbers(alloc, fails)?)?;
     let failed = host.order(Items::new(alloc)) == Err(HostError::Failed);
     Ok((failed, told(alloc, &mut host, 2)?))
 }
@@ -107,7 +107,7 @@ fn made_up(alloc: Global) -> Result<Items<HostEvent>, Fail> {
 /// So many events of a host with the jobs 7 and 9 that makes results up, and its calls.
 fn hostile_told(alloc: Global, count: u32) -> Result<(String, String), Fail> {
     let mut host = HostileHost::new(alloc, made_up(alloc)?);
-    Host::<Null>::order(&mut host, two_jobs(alloc)?)?;
+    Host::<NullAnalysis>::order(&mut host, two_jobs(alloc)?)?;
     let told = told(alloc, &mut host, count)?;
     Ok((told, calls_text(alloc, host.calls())?))
 }
@@ -121,7 +121,7 @@ fn made_up_results(rt: HostRuntime) -> Result<(), Fail> {
 }
 
 /// The next event of a host that is handed over.
-fn next_of<H: Host<Null> + Drop>(mut host: H) -> Result<HostEvent, HostError>
+fn next_of<H: Host<NullAnalysis> + Drop>(mut host: H) -> Result<HostEvent, HostError>
     requires { H.spent host ≡ false }
 {
     host.next()
@@ -130,7 +130,12 @@ fn next_of<H: Host<Null> + Drop>(mut host: H) -> Result<HostEvent, HostError>
 #[test]
 fn a_lent_host_is_one(rt: HostRuntime) -> Result<(), Fail> {
     let alloc = rt.alloc();
-    let mut host = ScriptHost::new(alloc, &Null, finishing(alloc)?, numbers(alloc, &[])?)?;
+    let mut host = ScriptHost::new(
+        alloc,
+        &NullAnalysis,
+        finishing(alloc)?,
+        numbers(alloc, &[])?,
+    )?;
     let event = next_of(&mut host);
     assert_eq!(rt; event_text(alloc, event)?.as_str(), "ab");
     assert_eq!(rt; host.calls().len(), 1);

@@ -1,3 +1,2 @@
-pub mod Writable
-pub mod Units
 pub mod Tickets
+pub mod News

@@ -16,11 +16,11 @@ mod pending;
 mod requests;
 mod results;
 
-use crate::turn_out::TurnOut;
 use analysis_host::{Analysis, AnalysisHost, GlobalStateSnapshot, SnapshotParts, Versions};
 use lsp_frame::{Incoming, Message, RequestId, Response};
 use plain::{ByNumber, Text};
 use ra_config::Config;
+use session_messages::TurnOut;
 use session_model::{Counter, Event, TurnError};
 use session_port::{Command, Job, LogCode};
 use std::alloc::{AllocError, Global};
@@ -39,6 +39,7 @@ pub struct GlobalState {
     pending: Incoming,
     jobs: ByNumber<Job>,
     shutdown: bool,
+    loading: bool,
 }
 
 impl Model for GlobalState {
@@ -53,7 +54,7 @@ impl Model for GlobalState {
 
     ghost coded = { state_code job.the_row.coded };
 
-    ghost view = { λ g. record { config = arc_value g.config; host = g.host; versions = g.versions; turns = g.turns; jobs_given = g.jobs_given; pending = g.pending; jobs = g.jobs; shutdown = g.shutdown } };
+    ghost view = { λ g. record { config = arc_value g.config; host = g.host; versions = g.versions; turns = g.turns; jobs_given = g.jobs_given; pending = g.pending; jobs = g.jobs; shutdown = g.shutdown; loading = g.loading } };
 
     ghost invariant = { λ g. IsAbove (g.turns + 1) g.pending };
 }
@@ -104,7 +105,15 @@ impl GlobalState {
             pending: Incoming::new(alloc),
             jobs: ByNumber::new(alloc),
             shutdown: false,
+            loading: false,
         })
+    }
+
+    /// Whether files are loading. A session does not set it by itself yet: it is for a caller that loads files.
+    pub fn set_loading(&mut self, loading: bool)
+        ensures { self.new ≡ record self.old { loading = loading } }
+    {
+        self.loading = loading;
     }
 
     /// The snapshot of the present.
@@ -124,7 +133,8 @@ impl GlobalState {
 impl GlobalState {
     #[tactic(auto, unfolding(session_model::specs::Machine::ordered))]
     fn order(&mut self, command: Command, out: &mut TurnOut) -> Result<(), TurnError>
-        ensures { Gives result (ordered command (record { state = self.old; out = out.old })) self.new out.new }
+        ensures gives { Gives result (ordered command (record { state = self.old; out = out.old })) self.new out.new }
+        ensures same { self.new ≡ self.old }
     {
         out.order(command)?;
         Ok(())
@@ -132,7 +142,8 @@ impl GlobalState {
 
     #[tactic(auto, unfolding(session_model::specs::Machine::logged))]
     fn log(&mut self, code: LogCode, text: Text, out: &mut TurnOut) -> Result<(), TurnError>
-        ensures { Gives result (logged code text (record { state = self.old; out = out.old })) self.new out.new }
+        ensures gives { Gives result (logged code text (record { state = self.old; out = out.old })) self.new out.new }
+        ensures same { self.new ≡ self.old }
     {
         self.order(Command::Log(code, text), out)
     }

@@ -2,11 +2,6 @@
 #![tactic(auto)]
 
 mod global_state;
-mod methods;
-mod notices;
-mod replies;
-mod turn_out;
 
 pub use global_state::GlobalState;
-pub use methods::is_name;
-pub use turn_out::TurnOut;
+pub use session_messages::{TurnOut, is_name};

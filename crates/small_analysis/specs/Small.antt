@@ -9,7 +9,7 @@ use Rattle.docs_vfs.specs.FileUrls.{path_of}
 use Rattle.docs_vfs.specs.declared.file_url.UrlFault.{UrlFault}
 use Rattle.analysis_host.specs.Answers.{Finding, answer, fault}
 use Rattle.analysis_host.specs.SnapshotData.{SnapshotData}
-use Rattle.analysis_host.specs.declared.ask.RowId.{RowId}
+use Rattle.method_table.specs.declared.row_id.RowId.{RowId}
 use Rattle.analysis_host.specs.declared.ask.Ask.{Ask}
 use Rattle.analysis_host.specs.declared.ask.Ask.TheVariants.{Request}
 use Rattle.analysis_host.specs.declared.ask.Answer.TheVariants.{Json}

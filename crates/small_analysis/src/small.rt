@@ -41,6 +41,7 @@ fn answer(alloc: Global, snapshot: &GlobalStateSnapshot, ask: &Ask) -> Result<Ou
     ensures plain { IfOk result IsPlainOutcome }
 {
     let Ask::Request { row, params } = ask;
+    let params = params.as_json();
     if !params.is_plain() {
         return Ok(refusal(Text::from_str(alloc, "invalid params")?));
     }

@@ -1,10 +1,10 @@
 // Questions to a small analysis, and what it answers in words.
 use analysis_host::{
     Analysis, AnalysisHost, Answer, Ask, Change, FileChange, GlobalStateSnapshot, Never, Outcome,
-    RowId, SnapshotParts, Versions,
+    RowId, SharedText, SnapshotParts, Versions,
 };
 use docs_vfs::VfsPath;
-use plain::{Items, Json, Text};
+use plain::{Items, Json, SharedJson, Text};
 use ra_config::Config;
 use small_analysis::SmallAnalysis;
 use std::alloc::Global;
@@ -29,7 +29,7 @@ fn snapshot_of(alloc: Global, text: &str) -> Result<GlobalStateSnapshot, Fail> {
     let mut files = Items::new(alloc);
     files.push(FileChange {
         path: path(alloc, "/w/a.rs")?,
-        text: Some(Text::from_str(alloc, text)?),
+        text: Some(SharedText::new(alloc, Text::from_str(alloc, text)?)?),
     })?;
     let mut host = AnalysisHost::new(alloc)?;
     host.apply_change(Change { files })?;
@@ -57,6 +57,7 @@ fn written(alloc: Global, outcome: Outcome) -> Result<String, Fail> {
 /// What a row answers on a text and params.
 pub fn answer(alloc: Global, row: RowId, text: &str, params: &str) -> Result<String, Fail> {
     let params = Json::read(alloc, params.as_bytes())?.ok_or("no JSON")?;
+    let params = SharedJson::new(alloc, params)?;
     let ask = Ask::Request { row, params };
     let snapshot = snapshot_of(alloc, text)?;
     let outcome = SmallAnalysis::new(alloc).query(&snapshot, &ask, &mut Never::new())?;

@@ -19,14 +19,6 @@ use std::marker::Brand;
 use std::mem;
 use std::sync::ledger::{Blank, Ledger};
 
-/// A text after changes, and whether one of them was skipped.
-#[derive(Drop)]
-pub struct EditedText {
-    pub text: Text,
-    /// Whether an edit could not be made, after the last change that is the whole text.
-    pub skipped: bool,
-}
-
 /// What a list of changes makes of a document.
 #[derive(Drop)]
 pub struct EditedDocument {
@@ -383,29 +375,17 @@ fn edit_document_uncounted<L: Ledger>(
     edit_with_steps(alloc, encoding, index, content_changes, &mut steps)
 }
 
-/// The text of a document after a list of changes, as `edit_with_steps` has it.
+/// A document after a list of changes, as `edit_with_steps` has it, where nobody counts the steps.
 pub fn edit_document(
     alloc: Global,
     encoding: PositionEncoding,
     index: &TextIndex,
     content_changes: Items<ContentChange>,
-) -> Result<EditedText, AllocError>
+) -> Result<EditedDocument, AllocError>
     ensures text { let end = document encoding u32.MAX index.now content_changes in
-        IfOk result (λ edited. edited.text ≡ end) }
+        IfOk result (λ edited. IsOther index.now end edited.changed) }
     ensures skipped { let told = skips encoding u32.MAX index.now content_changes in
         IfOk result (λ edited. edited.skipped ≡ told) }
-    ensures within { IfOk result (λ edited. length edited.text < 2 ^ 32) }
 {
-    let edited = edit_document_uncounted::<Brand>(
-        alloc,
-        encoding,
-        index,
-        content_changes,
-        Blank::new(1),
-    )?;
-    let text = index.text_after(alloc, edited.changed)?;
-    Ok(EditedText {
-        text,
-        skipped: edited.skipped,
-    })
+    edit_document_uncounted::<Brand>(alloc, encoding, index, content_changes, Blank::new(1))
 }

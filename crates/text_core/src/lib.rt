@@ -24,8 +24,7 @@ pub use completion::{HashedItem, PostfixMatch, RefMode, Relevance, ReturnType, T
 pub use completion_hash::{completion_item_hash, equal_bytes_are_equal_items};
 pub use disjoint::all_edits_are_disjoint;
 pub use editing::{
-    EditedDocument, EditedText, apply_document_changes, apply_with_limit, edit_document,
-    edit_with_steps,
+    EditedDocument, apply_document_changes, apply_with_limit, edit_document, edit_with_steps,
 };
 pub use laws::{
     columns_stand_behind_their_units, lines_are_the_text, places_of_positions, positions_of_places,

@@ -143,21 +143,6 @@ impl TextIndex {
         Some(self)
     }
 
-    /// The text that was changed, or else a copy of this one.
-    pub(crate) fn text_after(
-        &self,
-        alloc: Global,
-        changed: Option<TextIndex>,
-    ) -> Result<Text, AllocError>
-        ensures value { IfOk result (λ text. text ≡ unwrap_or changed self.now) }
-        ensures within { IfOk result (λ text. length text < 2 ^ 32) }
-    {
-        match changed {
-            Some(changed) => Ok(changed.into_text()),
-            None => Text::from_str(alloc, self.text.as_str()),
-        }
-    }
-
     /// The text without its lines.
     pub fn into_text(self) -> Text
         ensures value { result ≡ self }

@@ -1,32 +1,80 @@
 // Messages of the client: notifications, and which message is what.
-ghost use Rattle.std.specs.Prelude.{◌≡◌, ◌<◌, ◌^◌, All, length, Ok, IfOk, IfSome, is_some};
+ghost use Rattle.std.specs.Prelude.{◌≡◌, ◌<◌, ◌^◌, List, ℕ, [], ◌∷◌, length, None, Some, Ok, IfOk, OnOk, IfSome, is_some};
 ghost use Rattle.std.specs.FinMap as map;
-ghost use Rattle.analysis_host.specs.HostData.{Fits};
 ghost use Rattle.lsp_frame.specs.Pending.{IsAbove};
-ghost use Rattle.session_model.specs.Changing.{text_after, has_skipped};
-ghost use Rattle.session_model.specs.Machine.{received, notified, opened, opened_at, open_noted, changed, changed_at, edited, edited_by, skip_noted, cancelled, logged, version_set, text_set, holds_text, world_changed};
+ghost use Rattle.session_model.specs.Changing.{text_after, has_skipped, IsNews};
+ghost use Rattle.session_model.specs.Machine.{received, noticed, opened_at, open_noted, changed_at, edited, edited_by, skip_noted, cancelled, logged, version_set, text_set, holds_text, world_changed};
 ghost use Rattle.session_model.specs.Meaning.{meaning_of};
 ghost use Rattle.session_model.specs.Meets.{Meets, Gives};
+ghost use Rattle.session_model.specs.Notices.{notice_of, FitsWorld};
+ghost use Rattle.docs_vfs.specs.FileUrls.{path_of};
 
 use crate::global_state::GlobalState;
-use crate::methods::is_name;
-use crate::notices::{cancel_of, changed_of, opened_of};
-use crate::replies;
-use crate::turn_out::TurnOut;
-use analysis_host::{Analysis, Change, FileChange, WorldFault, columns};
+use analysis_host::{Analysis, Change, FileChange, SharedText, WorldFault, columns};
 use docs_vfs::{UrlFault, VfsPath, path_of_url};
 use lsp_frame::{Message, Notification, RequestId};
 use plain::{Items, Text};
-use session_model::{Counter, DidChange, DidOpen, TurnError};
+use session_messages::{TurnOut, canceled_by_client, id_text, notice_of};
+use session_model::{Counter, DidChange, DidOpen, Notice, TurnError};
 use session_port::LogCode;
-use std::alloc::AllocError;
-use text_core::{ContentChange, EditedText, TextIndex, edit_document};
+use std::alloc::{AllocError, Global};
+use text_core::{ContentChange, TextIndex, edit_document};
+
+// What edits make of a text.
+#[derive(Drop)]
+struct Edited {
+    // The text, where it is another one.
+    news: Option<SharedText>,
+    // Whether an edit was skipped.
+    skipped: bool,
+}
+
+// An index, shared where there is one.
+fn share(alloc: Global, index: Option<TextIndex>) -> Result<Option<SharedText>, AllocError>
+    ensures { IfOk result (λ shared. shared ≡ index) }
+{
+    match index {
+        None => Ok(None),
+        Some(index) => Ok(Some(SharedText::from_index(alloc, index)?)),
+    }
+}
+
+// A text after edits.
+#[tactic(auto, using(crate::proofs::News::news_of_other), unfolding(session_model::specs::Changing::text_after, session_model::specs::Changing::has_skipped))]
+fn edit_text(
+    alloc: Global,
+    index: &TextIndex,
+    changes: Items<ContentChange>,
+) -> Result<Edited, AllocError>
+    ensures text { IfOk result (λ edited. IsNews (Some index.now) (text_after changes (Some index.now)) edited.news) }
+    ensures skipped { IfOk result (λ edited. edited.skipped ≡ has_skipped changes (Some index.now)) }
+{
+    let edited = edit_document(alloc, columns(), index, changes)?;
+    Ok(Edited {
+        news: share(alloc, edited.changed)?,
+        skipped: edited.skipped,
+    })
+}
+
+// The same of a document that has no text.
+#[tactic(auto, using(crate::proofs::News::news_of_none), unfolding(session_model::specs::Changing::text_after, session_model::specs::Changing::has_skipped))]
+fn edit_nothing(alloc: Global, changes: Items<ContentChange>) -> Result<Edited, AllocError>
+    ensures text { IfOk result (λ edited. IsNews None (text_after changes None) edited.news) }
+    ensures skipped { IfOk result (λ edited. edited.skipped ≡ has_skipped changes None) }
+{
+    let empty = TextIndex::from_text(alloc, Text::new(alloc))?;
+    let edited = edit_document(alloc, columns(), &empty, changes)?;
+    let news = edited.changed.unwrap_or(empty);
+    Ok(Edited {
+        news: Some(SharedText::from_index(alloc, news)?),
+        skipped: edited.skipped,
+    })
+}
 
 impl GlobalState {
     // One change of the world, and so one revision more.
     #[tactic(auto, unfolding(session_model::specs::Machine::world_changed, session_model::specs::Machine::world_by))]
     fn change_world(&mut self, files: Items<FileChange>, out: &mut TurnOut) -> Result<(), TurnError>
-        requires { All Fits files }
         ensures { Meets result (world_changed files (record { state = self.old; out = out.old })) self.new out.new }
     {
         match self.host.apply_change(Change { files }) {
@@ -38,6 +86,23 @@ impl GlobalState {
         }
     }
 
+    // The text of a path, which the world doesn't have there.
+    fn change_text(
+        &mut self,
+        path: VfsPath,
+        text: SharedText,
+        out: &mut TurnOut,
+    ) -> Result<(), TurnError>
+        ensures { Meets result (world_changed ((record { path = path; text = Some text }) ∷ []) (record { state = self.old; out = out.old })) self.new out.new }
+    {
+        let mut files = Items::new(self.alloc);
+        files.push(FileChange {
+            path,
+            text: Some(text),
+        })?;
+        self.change_world(files, out)
+    }
+
     // The text of a path, where the world has another one.
     #[tactic(auto, unfolding(session_model::specs::Machine::text_set))]
     fn set_text(&mut self, path: VfsPath, text: Text, out: &mut TurnOut) -> Result<(), TurnError>
@@ -47,12 +112,25 @@ impl GlobalState {
         if self.has_text(&path, &text) {
             return Ok(());
         }
-        let mut files = Items::new(self.alloc);
-        files.push(FileChange {
-            path,
-            text: Some(text),
-        })?;
-        self.change_world(files, out)
+        let text = SharedText::new(self.alloc, text)?;
+        self.change_text(path, text, out)
+    }
+
+    // The same of a text that was compared with the world's already.
+    #[tactic(auto, using(crate::proofs::News::held_is, crate::proofs::News::held_not), unfolding(session_model::specs::Machine::text_set))]
+    fn set_news(
+        &mut self,
+        path: VfsPath,
+        news: Option<SharedText>,
+        out: &mut TurnOut,
+    ) -> Result<(), TurnError>
+        ensures { (text : List ℕ) → IsNews (map.get self.old.host.world.texts path) text news
+            → Meets result (text_set path text (record { state = self.old; out = out.old })) self.new out.new }
+    {
+        match news {
+            None => Ok(()),
+            Some(text) => self.change_text(path, text, out),
+        }
     }
 
     fn has_text(&self, path: &VfsPath, text: &Text) -> bool
@@ -71,7 +149,8 @@ impl GlobalState {
         version: i32,
         out: &mut TurnOut,
     ) -> Result<(), TurnError>
-        ensures { Gives result (version_set path version (record { state = self.old; out = out.old })) self.new out.new }
+        ensures gives { Gives result (version_set path version (record { state = self.old; out = out.old })) self.new out.new }
+        ensures world { OnOk result (self.new.host ≡ self.old.host) }
     {
         self.versions = self.versions.set(self.alloc, path, Some(version))?;
         Ok(())
@@ -100,7 +179,8 @@ impl GlobalState {
         path: &VfsPath,
         out: &mut TurnOut,
     ) -> Result<(), TurnError>
-        ensures { Gives result (logged code path.now (record { state = self.old; out = out.old })) self.new out.new }
+        ensures gives { Gives result (logged code path.now (record { state = self.old; out = out.old })) self.new out.new }
+        ensures same { self.new ≡ self.old }
     {
         let text = Text::from_str(self.alloc, path.as_str())?;
         self.log(code, text, out)
@@ -121,19 +201,12 @@ impl GlobalState {
         self.set_text(path, document.text, out)
     }
 
-    #[tactic(auto, unfolding(session_model::specs::Machine::opened, session_model::specs::Machine::opened_at))]
-    fn on_open(
-        &mut self,
-        document: Option<DidOpen>,
-        method: Text,
-        out: &mut TurnOut,
-    ) -> Result<(), TurnError>
-        requires { IfSome document (λ document. length document.text < 2 ^ 32) }
-        ensures { Meets result (opened document method (record { state = self.old; out = out.old })) self.new out.new }
+    // A document is open at the path of its URL.
+    #[tactic(auto, unfolding(session_model::specs::Machine::opened_at))]
+    fn on_open(&mut self, document: DidOpen, out: &mut TurnOut) -> Result<(), TurnError>
+        requires { length document.text < 2 ^ 32 }
+        ensures { Meets result (opened_at (path_of document.uri) document (record { state = self.old; out = out.old })) self.new out.new }
     {
-        let Some(document) = document else {
-            return self.log(LogCode::MalformedNotification, method, out);
-        };
         match path_of_url(self.alloc, document.uri.as_str()) {
             Ok(path) => self.open_at(path, document, out),
             Err(UrlFault::NoMemory) => Err(TurnError::NoMemory),
@@ -143,23 +216,15 @@ impl GlobalState {
         }
     }
 
-    // The text that the changes leave of a document's; one that has none is empty.
-    #[tactic(auto, unfolding(session_model::specs::Changing::text_after, session_model::specs::Changing::has_skipped))]
-    fn edit_text(
-        &self,
-        path: &VfsPath,
-        changes: Items<ContentChange>,
-    ) -> Result<EditedText, AllocError>
-        ensures text { IfOk result (λ edited. edited.text ≡ text_after changes (map.get self.now.host.world.texts path.now)) }
+    // The text that the changes leave of a document's, where it is another one; a document that has none is empty.
+    fn edit_held(&self, path: &VfsPath, changes: Items<ContentChange>) -> Result<Edited, AllocError>
+        ensures text { let held = map.get self.now.host.world.texts path.now in
+            IfOk result (λ edited. IsNews held (text_after changes held) edited.news) }
         ensures skipped { IfOk result (λ edited. edited.skipped ≡ has_skipped changes (map.get self.now.host.world.texts path.now)) }
-        ensures fits { IfOk result (λ edited. length edited.text < 2 ^ 32) }
     {
         match self.host.index(path) {
-            Some(index) => edit_document(self.alloc, columns(), index, changes),
-            None => {
-                let empty = TextIndex::from_text(self.alloc, Text::new(self.alloc))?;
-                edit_document(self.alloc, columns(), &empty, changes)
-            }
+            Some(index) => edit_text(self.alloc, index, changes),
+            None => edit_nothing(self.alloc, changes),
         }
     }
 
@@ -171,7 +236,8 @@ impl GlobalState {
         skipped: bool,
         out: &mut TurnOut,
     ) -> Result<(), TurnError>
-        ensures { Gives result (skip_noted path.now skipped (record { state = self.old; out = out.old })) self.new out.new }
+        ensures gives { Gives result (skip_noted path.now skipped (record { state = self.old; out = out.old })) self.new out.new }
+        ensures same { self.new ≡ self.old }
     {
         if !skipped {
             return Ok(());
@@ -194,10 +260,10 @@ impl GlobalState {
             changes,
             ..
         } = change;
-        let EditedText { text, skipped } = self.edit_text(&path, changes)?;
+        let Edited { news, skipped } = self.edit_held(&path, changes)?;
         self.note_skip(&path, skipped, out)?;
         self.set_version(path.clone()?, version, out)?;
-        self.set_text(path, text, out)
+        self.set_news(path, news, out)
     }
 
     // A document that isn't open is logged.
@@ -216,18 +282,11 @@ impl GlobalState {
         self.edit_at(path, change, out)
     }
 
-    #[tactic(auto, unfolding(session_model::specs::Machine::changed, session_model::specs::Machine::changed_at))]
-    fn on_change(
-        &mut self,
-        change: Option<DidChange>,
-        method: Text,
-        out: &mut TurnOut,
-    ) -> Result<(), TurnError>
-        ensures { Meets result (changed change method (record { state = self.old; out = out.old })) self.new out.new }
+    // A document is changed at the path of its URL.
+    #[tactic(auto, unfolding(session_model::specs::Machine::changed_at))]
+    fn on_change(&mut self, change: DidChange, out: &mut TurnOut) -> Result<(), TurnError>
+        ensures { Meets result (changed_at (path_of change.uri) change (record { state = self.old; out = out.old })) self.new out.new }
     {
-        let Some(change) = change else {
-            return self.log(LogCode::MalformedNotification, method, out);
-        };
         match path_of_url(self.alloc, change.uri.as_str()) {
             Ok(path) => self.change_at(path, change, out),
             Err(UrlFault::NoMemory) => Err(TurnError::NoMemory),
@@ -239,46 +298,48 @@ impl GlobalState {
 
     // The request of an id is cancelled, where it is pending.
     #[tactic(auto, unfolding(session_model::specs::Machine::cancelled))]
-    fn on_cancel(
+    fn on_cancel(&mut self, id: &RequestId, out: &mut TurnOut) -> Result<(), TurnError>
+        ensures { Gives result (cancelled id.now (record { state = self.old; out = out.old })) self.new out.new }
+    {
+        if !self.pending.has_id(id) {
+            return Ok(());
+        }
+        let response = canceled_by_client(self.alloc, id.clone()?)?;
+        self.answer(id, response, out)
+    }
+
+    // What a notification of this method tells.
+    #[tactic(auto, unfolding(session_model::specs::Machine::noticed))]
+    fn on_notice(
         &mut self,
-        id: Option<RequestId>,
+        notice: Notice,
         method: Text,
         out: &mut TurnOut,
     ) -> Result<(), TurnError>
-        ensures { Gives result (cancelled id method (record { state = self.old; out = out.old })) self.new out.new }
+        requires { FitsWorld notice }
+        ensures { Meets result (noticed notice method (record { state = self.old; out = out.old })) self.new out.new }
     {
-        let Some(id) = id else {
-            return self.log(LogCode::MalformedNotification, method, out);
-        };
-        if !self.pending.has_id(&id) {
-            return Ok(());
+        match notice {
+            Notice::Opened(document) => self.on_open(document, out),
+            Notice::Changed(change) => self.on_change(change, out),
+            Notice::Cancel(id) => self.on_cancel(&id, out),
+            Notice::Malformed => self.log(LogCode::MalformedNotification, method, out),
+            Notice::Unhandled => self.log(LogCode::UnhandledNotification, method, out),
+            Notice::Silent => Ok(()),
         }
-        let response = replies::canceled_by_client(self.alloc, id.clone()?)?;
-        self.answer(&id, response, out)
     }
 
-    #[tactic(auto, unfolding(session_model::specs::Machine::notified))]
+    #[tactic(auto, using(crate::proofs::News::noticed_as))]
     fn on_notification(
         &mut self,
         notification: Notification,
         out: &mut TurnOut,
     ) -> Result<(), TurnError>
-        ensures { Meets result (notified notification (record { state = self.old; out = out.old })) self.new out.new }
+        ensures { Meets result (noticed (notice_of notification) notification.method (record { state = self.old; out = out.old })) self.new out.new }
     {
         let Notification { method, params } = notification;
-        if is_name(&method, "textDocument/didOpen") {
-            return self.on_open(opened_of(params), method, out);
-        }
-        if is_name(&method, "textDocument/didChange") {
-            return self.on_change(changed_of(self.alloc, params)?, method, out);
-        }
-        if is_name(&method, "$/cancelRequest") {
-            return self.on_cancel(cancel_of(params), method, out);
-        }
-        if method.as_str().as_bytes().starts_with(b"$/") {
-            return Ok(());
-        }
-        self.log(LogCode::UnhandledNotification, method, out)
+        let notice = notice_of(self.alloc, &method, params)?;
+        self.on_notice(notice, method, out)
     }
 
     #[tactic(auto, unfolding(session_model::specs::Machine::received))]
@@ -295,7 +356,7 @@ impl GlobalState {
             Message::Request(request) => self.on_request(request, analysis, out),
             Message::Notification(notification) => self.on_notification(notification, out),
             Message::Response(response) => {
-                let text = replies::id_text(self.alloc, response.id)?;
+                let text = id_text(self.alloc, response.id)?;
                 self.log(LogCode::UnknownResponse, text, out)
             }
         }

@@ -1,15 +1,14 @@
 // The requests that wait, by their tickets and by their ids.
-ghost use Rattle.std.specs.Prelude.{◌≡◌, [], IfOk, OnOk, Some, is_some, not};
+ghost use Rattle.std.specs.Prelude.{◌≡◌, IfOk, OnOk, Some, is_some, not};
 ghost use Rattle.lsp_frame.specs.Pending.{id_of, is_pending};
 ghost use Rattle.lsp_frame.specs.Written.{AreWritable};
 ghost use Rattle.lsp_frame.specs.declared.message.Message.TheVariants.{Response as ResponseMessage};
 ghost use Rattle.session_model.specs.Machine.{cancelled, responded};
 
 use crate::global_state::GlobalState;
-use crate::replies;
-use crate::turn_out::TurnOut;
 use lsp_frame::{RequestId, Response};
 use plain::NoMemory;
+use session_messages::{TurnOut, canceled_by_client};
 
 impl GlobalState {
     /// Answers the request of a ticket under its id, and closes it; false where it isn't pending. After an `Err` the state is spent.
@@ -43,12 +42,12 @@ impl GlobalState {
     #[tactic(auto, using(lsp_frame::proofs::Above::closed_above), unfolding(session_model::specs::Machine::cancelled, session_model::specs::Machine::answered, session_model::specs::Machine::replied))]
     pub fn cancel(&mut self, id: &RequestId, out: &mut TurnOut) -> Result<bool, NoMemory>
         ensures pending { IfOk result (λ done. done ≡ is_pending id.now self.old.pending) }
-        ensures after { OnOk result (record { state = self.new; out = out.new } ≡ cancelled (Some id.now) [] (record { state = self.old; out = out.old })) }
+        ensures after { OnOk result (record { state = self.new; out = out.new } ≡ cancelled id.now (record { state = self.old; out = out.old })) }
     {
         if !self.pending.has_id(id) {
             return Ok(false);
         }
-        let response = replies::canceled_by_client(self.alloc, id.clone()?)?;
+        let response = canceled_by_client(self.alloc, id.clone()?)?;
         self.pending.cancel(id);
         out.reply(response)?;
         Ok(true)

@@ -4,23 +4,38 @@ ghost use Rattle.lsp_frame.specs.Pending.{IsAbove, Registers};
 ghost use Rattle.lsp_frame.specs.Written.{AreWritable};
 ghost use Rattle.lsp_frame.specs.declared.message.Message.TheVariants.{Response as ResponseMessage};
 ghost use Rattle.analysis_host.specs.declared.ask.Ask.TheVariants.{Request as RequestAsk};
-ghost use Rattle.session_model.specs.Machine.{requested, replied, admitted, shut_down, asked, unknown, classed, granted, dispatched};
-ghost use Rattle.session_model.specs.Meaning.{meaning_of};
+ghost use Rattle.method_table.specs.Plans.{is_shutdown};
+ghost use Rattle.method_table.specs.Rows.{default_of};
+ghost use Rattle.state_params.specs.StateRequests.{request_of};
+ghost use Rattle.session_model.specs.Machine.{requested, replied, answered, admitted, shut_down, asked, unknown, classed, planned, stated, echoed, queried, submitted, dispatched};
+ghost use Rattle.session_model.specs.Meaning.{meaning_of, can_read};
 ghost use Rattle.session_model.specs.Meets.{Meets, Gives};
-ghost use Rattle.session_model.specs.Replies.{already_pending, finding_reply};
+ghost use Rattle.dispatch.specs.Responses.{response_with};
+ghost use Rattle.session_model.specs.Replies.{already_pending, shut_already, unknown_request, invalid_params, finding_reply};
 ghost use Rattle.session_model.specs.State.{snapshot_of};
 
 use crate::global_state::{GlobalState, next_number};
-use crate::methods::{class_of, is_name, is_on_loop, row_of};
-use crate::notices::is_unit;
-use crate::replies;
-use crate::turn_out::TurnOut;
 use analysis_host::{Analysis, Answer, Ask, Never, Outcome, RowId};
+use dispatch::response_with;
 use lsp_frame::{Registered, Request, RequestId, Response};
-use plain::{Json, Text};
+use method_table::{Plan, PoolClass, SHUTDOWN, default_of, plan, row_of};
+use plain::{Json, SharedJson, Text};
+use session_messages::{
+    TurnOut, already_pending, fault_reply, invalid_params, shut_already, unknown_request,
+};
 use session_model::{Counter, TurnError};
 use session_port::{Command, Job, JobKind, LogCode};
+use state_params::{is_unit, read_state_request};
 use std::alloc::AllocError;
+
+fn is_shutdown(row: Option<RowId>) -> bool
+    ensures { result ≡ is_shutdown row }
+{
+    match row {
+        None => false,
+        Some(row) => row == SHUTDOWN,
+    }
+}
 
 impl GlobalState {
     // The request waits for an answer, under the turn's number as its ticket, unless one of its id waits already.
@@ -39,17 +54,18 @@ impl GlobalState {
     #[tactic(auto, unfolding(session_model::specs::Machine::dispatched))]
     fn dispatch(
         &mut self,
+        class: PoolClass,
         ticket: u64,
         row: RowId,
-        params: Json,
+        params: SharedJson,
         out: &mut TurnOut,
     ) -> Result<(), TurnError>
-        ensures { Meets result (dispatched ticket row params (record { state = self.old; out = out.old })) self.new out.new }
+        ensures { Meets result (dispatched class ticket row params (record { state = self.old; out = out.old })) self.new out.new }
     {
         let number = next_number(self.jobs_given, Counter::Jobs)?;
         let job = Job {
             number,
-            class: class_of(row),
+            class,
             kind: JobKind::Request {
                 ticket,
                 row,
@@ -66,7 +82,7 @@ impl GlobalState {
         &self,
         id: RequestId,
         row: RowId,
-        params: Json,
+        params: SharedJson,
         analysis: &A,
     ) -> Result<Response, AllocError>
         ensures value { IfOk result (λ response. response ≡ finding_reply id (A.answer (snapshot_of self.now) (RequestAsk row params))) }
@@ -78,30 +94,155 @@ impl GlobalState {
         let ask = Ask::Request { row, params };
         let mut never = Never::new();
         match analysis.query(&snapshot, &ask, &mut never)? {
-            Outcome::Value(Answer::Json(value)) => Ok(replies::response_with(id, value)),
-            Outcome::Fault { code, message } => Ok(replies::fault_reply(id, code, message)),
+            Outcome::Value(Answer::Json(value)) => Ok(response_with(id, value)),
+            Outcome::Fault { code, message } => Ok(fault_reply(id, code, message)),
             Outcome::Cancelled { .. } => unreachable!(),
         }
     }
 
-    // A request that can be read: it is answered at once, or by a job.
-    #[tactic(auto, unfolding(session_model::specs::Machine::granted))]
-    fn grant<A: Analysis>(
+    // Refuses a request whose params can't be read.
+    fn refuse_params(&mut self, id: &RequestId, out: &mut TurnOut) -> Result<(), TurnError>
+        ensures { Gives result (answered id.now (invalid_params id.now) (record { state = self.old; out = out.old })) self.new out.new }
+    {
+        let response = invalid_params(self.alloc, id.clone()?)?;
+        self.answer(id, response, out)
+    }
+
+    // Refuses a request after a shutdown.
+    fn refuse_shut(&mut self, id: &RequestId, out: &mut TurnOut) -> Result<(), TurnError>
+        ensures { Gives result (answered id.now (shut_already id.now) (record { state = self.old; out = out.old })) self.new out.new }
+    {
+        let response = shut_already(self.alloc, id.clone()?)?;
+        self.answer(id, response, out)
+    }
+
+    // Refuses a request of a row that the table doesn't have.
+    fn refuse_unknown(&mut self, id: &RequestId, out: &mut TurnOut) -> Result<(), TurnError>
+        ensures { Gives result (answered id.now (unknown_request id.now) (record { state = self.old; out = out.old })) self.new out.new }
+    {
+        let response = unknown_request(self.alloc, id.clone()?)?;
+        self.answer(id, response, out)
+    }
+
+    // Answers a request by its row's default.
+    fn answer_default(
         &mut self,
-        ticket: u64,
         id: &RequestId,
         row: RowId,
-        params: Json,
+        out: &mut TurnOut,
+    ) -> Result<(), TurnError>
+        ensures { Gives result (answered id.now (response_with id.now (default_of row)) (record { state = self.old; out = out.old })) self.new out.new }
+    {
+        let value = default_of(self.alloc, row)?;
+        let response = response_with(id.clone()?, value);
+        self.answer(id, response, out)
+    }
+
+    // Answers a request by its own params, where they can be read.
+    #[tactic(auto, unfolding(session_model::specs::Machine::echoed))]
+    fn echo<A: Analysis>(
+        &mut self,
+        id: &RequestId,
+        row: RowId,
+        params: SharedJson,
         analysis: &A,
         out: &mut TurnOut,
     ) -> Result<(), TurnError>
-        ensures { Meets result (granted (meaning_of A.decodes A.answer) ticket id.now row params (record { state = self.old; out = out.old })) self.new out.new }
+        ensures { let reads = can_read (meaning_of A.decodes A.answer) row params in
+            Gives result (echoed reads id.now params (record { state = self.old; out = out.old })) self.new out.new }
     {
-        if !is_on_loop(row) {
-            return self.dispatch(ticket, row, params, out);
+        if !params.as_json().is_plain() || !analysis.decodes(row, params.as_json()) {
+            return self.refuse_params(id, out);
+        }
+        let response = response_with(id.clone()?, params.into_json()?);
+        self.answer(id, response, out)
+    }
+
+    // The same by a query on the present snapshot.
+    #[tactic(auto, unfolding(session_model::specs::Machine::queried))]
+    fn query<A: Analysis>(
+        &mut self,
+        id: &RequestId,
+        row: RowId,
+        params: SharedJson,
+        analysis: &A,
+        out: &mut TurnOut,
+    ) -> Result<(), TurnError>
+        ensures { let meaning = meaning_of A.decodes A.answer in
+            Gives result (queried meaning (can_read meaning row params) id.now row params (record { state = self.old; out = out.old })) self.new out.new }
+    {
+        if !params.as_json().is_plain() || !analysis.decodes(row, params.as_json()) {
+            return self.refuse_params(id, out);
         }
         let response = self.answer_now(id.clone()?, row, params, analysis)?;
         self.answer(id, response, out)
+    }
+
+    // The same by a job.
+    #[tactic(auto, unfolding(session_model::specs::Machine::submitted))]
+    fn submit<A: Analysis>(
+        &mut self,
+        class: PoolClass,
+        ticket: u64,
+        id: &RequestId,
+        row: RowId,
+        params: SharedJson,
+        analysis: &A,
+        out: &mut TurnOut,
+    ) -> Result<(), TurnError>
+        ensures { let reads = can_read (meaning_of A.decodes A.answer) row params in
+            Meets result (submitted reads class ticket id.now row params (record { state = self.old; out = out.old })) self.new out.new }
+    {
+        if !params.as_json().is_plain() || !analysis.decodes(row, params.as_json()) {
+            return self.refuse_params(id, out);
+        }
+        self.dispatch(class, ticket, row, params, out)
+    }
+
+    // A request to change the session's own state. Nothing is done for it yet.
+    #[tactic(auto, unfolding(session_model::specs::Machine::stated))]
+    fn on_state(
+        &mut self,
+        id: &RequestId,
+        row: RowId,
+        params: &SharedJson,
+        out: &mut TurnOut,
+    ) -> Result<(), TurnError>
+        ensures { Gives result (stated id.now (request_of row params.now) (record { state = self.old; out = out.old })) self.new out.new }
+    {
+        match read_state_request(self.alloc, row, params.as_json())? {
+            None => self.refuse_params(id, out),
+            Some(_) => {
+                let response = response_with(id.clone()?, Json::null());
+                self.answer(id, response, out)
+            }
+        }
+    }
+
+    // What is planned for a request of a row.
+    #[tactic(auto, unfolding(session_model::specs::Machine::planned))]
+    fn carry_out<A: Analysis>(
+        &mut self,
+        plan: Plan,
+        ticket: u64,
+        id: &RequestId,
+        row: RowId,
+        params: SharedJson,
+        analysis: &A,
+        out: &mut TurnOut,
+    ) -> Result<(), TurnError>
+        ensures { Meets result (planned (meaning_of A.decodes A.answer) plan ticket id.now row params (record { state = self.old; out = out.old })) self.new out.new }
+    {
+        match plan {
+            Plan::Shutdown => self.on_state(id, row, &params, out),
+            Plan::Refuse => self.refuse_shut(id, out),
+            Plan::Unknown => self.refuse_unknown(id, out),
+            Plan::Default => self.answer_default(id, row, out),
+            Plan::Identity => self.echo(id, row, params, analysis, out),
+            Plan::State => self.on_state(id, row, &params, out),
+            Plan::OnLoop => self.query(id, row, params, analysis, out),
+            Plan::Job(class) => self.submit(class, ticket, id, row, params, analysis, out),
+        }
     }
 
     // A request of a row.
@@ -111,17 +252,14 @@ impl GlobalState {
         ticket: u64,
         id: &RequestId,
         row: RowId,
-        params: Json,
+        params: SharedJson,
         analysis: &A,
         out: &mut TurnOut,
     ) -> Result<(), TurnError>
         ensures { Meets result (classed (meaning_of A.decodes A.answer) ticket id.now row params (record { state = self.old; out = out.old })) self.new out.new }
     {
-        if !params.is_plain() || !analysis.decodes(row, &params) {
-            let response = replies::invalid_params(self.alloc, id.clone()?)?;
-            return self.answer(id, response, out);
-        }
-        self.grant(ticket, id, row, params, analysis, out)
+        let plan = plan(Some(row), self.loading, false, self.shutdown);
+        self.carry_out(plan, ticket, id, row, params, analysis, out)
     }
 
     #[tactic(auto, unfolding(session_model::specs::Machine::unknown))]
@@ -133,11 +271,11 @@ impl GlobalState {
     ) -> Result<(), TurnError>
         ensures { Gives result (unknown id.now method (record { state = self.old; out = out.old })) self.new out.new }
     {
-        let response = replies::unknown_request(self.alloc, id.clone()?)?;
-        self.answer(id, response, out)?;
+        self.refuse_unknown(id, out)?;
         self.log(LogCode::UnknownRequest, method, out)
     }
 
+    // A request that isn't `shutdown`.
     #[tactic(auto, unfolding(session_model::specs::Machine::asked))]
     fn on_row<A: Analysis>(
         &mut self,
@@ -150,9 +288,11 @@ impl GlobalState {
     {
         let Request { id, method, params } = request;
         match row {
+            None if self.shutdown => self.refuse_shut(&id, out),
             None => self.on_unknown(&id, method, out),
             Some(row) => {
                 let ticket = self.turns;
+                let params = SharedJson::new(self.alloc, params)?;
                 self.on_class(ticket, &id, row, params, analysis, out)
             }
         }
@@ -169,11 +309,10 @@ impl GlobalState {
         ensures { Gives result (shut_down id.now params.now (record { state = self.old; out = out.old })) self.new out.new }
     {
         if !is_unit(params) {
-            let response = replies::invalid_params(self.alloc, id.clone()?)?;
-            return self.answer(id, response, out);
+            return self.refuse_params(id, out);
         }
         self.shutdown = true;
-        let response = replies::response_with(id.clone()?, Json::null());
+        let response = response_with(id.clone()?, Json::null());
         self.answer(id, response, out)
     }
 
@@ -187,14 +326,10 @@ impl GlobalState {
     ) -> Result<(), TurnError>
         ensures { Meets result (admitted (meaning_of A.decodes A.answer) request (record { state = self.old; out = out.old })) self.new out.new }
     {
-        if is_name(&request.method, "shutdown") {
+        let row = row_of(request.method.as_str());
+        if is_shutdown(row) {
             return self.shut_down(&request.id, &request.params, out);
         }
-        if self.shutdown {
-            let response = replies::shut_already(self.alloc, request.id.clone()?)?;
-            return self.answer(&request.id, response, out);
-        }
-        let row = row_of(&request.method);
         self.on_row(row, request, analysis, out)
     }
 
@@ -202,7 +337,7 @@ impl GlobalState {
     fn refuse_pending(&mut self, id: RequestId, out: &mut TurnOut) -> Result<(), TurnError>
         ensures { Gives result (replied (already_pending id) (record { state = self.old; out = out.old })) self.new out.new }
     {
-        let response = replies::already_pending(self.alloc, id)?;
+        let response = already_pending(self.alloc, id)?;
         self.reply(response, out)
     }
 

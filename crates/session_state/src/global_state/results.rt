@@ -2,52 +2,37 @@
 ghost use Rattle.std.specs.Prelude.{◌≡◌, true, decimal, MatchOption};
 ghost use Rattle.std.specs.FinMap as map;
 ghost use Rattle.lsp_frame.specs.Pending.{id_of};
+ghost use Rattle.method_table.specs.Rows.{class_of};
 ghost use Rattle.session_port.specs.Jobs.{fitting_job, plain_result, ticket_of};
-ghost use Rattle.session_model.specs.Machine.{batched, taken, ended, delivered, settled, stopped, retried, answered, logged};
+ghost use Rattle.session_model.specs.Machine.{batched, taken, ended, delivered, settled, stopped, answered, logged};
 ghost use Rattle.session_model.specs.Meaning.{meaning_of};
 ghost use Rattle.session_model.specs.Meets.{Meets, Gives};
-ghost use Rattle.session_model.specs.Replies.{content_modified, finished_reply};
+ghost use Rattle.session_model.specs.Replies.{stopped_reply, finished_reply};
 
 use crate::global_state::GlobalState;
-use crate::methods::retries;
-use crate::replies;
-use crate::turn_out::TurnOut;
 use analysis_host::{Analysis, RowId};
 use lsp_frame::RequestId;
-use plain::{Items, Json, Text};
+use method_table::{class_of, retries};
+use plain::{Items, Text};
+use session_messages::{TurnOut, finished_reply, stopped_reply};
 use session_model::TurnError;
 use session_port::{Job, JobKind, JobResult, LogCode, TaskBody, TaskMsg};
 
 impl GlobalState {
-    // A request whose job stopped, as one that is read now, under the ticket that it has.
-    #[tactic(auto, unfolding(session_model::specs::Machine::retried))]
-    fn retry<A: Analysis>(
+    // The request of a job that stopped is refused, since the texts have changed.
+    fn refuse_stopped(
         &mut self,
-        ticket: u64,
         id: &RequestId,
         row: RowId,
-        params: Json,
-        analysis: &A,
         out: &mut TurnOut,
     ) -> Result<(), TurnError>
-        ensures { Meets result (retried (meaning_of A.decodes A.answer) ticket id.now row params (record { state = self.old; out = out.old })) self.new out.new }
+        ensures { Gives result (answered id.now (stopped_reply (class_of row) id.now) (record { state = self.old; out = out.old })) self.new out.new }
     {
-        if self.shutdown {
-            let response = replies::shut_already(self.alloc, id.clone()?)?;
-            return self.answer(id, response, out);
-        }
-        self.on_class(ticket, id, row, params, analysis, out)
-    }
-
-    // The request of a job that stopped is refused, since the texts have changed.
-    fn refuse_stopped(&mut self, id: &RequestId, out: &mut TurnOut) -> Result<(), TurnError>
-        ensures { Gives result (answered id.now (content_modified id.now) (record { state = self.old; out = out.old })) self.new out.new }
-    {
-        let response = replies::content_modified(self.alloc, id.clone()?)?;
+        let response = stopped_reply(self.alloc, class_of(row), id.clone()?)?;
         self.answer(id, response, out)
     }
 
-    // A job stopped whose request waits.
+    // A job stopped whose request waits: it is refused, or taken as one that is read now, under the ticket that it has.
     #[tactic(auto, unfolding(session_model::specs::Machine::stopped))]
     fn on_stopped<A: Analysis>(
         &mut self,
@@ -65,9 +50,9 @@ impl GlobalState {
             params,
         } = kind;
         if snapshot.revision() < self.host.revision() && !retries(row) {
-            return self.refuse_stopped(id, out);
+            return self.refuse_stopped(id, row, out);
         }
-        self.retry(ticket, id, row, params, analysis, out)
+        self.on_class(ticket, id, row, params, analysis, out)
     }
 
     // A result of a job whose request waits.
@@ -83,7 +68,7 @@ impl GlobalState {
         requires { plain_result outcome ≡ true }
         ensures { Meets result (settled (meaning_of A.decodes A.answer) (finished_reply id.now outcome) id.now job (record { state = self.old; out = out.old })) self.new out.new }
     {
-        match replies::finished_reply(self.alloc, id.clone()?, outcome)? {
+        match finished_reply(self.alloc, id.clone()?, outcome)? {
             Some(response) => self.answer(id, response, out),
             None => self.on_stopped(id, job, analysis, out),
         }

@@ -19,7 +19,8 @@ one_more f xs at list new x some is grows =
 
 pub loop-at-preserved : goal.loop-at-preserved
 loop-at-preserved c =
-    one_more (parent_pair c.args.roots.now) c.args.roots.now c.loop-at.at c.loop-at.list c.push_parent.new.list c.index-roots-at.result c.loop-at-test.true c.index-roots-at.is c.in_ok-push_parent.ensures
+    one_more (parent_pair c.args.roots.now) c.args.roots.now c.loop-at.at c.loop-at.list c.push_parent.new.list c.index-roots-at.result c.loop-at-test.true c.index-roots-at.is
+    (c.in_ok-push_parent.ensures c.args.roots.now c.requires.index)
     ∙ c.loop-at.invariant
 
 pub returns : goal.returns

@@ -8,7 +8,7 @@ pub returns-then-is_empty : goal.returns-then-is_empty
 returns-then-is_empty c =
     let put = on_some c.get_mut.result c.in-Some.packages c.in-Some.is (c.get_mut.follows.holds c.drop_older.new.self) in
     let map_is =
-    c.remove.ensures
+    c.remove.ensures.map
     ∙ left_none c.args.checks.now _ c.args.id c.drop_older.new.self put (sym c.is_empty.ensures ∙ c.if-is_empty.true)
     ∙ ap (λ left. with_left c.args.id left c.args.checks.now) c.drop_older.ensures in
     (λ i. (map_is i, c.in_ok-mark_older.ensures i))

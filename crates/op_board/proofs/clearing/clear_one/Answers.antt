@@ -9,7 +9,7 @@ returns-then-is_empty c =
     let put = on_some c.get_mut.result c.in-Some.packages c.in-Some.is (c.get_mut.follows.holds c.drop_package.new.packages) in
     let whole = c.in_ok-drop_package.ensures in
     let map_is =
-    c.remove.ensures
+    c.remove.ensures.map
     ∙ left_none c.args.checks.now _ c.args.id c.drop_package.new.packages put (sym c.is_empty.ensures ∙ c.if-is_empty.true)
     ∙ ap (λ t. with_left c.args.id t.0 c.args.checks.now) whole in
     (λ i. (map_is i, (whole i).1))

@@ -6,6 +6,5 @@ use Rattle.lsp_frame.proofs.reader.FrameReader.first_frame.Goals as goal
 
 pub returns : goal.returns
 returns c =
-    let held = c.held.ensures ∙ ap (λ (r : Reader). length r.held) (sym c.self.view_is) in
-    cut_is _ _ _ _ c.cut_at.ensures held (rw c.tail.ensures at c.find_header-known.ensures.head)
+    cut_is _ _ _ _ c.cut_at.ensures c.len.ensures (rw c.as_slice.ensures at c.find_header-known.ensures.head)
     ∙ ap (λ (r : Reader). cut_of r.held) c.self.view_is

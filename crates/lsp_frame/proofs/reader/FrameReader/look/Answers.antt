@@ -6,7 +6,7 @@ use Rattle.lsp_frame.proofs.reader.FrameReader.look.Goals as goal
 
 pub returns-clause-cut : goal.returns-clause-cut
 returns-clause-cut c =
-    cut_is _ _ _ _ c.cut_at.ensures c.held.ensures (rw c.tail.ensures at c.find_header-self-inside.ensures.head)
+    cut_is _ _ _ _ c.cut_at.ensures c.len.ensures (rw c.as_slice.ensures at c.find_header-self-inside.ensures.head)
     ∙ ap (λ (r : Reader). cut_of r.held) c.self.view_is
 
 pub returns-clause-within : goal.returns-clause-within

@@ -10,7 +10,7 @@ use Rattle.lsp_frame.proofs.reader.FrameReader.next.Goals as goal
 pub invariant_of-self : goal.invariant_of-self
 invariant_of-self c =
     let bad = ap (λ (r : Reader). cut_of r.held) (c.self.view_is ∙ c.in-Bad.ensures.same) ∙ sym c.in-Bad.ensures.cut in
-    IsKept-faulty _ _ _ _ _ _ _ (faulty_bad _ bad) c.self.invariant
+    IsKept-faulty _ _ _ _ _ _ (faulty_bad _ bad) c.self.invariant
 
 pub returns-in-NeedMore-clause-none : goal.returns-in-NeedMore-clause-none
 returns-in-NeedMore-clause-none c =

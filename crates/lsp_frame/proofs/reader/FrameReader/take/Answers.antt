@@ -16,9 +16,9 @@ returns-then-self-clause-fault c =
 pub invariant_of-self-in-Ok-None : goal.invariant_of-self-in-Ok-None
 invariant_of-self-in-Ok-None c =
     let whole = ap (λ (r : Reader). cut_of r.held) c.self.view_is ∙ c.requires.whole in
-    let none = ap (λ (held : List ℕ). message_of (slice_range held c.args.start c.args.end)) (sym c.tail-held.ensures) ∙ sym c.in-Ok-None.ensures ∙ c.in-Ok-None.field-0-is in
-    IsKept-faulty _ _ _ _ _ _ _ (faulty_none _ _ _ whole none) c.self.invariant
+    let none = ap (λ (held : List ℕ). message_of (slice_range held c.args.start c.args.end)) (sym c.as_slice.ensures) ∙ sym c.in-Ok-None.ensures ∙ c.in-Ok-None.field-0-is in
+    IsKept-faulty _ _ _ _ _ _ (faulty_none _ _ _ whole none) c.self.invariant
 
 pub returns-in-Ok-Some-clause-message : goal.returns-in-Ok-Some-clause-message
 returns-in-Ok-Some-clause-message c =
-    gives_from _ _ _ _ _ _ _ _ c.self.view_is c.requires.whole (sym c.in-Ok-Some.field-0-is ∙ c.in-Ok-Some.ensures ∙ ap (λ (held : List ℕ). message_of (slice_range held c.args.start c.args.end)) c.tail-held.ensures) c.if-self.false
+    rw c.consume.ensures (gives_from _ _ _ _ _ _ _ c.self.view_is c.requires.whole (sym c.in-Ok-Some.field-0-is ∙ c.in-Ok-Some.ensures ∙ ap (λ (held : List ℕ). message_of (slice_range held c.args.start c.args.end)) c.as_slice.ensures) c.if-self.false)

@@ -1,0 +1,4 @@
+pub mod Search
+pub mod Order
+pub mod Change
+pub mod PathLaws

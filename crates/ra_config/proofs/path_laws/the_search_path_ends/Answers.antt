@@ -1,5 +1,0 @@
-use Rattle.ra_config.proofs.PathEnds.{paths_end, first_pair_holds}
-use Rattle.ra_config.proofs.path_laws.the_search_path_ends.Goals as goal
-
-pub returns : goal.returns
-returns c = record { ends = paths_end; first = first_pair_holds }

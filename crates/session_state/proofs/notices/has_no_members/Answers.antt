@@ -1,5 +1,0 @@
-use Rattle.session_state.proofs.Units.{none-in}
-use Rattle.session_state.proofs.notices.has_no_members.Goals as goal
-
-pub returns : goal.returns
-returns c = none-in c.is_empty.result c.args.members.now.entries c.is_empty.ensures.0 c.is_empty.ensures.1
