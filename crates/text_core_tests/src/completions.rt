@@ -1,11 +1,10 @@
 // Edits that stand apart, and hashes of completions.
-use crate::support::range;
 use plain::{Items, Text};
 use std::alloc::{AllocError, Global};
 use std::test::Fail;
 use text_core::{
-    CompletionEdit, HashedItem, PostfixMatch, Range, RefMode, Relevance, ReturnType, TextEdit,
-    TypeMatch, all_edits_are_disjoint, completion_item_hash,
+    CompletionEdit, HashedItem, Position, PostfixMatch, Range, RefMode, Relevance, ReturnType,
+    TextEdit, TypeMatch, all_edits_are_disjoint, completion_item_hash,
 };
 
 fn text_edits(alloc: Global, ranges: &[Range]) -> Result<Vec<TextEdit>, AllocError> {
@@ -33,48 +32,71 @@ fn are_apart(
     )
 }
 
+macro_rules! corners {
+    ($a:expr, $b:expr, $c:expr, $d:expr) => {
+        Range {
+            start: Position {
+                line: $a,
+                character: $b,
+            },
+            end: Position {
+                line: $c,
+                character: $d,
+            },
+        }
+    };
+}
+
+const POINT: Range = corners!(1, 1, 1, 1);
+
+const FIRST: Range = corners!(1, 1, 2, 2);
+
+const SECOND: Range = corners!(2, 2, 3, 3);
+
+const THIRD: Range = corners!(3, 3, 4, 4);
+
+const ALL: Range = corners!(1, 1, 5, 5);
+
+const APART: [(CompletionEdit, &[Range], &[Range]); 6] = [
+    (CompletionEdit::None, &[], &[]),
+    (CompletionEdit::None, &[], &[SECOND, THIRD]),
+    (CompletionEdit::None, &[THIRD], &[SECOND]),
+    (CompletionEdit::Edit(FIRST), &[], &[]),
+    (CompletionEdit::Edit(FIRST), &[], &[SECOND]),
+    (CompletionEdit::Edit(POINT), &[POINT], &[]),
+];
+
 #[test]
 fn edits_apart(rt: HostRuntime) -> Result<(), Fail> {
-    let a = range(1, 1, 2, 2);
-    let b = range(2, 2, 3, 3);
-    let d = range(3, 3, 4, 4);
-    let point = range(1, 1, 1, 1);
-    for (edit, own, more) in [
-        (CompletionEdit::None, &[][..], &[][..]),
-        (CompletionEdit::None, &[][..], &[b, d][..]),
-        (CompletionEdit::None, &[d][..], &[b][..]),
-        (CompletionEdit::Edit(a), &[][..], &[][..]),
-        (CompletionEdit::Edit(a), &[][..], &[b][..]),
-        (CompletionEdit::Edit(point), &[point][..], &[][..]),
-    ] {
+    for (edit, own, more) in APART {
         assert!(rt; are_apart(rt.alloc(), edit, own, more)?, "{edit:?}");
     }
     Ok(())
 }
 
+const START_APART: CompletionEdit = CompletionEdit::InsertAndReplace {
+    insert: FIRST,
+    replace: SECOND,
+};
+
+const INSERT_WITHIN: CompletionEdit = CompletionEdit::InsertAndReplace {
+    insert: corners!(1, 1, 1, 3),
+    replace: FIRST,
+};
+
+const NOT_APART: [(CompletionEdit, &[Range], &[Range]); 7] = [
+    (CompletionEdit::None, &[], &[SECOND, THIRD, ALL]),
+    (CompletionEdit::None, &[FIRST, ALL], &[]),
+    (CompletionEdit::Edit(FIRST), &[ALL], &[]),
+    (CompletionEdit::Edit(FIRST), &[], &[ALL]),
+    (START_APART, &[ALL], &[]),
+    (START_APART, &[], &[]),
+    (INSERT_WITHIN, &[corners!(1, 3, 1, 4)], &[]),
+];
+
 #[test]
 fn edits_not_apart(rt: HostRuntime) -> Result<(), Fail> {
-    let a = range(1, 1, 2, 2);
-    let b = range(2, 2, 3, 3);
-    let d = range(3, 3, 4, 4);
-    let j = range(1, 1, 5, 5);
-    let by_replace = CompletionEdit::InsertAndReplace {
-        insert: range(1, 1, 1, 3),
-        replace: a,
-    };
-    let start_apart = CompletionEdit::InsertAndReplace {
-        insert: a,
-        replace: b,
-    };
-    for (edit, own, more) in [
-        (CompletionEdit::None, &[][..], &[b, d, j][..]),
-        (CompletionEdit::None, &[a, j][..], &[][..]),
-        (CompletionEdit::Edit(a), &[j][..], &[][..]),
-        (CompletionEdit::Edit(a), &[][..], &[j][..]),
-        (start_apart, &[j][..], &[][..]),
-        (start_apart, &[][..], &[][..]),
-        (by_replace, &[range(1, 3, 1, 4)][..], &[][..]),
-    ] {
+    for (edit, own, more) in NOT_APART {
         assert!(rt; !are_apart(rt.alloc(), edit, own, more)?, "{edit:?}");
     }
     Ok(())
