@@ -3,67 +3,74 @@ ghost use Rattle.std.specs.Prelude.{◌≡◌, [], ◌∷◌};
 ghost use Rattle.text_core.specs.Rebuilds.{rebuilds};
 ghost use Rattle.text_core_tests.specs.Examples.{utf16, three_lines, at_line, with_reversed};
 
-use crate::support::{UTF16, apply, edit, edits, limited, range, whole};
-use plain::{Items, Text};
+use crate::support::{Corners, UTF16, apply, changes, edits, limited};
+use plain::Text;
 use std::alloc::Global;
 use std::test::Fail;
-use text_core::Range;
 
 /// Whether a text becomes another by edits.
-fn becomes(alloc: Global, text: &str, list: &[(Range, &str)], after: &str) -> Result<bool, Fail> {
+fn becomes(alloc: Global, text: &str, list: &[(Corners, &str)], after: &str) -> Result<bool, Fail> {
     Ok(apply(alloc, UTF16, text, edits(alloc, list)?)?.is(after))
 }
 
+const ONE_EDIT: [(&str, Corners, &str, &str); 7] = [
+    ("😀b", (0, 1, 0, 1), "x", "😀b"),
+    ("😀b", (0, 2, 0, 2), "x", "😀xb"),
+    ("ab\ncd", (0, 99, 0, 99), "X", "ab\nXcd"),
+    ("ab", (1, 0, 1, 0), "X", "ab"),
+    ("❤️", (0, 0, 0, 0), "a", "a❤️"),
+    ("ab", (1, 0, 0, 9), "c", "ab"),
+    ("a\nb", (1, 0, 0, 9), "c", "a\ncb"),
+];
+
 #[test]
 fn one_edit(rt: HostRuntime) -> Result<(), Fail> {
-    for (text, range, new, after) in [
-        ("😀b", range(0, 1, 0, 1), "x", "😀b"),
-        ("😀b", range(0, 2, 0, 2), "x", "😀xb"),
-        ("ab\ncd", range(0, 99, 0, 99), "X", "ab\nXcd"),
-        ("ab", range(1, 0, 1, 0), "X", "ab"),
-        ("❤️", range(0, 0, 0, 0), "a", "a❤️"),
-        ("ab", range(1, 0, 0, 9), "c", "ab"),
-        ("a\nb", range(1, 0, 0, 9), "c", "a\ncb"),
-    ] {
+    for (text, range, new, after) in ONE_EDIT {
         assert!(rt;
             becomes(rt.alloc(), text, &[(range, new)], after)?,
-            "{text:?} {range:?}"
+            "{text:?} {after:?}"
         );
     }
     Ok(())
 }
 
+const FIRST: (Corners, &str) = ((0, 0, 0, 0), "x");
+
+const SECOND: (Corners, &str) = ((1, 0, 1, 0), "y");
+
+const THIRD: (Corners, &str) = ((2, 0, 2, 0), "z");
+
+const PAST: (Corners, &str) = ((9, 0, 9, 0), "x");
+
+const EDITS: [(&str, &[(Corners, &str)], &str); 7] = [
+    (
+        "a\nb",
+        &[((0, 1, 1, 0), "\nțc"), ((0, 1, 1, 1), "d")],
+        "adcb",
+    ),
+    (
+        "a\nb",
+        &[((0, 1, 1, 0), "ț\nc"), ((0, 2, 0, 2), "c")],
+        "ațc\ncb",
+    ),
+    (
+        "a\nb\nc\n",
+        &[
+            ((1, 0, 1, 0), "xyz\n"),
+            ((3, 0, 0, 0), "?"),
+            ((2, 0, 2, 1), "B"),
+        ],
+        "a\nxyz\nB\nc\n",
+    ),
+    ("a\nb\nc", &[THIRD, SECOND, FIRST], "xa\nyb\nzc"),
+    ("a\nb\nc", &[FIRST, SECOND, THIRD], "xa\nyb\nzc"),
+    ("a\nb\nc", &[FIRST, FIRST], "xxa\nb\nc"),
+    ("a\nb\nc", &[PAST, PAST], "a\nb\nc"),
+];
+
 #[test]
 fn edits_one_after_another(rt: HostRuntime) -> Result<(), Fail> {
-    let first = (range(0, 0, 0, 0), "x");
-    let second = (range(1, 0, 1, 0), "y");
-    let third = (range(2, 0, 2, 0), "z");
-    let past = (range(9, 0, 9, 0), "x");
-    for (text, list, after) in [
-        (
-            "a\nb",
-            &[(range(0, 1, 1, 0), "\nțc"), (range(0, 1, 1, 1), "d")][..],
-            "adcb",
-        ),
-        (
-            "a\nb",
-            &[(range(0, 1, 1, 0), "ț\nc"), (range(0, 2, 0, 2), "c")][..],
-            "ațc\ncb",
-        ),
-        (
-            "a\nb\nc\n",
-            &[
-                (range(1, 0, 1, 0), "xyz\n"),
-                (range(3, 0, 0, 0), "?"),
-                (range(2, 0, 2, 1), "B"),
-            ][..],
-            "a\nxyz\nB\nc\n",
-        ),
-        ("a\nb\nc", &[third, second, first][..], "xa\nyb\nzc"),
-        ("a\nb\nc", &[first, second, third][..], "xa\nyb\nzc"),
-        ("a\nb\nc", &[first, first][..], "xxa\nb\nc"),
-        ("a\nb\nc", &[past, past][..], "a\nb\nc"),
-    ] {
+    for (text, list, after) in EDITS {
         assert!(rt;
             becomes(rt.alloc(), text, list, after)?,
             "{text:?} {after:?}"
@@ -72,55 +79,57 @@ fn edits_one_after_another(rt: HostRuntime) -> Result<(), Fail> {
     Ok(())
 }
 
+const TEXTS: [(&str, &[(Corners, &str)], &str); 9] = [
+    ("", &[], ""),
+    ("the", &[((0, 3, 0, 3), " quick")], "the quick"),
+    (
+        "the quick",
+        &[((0, 0, 0, 4), ""), ((0, 5, 0, 5), " foxes")],
+        "quick foxes",
+    ),
+    (
+        "quick foxes",
+        &[((0, 11, 0, 11), "\ndream")],
+        "quick foxes\ndream",
+    ),
+    (
+        "quick foxes\ndream",
+        &[((1, 0, 1, 0), "have ")],
+        "quick foxes\nhave dream",
+    ),
+    (
+        "quick foxes\nhave dream",
+        &[
+            ((0, 0, 0, 0), "the "),
+            ((1, 4, 1, 4), " quiet"),
+            ((1, 16, 1, 16), "s\n"),
+        ],
+        "the quick foxes\nhave quiet dreams\n",
+    ),
+    (
+        "the quick foxes\nhave quiet dreams\n",
+        &[((0, 15, 0, 15), "\n"), ((2, 17, 2, 17), "\n")],
+        "the quick foxes\n\nhave quiet dreams\n\n",
+    ),
+    (
+        "the quick foxes\n\nhave quiet dreams\n\n",
+        &[
+            ((1, 0, 1, 0), "DREAM"),
+            ((2, 0, 2, 0), "they "),
+            ((3, 0, 3, 0), "DON'T THEY?"),
+        ],
+        "the quick foxes\nDREAM\nthey have quiet dreams\nDON'T THEY?\n",
+    ),
+    (
+        "the quick foxes\nDREAM\nthey have quiet dreams\nDON'T THEY?\n",
+        &[((0, 10, 1, 5), ""), ((2, 0, 2, 12), "")],
+        "the quick \nthey have quiet dreams\n",
+    ),
+];
+
 #[test]
 fn one_text_after_another(rt: HostRuntime) -> Result<(), Fail> {
-    for (text, list, after) in [
-        ("", &[][..], ""),
-        ("the", &[(range(0, 3, 0, 3), " quick")][..], "the quick"),
-        (
-            "the quick",
-            &[(range(0, 0, 0, 4), ""), (range(0, 5, 0, 5), " foxes")][..],
-            "quick foxes",
-        ),
-        (
-            "quick foxes",
-            &[(range(0, 11, 0, 11), "\ndream")][..],
-            "quick foxes\ndream",
-        ),
-        (
-            "quick foxes\ndream",
-            &[(range(1, 0, 1, 0), "have ")][..],
-            "quick foxes\nhave dream",
-        ),
-        (
-            "quick foxes\nhave dream",
-            &[
-                (range(0, 0, 0, 0), "the "),
-                (range(1, 4, 1, 4), " quiet"),
-                (range(1, 16, 1, 16), "s\n"),
-            ][..],
-            "the quick foxes\nhave quiet dreams\n",
-        ),
-        (
-            "the quick foxes\nhave quiet dreams\n",
-            &[(range(0, 15, 0, 15), "\n"), (range(2, 17, 2, 17), "\n")][..],
-            "the quick foxes\n\nhave quiet dreams\n\n",
-        ),
-        (
-            "the quick foxes\n\nhave quiet dreams\n\n",
-            &[
-                (range(1, 0, 1, 0), "DREAM"),
-                (range(2, 0, 2, 0), "they "),
-                (range(3, 0, 3, 0), "DON'T THEY?"),
-            ][..],
-            "the quick foxes\nDREAM\nthey have quiet dreams\nDON'T THEY?\n",
-        ),
-        (
-            "the quick foxes\nDREAM\nthey have quiet dreams\nDON'T THEY?\n",
-            &[(range(0, 10, 1, 5), ""), (range(2, 0, 2, 12), "")][..],
-            "the quick \nthey have quiet dreams\n",
-        ),
-    ] {
+    for (text, list, after) in TEXTS {
         assert!(rt;
             becomes(rt.alloc(), text, list, after)?,
             "{text:?} {after:?}"
@@ -145,38 +154,52 @@ fn counts_of_rebuilds() {
 
 #[test]
 fn a_whole_text(rt: HostRuntime) -> Result<(), Fail> {
-    let alloc = rt.alloc();
-    let mut changes = Items::new(alloc);
-    changes.push(edit(alloc, range(0, 0, 0, 0), "gone")?)?;
-    changes.push(whole(alloc, "the")?)?;
-    let text = apply(alloc, UTF16, "old", changes)?;
-    assert!(rt; text.is("the"));
+    let list = changes(rt.alloc(), &[(Some((0, 0, 0, 0)), "gone"), (None, "the")])?;
+    assert!(rt; apply(rt.alloc(), UTF16, "old", list)?.is("the"));
     Ok(())
 }
 
+/// Whether a text becomes another by changes within three bytes.
+fn becomes_within_three(
+    alloc: Global,
+    text: &str,
+    list: &[(Option<Corners>, &str)],
+    after: &str,
+) -> Result<bool, Fail> {
+    Ok(limited(
+        alloc,
+        UTF16,
+        Text::from_str(alloc, text)?,
+        changes(alloc, list)?,
+        3,
+    )?
+    .is(after))
+}
+
+const LIMITED: [(&[(Option<Corners>, &str)], &str); 2] = [
+    (
+        &[(Some((0, 0, 0, 0)), "XY"), (Some((0, 0, 0, 0)), "X")],
+        "Xab",
+    ),
+    (
+        &[
+            (None, "cd"),
+            (None, "four"),
+            (Some((0, 0, 0, 2)), "five!"),
+            (Some((0, 2, 0, 2)), "e"),
+        ],
+        "cde",
+    ),
+];
+
+/// What passes the limit is dropped, if its own text does, or skipped.
 #[test]
 fn within_a_limit(rt: HostRuntime) -> Result<(), Fail> {
-    let alloc = rt.alloc();
-    let list = edits(
-        alloc,
-        &[(range(0, 0, 0, 0), "XY"), (range(0, 0, 0, 0), "X")],
-    )?;
-    let text = Text::from_str(alloc, "ab")?;
-    let after = limited(alloc, UTF16, text, list, 3)?;
-    assert_eq!(rt; after.as_str(), "Xab");
-    Ok(())
-}
-
-#[test]
-fn dropped_by_a_limit(rt: HostRuntime) -> Result<(), Fail> {
-    let alloc = rt.alloc();
-    let mut changes = Items::new(alloc);
-    changes.push(whole(alloc, "cd")?)?;
-    changes.push(whole(alloc, "four")?)?;
-    changes.push(edit(alloc, range(0, 0, 0, 2), "five!")?)?;
-    changes.push(edit(alloc, range(0, 2, 0, 2), "e")?)?;
-    let text = Text::from_str(alloc, "ab")?;
-    let after = limited(alloc, UTF16, text, changes, 3)?;
-    assert_eq!(rt; after.as_str(), "cde");
+    for (list, after) in LIMITED {
+        assert!(rt;
+            becomes_within_three(rt.alloc(), "ab", list, after)?,
+            "{after:?}"
+        );
+    }
     Ok(())
 }

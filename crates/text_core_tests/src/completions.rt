@@ -1,11 +1,10 @@
 // Edits that stand apart, and hashes of completions.
-use crate::support::range;
 use plain::{Items, Text};
 use std::alloc::{AllocError, Global};
 use std::test::Fail;
 use text_core::{
-    CompletionEdit, HashedItem, PostfixMatch, Range, RefMode, Relevance, ReturnType, TextEdit,
-    TypeMatch, all_edits_are_disjoint, completion_item_hash,
+    CompletionEdit, HashedItem, Position, PostfixMatch, Range, RefMode, Relevance, ReturnType,
+    TextEdit, TypeMatch, all_edits_are_disjoint, completion_item_hash,
 };
 
 fn text_edits(alloc: Global, ranges: &[Range]) -> Result<Vec<TextEdit>, AllocError> {
@@ -33,48 +32,71 @@ fn are_apart(
     )
 }
 
+macro_rules! corners {
+    ($a:expr, $b:expr, $c:expr, $d:expr) => {
+        Range {
+            start: Position {
+                line: $a,
+                character: $b,
+            },
+            end: Position {
+                line: $c,
+                character: $d,
+            },
+        }
+    };
+}
+
+const POINT: Range = corners!(1, 1, 1, 1);
+
+const FIRST: Range = corners!(1, 1, 2, 2);
+
+const SECOND: Range = corners!(2, 2, 3, 3);
+
+const THIRD: Range = corners!(3, 3, 4, 4);
+
+const ALL: Range = corners!(1, 1, 5, 5);
+
+const APART: [(CompletionEdit, &[Range], &[Range]); 6] = [
+    (CompletionEdit::None, &[], &[]),
+    (CompletionEdit::None, &[], &[SECOND, THIRD]),
+    (CompletionEdit::None, &[THIRD], &[SECOND]),
+    (CompletionEdit::Edit(FIRST), &[], &[]),
+    (CompletionEdit::Edit(FIRST), &[], &[SECOND]),
+    (CompletionEdit::Edit(POINT), &[POINT], &[]),
+];
+
 #[test]
 fn edits_apart(rt: HostRuntime) -> Result<(), Fail> {
-    let a = range(1, 1, 2, 2);
-    let b = range(2, 2, 3, 3);
-    let d = range(3, 3, 4, 4);
-    let point = range(1, 1, 1, 1);
-    for (edit, own, more) in [
-        (CompletionEdit::None, &[][..], &[][..]),
-        (CompletionEdit::None, &[][..], &[b, d][..]),
-        (CompletionEdit::None, &[d][..], &[b][..]),
-        (CompletionEdit::Edit(a), &[][..], &[][..]),
-        (CompletionEdit::Edit(a), &[][..], &[b][..]),
-        (CompletionEdit::Edit(point), &[point][..], &[][..]),
-    ] {
+    for (edit, own, more) in APART {
         assert!(rt; are_apart(rt.alloc(), edit, own, more)?, "{edit:?}");
     }
     Ok(())
 }
 
+const START_APART: CompletionEdit = CompletionEdit::InsertAndReplace {
+    insert: FIRST,
+    replace: SECOND,
+};
+
+const INSERT_WITHIN: CompletionEdit = CompletionEdit::InsertAndReplace {
+    insert: corners!(1, 1, 1, 3),
+    replace: FIRST,
+};
+
+const NOT_APART: [(CompletionEdit, &[Range], &[Range]); 7] = [
+    (CompletionEdit::None, &[], &[SECOND, THIRD, ALL]),
+    (CompletionEdit::None, &[FIRST, ALL], &[]),
+    (CompletionEdit::Edit(FIRST), &[ALL], &[]),
+    (CompletionEdit::Edit(FIRST), &[], &[ALL]),
+    (START_APART, &[ALL], &[]),
+    (START_APART, &[], &[]),
+    (INSERT_WITHIN, &[corners!(1, 3, 1, 4)], &[]),
+];
+
 #[test]
 fn edits_not_apart(rt: HostRuntime) -> Result<(), Fail> {
-    let a = range(1, 1, 2, 2);
-    let b = range(2, 2, 3, 3);
-    let d = range(3, 3, 4, 4);
-    let j = range(1, 1, 5, 5);
-    let by_replace = CompletionEdit::InsertAndReplace {
-        insert: range(1, 1, 1, 3),
-        replace: a,
-    };
-    let start_apart = CompletionEdit::InsertAndReplace {
-        insert: a,
-        replace: b,
-    };
-    for (edit, own, more) in [
-        (CompletionEdit::None, &[][..], &[b, d, j][..]),
-        (CompletionEdit::None, &[a, j][..], &[][..]),
-        (CompletionEdit::Edit(a), &[j][..], &[][..]),
-        (CompletionEdit::Edit(a), &[][..], &[j][..]),
-        (start_apart, &[j][..], &[][..]),
-        (start_apart, &[][..], &[][..]),
-        (by_replace, &[range(1, 3, 1, 4)][..], &[][..]),
-    ] {
+    for (edit, own, more) in NOT_APART {
         assert!(rt; !are_apart(rt.alloc(), edit, own, more)?, "{edit:?}");
     }
     Ok(())
@@ -92,21 +114,29 @@ const NO_RELEVANCE: Relevance = Relevance {
     function: None,
 };
 
-fn keyword(alloc: Global) -> Result<HashedItem, AllocError> {
-    Ok(HashedItem {
+/// An item without names.
+fn nameless(alloc: Global) -> HashedItem {
+    HashedItem {
         is_snippet: false,
         deprecated: false,
         trigger_call_info: false,
-        label: Text::from_str(alloc, "ab")?,
+        label: Text::new(alloc),
         detail_left: None,
         detail_right: None,
-        kind_tag: Text::from_str(alloc, "kw")?,
-        lookup: Text::from_str(alloc, "ab")?,
+        kind_tag: Text::new(alloc),
+        lookup: Text::new(alloc),
         detail: None,
         relevance: NO_RELEVANCE,
         ref_match: None,
         import_to_add: Items::new(alloc),
-    })
+    }
+}
+
+/// Gives an item its names.
+fn name(item: &mut HashedItem, label: &str, kind_tag: &str) -> Result<(), AllocError> {
+    item.label.push_str(label)?;
+    item.lookup.push_str(label)?;
+    item.kind_tag.push_str(kind_tag)
 }
 
 #[test]
@@ -114,41 +144,49 @@ fn hash_of_a_keyword(rt: HostRuntime) -> Result<(), Fail> {
     let bytes =
         b"\0\0\0\0\x02\0\0\0\0\0\0\0ab\0\0\x02\0\0\0\0\0\0\0kw\x02\0\0\0\0\0\0\0ab\0\0\0\0\0\0\0\0\0\0\0\0\0\0\0\0\0\0\0";
     assert_eq!(rt; bytes.len(), 55);
-    let hash = completion_item_hash(&keyword(rt.alloc())?, false);
+    let mut item = nameless(rt.alloc());
+    name(&mut item, "ab", "kw")?;
+    let hash = completion_item_hash(&item, false);
     assert!(rt; hash == sha1::Sha1::digest(bytes));
+    Ok(())
+}
+
+const METHOD_RELEVANCE: Relevance = Relevance {
+    exact_name_match: true,
+    is_local: false,
+    is_name_already_imported: true,
+    requires_import: false,
+    is_private_editable: true,
+    type_match: Some(TypeMatch::Exact),
+    trait_: Some((false, true)),
+    postfix_match: Some(PostfixMatch::NonExact),
+    function: Some((true, false, ReturnType::Builder)),
+};
+
+/// What stands beside a method's names.
+fn describe(alloc: Global, item: &mut HashedItem) -> Result<(), AllocError> {
+    item.is_snippet = true;
+    item.trigger_call_info = true;
+    item.detail_left = Some(Text::from_str(alloc, "(..)")?);
+    item.detail = Some(Text::from_str(alloc, "größer")?);
+    item.relevance = METHOD_RELEVANCE;
+    item.ref_match = Some((RefMode::Dereference, 70000));
+    Ok(())
+}
+
+/// The paths that a method brings in, of which one is empty.
+fn import(alloc: Global, item: &mut HashedItem) -> Result<(), AllocError> {
+    item.import_to_add.push(Text::from_str(alloc, "a::b")?)?;
+    item.import_to_add.push(Text::new(alloc))?;
     Ok(())
 }
 
 #[test]
 fn hash_of_a_method(rt: HostRuntime) -> Result<(), Fail> {
-    let alloc = rt.alloc();
-    let mut imports = Items::new(alloc);
-    imports.push(Text::from_str(alloc, "a::b")?)?;
-    imports.push(Text::new(alloc))?;
-    let item = HashedItem {
-        is_snippet: true,
-        deprecated: false,
-        trigger_call_info: true,
-        label: Text::from_str(alloc, "push")?,
-        detail_left: Some(Text::from_str(alloc, "(..)")?),
-        detail_right: None,
-        kind_tag: Text::from_str(alloc, "me")?,
-        lookup: Text::from_str(alloc, "push")?,
-        detail: Some(Text::from_str(alloc, "größer")?),
-        relevance: Relevance {
-            exact_name_match: true,
-            is_local: false,
-            is_name_already_imported: true,
-            requires_import: false,
-            is_private_editable: true,
-            type_match: Some(TypeMatch::Exact),
-            trait_: Some((false, true)),
-            postfix_match: Some(PostfixMatch::NonExact),
-            function: Some((true, false, ReturnType::Builder)),
-        },
-        ref_match: Some((RefMode::Dereference, 70000)),
-        import_to_add: imports,
-    };
+    let mut item = nameless(rt.alloc());
+    name(&mut item, "push", "me")?;
+    describe(rt.alloc(), &mut item)?;
+    import(rt.alloc(), &mut item)?;
     let hash = completion_item_hash(&item, true);
     assert!(rt;
         hash == [

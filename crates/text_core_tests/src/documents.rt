@@ -3,7 +3,7 @@ ghost use Rattle.std.specs.Prelude.{◌≡◌, [], ◌∷◌, codes, true, false
 ghost use Rattle.text_core.specs.Skips.{skips};
 ghost use Rattle.text_core_tests.specs.Examples.{utf16, at_line, whole_text, insert};
 
-use crate::support::{UTF16, document, edit, edits, indexed, range, same_lines, whole};
+use crate::support::{Corners, UTF16, changes, document, edits, indexed, is_index_of};
 use plain::Items;
 use std::alloc::Global;
 use std::test::Fail;
@@ -19,36 +19,34 @@ fn document_becomes(
 ) -> Result<bool, Fail> {
     let index = indexed(alloc, text)?;
     let edited = document(alloc, UTF16, &index, changes)?;
-    let is_after = match &edited.changed {
-        Some(changed) => same_lines(changed, &indexed(alloc, after)?) && text != after,
-        None => text == after,
-    };
-    Ok(is_after && edited.skipped == skipped)
+    if edited.skipped != skipped {
+        return Ok(false);
+    }
+    match &edited.changed {
+        Some(changed) => Ok(text != after && is_index_of(alloc, changed, after)?),
+        None => Ok(text == after),
+    }
 }
+
+const ONE_EDIT: [(&str, Corners, &str, &str, bool); 9] = [
+    ("😀b", (0, 1, 0, 1), "x", "😀b", true),
+    ("😀b", (0, 2, 0, 2), "x", "😀xb", false),
+    ("ab", (1, 0, 1, 0), "X", "ab", true),
+    ("ab\ncd", (0, 99, 0, 99), "X", "ab\nXcd", false),
+    ("a\nb", (1, 0, 0, 0), "X", "a\nb", true),
+    ("a\nb\nc\n", (1, 0, 1, 1), "\n\n", "a\n\n\n\nc\n", false),
+    ("a\nb\nc\n", (0, 1, 2, 0), "", "ac\n", false),
+    ("a\nb\nc\n", (1, 0, 1, 1), "b", "a\nb\nc\n", false),
+    ("a\nb\n", (2, 0, 2, 0), "c", "a\nb\nc", false),
+];
 
 #[test]
 fn one_edit_of_a_document(rt: HostRuntime) -> Result<(), Fail> {
-    for (text, range, new, after, skipped) in [
-        ("😀b", range(0, 1, 0, 1), "x", "😀b", true),
-        ("😀b", range(0, 2, 0, 2), "x", "😀xb", false),
-        ("ab", range(1, 0, 1, 0), "X", "ab", true),
-        ("ab\ncd", range(0, 99, 0, 99), "X", "ab\nXcd", false),
-        ("a\nb", range(1, 0, 0, 0), "X", "a\nb", true),
-        (
-            "a\nb\nc\n",
-            range(1, 0, 1, 1),
-            "\n\n",
-            "a\n\n\n\nc\n",
-            false,
-        ),
-        ("a\nb\nc\n", range(0, 1, 2, 0), "", "ac\n", false),
-        ("a\nb\nc\n", range(1, 0, 1, 1), "b", "a\nb\nc\n", false),
-        ("a\nb\n", range(2, 0, 2, 0), "c", "a\nb\nc", false),
-    ] {
+    for (text, range, new, after, skipped) in ONE_EDIT {
         let changes = edits(rt.alloc(), &[(range, new)])?;
         assert!(rt;
             document_becomes(rt.alloc(), text, changes, after, skipped)?,
-            "{text:?} {range:?}"
+            "{text:?} {after:?}"
         );
     }
     Ok(())
@@ -67,33 +65,35 @@ fn skips_under_a_limit() {
     skips_by_example();
 }
 
+const EDITS: [(&str, &[(Corners, &str)], &str, bool); 4] = [
+    (
+        "a",
+        &[
+            ((0, 0, 0, 0), "x\n"),
+            ((7, 0, 7, 0), "?"),
+            ((1, 0, 1, 0), "y"),
+        ],
+        "x\nya",
+        true,
+    ),
+    (
+        "a\nb\nc",
+        &[((2, 0, 2, 1), "\nd"), ((0, 0, 1, 0), "")],
+        "b\n\nd",
+        false,
+    ),
+    (
+        "a\nb\nc",
+        &[((0, 0, 0, 0), "x\n"), ((0, 0, 1, 0), "")],
+        "a\nb\nc",
+        false,
+    ),
+    ("a\nb\nc", &[], "a\nb\nc", false),
+];
+
 #[test]
 fn edits_of_a_document(rt: HostRuntime) -> Result<(), Fail> {
-    for (text, list, after, skipped) in [
-        (
-            "a",
-            &[
-                (range(0, 0, 0, 0), "x\n"),
-                (range(7, 0, 7, 0), "?"),
-                (range(1, 0, 1, 0), "y"),
-            ][..],
-            "x\nya",
-            true,
-        ),
-        (
-            "a\nb\nc",
-            &[(range(2, 0, 2, 1), "\nd"), (range(0, 0, 1, 0), "")][..],
-            "b\n\nd",
-            false,
-        ),
-        (
-            "a\nb\nc",
-            &[(range(0, 0, 0, 0), "x\n"), (range(0, 0, 1, 0), "")][..],
-            "a\nb\nc",
-            false,
-        ),
-        ("a\nb\nc", &[][..], "a\nb\nc", false),
-    ] {
+    for (text, list, after, skipped) in EDITS {
         let changes = edits(rt.alloc(), list)?;
         assert!(rt;
             document_becomes(rt.alloc(), text, changes, after, skipped)?,
@@ -103,32 +103,29 @@ fn edits_of_a_document(rt: HostRuntime) -> Result<(), Fail> {
     Ok(())
 }
 
-#[test]
-fn a_skip_before_the_whole_text(rt: HostRuntime) -> Result<(), Fail> {
-    let alloc = rt.alloc();
-    let mut changes = Items::new(alloc);
-    changes.push(edit(alloc, range(7, 0, 7, 0), "gone")?)?;
-    changes.push(whole(alloc, "the")?)?;
-    assert!(rt; document_becomes(alloc, "old", changes, "the", false)?);
-    Ok(())
-}
+const WHOLE: [(&[(Option<Corners>, &str)], &str, bool); 3] = [
+    (&[(Some((7, 0, 7, 0)), "gone"), (None, "the")], "the", false),
+    (
+        &[
+            (None, "the"),
+            (Some((7, 0, 7, 0)), "gone"),
+            (Some((0, 3, 0, 3)), "n"),
+        ],
+        "then",
+        true,
+    ),
+    (&[(None, "old")], "old", false),
+];
 
+/// What is skipped before a whole text isn't told, and what is skipped behind it is.
 #[test]
-fn a_skip_after_the_whole_text(rt: HostRuntime) -> Result<(), Fail> {
-    let alloc = rt.alloc();
-    let mut changes = Items::new(alloc);
-    changes.push(whole(alloc, "the")?)?;
-    changes.push(edit(alloc, range(7, 0, 7, 0), "gone")?)?;
-    changes.push(edit(alloc, range(0, 3, 0, 3), "n")?)?;
-    assert!(rt; document_becomes(alloc, "old", changes, "then", true)?);
-    Ok(())
-}
-
-#[test]
-fn the_same_whole_text(rt: HostRuntime) -> Result<(), Fail> {
-    let alloc = rt.alloc();
-    let mut changes = Items::new(alloc);
-    changes.push(whole(alloc, "old")?)?;
-    assert!(rt; document_becomes(alloc, "old", changes, "old", false)?);
+fn whole_texts_of_a_document(rt: HostRuntime) -> Result<(), Fail> {
+    for (list, after, skipped) in WHOLE {
+        let changes = changes(rt.alloc(), list)?;
+        assert!(rt;
+            document_becomes(rt.alloc(), "old", changes, after, skipped)?,
+            "{after:?}"
+        );
+    }
     Ok(())
 }

@@ -1,10 +1,10 @@
 // Random changes, made by the plain program and by the crate.
 use crate::slow;
-use crate::support::{UTF8, UTF16, at, document, indexed, limited, same_lines};
+use crate::support::{UTF8, UTF16, at, document, indexed, is_index_of, limited};
 use plain::{Items, Text};
 use std::alloc::{AllocError, Global};
 use std::test::Fail;
-use text_core::{ContentChange, Position, PositionEncoding, Range, TextIndex};
+use text_core::{ContentChange, Position, PositionEncoding, Range};
 
 /// The next number of a row that looks random.
 fn draw(seed: &mut u64) -> u32 {
@@ -57,28 +57,60 @@ fn drawn_changes(alloc: Global, seed: &mut u64) -> Result<Items<ContentChange>, 
     Ok(changes)
 }
 
-/// Whether the plain program and the crate's two ways of editing come to the same text, and to its lines.
-fn agree(alloc: Global, encoding: PositionEncoding, seed: &mut u64) -> Result<bool, Fail> {
+fn drawn_start(alloc: Global, seed: &mut u64) -> Result<Text, AllocError> {
     let mut text = Text::from_str(alloc, "a\nb\n")?;
     text.push_str(drawn_text(alloc, seed)?.as_str())?;
+    Ok(text)
+}
+
+/// Whether a document becomes a text by changes, with its lines.
+fn document_becomes(
+    alloc: Global,
+    encoding: PositionEncoding,
+    text: &str,
+    changes: Items<ContentChange>,
+    after: &str,
+) -> Result<bool, Fail> {
+    let index = indexed(alloc, text)?;
+    let edited = document(alloc, encoding, &index, changes)?;
+    match &edited.changed {
+        Some(changed) => is_index_of(alloc, changed, after),
+        None => Ok(text == after),
+    }
+}
+
+/// Whether the plain program and an indexed document come to the same text.
+fn agrees_indexed(
+    alloc: Global,
+    encoding: PositionEncoding,
+    text: &str,
+    changes: &Items<ContentChange>,
+) -> Result<bool, Fail> {
+    let most = u32::MAX as usize;
+    let plain = slow::apply(alloc, encoding, text, changes.as_slice(), most)?;
+    document_becomes(alloc, encoding, text, changes.clone()?, plain.as_str())
+}
+
+/// Whether the plain program and the crate come to the same text within a limit.
+fn agrees_limited(
+    alloc: Global,
+    encoding: PositionEncoding,
+    text: &str,
+    changes: &Items<ContentChange>,
+) -> Result<bool, Fail> {
+    let plain = slow::apply(alloc, encoding, text, changes.as_slice(), 40)?;
+    let text = Text::from_str(alloc, text)?;
+    Ok(limited(alloc, encoding, text, changes.clone()?, 40)? == plain)
+}
+
+/// Whether the plain program and the crate's two ways of editing come to the same text, and to its lines.
+fn agree(alloc: Global, encoding: PositionEncoding, seed: &mut u64) -> Result<bool, Fail> {
+    let text = drawn_start(alloc, seed)?;
     let changes = drawn_changes(alloc, seed)?;
-    let plain = slow::apply(alloc, encoding, text.as_str(), changes.as_slice(), 40)?;
-    let whole = slow::apply(
-        alloc,
-        encoding,
-        text.as_str(),
-        changes.as_slice(),
-        u32::MAX as usize,
-    )?;
-    let index = indexed(alloc, text.as_str())?;
-    let edited = document(alloc, encoding, &index, changes.clone()?)?;
-    let last: &TextIndex = match &edited.changed {
-        Some(changed) => changed,
-        None => &index,
-    };
-    let has_lines = same_lines(last, &indexed(alloc, whole.as_str())?);
-    let kept = limited(alloc, encoding, text, changes, 40)?;
-    Ok(kept == plain && has_lines)
+    Ok(
+        agrees_indexed(alloc, encoding, text.as_str(), &changes)?
+            && agrees_limited(alloc, encoding, text.as_str(), &changes)?,
+    )
 }
 
 #[test]

@@ -4,11 +4,12 @@ ghost use Rattle.std.specs.Prelude.{◌≡◌, ◌<◌};
 use plain::{Items, Text};
 use std::alloc::{AllocError, Global};
 use std::marker::Brand;
+use std::sync::Arc;
 use std::sync::ledger::{Blank, Ledger};
 use std::test::Fail;
 use text_core::{
-    ContentChange, EditedDocument, Position, PositionEncoding, Range, Steps, TextIndex,
-    WideEncoding, apply_document_changes, apply_with_limit, edit_with_steps,
+    ContentChange, EditedDocument, LineEndings, LineIndex, Position, PositionEncoding, Range,
+    Steps, TextIndex, WideEncoding, apply_document_changes, apply_with_limit, edit_with_steps,
 };
 
 pub(crate) const UTF16: PositionEncoding = PositionEncoding::Wide(WideEncoding::Utf16);
@@ -19,34 +20,53 @@ pub(crate) fn at(line: u32, character: u32) -> Position {
     Position { line, character }
 }
 
-pub(crate) fn range(a: u32, b: u32, c: u32, d: u32) -> Range {
+/// The lines and columns of a range: `(1, 2, 3, 4)` is from line 1, column 2, to line 3, column 4. The tables of cases are
+/// constants of such numbers, since each call in a test makes its proof longer.
+pub(crate) type Corners = (u32, u32, u32, u32);
+
+pub(crate) fn range(corners: Corners) -> Range {
     Range {
-        start: at(a, b),
-        end: at(c, d),
+        start: at(corners.0, corners.1),
+        end: at(corners.2, corners.3),
     }
 }
 
+fn change(alloc: Global, range: Option<Range>, text: &str) -> Result<ContentChange, AllocError> {
+    Ok(ContentChange {
+        range,
+        text: Text::from_str(alloc, text)?,
+    })
+}
+
 pub(crate) fn edit(alloc: Global, range: Range, text: &str) -> Result<ContentChange, AllocError> {
-    Ok(ContentChange {
-        range: Some(range),
-        text: Text::from_str(alloc, text)?,
-    })
+    change(alloc, Some(range), text)
 }
 
-pub(crate) fn whole(alloc: Global, text: &str) -> Result<ContentChange, AllocError> {
-    Ok(ContentChange {
-        range: None,
-        text: Text::from_str(alloc, text)?,
-    })
+fn add(changes: &mut Items<ContentChange>, change: ContentChange) -> Result<(), AllocError> {
+    changes.push(change)?;
+    Ok(())
 }
 
-pub(crate) fn edits(
+/// Changes, some of them without a range.
+pub(crate) fn changes(
     alloc: Global,
-    list: &[(Range, &str)],
+    list: &[(Option<Corners>, &str)],
 ) -> Result<Items<ContentChange>, AllocError> {
     let mut changes = Items::new(alloc);
-    for (range, text) in list {
-        changes.push(edit(alloc, *range, text)?)?;
+    for (corners, text) in list {
+        add(&mut changes, change(alloc, corners.map(range), text)?)?;
+    }
+    Ok(changes)
+}
+
+/// Changes of ranges.
+pub(crate) fn edits(
+    alloc: Global,
+    list: &[(Corners, &str)],
+) -> Result<Items<ContentChange>, AllocError> {
+    let mut changes = Items::new(alloc);
+    for (corners, text) in list {
+        add(&mut changes, edit(alloc, range(*corners), text)?)?;
     }
     Ok(changes)
 }
@@ -127,8 +147,26 @@ pub(crate) fn indexed(alloc: Global, text: &str) -> Result<TextIndex, Fail> {
     Ok(TextIndex::new(alloc, text)?)
 }
 
+/// An index of a short text, and what counts its columns.
+pub(crate) fn index_of(
+    alloc: Global,
+    encoding: PositionEncoding,
+    text: &str,
+) -> Result<LineIndex, Fail> {
+    Ok(LineIndex {
+        index: Arc::new(alloc, indexed(alloc, text)?)?,
+        endings: LineEndings::Unix,
+        encoding,
+    })
+}
+
+/// Whether an index has this text and its lines.
+pub(crate) fn is_index_of(alloc: Global, index: &TextIndex, text: &str) -> Result<bool, Fail> {
+    Ok(same_lines(index, &indexed(alloc, text)?))
+}
+
 /// Whether two indices have the same text and the same lines.
-pub(crate) fn same_lines(a: &TextIndex, b: &TextIndex) -> bool {
+fn same_lines(a: &TextIndex, b: &TextIndex) -> bool {
     if a.text() != b.text() || a.lines() != b.lines() {
         return false;
     }
