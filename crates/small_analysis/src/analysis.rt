@@ -1,23 +1,20 @@
 // The small analysis.
-ghost use Rattle.std.specs.Prelude.{◌≡◌, None, IfOk, OnOk};
+ghost use Rattle.std.specs.Prelude.{◌≡◌, true, None, IfOk, OnOk};
+ghost use Rattle.plain.specs.Plain.{is_plain};
 ghost use Rattle.analysis_host.specs.Answers.{Answers, IsPlainOutcome};
 ghost use Rattle.analysis_host.specs.Polls.{Counts, HasPolled};
-ghost use Rattle.small_analysis.specs.Small.{is_hover, is_matching_brace, small_decodes, small_answer, stopped_by};
+ghost use Rattle.small_analysis.specs.Small.{class_value, is_hover, is_matching_brace, row_value, small_decodes, small_answer, stopped_by};
 
-use crate::braces::braces_of;
-use crate::found::refusal;
 use crate::hover::hover_of;
-use crate::params::{has_positions, position_of, uri_of};
+use crate::matching_brace::braces_of;
 use analysis_host::{Analysis, Answer, Ask, Cancel, GlobalStateSnapshot, Outcome, RowId};
-use plain::{Json, Text};
+use method_table::{Class, HOVER, MATCHING_BRACE, class_of, default_of};
+use plain::Json;
+use requests::{has_positions, malformed, position_of, uri_of};
 use std::alloc::{AllocError, Global};
 
-const HOVER: RowId = RowId(56);
-
-const MATCHING_BRACE: RowId = RowId(8);
-
 /// An analysis that answers hover by the name under the position, matchingBrace by the brackets that match, and every
-/// other row by null.
+/// other row by what it is answered where nothing is known.
 #[derive(Drop)]
 pub struct SmallAnalysis {
     alloc: Global,
@@ -35,6 +32,31 @@ fn is_matching_brace(row: RowId) -> bool
     row == MATCHING_BRACE
 }
 
+/// What a row of a class is answered where nothing is known.
+#[tactic(auto, unfolding(plain::specs::Plain::most_levels))]
+fn class_value(alloc: Global, class: Class, row: RowId, params: &Json) -> Result<Json, AllocError>
+    requires { is_plain params.now ≡ true }
+    ensures value { IfOk result (λ json. json ≡ class_value row params.now class) }
+    ensures plain { IfOk result (λ json. is_plain json ≡ true) }
+{
+    match class {
+        Class::Identity => Ok(params.clone()?),
+        Class::OnLoop | Class::Formatting => Ok(Json::null()),
+        Class::State | Class::Latency | Class::DocumentDiagnostic | Class::Worker => {
+            Ok(default_of(alloc, row)?)
+        }
+    }
+}
+
+/// What a row is answered where nothing is known.
+fn row_value(alloc: Global, row: RowId, params: &Json) -> Result<Json, AllocError>
+    requires { is_plain params.now ≡ true }
+    ensures value { IfOk result (λ json. json ≡ row_value row params.now) }
+    ensures plain { IfOk result (λ json. is_plain json ≡ true) }
+{
+    class_value(alloc, class_of(row), row, params)
+}
+
 /// What a question comes to.
 fn answer(alloc: Global, snapshot: &GlobalStateSnapshot, ask: &Ask) -> Result<Outcome, AllocError>
     ensures answers { IfOk result (Answers (small_answer snapshot.now ask.now) None) }
@@ -43,14 +65,15 @@ fn answer(alloc: Global, snapshot: &GlobalStateSnapshot, ask: &Ask) -> Result<Ou
     let Ask::Request { row, params } = ask;
     let params = params.as_json();
     if !params.is_plain() {
-        return Ok(refusal(Text::from_str(alloc, "invalid params")?));
+        return malformed(alloc);
     }
     if is_hover(*row) {
         hover_of(alloc, snapshot, params)
     } else if is_matching_brace(*row) {
         braces_of(alloc, snapshot, params)
     } else {
-        Ok(Outcome::Value(Answer::Json(Json::null())))
+        let value = row_value(alloc, *row, params)?;
+        Ok(Outcome::Value(Answer::Json(value)))
     }
 }
 
