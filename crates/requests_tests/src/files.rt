@@ -1,4 +1,4 @@
-// The text that a request speaks of.
+// The text that a request speaks of. Each function holds one large value, so that it stays quick to prove.
 use analysis_host::{
     AnalysisHost, Change, FileChange, GlobalStateSnapshot, Outcome, SharedText, SnapshotParts,
     Versions,
@@ -15,27 +15,45 @@ fn path(alloc: Global, text: &str) -> Result<VfsPath, Fail> {
     Ok(VfsPath::new(alloc, text)?.ok_or("no path")?)
 }
 
-/// A snapshot of one file, `/w/a.rs`.
-fn snapshot(alloc: Global) -> Result<GlobalStateSnapshot, Fail> {
-    let mut files = Items::new(alloc);
-    files.push(FileChange {
+fn file(alloc: Global) -> Result<FileChange, Fail> {
+    let text = SharedText::new(alloc, Text::from_str(alloc, "fn a() {}")?)?;
+    Ok(FileChange {
         path: path(alloc, "/w/a.rs")?,
-        text: Some(SharedText::new(alloc, Text::from_str(alloc, "fn a() {}")?)?),
-    })?;
+        text: Some(text),
+    })
+}
+
+fn change(alloc: Global) -> Result<Change, Fail> {
+    let mut files = Items::new(alloc);
+    files.push(file(alloc)?)?;
+    Ok(Change { files })
+}
+
+/// A host of one file, `/w/a.rs`.
+fn host(alloc: Global) -> Result<AnalysisHost, Fail> {
     let mut host = AnalysisHost::new(alloc)?;
-    host.apply_change(Change { files })?;
-    let config = Config::new(alloc, path(alloc, "/w")?, 1)?;
+    host.apply_change(change(alloc)?)?;
+    Ok(host)
+}
+
+fn config(alloc: Global) -> Result<Arc<Config, Global>, Fail> {
+    Ok(Arc::new(alloc, Config::new(alloc, path(alloc, "/w")?, 1)?)?)
+}
+
+fn snapshot(alloc: Global) -> Result<GlobalStateSnapshot, Fail> {
+    let host = host(alloc)?;
     Ok(GlobalStateSnapshot::new(SnapshotParts {
+        revision: host.revision(),
         world: host.world()?,
         versions: Versions::new(alloc)?,
-        config: Arc::new(alloc, config)?,
-        revision: host.revision(),
+        config: config(alloc)?,
     }))
 }
 
 /// The text of a URL, or why there is none.
 fn found(alloc: Global, uri: &str) -> Result<Text, Fail> {
-    match text_of(alloc, &snapshot(alloc)?, uri)? {
+    let snapshot = snapshot(alloc)?;
+    match text_of(alloc, &snapshot, uri)? {
         Ok(index) => Ok(Text::from_str(alloc, index.text())?),
         Err(message) => Ok(message),
     }
@@ -68,9 +86,14 @@ fn message_of(outcome: Outcome) -> Result<Text, Fail> {
 }
 
 #[test]
-fn refusals(rt: HostRuntime) -> Result<(), Fail> {
+fn a_refusal(rt: HostRuntime) -> Result<(), Fail> {
     let message = message_of(refusal(Text::from_str(rt.alloc(), "no")?))?;
     assert_eq!(rt; message.as_str(), "no");
+    Ok(())
+}
+
+#[test]
+fn params_that_cannot_be_read(rt: HostRuntime) -> Result<(), Fail> {
     let message = message_of(malformed(rt.alloc())?)?;
     assert_eq!(rt; message.as_str(), "invalid params");
     Ok(())

@@ -1,37 +1,53 @@
--- The brackets that match stand opener before closer, are of one kind, and are each other's partners.
+-- The brackets that match stand opener before closer, are of one kind, are each other's partners, and nest.
 use Rattle.std.proofs.Common.{◌≡◌, ◌≢◌, ℕ, zero, suc, ◌+◌, ◌<◌, ◌≤◌, inl, inr, Bool, true, false, cond, List, [], ◌∷◌, refl, ap, sym, subst, ◌∙◌, arith, eq-eqb}
 use Rattle.std.specs.Prelude.{Option, Some, None, ◌==◌}
 use Rattle.std.specs.Cmp.{nat_cmp_total, unsigned_tied}
 use Rattle.std.specs.FinMap as map
 use Rattle.std.specs.Ordering.{nat_cmp}
-use Rattle.std.proofs.lemmas.Bool.{cond-true, cond-false, eqb-true, ne_eqb}
-use Rattle.small_analysis.specs.Brackets.{Brackets, brackets_before, closed, closes, is_opener, located, with_byte, IsPair, AreMatched, IsMatching}
+use Rattle.std.proofs.lemmas.Bool.{cases_lt, cond-true, cond-false, eqb-true, ne_eqb}
+use Rattle.small_analysis.specs.Brackets.{Brackets, brackets_before, closed, closes, is_opener, located, with_byte, IsPair, AreMatched, AreNested, IsMatching}
 use Rattle.small_analysis.specs.declared.brackets.Bracket.{Bracket}
 
 abbrev Partners : Type 0
 Partners = map.FinMap nat_cmp Bracket
 
--- the openers that are open have no partner, and stand before each other
+-- an opener that is open has no partner, and stands in no pair
+record IsOpen (text : List ℕ) (high : ℕ) (partners : Partners) (opener : Bracket) : Type 0 where
+  pub under : opener.place < high
+  pub there : opener ≡ located text opener.place
+  pub free : map.get partners opener.place ≡ None
+  pub outside : (place : ℕ) (partner : Bracket) → map.get partners place ≡ Some partner → place < opener.place → partner.place < opener.place
+
+-- the openers that are open stand before each other
 abbrev AreOpen : List ℕ → ℕ → Partners → List Bracket → Type 0
 AreOpen text high partners [] = Unit {0}
-AreOpen text high partners (opener ∷ below) =
-    (opener.place < high) × ((opener ≡ located text opener.place) × ((map.get partners opener.place ≡ None) × AreOpen text opener.place partners below))
+AreOpen text high partners (opener ∷ below) = IsOpen text high partners opener × AreOpen text opener.place partners below
 
 record IsSound (text : List ℕ) (n : ℕ) (brackets : Brackets) : Type 0 where
   pub openers : AreOpen text n brackets.partners brackets.openers
   pub bound : (place : ℕ) (partner : Bracket) → map.get brackets.partners place ≡ Some partner → place < n
   pub matching : IsMatching text brackets.partners
+  pub nested : AreNested brackets.partners
 
 open_further : (text : List ℕ) (high higher : ℕ) (partners : Partners) (openers : List Bracket) → high ≤ higher → AreOpen text high partners openers → AreOpen text higher partners openers
 open_further text high higher partners [] up are = tt
-open_further text high higher partners (opener ∷ below) up are = (omega (arith, up, are.0), are.1)
+open_further text high higher partners (opener ∷ below) up are =
+    (record { under = omega (arith, up, are.0.under); there = are.0.there; free = are.0.free; outside = are.0.outside }, are.1)
 
 -- with other partners from a place on
 open_still : (text : List ℕ) (high : ℕ) (old new : Partners) (openers : List Bracket) → ((place : ℕ) → place < high → map.get new place ≡ map.get old place)
     → AreOpen text high old openers → AreOpen text high new openers
 open_still text high old new [] same are = tt
 open_still text high old new (opener ∷ below) same are =
-    (are.0, (are.1.0, (same opener.place are.0 ∙ are.1.1.0, open_still text opener.place old new below (λ place under. same place (omega (arith, under, are.0))) are.1.1.1)))
+    let under : opener.place < high = are.0.under in (
+      record {
+        under = under;
+        there = are.0.there;
+        free = same opener.place under ∙ are.0.free;
+        outside = λ place partner is before. are.0.outside place partner (sym (same place (omega (arith, before, under))) ∙ is) before;
+      },
+      open_still text opener.place old new below (λ place before. same place (omega (arith, before, under))) are.1,
+    )
 
 none_is : {X : Type 0} (x : X) → None ≡ Some x → ⊥
 none_is x e = cc
@@ -76,20 +92,33 @@ module _ (text : List ℕ) (n : ℕ) (openers : List Bracket) (partners : Partne
     openers = open_further text n (suc n) partners openers (omega arith) sound.openers;
     bound = λ place partner is. omega (arith, sound.bound place partner is);
     matching = sound.matching;
+    nested = sound.nested;
   }
 
   opened : IsSound text n (record { openers = openers; partners = partners }) → IsSound text (suc n) (record { openers = located text n ∷ openers; partners = partners })
   opened sound = record {
-    openers = (omega arith, (refl, (free sound, sound.openers)));
+    openers = (
+      record {
+        under = omega arith;
+        there = refl;
+        free = free sound;
+        outside = λ place partner is before. sound.bound partner.place (located text place) (sound.matching place partner is).back;
+      },
+      sound.openers,
+    );
     bound = λ place partner is. omega (arith, sound.bound place partner is);
     matching = sound.matching;
+    nested = sound.nested;
   }
 
 -- a closer of the innermost opener
 module _ (text : List ℕ) (n : ℕ) (top : Bracket) (below : List Bracket) (partners : Partners) (kind : closes top.byte (located text n).byte ≡ true)
     (sound : IsSound text n (record { openers = top ∷ below; partners = partners })) where
+  under : top.place < n
+  under = sound.openers.0.under
+
   apart : top.place ≢ n
-  apart is = absurd (omega (arith, is, sound.openers.0))
+  apart is = absurd (omega (arith, is, under))
 
   abbrev paired : Partners
   paired = map.insert (map.insert partners top.place (located text n)) n top
@@ -100,20 +129,26 @@ module _ (text : List ℕ) (n : ℕ) (top : Bracket) (below : List Bracket) (par
   abbrev Cases : Bool → Bool → ℕ → Option Bracket
   Cases is_here is_top place = cond is_here (Some top) (cond is_top (Some (located text n)) (map.get partners place))
 
-  bound : (place : ℕ) (partner : Bracket) → map.get paired place ≡ Some partner → place < suc n
-  bound place partner is = by_place (place == n) (place == top.place) refl refl (sym (look partners top (located text n) apart place) ∙ is)
+  -- what has a partner now is the closer, the opener, or had that partner before
+  by_place : (place : ℕ) (partner : Bracket) (P : Type 0) → map.get paired place ≡ Some partner → (place ≡ n → top ≡ partner → P)
+      → (place ≡ top.place → located text n ≡ partner → P) → (map.get partners place ≡ Some partner → P) → P
+  by_place place partner P is closer opener before = cases (place == n) (place == top.place) refl refl (sym (look partners top (located text n) apart place) ∙ is)
     where
-      by_place : (is_here is_top : Bool) → (place == n) ≡ is_here → (place == top.place) ≡ is_top → Cases is_here is_top place ≡ Some partner → place < suc n
-      by_place true is_top here at is = omega (arith, eqb-true place n here)
-      by_place false true here at is = omega (arith, eqb-true place top.place at, sound.openers.0)
-      by_place false false here at is = omega (arith, sound.bound place partner is)
+      cases : (is_here is_top : Bool) → (place == n) ≡ is_here → (place == top.place) ≡ is_top → Cases is_here is_top place ≡ Some partner → P
+      cases true is_top here at is = closer (eqb-true place n here) (some_is top partner is)
+      cases false true here at is = opener (eqb-true place top.place at) (some_is (located text n) partner is)
+      cases false false here at is = before is
+
+  bound : (place : ℕ) (partner : Bracket) → map.get paired place ≡ Some partner → place < suc n
+  bound place partner is =
+      by_place place partner (place < suc n) is (λ here same. omega (arith, here)) (λ at same. omega (arith, at, under)) (λ old. omega (arith, sound.bound place partner old))
 
   order : IsPair top (located text n)
-  order = record { order = sound.openers.0; kind = kind }
+  order = record { order = under; kind = kind }
 
   matched_here : AreMatched text paired n top
   matched_here = record {
-    there = sound.openers.1.0;
+    there = sound.openers.0.there;
     back = at_top partners top (located text n) apart;
     pair = inr order;
   }
@@ -121,38 +156,76 @@ module _ (text : List ℕ) (n : ℕ) (top : Bracket) (below : List Bracket) (par
   matched_top : AreMatched text paired top.place (located text n)
   matched_top = record {
     there = refl;
-    back = at_here partners top (located text n) apart ∙ ap Some sound.openers.1.0;
-    pair = inl (subst (λ opener. IsPair opener (located text n)) sound.openers.1.0 order);
+    back = at_here partners top (located text n) apart ∙ ap Some sound.openers.0.there;
+    pair = inl (subst (λ opener. IsPair opener (located text n)) sound.openers.0.there order);
   }
+
+  -- a partner from before is no opener that is open
+  partner_apart : (place : ℕ) (partner : Bracket) → map.get partners place ≡ Some partner → partner.place ≢ top.place
+  partner_apart place partner is e =
+      none_is (located text place) (sym sound.openers.0.free ∙ ap (map.get partners) (sym e) ∙ (sound.matching place partner is).back)
+
+  partner_under : (place : ℕ) (partner : Bracket) → map.get partners place ≡ Some partner → partner.place < n
+  partner_under place partner is = sound.bound partner.place (located text place) (sound.matching place partner is).back
 
   matched_before : (place : ℕ) (partner : Bracket) → map.get partners place ≡ Some partner → AreMatched text paired place partner
   matched_before place partner is =
       let old = sound.matching place partner is in
-      let under : partner.place < n = sound.bound partner.place (located text place) old.back in
       record {
         there = old.there;
-        back = still partner.place (λ e. absurd (omega (arith, e, under))) (λ e. none_is (located text place) (sym sound.openers.1.1.0 ∙ ap (map.get partners) (sym e) ∙ old.back)) ∙ old.back;
+        back = still partner.place (λ e. absurd (omega (arith, e, partner_under place partner is))) (partner_apart place partner is) ∙ old.back;
         pair = old.pair;
       }
 
   matching : IsMatching text paired
-  matching place partner is = by_place (place == n) (place == top.place) refl refl (sym (look partners top (located text n) apart place) ∙ is)
-    where
-      by_place : (is_here is_top : Bool) → (place == n) ≡ is_here → (place == top.place) ≡ is_top → Cases is_here is_top place ≡ Some partner → AreMatched text paired place partner
-      by_place true is_top here at is =
-          let P : ℕ → Bracket → Type 0 = λ p q. AreMatched text paired p q in
-          subst (λ p. P p partner) (sym (eqb-true place n here)) (subst (P n) (some_is top partner is) matched_here)
-      by_place false true here at is =
-          let P : ℕ → Bracket → Type 0 = λ p q. AreMatched text paired p q in
-          subst (λ p. P p partner) (sym (eqb-true place top.place at)) (subst (P top.place) (some_is (located text n) partner is) matched_top)
-      by_place false false here at is = matched_before place partner is
+  matching place partner is =
+      let P : ℕ → Bracket → Type 0 = λ p q. AreMatched text paired p q in
+      by_place place partner (AreMatched text paired place partner) is
+      (λ here same. subst (λ p. P p partner) (sym here) (subst (P n) same matched_here))
+      (λ at same. subst (λ p. P p partner) (sym at) (subst (P top.place) same matched_top))
+      (matched_before place partner)
+
+  abbrev Between : ℕ → ℕ → ℕ → Type 0
+  Between low middle high = (low < middle) × (middle < high)
+
+  -- what stands between the opener and the closer was opened and closed there
+  within : (inner : ℕ) (other : Bracket) → map.get partners inner ≡ Some other → top.place < inner → Between top.place other.place n
+  within inner other is after =
+      let behind : top.place < other.place = elim (cases_lt other.place top.place) [
+        | inl before ↦
+            let back = (sound.matching inner other is).back in
+            absurd (omega (arith, after, sound.openers.0.outside other.place (located text inner) back before))
+        | inr not_before ↦ omega (arith, not_before, partner_apart inner other is)
+      ] in
+      (behind, partner_under inner other is)
+
+  nested : AreNested paired
+  nested outer inner its other is_outer is_inner above below =
+      let Goal : Type 0 = Between outer other.place its.place in
+      by_place outer its Goal is_outer
+      (λ here same. absurd (omega (arith, here, above, below, ap (λ b. b.place) same, under)))
+      (λ at same.
+      let end : n ≡ its.place = ap (λ b. b.place) same in
+      by_place inner other Goal is_inner
+      (λ here same. absurd (omega (arith, here, below, end)))
+      (λ top_at same. absurd (omega (arith, at, top_at, above)))
+      (λ old.
+      let between = within inner other old (omega (arith, at, above)) in
+      (omega (arith, at, between.0), omega (arith, end, between.1))))
+      (λ old.
+      let end : its.place < n = partner_under outer its old in
+      by_place inner other Goal is_inner
+      (λ here same. absurd (omega (arith, here, below, end)))
+      (λ top_at same. absurd (omega (arith, top_at, below, sound.openers.0.outside outer its old (omega (arith, top_at, above)))))
+      (λ old_inner. sound.nested outer inner its other old old_inner above below))
 
   paired_sound : IsSound text (suc n) (record { openers = below; partners = paired })
   paired_sound = record {
-    openers = open_further text top.place (suc n) paired below (omega (arith, sound.openers.0))
-        (open_still text top.place partners paired below (λ place under. still place (λ e. absurd (omega (arith, e, under, sound.openers.0))) (λ e. absurd (omega (arith, e, under)))) sound.openers.1.1.1);
+    openers = open_further text top.place (suc n) paired below (omega (arith, under))
+        (open_still text top.place partners paired below (λ place before. still place (λ e. absurd (omega (arith, e, before, under))) (λ e. absurd (omega (arith, e, before)))) sound.openers.1);
     bound = bound;
     matching = matching;
+    nested = nested;
   }
 
 closed_sound : (text : List ℕ) (n : ℕ) (openers : List Bracket) (partners : Partners) → IsSound text n (record { openers = openers; partners = partners })
@@ -178,6 +251,7 @@ all_sound text zero = record {
   openers = tt;
   bound = λ place partner is. absurd (none_is partner (sym (map.get-empty nat_cmp place) ∙ is));
   matching = λ place partner is. absurd (none_is partner (sym (map.get-empty nat_cmp place) ∙ is));
+  nested = λ outer inner its other is_outer is_inner above below. absurd (none_is its (sym (map.get-empty nat_cmp outer) ∙ is_outer));
 }
 all_sound text (suc n) = byte_sound text n (brackets_before text n) (all_sound text n)
 
@@ -186,3 +260,12 @@ brackets_more text n = let one : n + 1 ≡ suc n = omega arith in ap (brackets_b
 
 pub is_matching : (text : List ℕ) (n : ℕ) → IsMatching text (brackets_before text n).partners
 is_matching text n = (all_sound text n).matching
+
+pub are_nested : (text : List ℕ) (n : ℕ) → AreNested (brackets_before text n).partners
+are_nested text n = (all_sound text n).nested
+
+-- a partner stands in the text
+pub partner_within : (text : List ℕ) (n place : ℕ) (partner : Bracket) → map.get (brackets_before text n).partners place ≡ Some partner → partner.place < n
+partner_within text n place partner is =
+    let sound = all_sound text n in
+    sound.bound partner.place (located text place) (sound.matching place partner is).back

@@ -1,5 +1,7 @@
+pub mod AskedLemmas
 pub mod BracketLemmas
-pub mod Laws
-pub mod LineLemmas
 pub mod ListLemmas
+pub mod MatchLemmas
+pub mod NameLaws
+pub mod RowLaws
 pub mod RunLemmas

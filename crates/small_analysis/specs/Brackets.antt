@@ -2,7 +2,6 @@
 use Rattle.std.specs.Prelude.{◌≡◌, ◌<◌, ◌⊎◌, ℕ, zero, suc, ◌==◌, ◌&&◌, ◌||◌, Bool, true, List, [], ◌∷◌, length, slice_index, if◌then◌else◌, Option, Some, None, option_and_then}
 use Rattle.std.specs.FinMap as map
 use Rattle.std.specs.Ordering.{nat_cmp}
-use Rattle.small_analysis.specs.Positions.{position_at}
 use Rattle.small_analysis.specs.declared.brackets.Bracket.{Bracket}
 
 -- `(`, `[` or `{`
@@ -39,9 +38,9 @@ with_byte here brackets =
     if is_opener here.byte then record { openers = here ∷ brackets.openers; partners = brackets.partners }
     else closed here brackets brackets.openers
 
--- the byte at a place, with its position
+-- the byte at a place
 abbrev pub located : List ℕ → ℕ → Bracket
-located text place = record { place = place; byte = slice_index text place; position = position_at text place }
+located text place = record { place = place; byte = slice_index text place }
 
 -- the brackets among the first bytes of a text
 abbrev pub brackets_before : List ℕ → ℕ → Brackets
@@ -64,7 +63,14 @@ pub record AreMatched (text : List ℕ) (partners : map.FinMap nat_cmp Bracket) 
   pub pair : IsPair (located text place) partner ⊎ IsPair partner (located text place)
 
 abbrev pub IsMatching : List ℕ → map.FinMap nat_cmp Bracket → Type 0
-IsMatching text partners = (place : ℕ) (partner : Bracket) → map.get partners place ≡ Some partner → AreMatched text partners place partner
+IsMatching text partners =
+    (place : ℕ) (partner : Bracket) → map.get partners place ≡ Some partner → AreMatched text partners place partner
+
+-- pairs nest: the partner of what stands between a bracket and its partner stands between them too
+abbrev pub AreNested : map.FinMap nat_cmp Bracket → Type 0
+AreNested partners =
+    (outer inner : ℕ) (its other : Bracket) → map.get partners outer ≡ Some its → map.get partners inner ≡ Some other
+    → outer < inner → inner < its.place → (outer < other.place) × (other.place < its.place)
 
 -- a bracket stands at a place
 abbrev pub is_bracket_at : List ℕ → ℕ → Bool

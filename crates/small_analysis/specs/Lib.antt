@@ -1,5 +1,7 @@
 pub mod Positions
 pub mod Names
 pub mod Brackets
+pub mod Asked
+pub mod Matches
 pub mod Params
 pub mod Small

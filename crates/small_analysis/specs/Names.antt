@@ -1,5 +1,5 @@
 -- Names of a text.
-use Rattle.std.specs.Prelude.{ℕ, ◌+◌, ◌-◌, ◌==◌, ◌||◌, Bool, false, not, List, [], ◌∷◌, take, drop, slice_range, if◌then◌else◌, Option, Some, None}
+use Rattle.std.specs.Prelude.{◌≡◌, ◌<◌, ◌≤◌, ℕ, ◌+◌, ◌-◌, ◌==◌, ◌||◌, Bool, true, false, not, List, [], ◌∷◌, length, take, drop, slice_index, slice_range, if◌then◌else◌, Option, Some, None}
 use Rattle.std.specs.List.{prefix_len, suffix_len}
 use Rattle.std.specs.Char.{is_ascii_alphanumeric, is_ascii_digit}
 
@@ -24,6 +24,22 @@ abbrev pub is_name : List ℕ → Bool
 is_name [] = false
 is_name (b ∷ rest) = not (is_ascii_digit b)
 
+abbrev pub named : List ℕ → Option (List ℕ)
+named run = if is_name run then Some run else None
+
 -- the name that holds a place or ends at it
 abbrev pub name_at : List ℕ → ℕ → Option (List ℕ)
-name_at text offset = if is_name (run_at text offset) then Some (run_at text offset) else None
+name_at text offset = named (run_at text offset)
+
+-- the name from one place up to another
+abbrev pub name_of : List ℕ → ℕ → ℕ → Option (List ℕ)
+name_of text from to = named (slice_range text from to)
+
+-- the bytes from one place up to another are word bytes, hold a place or end at it, and neither side has one more
+pub record IsRunAt (text : List ℕ) (place from to : ℕ) : Type 0 where
+  pub holds : from ≤ place
+  pub reaches : place ≤ to
+  pub within : to ≤ length text
+  pub words : (k : ℕ) → from ≤ k → k < to → is_word_byte (slice_index text k) ≡ true
+  pub before : 0 < from → is_word_byte (slice_index text (from - 1)) ≡ false
+  pub after : to < length text → is_word_byte (slice_index text to) ≡ false

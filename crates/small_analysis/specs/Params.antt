@@ -1,9 +1,8 @@
 -- The params of a hover (LSP 3.17, HoverParams) and of matchingBrace, as far as they are read.
-use Rattle.std.specs.Prelude.{ℕ, List, [], ◌∷◌, codes, Option, Some, option_and_then}
+use Rattle.std.specs.Prelude.{ℕ, List, Option, option_and_then}
 use Rattle.std.specs.Option.{option_map}
-use Rattle.serde_json.specs.Data.{Data, Items, no_items, item}
-use Rattle.serde_json.specs.Find.{get, as_array, as_str}
-use Rattle.analysis_host.specs.FromProto.{position_of as position_in}
+use Rattle.serde_json.specs.Data.{Data}
+use Rattle.requests.specs.Params.{uri_of, position_of, positions_of}
 use Rattle.text_core.specs.declared.position.Position.{Position}
 
 -- what hover is asked for
@@ -15,27 +14,6 @@ pub record HoverData : Type 0 where
 pub record BraceData : Type 0 where
   pub uri : List ℕ
   pub positions : List Position
-
--- the text `uri` in `textDocument`
-abbrev pub uri_of : Data → Option (List ℕ)
-uri_of params = option_and_then as_str (option_and_then (get (codes "uri")) (get (codes "textDocument") params))
-
--- the position in `position`
-abbrev pub position_of : Data → Option Position
-position_of params = option_and_then position_in (get (codes "position") params)
-
--- the positions that items are, where each is one
-abbrev pub positions_in : Items → Option (List Position)
-positions_in no_items = Some []
-positions_in (item d ds) = option_and_then (λ position. option_map (λ positions. position ∷ positions) (positions_in ds)) (position_in d)
-
--- the list in `positions`
-abbrev pub list_of : Data → Option Items
-list_of params = option_and_then as_array (get (codes "positions") params)
-
--- the positions in `positions`
-abbrev pub positions_of : Data → Option (List Position)
-positions_of params = option_and_then positions_in (list_of params)
 
 -- a document's URL and a position
 abbrev pub hover_params : Data → Option HoverData

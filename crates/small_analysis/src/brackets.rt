@@ -1,20 +1,17 @@
 // The brackets of a text that match.
-ghost use Rattle.std.specs.Prelude.{◌≡◌, ◌<◌, ◌^◌, length, slice_get, sum_by, IfOk};
-ghost use Rattle.small_analysis.specs.Brackets.{closes, is_bracket, is_bracket_at, is_opener, bracket_near, partners_of, with_byte, IsMatching};
-ghost use Rattle.small_analysis.specs.Positions.{units};
+ghost use Rattle.std.specs.Prelude.{◌≡◌, ◌<◌, ◌^◌, length, slice_get, IfOk, OnOk};
+ghost use Rattle.small_analysis.specs.Asked.{with_asked, with_partner, KeepsAsked};
+ghost use Rattle.small_analysis.specs.Brackets.{closes, is_bracket, is_bracket_at, is_opener, bracket_near, partners_of};
 
-use crate::offsets::past_byte;
 use plain::ByNumber;
 use std::alloc::{AllocError, Global};
 use std::collections::VecDeque;
-use text_core::Position;
 
-/// A byte of a text with its place and its position.
+/// A byte of a text with its place.
 #[derive(Clone, Copy, Drop)]
 pub(crate) struct Bracket {
-    pub(crate) place: u64,
+    pub(crate) place: u32,
     pub(crate) byte: u8,
-    pub(crate) position: Position,
 }
 
 fn is_opener(byte: u8) -> bool
@@ -45,14 +42,31 @@ fn innermost(openers: &VecDeque<Bracket>) -> Option<Bracket>
     openers.front().copied()
 }
 
+/// Keeps the partner of a bracket that is asked for.
+fn keep(
+    asked: &ByNumber<()>,
+    partners: &mut ByNumber<Bracket>,
+    place: u32,
+    partner: Bracket,
+) -> Result<(), AllocError>
+    ensures { OnOk result (partners.new ≡ with_partner asked.now partners.old place partner) }
+{
+    let place = u64::from(place);
+    if asked.contains(place) {
+        partners.insert(place, partner)?;
+    }
+    Ok(())
+}
+
 /// Takes one byte more of the text.
 fn take_byte(
+    asked: &ByNumber<()>,
     openers: &mut VecDeque<Bracket>,
     partners: &mut ByNumber<Bracket>,
     here: Bracket,
 ) -> Result<(), AllocError>
-    ensures { IfOk result (λ _. record { openers = openers.new.items; partners = partners.new }
-        ≡ with_byte here (record { openers = openers.old.items; partners = partners.old })) }
+    ensures { OnOk result (record { openers = openers.new.items; partners = partners.new }
+        ≡ with_asked asked.now here (record { openers = openers.old.items; partners = partners.old })) }
 {
     if is_opener(here.byte) {
         openers.push_front(here)?;
@@ -63,33 +77,29 @@ fn take_byte(
     };
     if closes(opener.byte, here.byte) {
         openers.pop_front();
-        partners.insert(opener.place, here)?;
-        partners.insert(here.place, opener)?;
+        keep(asked, partners, opener.place, here)?;
+        keep(asked, partners, here.place, opener)?;
     }
     Ok(())
 }
 
-/// The partner of each bracket that is matched, by its place.
-pub(crate) fn partners_of(alloc: Global, text: &[u8]) -> Result<ByNumber<Bracket>, AllocError>
-    requires length { length text.now < 2 ^ 32 }
-    requires columns { sum_by units text.now < 2 ^ 32 }
-    ensures value { IfOk result (λ partners. partners ≡ partners_of text.now) }
-    ensures matching { IfOk result (IsMatching text.now) }
+/// The partner of each bracket that is asked for and matched, by its place.
+pub(crate) fn partners_of(
+    alloc: Global,
+    text: &[u8],
+    asked: &ByNumber<()>,
+) -> Result<ByNumber<Bracket>, AllocError>
+    requires { length text.now < 2 ^ 32 }
+    ensures { IfOk result (KeepsAsked asked.now (partners_of text.now)) }
 {
     let mut openers = VecDeque::new(alloc);
     let mut partners = ByNumber::new(alloc);
-    let mut position = Position {
-        line: 0,
-        character: 0,
-    };
     for (place, byte) in text.iter().enumerate() {
         let here = Bracket {
-            place: place as u64,
+            place: place as u32,
             byte: *byte,
-            position,
         };
-        take_byte(&mut openers, &mut partners, here)?;
-        position = past_byte(position, *byte);
+        take_byte(asked, &mut openers, &mut partners, here)?;
     }
     Ok(partners)
 }

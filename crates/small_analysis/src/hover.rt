@@ -2,15 +2,15 @@
 ghost use Rattle.std.specs.Prelude.{◌≡◌, true, None, IfOk, option_copied};
 ghost use Rattle.plain.specs.Plain.{is_plain};
 ghost use Rattle.analysis_host.specs.Answers.{Answers, IsPlainOutcome};
+ghost use Rattle.requests.specs.Files.{in_text, text_of};
 ghost use Rattle.small_analysis.specs.Params.{hover_params};
-ghost use Rattle.small_analysis.specs.Small.{hover_value, hover_in, hover_of, in_text, text_of};
+ghost use Rattle.small_analysis.specs.Small.{hover_value, hover_in, hover_of};
 
-use crate::found::{refusal, text_of};
 use crate::names::name_at;
 use crate::offsets::place_in;
-use crate::params::{position_of, uri_of};
 use analysis_host::{Answer, GlobalStateSnapshot, Outcome};
 use plain::{Json, Members, Text};
+use requests::{malformed, position_of, refusal, text_of, uri_of};
 use std::alloc::{AllocError, Global};
 use text_core::{Position, TextIndex};
 
@@ -71,8 +71,11 @@ pub(crate) fn hover_of(
     ensures answers { IfOk result (Answers (hover_of snapshot.now (hover_params params.now)) None) }
     ensures plain { IfOk result IsPlainOutcome }
 {
-    match (uri_of(params), position_of(params)) {
-        (Some(uri), Some(position)) => at_url(alloc, snapshot, uri, position),
-        _ => Ok(refusal(Text::from_str(alloc, "invalid params")?)),
-    }
+    let Some(uri) = uri_of(params) else {
+        return malformed(alloc);
+    };
+    let Some(position) = position_of(params) else {
+        return malformed(alloc);
+    };
+    at_url(alloc, snapshot, uri, position)
 }

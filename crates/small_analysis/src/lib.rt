@@ -1,13 +1,14 @@
 //! A small analysis: it finds the name under a position and the brackets that match, and nothing more.
 #![tactic(auto)]
 
-mod braces;
+mod analysis;
 mod brackets;
-mod found;
 mod hover;
+mod laws;
+mod matches;
+mod matching_brace;
 mod names;
 mod offsets;
-mod params;
-mod small;
 
-pub use small::SmallAnalysis;
+pub use analysis::SmallAnalysis;
+pub use laws::{brackets_match_in_pairs, names_are_maximal_runs, rows_have_their_answers};

@@ -1,6 +1,7 @@
 // Places of positions, and positions of places.
-ghost use Rattle.std.specs.Prelude.{◌≡◌, ◌+◌, ◌^◌, ◌≤◌, ◌<◌, length, IfSome};
-ghost use Rattle.small_analysis.specs.Positions.{place_in, units, past_byte};
+ghost use Rattle.std.specs.Prelude.{◌≡◌, ◌≤◌, ◌↔◌, length, IfSome, IsSome};
+ghost use Rattle.std.specs.String.Boundary.{IsSplitPoint};
+ghost use Rattle.small_analysis.specs.Positions.{place_in, position_in};
 
 use analysis_host::columns;
 use text_core::{Position, TextIndex};
@@ -16,32 +17,10 @@ pub(crate) fn place_in(index: &TextIndex, position: Position) -> Option<usize>
     }
 }
 
-/// What the character that a byte begins counts in a column.
-fn units(byte: u8) -> u32
-    ensures { result ≡ units byte }
+/// The position of a place, if the text can be cut there.
+pub(crate) fn position_in(index: &TextIndex, place: u32) -> Option<Position>
+    ensures some { IsSome result ↔ IsSplitPoint index.now place }
+    ensures value { IfSome result (λ position. position ≡ position_in index.now place) }
 {
-    match byte {
-        0x80..=0xbf => 0,
-        0xf0..=0xff => 2,
-        _ => 1,
-    }
-}
-
-/// The position after one byte more.
-pub(crate) fn past_byte(position: Position, byte: u8) -> Position
-    requires line { position.line + 1 < 2 ^ 32 }
-    requires character { position.character + units byte < 2 ^ 32 }
-    ensures { result ≡ past_byte byte position }
-{
-    if byte == b'\n' {
-        Position {
-            line: position.line + 1,
-            character: 0,
-        }
-    } else {
-        Position {
-            line: position.line,
-            character: position.character + units(byte),
-        }
-    }
+    index.position_of(columns(), place)
 }

@@ -1,8 +1,8 @@
-// What the small analysis answers.
-use crate::questions::{COMPLETION, HOVER, MATCHING_BRACE, answer, brace, braces, decodes, hover};
-use analysis_host::RowId;
-use plain::Json;
+// What hover and matchingBrace answer.
+use crate::questions::{answer, brace, braces, hover};
+use method_table::HOVER;
 use small_analysis::SmallAnalysis;
+use std::alloc::Global;
 use std::test::Fail;
 
 #[test]
@@ -85,6 +85,11 @@ fn faults(rt: HostRuntime) -> Result<(), Fail> {
     Ok(())
 }
 
+/// A list of one position.
+fn position(alloc: Global, line: u32, column: u32) -> Result<String, Fail> {
+    Ok(format!(in alloc; "[{{\"character\":{column},\"line\":{line}}}]")?)
+}
+
 #[test]
 fn brackets_that_match(rt: HostRuntime) -> Result<(), Fail> {
     for (text, line, column, to_line, to_column) in [
@@ -98,6 +103,7 @@ fn brackets_that_match(rt: HostRuntime) -> Result<(), Fail> {
         ("f(a[1]{x})", 0, 0, 0, 0),
         ("ab", 0, 99, 0, 99),
         ("()]", 0, 2, 0, 2),
+        ("()]", 0, 3, 0, 3),
         ("()]", 0, 1, 0, 0),
         ("([)]", 0, 0, 0, 0),
         ("([)]", 0, 1, 0, 3),
@@ -110,9 +116,7 @@ fn brackets_that_match(rt: HostRuntime) -> Result<(), Fail> {
         ("{\n\n}", 2, 0, 0, 0),
         ("", 0, 0, 0, 0),
     ] {
-        let expected = format!(in rt.alloc();
-            "[{{\"character\":{to_column},\"line\":{to_line}}}]"
-        )?;
+        let expected = position(rt.alloc(), to_line, to_column)?;
         let found = brace(rt.alloc(), text, line, column)?;
         assert_eq!(rt;
             found.as_str(),
@@ -147,23 +151,6 @@ fn positions_of_brackets(rt: HostRuntime) -> Result<(), Fail> {
     ] {
         let found = braces(rt.alloc(), uri, "()", positions)?;
         assert_eq!(rt; found.as_str(), value, "on {positions} of {uri}");
-    }
-    Ok(())
-}
-
-#[test]
-fn other_rows(rt: HostRuntime) -> Result<(), Fail> {
-    for (row, params, value) in [
-        (RowId(55), "[]", "null"),
-        (COMPLETION, "{}", "null"),
-        (RowId(55), "0.5", "invalid params"),
-    ] {
-        let found = answer(rt.alloc(), row, "a", params)?;
-        assert_eq!(rt; found.as_str(), value, "on {params}");
-    }
-    for (row, well_formed) in [(RowId(55), true), (HOVER, false), (MATCHING_BRACE, false)] {
-        let found = decodes(rt.alloc(), row, &Json::null());
-        assert!(rt; found == well_formed, "row {}", row.0);
     }
     Ok(())
 }

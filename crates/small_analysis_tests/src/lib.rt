@@ -6,3 +6,7 @@
 mod answers;
 #[cfg(test)]
 mod questions;
+#[cfg(test)]
+mod rows;
+#[cfg(test)]
+mod snapshots;

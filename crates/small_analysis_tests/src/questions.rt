@@ -1,46 +1,11 @@
 // Questions to a small analysis, and what it answers in words.
-use analysis_host::{
-    Analysis, AnalysisHost, Answer, Ask, Change, FileChange, GlobalStateSnapshot, Never, Outcome,
-    RowId, SharedText, SnapshotParts, Versions,
-};
-use docs_vfs::VfsPath;
-use plain::{Items, Json, SharedJson, Text};
-use ra_config::Config;
+use crate::snapshots::snapshot_of;
+use analysis_host::{Analysis, Answer, Ask, GlobalStateSnapshot, Never, Outcome, RowId};
+use method_table::{HOVER, MATCHING_BRACE};
+use plain::{Json, SharedJson};
 use small_analysis::SmallAnalysis;
 use std::alloc::Global;
-use std::sync::Arc;
 use std::test::Fail;
-
-pub const HOVER: RowId = RowId(56);
-
-pub const MATCHING_BRACE: RowId = RowId(8);
-
-pub const COMPLETION: RowId = RowId(12);
-
-fn path(alloc: Global, text: &str) -> Result<VfsPath, Fail> {
-    Ok(VfsPath::new(alloc, text)?.ok_or("no path")?)
-}
-
-/// A snapshot of one file, `/w/a.rs`.
-fn snapshot_of(alloc: Global, text: &str) -> Result<GlobalStateSnapshot, Fail> {
-    if text.len() > u32::MAX as usize {
-        return Err(Fail::from("too long"));
-    }
-    let mut files = Items::new(alloc);
-    files.push(FileChange {
-        path: path(alloc, "/w/a.rs")?,
-        text: Some(SharedText::new(alloc, Text::from_str(alloc, text)?)?),
-    })?;
-    let mut host = AnalysisHost::new(alloc)?;
-    host.apply_change(Change { files })?;
-    let config = Config::new(alloc, path(alloc, "/w")?, 1)?;
-    Ok(GlobalStateSnapshot::new(SnapshotParts {
-        world: host.world()?,
-        versions: Versions::new(alloc)?,
-        config: Arc::new(alloc, config)?,
-        revision: host.revision(),
-    }))
-}
 
 /// What an outcome says: the compact text of a value, or the message of a fault.
 fn written(alloc: Global, outcome: Outcome) -> Result<String, Fail> {
@@ -54,14 +19,33 @@ fn written(alloc: Global, outcome: Outcome) -> Result<String, Fail> {
     }
 }
 
+fn params_of(alloc: Global, params: &str) -> Result<SharedJson, Fail> {
+    let params = Json::read(alloc, params.as_bytes())?.ok_or("no JSON")?;
+    Ok(SharedJson::new(alloc, params)?)
+}
+
+fn query(alloc: Global, snapshot: &GlobalStateSnapshot, ask: &Ask) -> Result<Outcome, Fail> {
+    Ok(SmallAnalysis::new(alloc).query(snapshot, ask, &mut Never::new())?)
+}
+
+/// What a row answers on a snapshot and params.
+pub fn answer_on(
+    alloc: Global,
+    row: RowId,
+    snapshot: &GlobalStateSnapshot,
+    params: &str,
+) -> Result<String, Fail> {
+    let ask = Ask::Request {
+        row,
+        params: params_of(alloc, params)?,
+    };
+    written(alloc, query(alloc, snapshot, &ask)?)
+}
+
 /// What a row answers on a text and params.
 pub fn answer(alloc: Global, row: RowId, text: &str, params: &str) -> Result<String, Fail> {
-    let params = Json::read(alloc, params.as_bytes())?.ok_or("no JSON")?;
-    let params = SharedJson::new(alloc, params)?;
-    let ask = Ask::Request { row, params };
     let snapshot = snapshot_of(alloc, text)?;
-    let outcome = SmallAnalysis::new(alloc).query(&snapshot, &ask, &mut Never::new())?;
-    written(alloc, outcome)
+    answer_on(alloc, row, &snapshot, params)
 }
 
 /// What hover answers at a position of a text.

@@ -1,0 +1,43 @@
+-- The partners of some brackets alone: of those at the places that are asked for.
+use Rattle.std.specs.Prelude.{◌≡◌, ℕ, Bool, true, List, [], ◌∷◌, is_some, if◌then◌else◌, Some}
+use Rattle.std.specs.FinMap as map
+use Rattle.std.specs.Ordering.{nat_cmp}
+use Rattle.small_analysis.specs.Brackets.{Brackets, bracket_near, closes, is_opener}
+use Rattle.small_analysis.specs.Positions.{place_in}
+use Rattle.small_analysis.specs.declared.brackets.Bracket.{Bracket}
+use Rattle.text_core.specs.declared.position.Position.{Position}
+
+abbrev pub Places : Type 0
+Places = map.FinMap nat_cmp (Unit {0})
+
+abbrev pub is_asked : Places → ℕ → Bool
+is_asked asked place = is_some (map.get asked place)
+
+-- the bracket near a place is asked for
+abbrev pub IsAskedNear : List ℕ → Places → ℕ → Type 0
+IsAskedNear text asked place = (near : ℕ) → bracket_near text place ≡ Some near → is_asked asked near ≡ true
+
+-- the bracket near a position is asked for
+abbrev pub IsAsked : List ℕ → Places → Position → Type 0
+IsAsked text asked position = (place : ℕ) → place_in text position ≡ Some place → IsAskedNear text asked place
+
+-- each bracket that is asked for has the partner that it has among all
+abbrev pub KeepsAsked : Places → map.FinMap nat_cmp Bracket → map.FinMap nat_cmp Bracket → Type 0
+KeepsAsked asked all kept = (place : ℕ) → is_asked asked place ≡ true → map.get kept place ≡ map.get all place
+
+-- a partner more, where its bracket is asked for
+abbrev pub with_partner : Places → map.FinMap nat_cmp Bracket → ℕ → Bracket → map.FinMap nat_cmp Bracket
+with_partner asked partners place partner = if is_asked asked place then map.insert partners place partner else partners
+
+abbrev pub closed_asked : Places → Bracket → Brackets → List Bracket → Brackets
+closed_asked asked here brackets [] = brackets
+closed_asked asked here brackets (top ∷ below) =
+    if closes top.byte here.byte
+    then record { openers = below; partners = with_partner asked (with_partner asked brackets.partners top.place here) here.place top }
+    else brackets
+
+-- one byte more, where the partners are kept that are asked for
+abbrev pub with_asked : Places → Bracket → Brackets → Brackets
+with_asked asked here brackets =
+    if is_opener here.byte then record { openers = here ∷ brackets.openers; partners = brackets.partners }
+    else closed_asked asked here brackets brackets.openers

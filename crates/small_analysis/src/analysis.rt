@@ -1,0 +1,127 @@
+// The small analysis.
+ghost use Rattle.std.specs.Prelude.{◌≡◌, true, None, IfOk, OnOk};
+ghost use Rattle.plain.specs.Plain.{is_plain};
+ghost use Rattle.analysis_host.specs.Answers.{Answers, IsPlainOutcome};
+ghost use Rattle.analysis_host.specs.Polls.{Counts, HasPolled};
+ghost use Rattle.small_analysis.specs.Small.{class_value, is_hover, is_matching_brace, row_value, small_decodes, small_answer, stopped_by};
+
+use crate::hover::hover_of;
+use crate::matching_brace::braces_of;
+use analysis_host::{Analysis, Answer, Ask, Cancel, GlobalStateSnapshot, Outcome, RowId};
+use method_table::{Class, HOVER, MATCHING_BRACE, class_of, default_of};
+use plain::Json;
+use requests::{has_positions, malformed, position_of, uri_of};
+use std::alloc::{AllocError, Global};
+
+/// An analysis that answers hover by the name under the position, matchingBrace by the brackets that match, and every
+/// other row by what it is answered where nothing is known.
+#[derive(Drop)]
+pub struct SmallAnalysis {
+    alloc: Global,
+}
+
+fn is_hover(row: RowId) -> bool
+    ensures { result ≡ is_hover row }
+{
+    row == HOVER
+}
+
+fn is_matching_brace(row: RowId) -> bool
+    ensures { result ≡ is_matching_brace row }
+{
+    row == MATCHING_BRACE
+}
+
+/// What a row of a class is answered where nothing is known.
+#[tactic(auto, unfolding(plain::specs::Plain::most_levels))]
+fn class_value(alloc: Global, class: Class, row: RowId, params: &Json) -> Result<Json, AllocError>
+    requires { is_plain params.now ≡ true }
+    ensures value { IfOk result (λ json. json ≡ class_value row params.now class) }
+    ensures plain { IfOk result (λ json. is_plain json ≡ true) }
+{
+    match class {
+        Class::Identity => Ok(params.clone()?),
+        Class::OnLoop | Class::Formatting => Ok(Json::null()),
+        Class::State | Class::Latency | Class::DocumentDiagnostic | Class::Worker => {
+            Ok(default_of(alloc, row)?)
+        }
+    }
+}
+
+/// What a row is answered where nothing is known.
+fn row_value(alloc: Global, row: RowId, params: &Json) -> Result<Json, AllocError>
+    requires { is_plain params.now ≡ true }
+    ensures value { IfOk result (λ json. json ≡ row_value row params.now) }
+    ensures plain { IfOk result (λ json. is_plain json ≡ true) }
+{
+    class_value(alloc, class_of(row), row, params)
+}
+
+/// What a question comes to.
+fn answer(alloc: Global, snapshot: &GlobalStateSnapshot, ask: &Ask) -> Result<Outcome, AllocError>
+    ensures answers { IfOk result (Answers (small_answer snapshot.now ask.now) None) }
+    ensures plain { IfOk result IsPlainOutcome }
+{
+    let Ask::Request { row, params } = ask;
+    let params = params.as_json();
+    if !params.is_plain() {
+        return malformed(alloc);
+    }
+    if is_hover(*row) {
+        hover_of(alloc, snapshot, params)
+    } else if is_matching_brace(*row) {
+        braces_of(alloc, snapshot, params)
+    } else {
+        let value = row_value(alloc, *row, params)?;
+        Ok(Outcome::Value(Answer::Json(value)))
+    }
+}
+
+impl SmallAnalysis {
+    /// Each one answers alike.
+    pub fn new(alloc: Global) -> SmallAnalysis {
+        SmallAnalysis { alloc }
+    }
+}
+
+impl Analysis for SmallAnalysis {
+    ghost decodes = { small_decodes };
+
+    ghost answer = { small_answer };
+
+    fn decodes(&self, row: RowId, params: &Json) -> bool {
+        if is_hover(row) {
+            uri_of(params).is_some() && position_of(params).is_some()
+        } else if is_matching_brace(row) {
+            uri_of(params).is_some() && has_positions(params)
+        } else {
+            true
+        }
+    }
+
+    /// Polls once, before its work.
+    fn query<C: Cancel>(
+        &self,
+        snapshot: &GlobalStateSnapshot,
+        ask: &Ask,
+        cancel: &mut C,
+    ) -> Result<Outcome, AllocError>
+        requires fresh { C.held cancel.old ≡ None }
+
+        // Cancelled exactly where the poll gave a number, with that number.
+        ensures stopped { IfOk result (λ outcome. stopped_by outcome ≡ C.held cancel.new) }
+        ensures answers { let question = small_answer snapshot.now ask.now in
+            IfOk result (Answers question (C.held cancel.new)) }
+        ensures plain { IfOk result IsPlainOutcome }
+
+        ensures once { Counts (C.polls cancel.old) (C.polls cancel.new) }
+        ensures polled { OnOk result (HasPolled (C.polls cancel.old) (C.polls cancel.new)) }
+        ensures key { C.key cancel.new ≡ C.key cancel.old }
+        ensures floor_stays { C.floor cancel.new ≡ C.floor cancel.old }
+    {
+        match cancel.poll() {
+            Some(saw) => Ok(Outcome::Cancelled { saw }),
+            None => answer(self.alloc, snapshot, ask),
+        }
+    }
+}

@@ -1,0 +1,62 @@
+// What matchingBrace answers.
+ghost use Rattle.std.specs.Prelude.{None, IfOk};
+ghost use Rattle.analysis_host.specs.Answers.{Answers, IsPlainOutcome};
+ghost use Rattle.requests.specs.Files.{in_text, text_of};
+ghost use Rattle.small_analysis.specs.Params.{brace_params};
+ghost use Rattle.small_analysis.specs.Small.{braces_in, braces_of};
+
+use crate::matches::all_matched;
+use analysis_host::{Answer, GlobalStateSnapshot, Outcome};
+use plain::{Json, Text};
+use protocol_values::list_json;
+use requests::{malformed, positions_of, refusal, text_of, uri_of};
+use std::alloc::{AllocError, Global};
+use text_core::{Position, TextIndex};
+
+/// The matches of positions in a text.
+fn in_text(alloc: Global, index: &TextIndex, positions: &[Position]) -> Result<Outcome, AllocError>
+    ensures answers { IfOk result (Answers (braces_in positions.now index.now) None) }
+    ensures plain { IfOk result IsPlainOutcome }
+{
+    match all_matched(alloc, index, positions)? {
+        None => Ok(refusal(Text::from_str(alloc, "Invalid offset")?)),
+        Some(found) => {
+            let value = list_json(alloc, found.as_slice())?;
+            Ok(Outcome::Value(Answer::Json(value)))
+        }
+    }
+}
+
+/// The matches of positions in the file of a URL.
+fn at_url(
+    alloc: Global,
+    snapshot: &GlobalStateSnapshot,
+    uri: &str,
+    positions: &[Position],
+) -> Result<Outcome, AllocError>
+    ensures answers { IfOk result (Answers (in_text (braces_in positions.now) (text_of snapshot.now uri.now)) None) }
+    ensures plain { IfOk result IsPlainOutcome }
+{
+    match text_of(alloc, snapshot, uri)? {
+        Ok(index) => in_text(alloc, index, positions),
+        Err(message) => Ok(refusal(message)),
+    }
+}
+
+/// What matchingBrace answers on these params, plain or not.
+pub(crate) fn braces_of(
+    alloc: Global,
+    snapshot: &GlobalStateSnapshot,
+    params: &Json,
+) -> Result<Outcome, AllocError>
+    ensures answers { IfOk result (Answers (braces_of snapshot.now (brace_params params.now)) None) }
+    ensures plain { IfOk result IsPlainOutcome }
+{
+    let Some(uri) = uri_of(params) else {
+        return malformed(alloc);
+    };
+    let Some(positions) = positions_of(alloc, params)? else {
+        return malformed(alloc);
+    };
+    at_url(alloc, snapshot, uri, positions.as_slice())
+}
