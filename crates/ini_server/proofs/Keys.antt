@@ -1,5 +1,5 @@
 -- A key is what `trim_ascii_start` and `trim_ascii_end` leave of a name.
-use Rattle.std.proofs.Common.{◌≡◌, ℕ, ◌-◌, ◌∙◌, List, length, drop, ap, arith}
+use Rattle.std.proofs.Common.{◌≡◌, ℕ, ◌-◌, ◌∙◌, List, length, ap, arith}
 use Rattle.std.specs.Char.{is_ascii_whitespace}
 use Rattle.std.specs.Str.{IsTrimAsciiStart, IsTrimAsciiEnd}
 use Rattle.std.proofs.lemmas.List.{length-drop}

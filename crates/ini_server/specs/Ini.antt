@@ -1,5 +1,5 @@
 -- What a hover on an `.ini` file answers. All is said of the UTF-8 bytes of a text.
-use Rattle.std.specs.Prelude.{ℕ, ◌+◌, ◌-◌, ◌==◌, ◌||◌, ◌&&◌, Bool, false, true, not, nat_le, nat_lt, is_some, List, [], ◌∷◌, codes, length, take, drop, if◌then◌else◌, Option, Some, None, Result, Ok, Err}
+use Rattle.std.specs.Prelude.{ℕ, ◌-◌, ◌==◌, ◌||◌, ◌&&◌, Bool, false, true, not, nat_le, nat_lt, is_some, List, [], ◌∷◌, codes, length, take, drop, if◌then◌else◌, Option, Some, None, Result, Ok, Err}
 use Rattle.std.specs.Char.{is_ascii_whitespace}
 use Rattle.std.specs.List.{after_first, before_first, position_or_len, prefix_len, suffix_len}
 use Rattle.serde_json.specs.Data.{Data, null, string, object, member, no_members}
