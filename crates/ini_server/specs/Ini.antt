@@ -1,0 +1,109 @@
+-- What a hover on an `.ini` file answers. All is said of the UTF-8 bytes of a text.
+use Rattle.std.specs.Prelude.{ℕ, ◌-◌, ◌==◌, ◌||◌, ◌&&◌, Bool, false, true, not, nat_le, nat_lt, is_some, List, [], ◌∷◌, codes, length, take, drop, if◌then◌else◌, Option, Some, None, Result, Ok, Err}
+use Rattle.std.specs.Char.{is_ascii_whitespace}
+use Rattle.std.specs.List.{after_first, before_first, position_or_len, prefix_len, suffix_len}
+use Rattle.serde_json.specs.Data.{Data, null, string, object, member, no_members}
+use Rattle.analysis_host.specs.Answers.{Finding, answer}
+use Rattle.analysis_host.specs.FromProto.{columns}
+use Rattle.analysis_host.specs.SnapshotData.{SnapshotData}
+use Rattle.analysis_host.specs.declared.ask.Ask.{Ask}
+use Rattle.analysis_host.specs.declared.ask.Ask.TheVariants.{Request}
+use Rattle.analysis_host.specs.declared.ask.Answer.TheVariants.{Json}
+use Rattle.method_table.specs.Rows.{default_of}
+use Rattle.method_table.specs.declared.named.TheConstants.{HOVER}
+use Rattle.method_table.specs.declared.row_id.RowId.{RowId}
+use Rattle.requests.specs.Files.{in_text, malformed, refusal, text_of}
+use Rattle.requests.specs.Params.{position_of, uri_of}
+use Rattle.text_core.specs.Positions.{ends_line, range_of}
+use Rattle.text_core.specs.declared.position.OffsetFault.{OffsetFault}
+use Rattle.text_core.specs.declared.position.Position.{Position}
+
+-- ---- a line: `key = value`
+
+-- `=`
+abbrev pub is_equals : ℕ → Bool
+is_equals b = b == 61
+
+-- how much white space stands in front of a text
+abbrev pub indent : List ℕ → ℕ
+indent text = prefix_len is_ascii_whitespace text
+
+-- a text without the white space in front of it
+abbrev pub trimmed_start : List ℕ → List ℕ
+trimmed_start text = drop (indent text) text
+
+-- a text without the white space behind it
+abbrev pub trimmed_end : List ℕ → List ℕ
+trimmed_end text = take (length text - suffix_len is_ascii_whitespace text) text
+
+-- a text without the white space around it
+abbrev pub trimmed : List ℕ → List ℕ
+trimmed text = trimmed_end (trimmed_start text)
+
+-- a line with an `=`
+abbrev pub has_equals : List ℕ → Bool
+has_equals line = nat_lt (position_or_len is_equals line) (length line)
+
+-- the name stands before the first `=`, and the value behind it
+abbrev pub name_of : List ℕ → List ℕ
+name_of line = before_first is_equals line
+
+abbrev pub value_of : List ℕ → List ℕ
+value_of line = trimmed (after_first is_equals line)
+
+-- a section begins with `[`, and a comment with `;` or `#`: they have no key
+abbrev pub is_key : List ℕ → Bool
+is_key [] = false
+is_key (b ∷ rest) = not (b == 91 || b == 59 || b == 35)
+
+-- a column stands on a byte of the key, which is the name without the white space around it
+abbrev pub is_on_key : List ℕ → ℕ → Bool
+is_on_key name column = is_key (trimmed name) && nat_le (indent name) column && nat_lt (column - indent name) (length (trimmed name))
+
+-- the value of the key that a column of a line stands on
+abbrev pub value_at : List ℕ → ℕ → Option (List ℕ)
+value_at line column = if has_equals line && is_on_key (name_of line) column then Some (value_of line) else None
+
+-- ---- hover
+
+-- the line that begins at a place of a text
+abbrev pub line_at : List ℕ → ℕ → List ℕ
+line_at text start = before_first ends_line (drop start text)
+
+-- the front of the line of a position
+abbrev pub front_of : Position → Position
+front_of position = record { line = position.line; character = 0 }
+
+-- `{"contents": value}`, or null where there is none
+abbrev pub contents : Option (List ℕ) → Data
+contents None = null
+contents (Some value) = object (member (codes "contents") (string value) no_members)
+
+-- hover by where a line begins and where the position stands
+abbrev pub hover_at : List ℕ → Result (ℕ × ℕ) OffsetFault → Finding
+hover_at text (Err fault) = refusal (codes "Invalid offset")
+hover_at text (Ok places) = answer (Json (contents (value_at (line_at text places.0) (places.1 - places.0))))
+
+-- hover at a position of a text
+abbrev pub hover_in : Position → List ℕ → Finding
+hover_in position text = hover_at text (range_of columns text (record { start = front_of position; end = position }))
+
+-- hover at a position of a URL
+abbrev pub hover_of : SnapshotData → Option (List ℕ) → Option Position → Finding
+hover_of snapshot (Some uri) (Some position) = in_text (hover_in position) (text_of snapshot uri)
+hover_of snapshot (Some uri) None = malformed
+hover_of snapshot None position = malformed
+
+-- ---- the analysis
+
+abbrev pub is_hover : RowId → Bool
+is_hover row = row.0 == HOVER.0
+
+-- hover's params are a document's URL and a position; every other row's may be anything
+abbrev pub ini_decodes : RowId → Data → Bool
+ini_decodes row params = if is_hover row then is_some (uri_of params) && is_some (position_of params) else true
+
+-- every other row answers its default
+abbrev pub ini_answer : SnapshotData → Ask → Finding
+ini_answer snapshot (Request row params) =
+    if is_hover row then hover_of snapshot (uri_of params) (position_of params) else answer (Json (default_of row))

@@ -1,0 +1,110 @@
+// Hovers on `.ini` files.
+ghost use Rattle.std.specs.Prelude.{◌≡◌, None, IfOk, option_copied};
+ghost use Rattle.std.specs.String.Boundary.{IsSplitPoint};
+ghost use Rattle.analysis_host.specs.Answers.{Answers, IsPlainOutcome};
+ghost use Rattle.ini_server.specs.Ini.{hover_in, ini_answer, ini_decodes, is_key, is_on_key, line_at, value_at};
+
+use analysis_host::{Analysis, Answer, Ask, Cancel, GlobalStateSnapshot, Outcome, RowId, columns};
+use method_table::{HOVER, default_of};
+use plain::{Json, NoMemory, Text};
+use requests::{malformed, position_of, refusal, text_of, uri_of};
+use serde_json::json;
+use std::alloc::Global;
+use text_core::{Position, Range, TextIndex};
+
+/// Whether a name without white space around it is a key, and not the front of a section or a comment.
+fn is_key(name: &[u8]) -> bool
+    ensures { result ≡ is_key name.now }
+{
+    !matches!(name, [] | [b'[' | b';' | b'#', ..])
+}
+
+/// Whether a column stands on the key in the name of a line.
+fn is_on_key(name: &str, column: usize) -> bool
+    ensures { result ≡ is_on_key name.now column }
+{
+    let rest = name.trim_ascii_start();
+    let key = rest.trim_ascii_end();
+    let start = name.len() - rest.len();
+    is_key(key.as_bytes()) && start <= column && column - start < key.len()
+}
+
+/// The value of the key that a column of a line stands on.
+fn value_at(line: &str, column: usize) -> Option<&str>
+    ensures { option_copied result ≡ value_at line.now column }
+{
+    match line.split_once('=') {
+        Some((name, value)) if is_on_key(name, column) => Some(value.trim_ascii()),
+        _ => None,
+    }
+}
+
+/// The line that begins at a place.
+fn line_at(text: &str, start: usize) -> &str
+    requires { IsSplitPoint text.now start }
+    ensures { result.now ≡ line_at text.now start }
+{
+    let rest = &text[start..];
+    match rest.split_once('\n') {
+        Some((line, _)) => line,
+        None => rest,
+    }
+}
+
+/// Hover at a position of a text.
+#[tactic(auto, unfolding(plain::specs::Plain::most_levels))]
+fn hover_in(alloc: Global, index: &TextIndex, end: Position) -> Result<Outcome, NoMemory>
+    ensures answers { IfOk result (Answers (hover_in end index.now) None) }
+    ensures plain { IfOk result IsPlainOutcome }
+{
+    let start = Position {
+        line: end.line,
+        character: 0,
+    };
+    let Ok((start, end)) = index.range_of(columns(), Range { start, end }) else {
+        return Ok(refusal(Text::from_str(alloc, "Invalid offset")?));
+    };
+    let line = line_at(index.text(), start as usize);
+    let Some(value) = value_at(line, (end - start) as usize) else {
+        return Ok(Outcome::Value(Answer::Json(Json::null())));
+    };
+    let value = json!(in alloc; {"contents": value})?;
+    Ok(Outcome::Value(Answer::Json(Json::new(value))))
+}
+
+/// An analysis that answers hover by the value of the key under the position, and every other row by its default.
+#[derive(Drop)]
+pub struct Ini(pub Global);
+
+impl Analysis for Ini {
+    ghost decodes = { ini_decodes };
+
+    ghost answer = { ini_answer };
+
+    fn decodes(&self, row: RowId, params: &Json) -> bool {
+        row != HOVER || uri_of(params).is_some() && position_of(params).is_some()
+    }
+
+    fn query<C: Cancel>(
+        &self,
+        snapshot: &GlobalStateSnapshot,
+        ask: &Ask,
+        cancel: &mut C,
+    ) -> Result<Outcome, NoMemory> {
+        if let Some(saw) = cancel.poll() {
+            return Ok(Outcome::Cancelled { saw });
+        }
+        let Ask::Request { row, params } = ask;
+        if *row != HOVER {
+            return Ok(Outcome::Value(Answer::Json(default_of(self.0, *row)?)));
+        }
+        let params = params.as_json();
+        let (Some(uri), Some(position)) = (uri_of(params), position_of(params)) else {
+            return malformed(self.0);
+        };
+        match text_of(self.0, snapshot, uri)? {
+            Ok(index) => hover_in(self.0, index, position),
+            Err(message) => Ok(refusal(message)),
+        }
+    }
+}
