@@ -6,3 +6,11 @@ use std::test::Fail;
 pub(crate) fn path_at(alloc: Global, text: &str) -> Result<VfsPath, Fail> {
     Ok(VfsPath::new(alloc, text)?.ok_or("no path")?)
 }
+
+/// What stands before the first mark in a text, and what stands behind it.
+pub(crate) fn cut<'a>(text: &'a str, mark: &str) -> (&'a str, &'a str) {
+    match text.split_once(mark) {
+        Some(parts) => parts,
+        None => (text, ""),
+    }
+}

@@ -1,5 +1,5 @@
 use crate::calls::path_at;
-use docs_vfs::ByPath;
+use docs_vfs::{ByPath, VfsPath};
 use plain::Text;
 use std::alloc::Global;
 use std::test::Fail;
@@ -11,14 +11,6 @@ fn put(alloc: Global, map: &mut ByPath<Text>, path: &str, text: &str) -> Result<
     Ok(())
 }
 
-/// A map of two texts.
-pub(crate) fn two_texts(alloc: Global) -> Result<ByPath<Text>, Fail> {
-    let mut map = ByPath::new(alloc);
-    put(alloc, &mut map, "/b", "two")?;
-    put(alloc, &mut map, "/a", "one")?;
-    Ok(map)
-}
-
 /// Takes the first path out, and answers whether it is this one.
 fn begins_with(map: &mut ByPath<Text>, text: &str) -> bool {
     match map.pop_first() {
@@ -27,41 +19,43 @@ fn begins_with(map: &mut ByPath<Text>, text: &str) -> bool {
     }
 }
 
-#[test]
-fn map_in_order(rt: HostRuntime) -> Result<(), Fail> {
-    let mut map = two_texts(rt.alloc())?;
-    assert!(rt; begins_with(&mut map, "/a"));
-    assert!(rt; begins_with(&mut map, "/b"));
-    assert!(rt; map.is_empty());
-    Ok(())
-}
-
 /// Takes a path out, and answers whether its text was this one.
-fn removes(map: &mut ByPath<Text>, alloc: Global, path: &str, text: &str) -> Result<bool, Fail> {
-    match map.remove(&path_at(alloc, path)?) {
-        Some(removed) => Ok(removed.as_str() == text),
-        None => Ok(false),
+fn removes(map: &mut ByPath<Text>, path: &VfsPath, text: &str) -> bool {
+    match map.remove(path) {
+        Some(removed) => removed.as_str() == text,
+        None => false,
     }
 }
 
 /// Whether the text at a path is this one.
-fn has(map: &ByPath<Text>, alloc: Global, path: &str, text: &str) -> Result<bool, Fail> {
-    match map.get(&path_at(alloc, path)?) {
-        Some(found) => Ok(found.as_str() == text),
-        None => Ok(false),
+fn has(map: &ByPath<Text>, path: &VfsPath, text: &str) -> bool {
+    match map.get(path) {
+        Some(found) => found.as_str() == text,
+        None => false,
     }
 }
 
 /// Whether a copy changes alone.
-fn is_apart(alloc: Global, map: &ByPath<Text>) -> Result<bool, Fail> {
+fn is_apart(map: &ByPath<Text>, path: &VfsPath) -> Result<bool, Fail> {
     let mut copy = map.clone()?;
-    Ok(removes(&mut copy, alloc, "/b", "two")? && copy.len() == 1)
+    Ok(removes(&mut copy, path, "two") && copy.len() == 1 && has(map, path, "two"))
+}
+
+/// Whether two texts come in the order of their paths, whatever the order in which they were put.
+fn are_in_order(alloc: Global, map: &mut ByPath<Text>) -> Result<bool, Fail> {
+    put(alloc, map, "/b", "two")?;
+    put(alloc, map, "/a", "one")?;
+    Ok(
+        is_apart(map, &path_at(alloc, "/b")?)?
+            && begins_with(map, "/a")
+            && begins_with(map, "/b")
+            && map.is_empty(),
+    )
 }
 
 #[test]
-fn copied_map(rt: HostRuntime) -> Result<(), Fail> {
-    let map = two_texts(rt.alloc())?;
-    assert!(rt; is_apart(rt.alloc(), &map)?);
-    assert!(rt; has(&map, rt.alloc(), "/b", "two")?);
+fn maps(rt: HostRuntime) -> Result<(), Fail> {
+    let mut map = ByPath::new(rt.alloc());
+    assert!(rt; are_in_order(rt.alloc(), &mut map)?);
     Ok(())
 }

@@ -1,40 +1,104 @@
-use crate::calls::path_at;
+use crate::calls::{cut, path_at};
 use docs_vfs::{EmptySegments, VfsPath};
 use std::alloc::Global;
 use std::collections::HashMap;
 use std::test::Fail;
 
-/// Whether a text is no path.
-fn is_refused(alloc: Global, text: &str) -> Result<bool, Fail> {
-    Ok(VfsPath::new(alloc, text)?.is_none())
-}
+/// A call, a path, a text that the call takes, and its answer, which is empty where it is left out. `none` stands
+/// for no path and no name.
+const CALLS: &str = "new > / >  > none
+new > / > a > none
+new > / > // > none
+new > / > /a/ > none
+new > / > /a//b > none
+new > / > /./a > none
+new > / > /a/.. > none
+new > / > /a\0 > none
+name > / > - > none
+name > /w/x.tar.gz > - > x.tar.gz
+name > /w.d/x > - > x
+name > /w/.x > - > .x
+name > /w/x. > - > x.
+extension > / > - > none
+extension > /w/x.tar.gz > - > gz
+extension > /w.d/x > - > none
+extension > /w/.x > - > none
+extension > /w/x. > -
+parent > /w/x > - > /w
+parent > /w > - > /
+parent > / > - > none
+is within > /w/x > /w > true
+is within > /w/x > / > true
+is within > /w/x > /w/x > true
+is within > /wide > /w > false
+is within > /w > /w/x > false
+resolve > /w > . > /w
+resolve > /w > a/b > /w/a/b
+resolve > /w > ./a/../b > /w/b
+resolve > /w > /a > /a
+resolve > /w > / > /
+resolve > /w > .. > /
+resolve > /w > ../x > /x
+resolve > / > x > /x
+resolve > / > .. > none
+resolve > /w > ../.. > none
+resolve > /w > /.. > none
+resolve > /w > a\0 > none
+resolve > /w >  > none
+resolve > /w > a/ > none
+resolve > /w > a//b > none
+resolve > /w > // > none
+resolve > /w > //a > none
+resolve > /w > /a/ > none
+resolve loosely > /w > . > /w
+resolve loosely > /w > a/b > /w/a/b
+resolve loosely > /w > ./a/../b > /w/b
+resolve loosely > /w > /a > /a
+resolve loosely > /w > / > /
+resolve loosely > /w > .. > /
+resolve loosely > /w > ../x > /x
+resolve loosely > / > x > /x
+resolve loosely > / > .. > none
+resolve loosely > /w > ../.. > none
+resolve loosely > /w > /.. > none
+resolve loosely > /w > a\0 > none
+resolve loosely > /w >  > /w
+resolve loosely > /w > a/ > /w/a
+resolve loosely > /w > a//b > /w/a/b
+resolve loosely > /w > // > /
+resolve loosely > /w > //a > /a
+resolve loosely > /w > /a/ > /a
+root > /w > - > /
+join > / > w > /w
+join > /w > Cargo.toml > /w/Cargo.toml
+join > / > ..a > /..a
+join > / >  > none
+join > / > .. > none
+join > / > a/b > none
+copy > /a > - > /a
+is equal > /a > /a > true
+is equal > /a > /b > false
+is less > /a > /a/b > true
+is less > /a > /a > false
+is found > /a > - > true";
 
-#[test]
-fn refused_paths(rt: HostRuntime) -> Result<(), Fail> {
-    for text in ["", "a", "//", "/a/", "/a//b", "/./a", "/a/..", "/a\0"] {
-        assert!(rt; is_refused(rt.alloc(), text)?, "at {text:?}");
-    }
-    Ok(())
-}
-
-/// Whether a path has this last segment, and this extension.
-fn has_names(path: &VfsPath, name: Option<&str>, extension: Option<&str>) -> bool {
-    path.file_name() == name && path.extension() == extension
-}
-
-#[test]
-fn names(rt: HostRuntime) -> Result<(), Fail> {
-    for (text, name, extension) in [
-        ("/", None, None),
-        ("/w/x.tar.gz", Some("x.tar.gz"), Some("gz")),
-        ("/w.d/x", Some("x"), None),
-        ("/w/.x", Some(".x"), None),
-        ("/w/x.", Some("x."), Some("")),
-    ] {
-        let path = path_at(rt.alloc(), text)?;
-        assert!(rt; has_names(&path, name, extension), "at {text}");
-    }
-    Ok(())
+/// The path that a call answers. A text that may not be one segment is not joined.
+fn path_of(alloc: Global, call: &str, path: &VfsPath, text: &str) -> Result<Option<VfsPath>, Fail> {
+    Ok(match call {
+        "new" => VfsPath::new(alloc, text)?,
+        "root" => Some(VfsPath::root(alloc)?),
+        "parent" => path.parent(alloc)?,
+        "copy" => Some(path.clone()?),
+        "resolve" => path.resolve(text, EmptySegments::Refused)?,
+        "resolve loosely" => path.resolve(text, EmptySegments::Dropped)?,
+        _ => {
+            if VfsPath::is_name(text) {
+                Some(path.join(text)?)
+            } else {
+                None
+            }
+        }
+    })
 }
 
 /// Whether this is the text of a path, or `none` where there is none.
@@ -45,157 +109,6 @@ fn is_text(path: Option<VfsPath>, text: &str) -> bool {
     }
 }
 
-/// Whether a path has this parent, or `none`.
-fn has_parent(alloc: Global, text: &str, folder: &str) -> Result<bool, Fail> {
-    let parent = path_at(alloc, text)?.parent(alloc)?;
-    Ok(is_text(parent, folder))
-}
-
-#[test]
-fn parents(rt: HostRuntime) -> Result<(), Fail> {
-    for (text, folder) in [("/w/x", "/w"), ("/w", "/"), ("/", "none")] {
-        assert!(rt; has_parent(rt.alloc(), text, folder)?, "at {text}");
-    }
-    Ok(())
-}
-
-/// Whether a path starts with a base.
-fn starts_with(alloc: Global, text: &str, base: &str) -> Result<bool, Fail> {
-    let path = path_at(alloc, text)?;
-    Ok(path.starts_with(&path_at(alloc, base)?))
-}
-
-#[test]
-fn folders(rt: HostRuntime) -> Result<(), Fail> {
-    for (text, base, is_within) in [
-        ("/w/x", "/w", true),
-        ("/w/x", "/", true),
-        ("/w/x", "/w/x", true),
-        ("/wide", "/w", false),
-        ("/w", "/w/x", false),
-    ] {
-        assert!(rt;
-            starts_with(rt.alloc(), text, base)? == is_within,
-            "at {text}"
-        );
-    }
-    Ok(())
-}
-
-/// Whether a text is this path, taken from a base, or `none`.
-fn resolves(
-    alloc: Global,
-    base: &str,
-    text: &str,
-    empty: EmptySegments,
-    path: &str,
-) -> Result<bool, Fail> {
-    let found = path_at(alloc, base)?.resolve(text, empty)?;
-    Ok(is_text(found, path))
-}
-
-#[test]
-fn resolved_texts(rt: HostRuntime) -> Result<(), Fail> {
-    for (base, text, path) in [
-        ("/w", ".", "/w"),
-        ("/w", "a/b", "/w/a/b"),
-        ("/w", "./a/../b", "/w/b"),
-        ("/w", "/a", "/a"),
-        ("/w", "/", "/"),
-        ("/w", "..", "/"),
-        ("/w", "../x", "/x"),
-        ("/", "x", "/x"),
-        ("/", "..", "none"),
-        ("/w", "../..", "none"),
-        ("/w", "/..", "none"),
-        ("/w", "a\0", "none"),
-    ] {
-        let refused = EmptySegments::Refused;
-        let dropped = EmptySegments::Dropped;
-        assert!(rt;
-            resolves(rt.alloc(), base, text, refused, path)?,
-            "at {text}"
-        );
-        assert!(rt;
-            resolves(rt.alloc(), base, text, dropped, path)?,
-            "at {text}"
-        );
-    }
-    Ok(())
-}
-
-#[test]
-fn empty_segments(rt: HostRuntime) -> Result<(), Fail> {
-    for (text, path) in [
-        ("", "/w"),
-        ("a/", "/w/a"),
-        ("a//b", "/w/a/b"),
-        ("//", "/"),
-        ("//a", "/a"),
-        ("/a/", "/a"),
-    ] {
-        let refused = EmptySegments::Refused;
-        let dropped = EmptySegments::Dropped;
-        assert!(rt;
-            resolves(rt.alloc(), "/w", text, dropped, path)?,
-            "at {text}"
-        );
-        assert!(rt;
-            resolves(rt.alloc(), "/w", text, refused, "none")?,
-            "at {text}"
-        );
-    }
-    Ok(())
-}
-
-/// Whether this is the text of a path.
-fn is_path(path: VfsPath, text: &str) -> bool {
-    path.as_str() == text
-}
-
-/// Whether one segment goes below `/`.
-fn joins_one(alloc: Global) -> Result<bool, Fail> {
-    let path = VfsPath::root(alloc)?.join("w")?;
-    Ok(is_path(path, "/w"))
-}
-
-/// Whether a segment goes below a path.
-fn joins_two(alloc: Global) -> Result<bool, Fail> {
-    let path = path_at(alloc, "/w")?.join("Cargo.toml")?;
-    Ok(is_path(path, "/w/Cargo.toml"))
-}
-
-#[test]
-fn paths_below(rt: HostRuntime) -> Result<(), Fail> {
-    assert!(rt; joins_one(rt.alloc())?);
-    assert!(rt; joins_two(rt.alloc())?);
-    Ok(())
-}
-
-/// Whether a text may be one segment.
-fn is_name(text: &str) -> bool {
-    VfsPath::is_name(text)
-}
-
-#[test]
-fn segments(rt: HostRuntime) {
-    for (text, expected) in [
-        ("a", true),
-        ("..a", true),
-        ("", false),
-        ("..", false),
-        ("a/b", false),
-    ] {
-        assert!(rt; is_name(text) == expected, "at {text}");
-    }
-}
-
-/// Whether a path is its copy, and less than a path below it.
-fn is_ordered(alloc: Global) -> Result<bool, Fail> {
-    let path = path_at(alloc, "/a")?;
-    Ok(path.clone()? == path && path < path_at(alloc, "/a/b")?)
-}
-
 /// Whether a path is found by its hash.
 fn is_found(alloc: Global, path: &VfsPath) -> Result<bool, Fail> {
     let mut versions = HashMap::new(alloc);
@@ -203,10 +116,47 @@ fn is_found(alloc: Global, path: &VfsPath) -> Result<bool, Fail> {
     Ok(versions.get(path) == Some(&1))
 }
 
+/// What a call of two paths answers.
+fn compares(call: &str, path: &VfsPath, other: &VfsPath) -> bool {
+    match call {
+        "is within" => path.starts_with(other),
+        "is equal" => path == other,
+        _ => path < other,
+    }
+}
+
+/// Whether a call of a path gives this answer.
+fn answers(
+    alloc: Global,
+    call: &str,
+    path: &VfsPath,
+    text: &str,
+    answer: &str,
+) -> Result<bool, Fail> {
+    Ok(match call {
+        "name" => path.file_name().unwrap_or("none") == answer,
+        "extension" => path.extension().unwrap_or("none") == answer,
+        "is found" => is_found(alloc, path)?,
+        "is within" | "is equal" | "is less" => {
+            compares(call, path, &path_at(alloc, text)?) == (answer == "true")
+        }
+        _ => is_text(path_of(alloc, call, path, text)?, answer),
+    })
+}
+
+/// Whether the call of a line gives its answer.
+fn agrees(alloc: Global, line: &str) -> Result<bool, Fail> {
+    let (call, rest) = cut(line, " > ");
+    let (path, rest) = cut(rest, " > ");
+    let (text, answer) = cut(rest, " > ");
+    let path = path_at(alloc, path)?;
+    answers(alloc, call, &path, text, answer)
+}
+
 #[test]
-fn paths_as_keys(rt: HostRuntime) -> Result<(), Fail> {
-    assert!(rt; is_ordered(rt.alloc())?);
-    let path = path_at(rt.alloc(), "/a")?;
-    assert!(rt; is_found(rt.alloc(), &path)?);
+fn paths(rt: HostRuntime) -> Result<(), Fail> {
+    for line in CALLS.lines() {
+        assert!(rt; agrees(rt.alloc(), line)?, "at {line:?}");
+    }
     Ok(())
 }

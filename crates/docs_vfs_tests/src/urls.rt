@@ -1,22 +1,57 @@
-use crate::calls::path_at;
+use crate::calls::{cut, path_at};
 use docs_vfs::{UrlFault, path_of_url, url_of_path};
 use std::alloc::Global;
 use std::test::Fail;
 use url::{ParseError, Url};
 
-/// Whether a URL names this path.
-fn is_named(alloc: Global, url: &str, text: &str) -> bool {
-    match path_of_url(alloc, url) {
-        Ok(path) => path.as_str() == text,
-        Err(_) => false,
+/// URLs with their paths or faults, paths with their URLs, and texts with the faults of the parser of URLs.
+const CALLS: &str = "path > file:///w/a.rs > /w/a.rs
+path > file:///a//b%20c?q#f > /a/b c
+path > FILE://localhost/a^/%25 > /a^/%
+path > file:/a > /a
+path > file:///a/ > /a
+path > file:///a/../b/./c > /b/c
+path > file:///a/%2e%2E/b > /b
+path > file:///\u{e9} > /\u{e9}
+path > file:///C|/x > /C:/x
+path > file:/// > /
+path > file: > /
+path >  > not a file
+path > /w/a.rs > not a file
+path > http://x/a > not a file
+path > file://a b/c > not a file
+path > x:y > not a file
+path > file://h/a > a host
+path > file://h/%FF > a host
+path > file:///a%FF > not text
+path > file:///a/%2F > not text
+path > file:///%00 > not text
+URL > /w/a b%.rs > file:///w/a%20b%25.rs
+URL > /a^ %\\/\u{e9} > file:///a^%20%25%5C/%C3%A9
+URL > / > file:///
+parse > http:/// > empty host
+parse > file://a b/a > IDNA
+parse > http://h:65536/ > port
+parse > file://1.2.3.999/a > IPv4
+parse > file://[::g]/a > IPv6
+parse > x://a b/ > character
+parse > /w/a.rs > relative";
+
+/// The fault's name in the lines.
+fn fault_name(fault: UrlFault) -> &'static str {
+    match fault {
+        UrlFault::NotFile => "not a file",
+        UrlFault::HasHost => "a host",
+        UrlFault::NotText => "not text",
+        _ => "no memory",
     }
 }
 
-/// Whether a URL is refused for this reason.
-fn is_refused(alloc: Global, url: &str, fault: UrlFault) -> bool {
+/// Whether a URL names this path, or is refused for this reason.
+fn is_named(alloc: Global, url: &str, text: &str) -> bool {
     match path_of_url(alloc, url) {
-        Ok(_) => false,
-        Err(found) => found == fault,
+        Ok(path) => path.as_str() == text,
+        Err(fault) => fault_name(fault) == text,
     }
 }
 
@@ -26,75 +61,43 @@ fn goes_both_ways(alloc: Global, text: &str, url: &str) -> Result<bool, Fail> {
     Ok(made.as_str() == url && is_named(alloc, url, text))
 }
 
-#[test]
-fn accepted_urls(rt: HostRuntime) {
-    for (url, text) in [
-        ("file:///w/a.rs", "/w/a.rs"),
-        ("file:///a//b%20c?q#f", "/a/b c"),
-        ("FILE://localhost/a^/%25", "/a^/%"),
-        ("file:/a", "/a"),
-        ("file:///a/", "/a"),
-        ("file:///a/../b/./c", "/b/c"),
-        ("file:///a/%2e%2E/b", "/b"),
-        ("file:///\u{e9}", "/\u{e9}"),
-        ("file:///C|/x", "/C:/x"),
-        ("file:///", "/"),
-        ("file:", "/"),
-    ] {
-        assert!(rt; is_named(rt.alloc(), url, text));
+/// The name of the parser's fault in the lines.
+fn error_name(error: ParseError) -> &'static str {
+    match error {
+        ParseError::EmptyHost => "empty host",
+        ParseError::IdnaError => "IDNA",
+        ParseError::InvalidPort => "port",
+        ParseError::InvalidIpv4Address => "IPv4",
+        ParseError::InvalidIpv6Address => "IPv6",
+        ParseError::InvalidDomainCharacter => "character",
+        ParseError::RelativeUrlWithoutBase => "relative",
+        _ => "another",
     }
-}
-
-#[test]
-fn refused_urls(rt: HostRuntime) {
-    for (url, fault) in [
-        ("", UrlFault::NotFile),
-        ("/w/a.rs", UrlFault::NotFile),
-        ("http://x/a", UrlFault::NotFile),
-        ("file://a b/c", UrlFault::NotFile),
-        ("x:y", UrlFault::NotFile),
-        ("file://h/a", UrlFault::HasHost),
-        ("file://h/%FF", UrlFault::HasHost),
-        ("file:///a%FF", UrlFault::NotText),
-        ("file:///a/%2F", UrlFault::NotText),
-        ("file:///%00", UrlFault::NotText),
-    ] {
-        assert!(rt; is_refused(rt.alloc(), url, fault));
-    }
-}
-
-#[test]
-fn urls_of_paths(rt: HostRuntime) -> Result<(), Fail> {
-    for (text, url) in [
-        ("/w/a b%.rs", "file:///w/a%20b%25.rs"),
-        ("/a^ %\\/\u{e9}", "file:///a^%20%25%5C/%C3%A9"),
-        ("/", "file:///"),
-    ] {
-        assert!(rt; goes_both_ways(rt.alloc(), text, url)?);
-    }
-    Ok(())
 }
 
 /// Whether the parser of URLs refuses a text for this reason.
-fn has_error(alloc: Global, text: &str, error: ParseError) -> bool {
-    Url::parse(alloc, text).err() == Some(error)
+fn has_error(alloc: Global, text: &str, name: &str) -> bool {
+    match Url::parse(alloc, text) {
+        Ok(_) => false,
+        Err(error) => error_name(error) == name,
+    }
+}
+
+/// Whether a line is right.
+fn agrees(alloc: Global, line: &str) -> Result<bool, Fail> {
+    let (call, rest) = cut(line, " > ");
+    let (text, answer) = cut(rest, " > ");
+    match call {
+        "path" => Ok(is_named(alloc, text, answer)),
+        "URL" => goes_both_ways(alloc, text, answer),
+        _ => Ok(has_error(alloc, text, answer) && is_named(alloc, text, "not a file")),
+    }
 }
 
 #[test]
-fn texts_that_are_no_urls(rt: HostRuntime) {
-    for (text, error) in [
-        ("http:///", ParseError::EmptyHost),
-        ("file://a b/a", ParseError::IdnaError),
-        ("http://h:65536/", ParseError::InvalidPort),
-        ("file://1.2.3.999/a", ParseError::InvalidIpv4Address),
-        ("file://[::g]/a", ParseError::InvalidIpv6Address),
-        ("x://a b/", ParseError::InvalidDomainCharacter),
-        ("/w/a.rs", ParseError::RelativeUrlWithoutBase),
-    ] {
-        assert!(rt; has_error(rt.alloc(), text, error), "at {text}");
-        assert!(rt;
-            is_refused(rt.alloc(), text, UrlFault::NotFile),
-            "at {text}"
-        );
+fn urls(rt: HostRuntime) -> Result<(), Fail> {
+    for line in CALLS.lines() {
+        assert!(rt; agrees(rt.alloc(), line)?, "at {line:?}");
     }
+    Ok(())
 }
