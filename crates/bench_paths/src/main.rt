@@ -1,18 +1,13 @@
-// Fills a table of files with 100,000 paths, changes some, reads URLs, finds roots and their parents, and times it on standard error.
+// Fills a table of files, changes some, reads URLs, finds roots and their parents, and times it on standard error. The
+// word `full` takes the full sizes.
 #![tactic(auto)]
 
 use docs_vfs::{FileTable, Root, SourceRoots, VfsPath, path_of_url};
 use plain::{Bytes, Items};
 use std::alloc::{AllocError, Global};
 use std::fmt::Write;
-use std::io;
 use std::time::Instant;
-
-/// How many paths there are.
-const PATHS: u32 = 100_000;
-
-/// How many URLs are read, and how many paths are looked for in the roots.
-const NAMES: u32 = 10_000;
+use std::{env, io};
 
 /// A number from 0 to 99,999, each once as the turn goes from 0 to 99,999.
 fn scattered(turn: u32) -> u64 {
@@ -54,9 +49,9 @@ fn fill(alloc: Global, table: &mut FileTable, files: u32, text: &str) -> Result<
 }
 
 /// Counts the paths that have a number.
-fn look_up(alloc: Global, table: &FileTable) -> Result<u64, AllocError> {
+fn look_up(alloc: Global, table: &FileTable, files: u32) -> Result<u64, AllocError> {
     let mut count = 0u64;
-    for turn in 0..PATHS {
+    for turn in 0..files {
         if let Some(path) = path_of(alloc, scattered(turn))? {
             if table.file_id(&path).is_some() {
                 count = count.wrapping_add(1);
@@ -66,10 +61,10 @@ fn look_up(alloc: Global, table: &FileTable) -> Result<u64, AllocError> {
     Ok(count)
 }
 
-/// Counts the URLs that name a path.
-fn read_urls(alloc: Global) -> Result<u64, AllocError> {
+/// Reads this many URLs, and counts those that name a path.
+fn read_urls(alloc: Global, urls: u32) -> Result<u64, AllocError> {
     let mut count = 0u64;
-    for turn in 0..NAMES {
+    for turn in 0..urls {
         let url = text_of(alloc, "file://", scattered(turn))?;
         if path_of_url(alloc, url.as_str()).is_ok() {
             count = count.wrapping_add(1);
@@ -105,10 +100,10 @@ fn roots_of(alloc: Global, folders: u32) -> Result<SourceRoots, AllocError> {
     SourceRoots::new(roots)
 }
 
-/// The paths that are looked for in the roots.
-fn paths(alloc: Global) -> Result<Items<VfsPath>, AllocError> {
+/// This many paths, which are looked for in the roots.
+fn paths(alloc: Global, count: u32) -> Result<Items<VfsPath>, AllocError> {
     let mut paths = Items::new(alloc);
-    for turn in 0..NAMES {
+    for turn in 0..count {
         if let Some(path) = path_of(alloc, scattered(turn))? {
             paths.push(path)?;
         }
@@ -127,10 +122,10 @@ fn find_roots(roots: &SourceRoots, paths: &[VfsPath], count: u32) -> u64 {
     found
 }
 
-/// Counts the roots that have a parent, a hundred times.
-fn find_parents(roots: &SourceRoots) -> Result<u64, AllocError> {
+/// Counts the roots that have a parent, this many times.
+fn find_parents(roots: &SourceRoots, times: u32) -> Result<u64, AllocError> {
     let mut found = 0u64;
-    for _ in 0..100u32 {
+    for _ in 0..times {
         found = found.wrapping_add(roots.parent_map()?.len() as u64);
     }
     Ok(found)
@@ -158,26 +153,26 @@ fn change(rt: &HostRuntime, table: &mut FileTable, files: u32, text: &str) -> io
     told(rt, "changes taken", count, &start)
 }
 
-/// Fills a table, changes 1,000 files three times, and looks paths up.
-fn tables(rt: &HostRuntime) -> io::Result<()> {
+/// Fills a table, changes a hundredth of the files three times, and looks paths up.
+fn tables(rt: &HostRuntime, files: u32) -> io::Result<()> {
     let mut table = FileTable::new(rt.alloc());
-    change(rt, &mut table, PATHS, "fn a() {}")?;
-    change(rt, &mut table, 1_000, "fn b() {}")?;
-    change(rt, &mut table, 1_000, "fn c() {}")?;
-    change(rt, &mut table, 1_000, "fn d() {}")?;
+    change(rt, &mut table, files, "fn a() {}")?;
+    change(rt, &mut table, files / 100, "fn b() {}")?;
+    change(rt, &mut table, files / 100, "fn c() {}")?;
+    change(rt, &mut table, files / 100, "fn d() {}")?;
     let start = Instant::now(rt)?;
-    let count = look_up(rt.alloc(), &table)?;
+    let count = look_up(rt.alloc(), &table, files)?;
     told(rt, "files found", count, &start)
 }
 
 /// Reads URLs.
-fn urls(rt: &HostRuntime) -> io::Result<()> {
+fn urls(rt: &HostRuntime, count: u32) -> io::Result<()> {
     let start = Instant::now(rt)?;
-    told(rt, "URLs read", read_urls(rt.alloc())?, &start)
+    told(rt, "URLs read", read_urls(rt.alloc(), count)?, &start)
 }
 
 /// Makes the roots of this many folders, and finds the roots of paths and the parents of the roots.
-fn roots(rt: &HostRuntime, paths: &[VfsPath], folders: u32) -> io::Result<()> {
+fn roots(rt: &HostRuntime, paths: &[VfsPath], folders: u32, times: u32) -> io::Result<()> {
     let start = Instant::now(rt)?;
     let roots = roots_of(rt.alloc(), folders)?;
     told(rt, "folders of roots", u64::from(folders), &start)?;
@@ -185,20 +180,39 @@ fn roots(rt: &HostRuntime, paths: &[VfsPath], folders: u32) -> io::Result<()> {
     let found = find_roots(&roots, paths, folders.wrapping_mul(2));
     told(rt, "roots found", found, &start)?;
     let start = Instant::now(rt)?;
-    told(rt, "parents found", find_parents(&roots)?, &start)
+    told(rt, "parents found", find_parents(&roots, times)?, &start)
 }
 
-/// Finds paths in 10, 100 and 1,000 roots.
-fn names(rt: &HostRuntime) -> io::Result<()> {
-    let paths = paths(rt.alloc())?;
+/// Finds this many paths in 10, 100 and 1,000 roots, and their parents this many times.
+fn names(rt: &HostRuntime, count: u32, times: u32) -> io::Result<()> {
+    let paths = paths(rt.alloc(), count)?;
     for folders in [5, 50, 500] {
-        roots(rt, paths.as_slice(), folders)?;
+        roots(rt, paths.as_slice(), folders, times)?;
     }
     Ok(())
 }
 
+/// All of it with this many files and paths, where parents are found this many times.
+fn run(rt: &HostRuntime, files: u32, paths: u32, times: u32) -> io::Result<()> {
+    tables(rt, files)?;
+    urls(rt, paths)?;
+    names(rt, paths, times)
+}
+
+/// Whether the full sizes are asked for.
+fn is_full(rt: &HostRuntime) -> io::Result<bool> {
+    for word in env::args(rt)?.skip(1) {
+        if word.as_str() == "full" {
+            return Ok(true);
+        }
+    }
+    Ok(false)
+}
+
 fn main(rt: HostRuntime) -> io::Result<()> {
-    tables(&rt)?;
-    urls(&rt)?;
-    names(&rt)
+    if is_full(&rt)? {
+        run(&rt, 100_000, 10_000, 100)
+    } else {
+        run(&rt, 2_000, 1_000, 2)
+    }
 }
