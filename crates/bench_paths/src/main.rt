@@ -1,13 +1,18 @@
-// Fills a table of files, changes some, reads URLs, finds roots and their parents, and times it on standard error. The
-// word `full` takes the full sizes.
+// Fills a table of files with 100,000 paths, changes some, reads URLs, finds roots and their parents, and times it on standard error.
 #![tactic(auto)]
 
 use docs_vfs::{FileTable, Root, SourceRoots, VfsPath, path_of_url};
 use plain::{Bytes, Items};
 use std::alloc::{AllocError, Global};
 use std::fmt::Write;
+use std::io;
 use std::time::Instant;
-use std::{env, io};
+
+/// How many paths there are.
+const PATHS: u32 = 100_000;
+
+/// How many URLs are read, and how many paths are looked for in the roots.
+const NAMES: u32 = 10_000;
 
 /// A number from 0 to 99,999, each once as the turn goes from 0 to 99,999.
 fn scattered(turn: u32) -> u64 {
@@ -49,9 +54,9 @@ fn fill(alloc: Global, table: &mut FileTable, files: u32, text: &str) -> Result<
 }
 
 /// Counts the paths that have a number.
-fn look_up(alloc: Global, table: &FileTable, files: u32) -> Result<u64, AllocError> {
+fn look_up(alloc: Global, table: &FileTable) -> Result<u64, AllocError> {
     let mut count = 0u64;
-    for turn in 0..files {
+    for turn in 0..PATHS {
         if let Some(path) = path_of(alloc, scattered(turn))? {
             if table.file_id(&path).is_some() {
                 count = count.wrapping_add(1);
@@ -61,10 +66,10 @@ fn look_up(alloc: Global, table: &FileTable, files: u32) -> Result<u64, AllocErr
     Ok(count)
 }
 
-/// Reads this many URLs, and counts those that name a path.
-fn read_urls(alloc: Global, urls: u32) -> Result<u64, AllocError> {
+/// Counts the URLs that name a path.
+fn read_urls(alloc: Global) -> Result<u64, AllocError> {
     let mut count = 0u64;
-    for turn in 0..urls {
+    for turn in 0..NAMES {
         let url = text_of(alloc, "file://", scattered(turn))?;
         if path_of_url(alloc, url.as_str()).is_ok() {
             count = count.wrapping_add(1);
@@ -86,55 +91,42 @@ fn root_at(alloc: Global, text: &str) -> Result<Root, AllocError> {
     })
 }
 
-/// Roots of this many folders, and one of the tests in each.
-fn roots_of(alloc: Global, folders: u32) -> Result<SourceRoots, AllocError> {
+/// A root for each of the 500 folders, and one for the tests in each.
+fn thousand_roots(alloc: Global) -> Result<SourceRoots, AllocError> {
     let mut roots = Items::new(alloc);
-    for folder in 0..folders {
+    for folder in 0..500u32 {
         let text = format!(in alloc; "/w/crates/part_{folder}")?;
         roots.push(root_at(alloc, text.as_str())?)?;
     }
-    for folder in 0..folders {
+    for folder in 0..500u32 {
         let text = format!(in alloc; "/w/crates/part_{folder}/tests")?;
         roots.push(root_at(alloc, text.as_str())?)?;
     }
-    SourceRoots::new(roots)
+    Ok(SourceRoots::new(roots)?)
 }
 
-/// This many paths, which are looked for in the roots.
-fn paths(alloc: Global, count: u32) -> Result<Items<VfsPath>, AllocError> {
-    let mut paths = Items::new(alloc);
-    for turn in 0..count {
+/// Counts the paths that are in a root.
+fn find_roots(alloc: Global, roots: &SourceRoots) -> Result<u64, AllocError> {
+    let mut count = 0u64;
+    for turn in 0..NAMES {
         if let Some(path) = path_of(alloc, scattered(turn))? {
-            paths.push(path)?;
+            if roots.root_of(&path) < 1_000 {
+                count = count.wrapping_add(1);
+            }
         }
     }
-    Ok(paths)
+    Ok(count)
 }
 
-/// Counts the paths that are in one of this many roots.
-fn find_roots(roots: &SourceRoots, paths: &[VfsPath], count: u32) -> u64 {
-    let mut found = 0u64;
-    for path in paths {
-        if roots.root_of(path) < count {
-            found = found.wrapping_add(1);
-        }
-    }
-    found
-}
-
-/// Counts the roots that have a parent, this many times.
-fn find_parents(roots: &SourceRoots, times: u32) -> Result<u64, AllocError> {
-    let mut found = 0u64;
-    for _ in 0..times {
-        found = found.wrapping_add(roots.parent_map()?.len() as u64);
-    }
-    Ok(found)
+/// Counts the roots that have a parent.
+fn find_parents(roots: &SourceRoots) -> Result<u64, AllocError> {
+    Ok(roots.parent_map()?.len() as u64)
 }
 
 /// Prints what was counted, and the time since the start on standard error.
 fn told(rt: &HostRuntime, name: &str, count: u64, start: &Instant) -> io::Result<()> {
-    let micros = start.elapsed(rt)?.as_micros();
-    eprintln!(rt; "{name}: {micros} us")?;
+    let millis = start.elapsed(rt)?.as_millis();
+    eprintln!(rt; "{name}: {millis} ms")?;
     println!(rt; "{name}: {count}")
 }
 
@@ -153,66 +145,31 @@ fn change(rt: &HostRuntime, table: &mut FileTable, files: u32, text: &str) -> io
     told(rt, "changes taken", count, &start)
 }
 
-/// Fills a table, changes a hundredth of the files three times, and looks paths up.
-fn tables(rt: &HostRuntime, files: u32) -> io::Result<()> {
+/// Fills a table, changes 1,000 files three times, and looks paths up.
+fn tables(rt: &HostRuntime) -> io::Result<()> {
     let mut table = FileTable::new(rt.alloc());
-    change(rt, &mut table, files, "fn a() {}")?;
-    change(rt, &mut table, files / 100, "fn b() {}")?;
-    change(rt, &mut table, files / 100, "fn c() {}")?;
-    change(rt, &mut table, files / 100, "fn d() {}")?;
+    change(rt, &mut table, PATHS, "fn a() {}")?;
+    change(rt, &mut table, 1_000, "fn b() {}")?;
+    change(rt, &mut table, 1_000, "fn c() {}")?;
+    change(rt, &mut table, 1_000, "fn d() {}")?;
     let start = Instant::now(rt)?;
-    let count = look_up(rt.alloc(), &table, files)?;
+    let count = look_up(rt.alloc(), &table)?;
     told(rt, "files found", count, &start)
 }
 
-/// Reads URLs.
-fn urls(rt: &HostRuntime, count: u32) -> io::Result<()> {
+/// Reads URLs, and finds roots.
+fn names(rt: &HostRuntime) -> io::Result<()> {
+    let alloc = rt.alloc();
     let start = Instant::now(rt)?;
-    told(rt, "URLs read", read_urls(rt.alloc(), count)?, &start)
-}
-
-/// Makes the roots of this many folders, and finds the roots of paths and the parents of the roots.
-fn roots(rt: &HostRuntime, paths: &[VfsPath], folders: u32, times: u32) -> io::Result<()> {
+    told(rt, "URLs read", read_urls(alloc)?, &start)?;
+    let roots = thousand_roots(alloc)?;
     let start = Instant::now(rt)?;
-    let roots = roots_of(rt.alloc(), folders)?;
-    told(rt, "folders of roots", u64::from(folders), &start)?;
+    told(rt, "roots found", find_roots(alloc, &roots)?, &start)?;
     let start = Instant::now(rt)?;
-    let found = find_roots(&roots, paths, folders.wrapping_mul(2));
-    told(rt, "roots found", found, &start)?;
-    let start = Instant::now(rt)?;
-    told(rt, "parents found", find_parents(&roots, times)?, &start)
-}
-
-/// Finds this many paths in 10, 100 and 1,000 roots, and their parents this many times.
-fn names(rt: &HostRuntime, count: u32, times: u32) -> io::Result<()> {
-    let paths = paths(rt.alloc(), count)?;
-    for folders in [5, 50, 500] {
-        roots(rt, paths.as_slice(), folders, times)?;
-    }
-    Ok(())
-}
-
-/// All of it with this many files and paths, where parents are found this many times.
-fn run(rt: &HostRuntime, files: u32, paths: u32, times: u32) -> io::Result<()> {
-    tables(rt, files)?;
-    urls(rt, paths)?;
-    names(rt, paths, times)
-}
-
-/// Whether the full sizes are asked for.
-fn is_full(rt: &HostRuntime) -> io::Result<bool> {
-    for word in env::args(rt)?.skip(1) {
-        if word.as_str() == "full" {
-            return Ok(true);
-        }
-    }
-    Ok(false)
+    told(rt, "parents found", find_parents(&roots)?, &start)
 }
 
 fn main(rt: HostRuntime) -> io::Result<()> {
-    if is_full(&rt)? {
-        run(&rt, 100_000, 10_000, 100)
-    } else {
-        run(&rt, 2_000, 1_000, 2)
-    }
+    tables(&rt)?;
+    names(&rt)
 }
