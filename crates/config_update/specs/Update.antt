@@ -1,7 +1,7 @@
 -- What a change of settings asks for.
 use Rattle.std.specs.Prelude.{◌≡◌, ◌↔◌, ℕ, IsTrue, List, codes, Option, Some, None, if◌then◌else◌}
 use Rattle.ra_settings.specs.declared.row.Row.{Row}
-use Rattle.ra_config.specs.Config.{ConfigData, HaveSameSources}
+use Rattle.ra_config.specs.Config.{ConfigData, projects_of}
 use Rattle.ra_config.specs.Search.{setting}
 use Rattle.config_update.specs.declared.cause.FetchCause.{FetchCause}
 use Rattle.config_update.specs.declared.cause.FetchCause.TheVariants.{DiscoveredProjects, CargoConfig, CfgSetTest}
@@ -10,6 +10,10 @@ use Rattle.config_update.specs.declared.update.ConfigUpdate.{ConfigUpdate}
 -- the row has the same value in both, at no root
 abbrev pub IsSameAt : Row → ConfigData → ConfigData → Type 0
 IsSameAt row old new = setting row None old.settings ≡ setting row None new.settings
+
+-- the projects that the session works on are the same
+abbrev pub HaveSameProjects : ConfigData → ConfigData → Type 0
+HaveSameProjects old new = projects_of old ≡ projects_of new
 
 -- the rows whose names begin with `check.`
 abbrev pub HaveSameChecks : ConfigData → ConfigData → Type 0
@@ -26,8 +30,8 @@ HaveSameCargo old new =
 
 -- other projects ask for a fetch, and else other checks for the checks to be set anew; so do another configuration of cargo, and another `cfg.setTest`
 pub record Asks (old new : ConfigData) (update : ConfigUpdate) : Type 0 where
-  pub projects : IsTrue update.projects ↔ (¬ HaveSameSources old new)
-  pub checks : IsTrue update.checks ↔ (HaveSameSources old new × (¬ HaveSameChecks old new))
+  pub projects : IsTrue update.projects ↔ (¬ HaveSameProjects old new)
+  pub checks : IsTrue update.checks ↔ (HaveSameProjects old new × (¬ HaveSameChecks old new))
   pub cargo : IsTrue update.cargo ↔ (¬ HaveSameCargo old new)
   pub set_test : IsTrue update.set_test ↔ (¬ IsSameAt Row.CfgSetTest old new)
 

@@ -3,6 +3,7 @@
 
 mod cause;
 mod compare;
+mod projects;
 mod update;
 
 pub use cause::FetchCause;

@@ -1,0 +1,28 @@
+ghost use Rattle.std.specs.Prelude.{◌≡◌, ◌↔◌, IsTrue, IfOk};
+ghost use Rattle.config_update.specs.Update.{HaveSameProjects};
+
+use plain::NoMemory;
+use ra_config::{Config, SettingValue};
+use std::alloc::Global;
+
+fn is_same_value(one: &SettingValue, two: &SettingValue) -> bool
+    ensures { IsTrue result ↔ (one.now ≡ two.now) }
+{
+    one.is_same(two)
+}
+
+/// Whether the projects are the same. Where they come from the same, they are not made.
+pub(crate) fn have_same_projects(
+    alloc: Global,
+    old: &Config,
+    new: &Config,
+) -> Result<bool, NoMemory>
+    ensures { IfOk result (λ same. IsTrue same ↔ HaveSameProjects old.now new.now) }
+{
+    if old.has_same_projects(new) {
+        return Ok(true);
+    }
+    let one = SettingValue::Projects(old.linked_or_discovered_projects(alloc)?);
+    let two = SettingValue::Projects(new.linked_or_discovered_projects(alloc)?);
+    Ok(is_same_value(&one, &two))
+}
