@@ -1,5 +1,5 @@
 -- Jobs, and what they come to.
-use Rattle.std.specs.Prelude.{ℕ, List, [], ◌∷◌, Bool, true, Option, None, if◌then◌else◌}
+use Rattle.std.specs.Prelude.{ℕ, List, [], ◌∷◌, Bool, true, Option, None, Some, option_and_then, if◌then◌else◌}
 use Rattle.std.specs.Ordering.{nat_cmp}
 use Rattle.std.specs.FinMap as map
 use Rattle.plain.specs.Plain.{is_plain}
@@ -23,13 +23,13 @@ use Rattle.session_port.specs.declared.job.JobValue.TheVariants.{Json}
 abbrev pub Jobs : Type 0
 Jobs = map.FinMap nat_cmp Job
 
--- the request that a job is for
-abbrev pub ticket_of : JobKind → ℕ
-ticket_of (Request ticket row params) = ticket
+-- the request that a job is for, if it is for one
+abbrev pub ticket_of : JobKind → Option ℕ
+ticket_of (Request ticket row params) = Some ticket
 
--- the question that a job asks
-abbrev pub ask_of : JobKind → Ask
-ask_of (Request ticket row params) = RequestAsk row params
+-- the questions that a job asks, one after another
+abbrev pub asks_of : JobKind → List Ask
+asks_of (Request ticket row params) = RequestAsk row params ∷ []
 
 -- a job's value is the answer to its question
 abbrev pub value_of : Answer → JobValue
@@ -38,6 +38,15 @@ value_of (JsonAnswer value) = Json value
 abbrev pub result_of : Finding → JobResult
 result_of (answer value) = Value (value_of value)
 result_of (fault code message) = Fault code message
+
+-- what a request's job comes to: the answer to its one question
+abbrev pub first_result : List Finding → JobResult
+first_result [] = NoMemory
+first_result (finding ∷ findings) = result_of finding
+
+-- what a job comes to, by what its questions come to
+abbrev pub result_by : JobKind → List Finding → JobResult
+result_by (Request ticket row params) findings = first_result findings
 
 -- the JSON in a result is plain
 abbrev pub plain_value : JobValue → Bool
@@ -49,16 +58,36 @@ plain_result (Fault code message) = true
 plain_result (Cancelled saw) = true
 plain_result NoMemory = true
 
-abbrev pub final_of : TaskBody → JobResult
-final_of (Final result) = result
+-- the result in a message, if it tells of one
+abbrev pub final_of : TaskBody → Option JobResult
+final_of (Final result) = Some result
 
--- a message fits a job that is out, if its JSON is plain
+-- a value is of the kind of its job
+abbrev pub fits_kind : JobKind → JobResult → Bool
+fits_kind (Request ticket row params) result = plain_result result
+
+abbrev pub fits_final : JobKind → Option JobResult → Bool
+fits_final kind None = false
+fits_final kind (Some result) = fits_kind kind result
+
+-- what a message says is of the kind of its job, and its JSON is plain
+abbrev pub fits : Job → TaskBody → Bool
+fits job body = fits_final job.kind (final_of body)
+
+abbrev pub if_fits : TaskBody → Job → Option Job
+if_fits body job = if fits job body then Some job else None
+
+-- the job out that a message fits
 abbrev pub fitting_job : TaskMsg → Jobs → Option Job
-fitting_job message out = if plain_result (final_of message.body) then map.get out message.job else None
+fitting_job message out = option_and_then (if_fits message.body) (map.get out message.job)
+
+abbrev pub without_fitting : Option Job → TaskMsg → Jobs → Jobs
+without_fitting None message out = out
+without_fitting (Some job) message out = map.remove out message.job
 
 -- the jobs out after a message: a final result that fits takes its job off
 abbrev pub after_message : TaskMsg → Jobs → Jobs
-after_message message out = if plain_result (final_of message.body) then map.remove out message.job else out
+after_message message out = without_fitting (fitting_job message out) message out
 
 abbrev pub after_batch : List TaskMsg → Jobs → Jobs
 after_batch [] out = out

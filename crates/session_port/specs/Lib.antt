@@ -1,3 +1,4 @@
+pub mod Events
 pub mod Honest
 pub mod Jobs
 pub mod Record

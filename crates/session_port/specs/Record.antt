@@ -1,11 +1,12 @@
 -- What a host, a sink and a source record.
 use Rattle.std.specs.Prelude.{◌≡◌, ◌≤◌, ◌<◌, ℕ, ◌+◌, ◌-◌, ◌^◌, min, List, [], ◌∷◌, ◌++◌, length, Option, None, Some, Result, Ok, Err}
 use Rattle.std.specs.FinMap as map
+use Rattle.std.specs.List.{filter_map}
+use Rattle.session_port.specs.Events.{batch_in, job_of}
 use Rattle.session_port.specs.Jobs.{Jobs, after_batch}
 use Rattle.session_port.specs.declared.cause.HostError.{HostError}
 use Rattle.session_port.specs.declared.cause.HostError.TheVariants.{Failed, NoMemory}
 use Rattle.session_port.specs.declared.command.Command.{Command}
-use Rattle.session_port.specs.declared.command.Command.TheVariants.{Spawn, Revise, Log, Stop}
 use Rattle.session_port.specs.declared.event.HostEvent.{HostEvent}
 use Rattle.session_port.specs.declared.event.HostEvent.TheVariants.{Bytes, Ended, Tasks}
 use Rattle.session_port.specs.declared.job.Job.{Job}
@@ -48,20 +49,14 @@ UnlessEnded (Tasks batch) P = P
 
 -- the jobs out after an event
 abbrev pub after_event : HostEvent → Jobs → Jobs
-after_event (Bytes bytes) out = out
-after_event Ended out = out
-after_event (Tasks batch) out = after_batch batch out
+after_event event out = after_batch (batch_in event) out
 
 abbrev pub after_given : {E : Type 0} → Result HostEvent E → Jobs → Jobs
 after_given result out = after_ok result (λ event. after_event event out) out
 
 -- the jobs that commands hand over
 abbrev pub spawned : List Command → List Job
-spawned [] = []
-spawned (Spawn job ∷ commands) = job ∷ spawned commands
-spawned (Revise revision ∷ commands) = spawned commands
-spawned (Log code text ∷ commands) = spawned commands
-spawned (Stop ∷ commands) = spawned commands
+spawned commands = filter_map job_of commands
 
 -- the jobs out with more jobs, each at its number
 abbrev pub with_jobs : List Job → Jobs → Jobs

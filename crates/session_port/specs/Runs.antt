@@ -1,5 +1,5 @@
 -- How the run of a job ends.
-use Rattle.std.specs.Prelude.{ℕ, List, [], ◌∷◌}
+use Rattle.std.specs.Prelude.{ℕ, List, [], ◌∷◌, Option, None, Some}
 use Rattle.session_port.specs.Jobs.{final_of}
 use Rattle.session_port.specs.declared.event.TaskMsg.{TaskMsg}
 use Rattle.session_port.specs.declared.job.JobResult.{JobResult}
@@ -23,6 +23,11 @@ UnlessNoMemory NoMemory P = Unit {0}
 abbrev pub IsUncancelled : JobResult → Type 0
 IsUncancelled result = IfCancelled result (λ saw. ⊥)
 
+-- a fact of the result that a message tells, which it does
+abbrev pub IsFinal : Option JobResult → (JobResult → Type 0) → Type 0
+IsFinal None P = ⊥
+IsFinal (Some result) P = P result
+
 abbrev pub AreUncancelled : List TaskMsg → Type 0
 AreUncancelled [] = Unit {0}
-AreUncancelled (message ∷ messages) = IsUncancelled (final_of message.body) × AreUncancelled messages
+AreUncancelled (message ∷ messages) = IsFinal (final_of message.body) IsUncancelled × AreUncancelled messages

@@ -1,8 +1,8 @@
 // Jobs, and what they come to.
-ghost use Rattle.std.specs.Prelude.{◌≡◌, IfOk};
-ghost use Rattle.session_port.specs.Jobs.{ask_of, plain_result};
+ghost use Rattle.std.specs.Prelude.{◌≡◌};
+ghost use Rattle.session_port.specs.Jobs.{plain_result};
 
-use analysis_host::{Ask, GlobalStateSnapshot};
+use analysis_host::GlobalStateSnapshot;
 use method_table::{PoolClass, RowId};
 use plain::{Copied, Json, SharedJson, Text};
 use std::alloc::AllocError;
@@ -42,20 +42,6 @@ pub enum JobResult {
     /// The job stopped, since it saw this revision, which is above its snapshot's.
     Cancelled { saw: u64 },
     NoMemory,
-}
-
-impl JobKind {
-    /// What the analysis is asked.
-    pub fn ask(&self) -> Result<Ask, AllocError>
-        ensures { IfOk result (λ ask. ask ≡ ask_of self.now) }
-    {
-        match self {
-            JobKind::Request { row, params, .. } => Ok(Ask::Request {
-                row: *row,
-                params: params.clone()?,
-            }),
-        }
-    }
 }
 
 impl JobResult {

@@ -5,8 +5,8 @@ ghost use Rattle.session_port.specs.Jobs.{plain_result};
 ghost use Rattle.session_port.specs.Honest.{IsResultOf};
 ghost use Rattle.session_port.specs.Runs.{IfCancelled, UnlessNoMemory};
 
-use crate::job::{Job, JobResult, JobValue};
-use analysis_host::{Analysis, Answer, Cancel, Outcome};
+use crate::job::{Job, JobKind, JobResult, JobValue};
+use analysis_host::{Analysis, Answer, Ask, Cancel, Outcome};
 use std::alloc::AllocError;
 
 /// Runs a job: its result on its snapshot, unless a poll says that it is out of date.
@@ -45,7 +45,11 @@ fn query<A: Analysis, C: Cancel>(
     ensures key { C.key cancel.new ≡ C.key cancel.old }
     ensures floor_stays { C.floor cancel.new ≡ C.floor cancel.old }
 {
-    let ask = job.kind.ask()?;
+    let JobKind::Request { row, params, .. } = &job.kind;
+    let ask = Ask::Request {
+        row: *row,
+        params: params.clone()?,
+    };
     match analysis.query(&job.snapshot, &ask, cancel)? {
         Outcome::Value(Answer::Json(value)) => Ok(JobResult::Value(JobValue::Json(value))),
         Outcome::Fault { code, message } => Ok(JobResult::Fault { code, message }),

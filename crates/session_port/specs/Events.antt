@@ -1,0 +1,34 @@
+-- What the session asks of an event and of a command, each by one question.
+use Rattle.std.specs.Prelude.{ℕ, List, [], Option, None, Some}
+use Rattle.session_port.specs.declared.command.Command.{Command}
+use Rattle.session_port.specs.declared.command.Command.TheVariants.{Spawn, Revise, Log, Stop}
+use Rattle.session_port.specs.declared.event.HostEvent.{HostEvent}
+use Rattle.session_port.specs.declared.event.HostEvent.TheVariants.{Bytes, Ended, Tasks}
+use Rattle.session_port.specs.declared.event.TaskMsg.{TaskMsg}
+use Rattle.session_port.specs.declared.job.Job.{Job}
+
+-- the bytes that an event brings
+abbrev pub bytes_of : HostEvent → List ℕ
+bytes_of (Bytes bytes) = bytes
+bytes_of Ended = []
+bytes_of (Tasks batch) = []
+
+-- the messages of jobs that an event brings
+abbrev pub batch_in : HostEvent → List TaskMsg
+batch_in (Bytes bytes) = []
+batch_in Ended = []
+batch_in (Tasks batch) = batch
+
+-- the job that a command hands over
+abbrev pub job_of : Command → Option Job
+job_of (Spawn job) = Some job
+job_of (Revise revision) = None
+job_of (Log code text) = None
+job_of Stop = None
+
+-- the revision that a command tells
+abbrev pub revision_of : Command → Option ℕ
+revision_of (Spawn job) = None
+revision_of (Revise revision) = Some revision
+revision_of (Log code text) = None
+revision_of Stop = None
