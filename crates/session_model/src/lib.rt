@@ -6,6 +6,7 @@ mod fault;
 mod input;
 mod notice;
 
-pub use fault::{Counter, SessionError, TurnError};
+pub use fault::SessionError;
 pub use input::{Event, Input};
 pub use notice::{DidChange, DidOpen, Notice};
+pub use turn_parts::{Counter, TurnError};

@@ -3,8 +3,7 @@ ghost use Rattle.std.specs.Prelude.{◌≡◌, true, IfOk, IfSome};
 ghost use Rattle.lsp_frame.specs.Written.{AreWritable};
 ghost use Rattle.lsp_frame.specs.declared.message.Message.TheVariants.{Response as ResponseMessage};
 ghost use Rattle.session_port.specs.Jobs.{plain_result};
-ghost use Rattle.session_model.specs.Replies.{already_pending, shut_already, unknown_request, invalid_params, canceled_by_client, content_modified, retrigger_request, server_cancelled, stopped_reply, fault_reply, finished_reply};
-ghost use Rattle.session_model.specs.Texts.{id_text};
+ghost use Rattle.desk.specs.Replies.{already_pending, shut_already, unknown_request, invalid_params, canceled_by_client, content_modified, retrigger_request, server_cancelled, stopped_reply, fault_reply, finished_reply};
 
 use dispatch::{fault_code, refusal, response_with};
 use lsp_frame::{RequestId, Response, ResponseError};
@@ -136,16 +135,5 @@ pub fn finished_reply(
             let message = Text::from_str(alloc, "out of memory")?;
             Ok(Some(refusal(id, -31000, message)))
         }
-    }
-}
-
-/// An id as a log line has it.
-pub fn id_text(alloc: Global, id: Option<RequestId>) -> Result<Text, AllocError>
-    ensures { IfOk result (λ text. text ≡ id_text id) }
-{
-    match id {
-        None => Text::from_str(alloc, "null"),
-        Some(RequestId::Number(number)) => Ok(Text::from_string(format!(in alloc; "{number}")?)),
-        Some(RequestId::Text(text)) => Ok(text),
     }
 }

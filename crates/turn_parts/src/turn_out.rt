@@ -2,7 +2,7 @@
 ghost use Rattle.std.specs.Prelude.{◌≡◌, ◌++◌, ◌∷◌, [], OnOk, IfOk};
 ghost use Rattle.lsp_frame.specs.Written.{AreWritable};
 ghost use Rattle.lsp_frame.specs.declared.message.Message.TheVariants.{Response as ResponseMessage};
-ghost use Rattle.session_model.specs.Written.{nothing_done, AllWritable, AreRead, frames_for};
+ghost use Rattle.turn_parts.specs.Written.{nothing_done, AllWritable, AreRead, frames_for};
 
 use lsp_frame::{Message, Response, write_message};
 use plain::Items;
@@ -21,8 +21,8 @@ pub struct TurnOut {
 impl Model for TurnOut {
     ghost use Rattle.lsp_frame.specs.contracts.message.Message as message;
     ghost use Rattle.session_port.specs.contracts.command.Command as command;
-    ghost use Rattle.session_model.specs.Codes.{written_code};
-    ghost use Rattle.session_model.specs.Written.{Written, AllWritable};
+    ghost use Rattle.turn_parts.specs.Codes.{written_code};
+    ghost use Rattle.turn_parts.specs.Written.{Written, AllWritable};
 
     ghost Value = { Written };
 

@@ -1,10 +1,12 @@
 -- What a turn writes and orders.
-use Rattle.std.specs.Prelude.{◌≡◌, ◌≤◌, ℕ, List, [], ◌∷◌, length, map, Option, Some}
-use Rattle.std.specs.List.{flat_map}
+use Rattle.std.specs.Prelude.{◌≡◌, ◌≤◌, ℕ, List, [], ◌∷◌, length, map, Option, None, Some}
+use Rattle.std.specs.List.{flat_map, filter_map}
 use Rattle.lsp_frame.specs.Frames.{frames_from, bodies_of}
 use Rattle.lsp_frame.specs.Written.{frame_for, body_of, AreWritable}
 use Rattle.lsp_frame.specs.Rules.{message_of}
 use Rattle.lsp_frame.specs.declared.message.Message.{Message}
+use Rattle.lsp_frame.specs.declared.message.Message.TheVariants.{Request as RequestMessage, Notification as NotificationMessage, Response as ResponseMessage}
+use Rattle.lsp_frame.specs.declared.message.Response.{Response}
 use Rattle.session_port.specs.declared.command.Command.{Command}
 
 pub record Written : Type 0 where
@@ -13,6 +15,16 @@ pub record Written : Type 0 where
 
 abbrev pub nothing_done : Written
 nothing_done = record { messages = []; commands = [] }
+
+-- the response that a message is, if it is one
+abbrev pub response_of : Message → Option Response
+response_of (RequestMessage r) = None
+response_of (NotificationMessage n) = None
+response_of (ResponseMessage response) = Some response
+
+-- the responses among messages
+abbrev pub responses_in : List Message → List Response
+responses_in messages = filter_map response_of messages
 
 -- each message's values can be written
 abbrev pub AllWritable : List Message → Type 0

@@ -1,7 +1,7 @@
 use Rattle.std.proofs.Common.{◌≡◌, ◌++◌}
 use Rattle.std.specs.Vec.Iter.{into_iter_items}
-use Rattle.session_model.specs.Written.{AllWritable, AreRead, frames_for}
-use Rattle.session_messages.proofs.turn_out.encode.Given as goal
+use Rattle.turn_parts.specs.Written.{AllWritable, AreRead, frames_for}
+use Rattle.turn_parts.proofs.turn_out.encode.Given as goal
 
 abbrev pub invariant-loop-message : goal.invariant-loop-message
 invariant-loop-message l = record {
