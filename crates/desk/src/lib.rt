@@ -4,9 +4,11 @@
 
 mod replies;
 mod scene;
+mod state;
 
 pub use replies::{
     already_pending, canceled_by_client, fault_reply, finished_reply, invalid_params, shut_already,
     stopped_reply, unknown_request,
 };
 pub use scene::Scene;
+pub use state::Desk;
