@@ -24,6 +24,7 @@ use Rattle.session_model.specs.Changing.{text_after, has_skipped}
 use Rattle.session_model.specs.Notices.{notice_of}
 use Rattle.session_model.specs.State.{State, scene_of}
 use Rattle.session_model.specs.Texts.{same_text, id_text}
+use Rattle.session_model.specs.declared.facts.Facts.{Facts}
 use Rattle.session_model.specs.declared.input.Event.{Event}
 use Rattle.session_model.specs.declared.input.Event.TheVariants.{Lsp, Task}
 use Rattle.session_model.specs.declared.input.Input.{Input}
@@ -134,12 +135,7 @@ counted w = at_desk counted_at_desk w
 unfoldable pub taken_in : Meaning → Event → Working State → Result (Working State) Counter
 taken_in meaning event w = and_then (counted w) (happened meaning event)
 
--- what the later parts of a turn need to know of what was before it
-pub record Facts : Type 0 where
-  pub revision : ℕ
-  -- how many commands were ordered
-  pub ordered : ℕ
-
+-- the state within a turn, and what its later parts need to know of what was before it
 pub record Turning : Type 0 where
   pub state : State
   pub facts : Facts
