@@ -6,7 +6,8 @@ use Rattle.std.specs.Cmp.Lexicographic.{bytes_decides}
 use Rattle.text_core.specs.Changes.{IsOther}
 use Rattle.session_model.specs.Changing.{IsNews}
 use Rattle.lsp_frame.specs.declared.message.Notification.{Notification}
-use Rattle.session_model.specs.Machine.{holds_text, noticed}
+use Rattle.session_model.specs.Entries.{holds_text}
+use Rattle.session_model.specs.Machine.{noticed}
 use Rattle.turn_parts.specs.Meets.{Meets}
 use Rattle.turn_parts.specs.Working.{Working}
 use Rattle.session_model.specs.Notices.{notice_of}

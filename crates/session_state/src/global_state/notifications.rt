@@ -3,15 +3,17 @@ ghost use Rattle.std.specs.Prelude.{◌≡◌, ◌<◌, ◌^◌, List, ℕ, [], 
 ghost use Rattle.std.specs.FinMap as map;
 ghost use Rattle.session_model.specs.Changing.{text_after, has_skipped, IsNews};
 ghost use Rattle.analysis_host.specs.FromProto.{columns};
+ghost use Rattle.analysis_host.specs.SnapshotData.{text_at};
 ghost use Rattle.turn_parts.specs.Meets.{Meets, Gives};
 ghost use Rattle.turn_parts.specs.Working.{logged};
 ghost use Rattle.desk.specs.Steps.{cancelled};
-ghost use Rattle.session_model.specs.Machine.{at_desk, noticed, opened_at, open_noted, changed_at, edited, edited_by, skip_noted, version_set, text_set, holds_text, world_changed};
+ghost use Rattle.session_model.specs.Machine.{at_desk, noticed, opened_at, open_noted, changed_at, edited, edited_by, skip_noted, version_set, text_set, world_changed};
+ghost use Rattle.session_model.specs.Entries.{entry_of, holds_text};
 ghost use Rattle.session_model.specs.Notices.{notice_of, FitsWorld};
 ghost use Rattle.docs_vfs.specs.FileUrls.{path_of};
 
 use crate::global_state::GlobalState;
-use analysis_host::{Change, FileChange, SharedText, WorldFault, columns};
+use analysis_host::{Change, FileChange, SharedText, TextEntry, WorldFault, columns};
 use docs_vfs::{UrlFault, VfsPath, path_of_url};
 use lsp_frame::{Notification, RequestId};
 use plain::{Items, Text};
@@ -19,7 +21,7 @@ use session_messages::notice_of;
 use session_model::{Counter, DidChange, DidOpen, Notice, TurnError};
 use session_port::LogCode;
 use std::alloc::{AllocError, Global};
-use text_core::{ContentChange, TextIndex, edit_document};
+use text_core::{ContentChange, LineEndings, TextIndex, edit_document};
 use turn_parts::TurnOut;
 
 // What edits make of a text.
@@ -95,12 +97,15 @@ impl GlobalState {
         text: SharedText,
         out: &mut TurnOut,
     ) -> Result<(), TurnError>
-        ensures { Meets result (world_changed ((record { path = path; text = Some text }) ∷ []) (record { state = self.old; out = out.old })) self.new out.new }
+        ensures { Meets result (world_changed ((record { path = path; entry = Some (entry_of text) }) ∷ []) (record { state = self.old; out = out.old })) self.new out.new }
     {
         let mut files = Items::new(self.alloc);
         files.push(FileChange {
             path,
-            text: Some(text),
+            entry: Some(TextEntry {
+                text,
+                endings: LineEndings::Unix,
+            }),
         })?;
         self.change_world(files, out)
     }
@@ -126,7 +131,7 @@ impl GlobalState {
         news: Option<SharedText>,
         out: &mut TurnOut,
     ) -> Result<(), TurnError>
-        ensures { (text : List ℕ) → IsNews (map.get self.old.host.world.texts path) text news
+        ensures { (text : List ℕ) → IsNews (text_at self.old.host.world path) text news
             → Meets result (text_set path text (record { state = self.old; out = out.old })) self.new out.new }
     {
         match news {
@@ -136,7 +141,7 @@ impl GlobalState {
     }
 
     fn has_text(&self, path: &VfsPath, text: &Text) -> bool
-        ensures { result ≡ holds_text (map.get self.now.host.world.texts path.now) text.now }
+        ensures { result ≡ holds_text (text_at self.now.host.world path.now) text.now }
     {
         match self.host.text(path) {
             None => false,
@@ -220,9 +225,9 @@ impl GlobalState {
 
     // The text that the changes leave of a document's, where it is another one; a document that has none is empty.
     fn edit_held(&self, path: &VfsPath, changes: Items<ContentChange>) -> Result<Edited, AllocError>
-        ensures text { let held = map.get self.now.host.world.texts path.now in
+        ensures text { let held = text_at self.now.host.world path.now in
             IfOk result (λ edited. IsNews held (text_after columns changes held) edited.news) }
-        ensures skipped { IfOk result (λ edited. edited.skipped ≡ has_skipped columns changes (map.get self.now.host.world.texts path.now)) }
+        ensures skipped { IfOk result (λ edited. edited.skipped ≡ has_skipped columns changes (text_at self.now.host.world path.now)) }
     {
         match self.host.index(path) {
             Some(index) => edit_text(self.alloc, index, changes),
