@@ -27,7 +27,7 @@ enum Part {
     Little,
 }
 
-fn part(rt: &HostRuntime) -> io::Result<Part> {
+fn asked_part(rt: &HostRuntime) -> io::Result<Part> {
     for word in env::args(rt)?.skip(1) {
         return Ok(match word.as_str() {
             "maps" => Part::Maps,
@@ -46,7 +46,7 @@ fn maps_of(rt: &HostRuntime, count: u64) -> io::Result<()> {
 }
 
 fn main(rt: HostRuntime) -> io::Result<()> {
-    match part(&rt)? {
+    match asked_part(&rt)? {
         Part::Maps => maps_of(&rt, 100_000),
         Part::Documents => {
             worlds::pairs(&rt, 10, 10_000)?;

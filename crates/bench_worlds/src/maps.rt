@@ -16,11 +16,7 @@ fn scattered(turn: u64) -> u64 {
     turn.wrapping_mul(0x9e37_79b9_7f4a_7c15)
 }
 
-fn fill<L: Ledger>(
-    alloc: Global,
-    count: u64,
-    steps: &mut Steps<L>,
-) -> Result<Numbers, AllocError> {
+fn fill<L: Ledger>(alloc: Global, count: u64, steps: &mut Steps<L>) -> Result<Numbers, AllocError> {
     let mut map = Numbers::new(alloc);
     for turn in 0..count {
         map = map.set(scattered(turn), Some(turn), steps)?;
@@ -76,5 +72,10 @@ pub fn in_place(rt: &HostRuntime, count: u64) -> io::Result<()> {
     let map = fill_in_place(rt.alloc(), count)?;
     told(rt, "keys set, in place", map.len() as u64, &start)?;
     let start = Instant::now(rt)?;
-    told(rt, "keys found, in place", look_up_in_place(&map, count), &start)
+    told(
+        rt,
+        "keys found, in place",
+        look_up_in_place(&map, count),
+        &start,
+    )
 }
