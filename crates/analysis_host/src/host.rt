@@ -54,7 +54,7 @@ pub struct AnalysisHost {
 
 impl Model for AnalysisHost {
     ghost use Rattle.analysis_host.specs.SnapshotData.{text_at};
-ghost use Rattle.analysis_host.specs.HostData.{HostData};
+    ghost use Rattle.analysis_host.specs.HostData.{HostData};
 
     ghost Value = { HostData };
 

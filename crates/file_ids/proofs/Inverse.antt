@@ -91,12 +91,12 @@ renumbered files paths path entry before files_order paths_order free = record {
       let old = file_of (find path_cmp path files) in
       let new = file_of entry in
       let found = find_with new path (without_number old paths) n (order_without old paths paths_order)
-          ∙ ap (cond (is_number new n) (Some path)) (find_without old paths n paths_order) in
+      ∙ ap (cond (is_number new n) (Some path)) (find_without old paths n paths_order) in
       let number = ap number_of (find_set path_cmp nat_list_cmp_total q path entry files files_order)
-          ∙ number_of_either (eq_by_cmp path_cmp q path) entry (find path_cmp q files) in
+      ∙ number_of_either (eq_by_cmp path_cmp q path) entry (find path_cmp q files) in
       let core = at_one (is_number new n) (is_number old n) (eq_by_cmp path_cmp q path) (find nat_cmp n paths) path q
-          (number_of entry) (number_of (find path_cmp path files)) (number_of (find path_cmp q files)) n
-          (says_number new n) (says_number old n) (says_same nat_list_cmp_total same_path q path)
-          (before.same q n) (before.same path n) (free q n) in
-      (λ e. number ∙ core.0 (sym found ∙ e), λ e. found ∙ core.1 (sym number ∙ e))
+      (number_of entry) (number_of (find path_cmp path files)) (number_of (find path_cmp q files)) n
+      (says_number new n) (says_number old n) (says_same nat_list_cmp_total same_path q path)
+      (before.same q n) (before.same path n) (free q n) in
+      (λ e. number ∙ core.0 (sym found ∙ e), λ e. found ∙ core.1 (sym number ∙ e));
 }

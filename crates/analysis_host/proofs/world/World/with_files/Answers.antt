@@ -25,7 +25,7 @@ loop-file-preserved g c =
     let so_far = c.loop-file.invariant in
     let left : into_iter_items c.loop-file.file-iterator ≡ c.in-Some.file ∷ into_iter_items c.next.new.self = search rules in
     let many = ap length left in
-    let new : c.in_ok-texts-2.texts ≡ with_entry c.in-Some.file.path c.in-Some.file.entry c.loop-file.entrys = c.in_ok-texts-2.ensures.ok in
+    let new : c.in_ok-texts-2.texts ≡ with_entry c.in-Some.file.path c.in-Some.file.entry c.loop-file.texts = c.in_ok-texts-2.ensures.ok in
     let long = ap map.len new in
-    let most = len_with c.in-Some.file.path c.in-Some.file.entry c.loop-file.entrys in
+    let most = len_with c.in-Some.file.path c.in-Some.file.entry c.loop-file.texts in
     record { same = search rules; done = so_far.done + 1; of_all = omega arith; grown = omega arith; quick = one_more so_far.quick c.set_entry.ensures.cost (omega arith) }
