@@ -10,7 +10,8 @@ use Rattle.lsp_frame.specs.Reader.{Reader}
 use Rattle.lsp_frame.specs.declared.message.Message.TheVariants.{Request as RequestMessage, Notification as NotificationMessage, Response as ResponseMessage}
 use Rattle.ra_config.specs.Config.{ConfigData}
 use Rattle.analysis_host.specs.FromProto.{columns}
-use Rattle.analysis_host.specs.SnapshotData.{SnapshotData}
+use Rattle.analysis_host.specs.SnapshotData.{SnapshotData, text_of}
+use Rattle.analysis_host.specs.declared.text_entry.TextEntry.{TextEntry}
 use Rattle.session_port.specs.Events.{revision_of}
 use Rattle.session_port.specs.Jobs.{Jobs, ticket_of}
 use Rattle.session_port.specs.Record.{HostCall, given_in, taken_in, spawned}
@@ -29,6 +30,7 @@ use Rattle.desk.specs.declared.scene.Scene.{Scene}
 use Rattle.session_model.specs.Course.{Course, Stop as CourseStop, takes, stops, waits, exit, client_gone, bad_frame, bad_message, end_of}
 use Rattle.session_model.specs.Course.{session_course, bytes_in}
 use Rattle.session_model.specs.Changing.{text_after}
+use Rattle.session_model.specs.Entries.{text_put}
 use Rattle.session_model.specs.Inputs.{notice_in, request_in, turns_after}
 use Rattle.session_model.specs.Notices.{notice_of}
 use Rattle.session_model.specs.Run.{Turn, Told, AllRead, AsksLast, IsHonestInput, commands_of, fed_bytes, out_after, taking, telling}
@@ -46,7 +48,7 @@ use Rattle.session_model.specs.declared.notice.Notice.TheVariants.{Opened, Chang
 
 -- the documents that are open: the text that each path has, and its version
 pub record Documents : Type 0 where
-  pub texts : map.FinMap path_cmp (List ℕ)
+  pub texts : map.FinMap path_cmp TextEntry
   pub versions : map.FinMap path_cmp ℤ
 
 pub record Place : Type 0 where
@@ -88,7 +90,7 @@ scene_at place = record { snapshot = snapshot_at place; loading = place.loading;
 abbrev pub opened_at : Result (List ℕ) UrlFault → DidOpen → Documents → Documents
 opened_at (Err fault) document documents = documents
 opened_at (Ok path) document documents = record {
-  texts = map.insert documents.texts path document.text;
+  texts = text_put path document.text documents.texts;
   versions = map.insert documents.versions path document.version;
 }
 
@@ -98,7 +100,7 @@ changed_at (Err fault) change documents = documents
 changed_at (Ok path) change documents =
     if is_some (map.get documents.versions path)
     then record {
-      texts = map.insert documents.texts path (text_after columns change.changes (map.get documents.texts path));
+      texts = text_put path (text_after columns change.changes (text_of (map.get documents.texts path))) documents.texts;
       versions = map.insert documents.versions path change.version;
     }
     else documents

@@ -2,6 +2,7 @@ pub mod Cancelling
 pub mod Changing
 pub mod Codes
 pub mod Course
+pub mod Entries
 pub mod Headline
 pub mod Inputs
 pub mod Machine

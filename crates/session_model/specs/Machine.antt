@@ -8,6 +8,7 @@ use Rattle.docs_vfs.specs.FileUrls.{path_of}
 use Rattle.docs_vfs.specs.declared.file_url.UrlFault.{UrlFault}
 use Rattle.analysis_host.specs.FromProto.{columns}
 use Rattle.analysis_host.specs.HostData.{HostData, changed as changed_world}
+use Rattle.analysis_host.specs.SnapshotData.{text_at}
 use Rattle.analysis_host.specs.declared.host.FileChange.{FileChange}
 use Rattle.analysis_host.specs.declared.host.WorldFault.{WorldFault}
 use Rattle.session_port.specs.declared.command.Command.TheVariants.{Revise}
@@ -21,9 +22,11 @@ use Rattle.desk.specs.Desk.{Desk}
 use Rattle.desk.specs.Meaning.{Meaning}
 use Rattle.desk.specs.Steps.{requested, cancelled, counted as counted_at_desk, taken as taken_at_desk, kept as kept_at_desk}
 use Rattle.session_model.specs.Changing.{text_after, has_skipped}
+use Rattle.session_model.specs.Entries.{entry_of, holds_text}
 use Rattle.session_model.specs.Notices.{notice_of}
 use Rattle.session_model.specs.State.{State, scene_of}
-use Rattle.session_model.specs.Texts.{same_text, id_text}
+use Rattle.session_model.specs.Texts.{id_text}
+use Rattle.session_model.specs.declared.facts.Facts.{Facts}
 use Rattle.session_model.specs.declared.input.Event.{Event}
 use Rattle.session_model.specs.declared.input.Event.TheVariants.{Lsp, Task}
 use Rattle.session_model.specs.declared.input.Input.{Input}
@@ -55,15 +58,11 @@ world_by (Err fault) w = Err Revisions
 unfoldable pub world_changed : List FileChange → Working State → Result (Working State) Counter
 world_changed files w = world_by (changed_world files w.state.host) w
 
-abbrev pub holds_text : Option (List ℕ) → List ℕ → Bool
-holds_text None text = false
-holds_text (Some held) text = same_text held text
-
 -- the text of a path, where the world has another one
 unfoldable pub text_set : List ℕ → List ℕ → Working State → Result (Working State) Counter
 text_set path text w =
-    if holds_text (map.get w.state.host.world.texts path) text then Ok w
-    else world_changed ((record { path = path; text = Some text }) ∷ []) w
+    if holds_text (text_at w.state.host.world path) text then Ok w
+    else world_changed ((record { path = path; entry = Some (entry_of text) }) ∷ []) w
 
 unfoldable pub version_set : List ℕ → ℤ → Working State → Working State
 version_set path version w = record w { state = record w.state { versions = map.insert w.state.versions path version } }
@@ -89,7 +88,7 @@ edited_by path held change w =
 
 -- the text that the changes leave, made on the one that the path has
 unfoldable pub edited : List ℕ → DidChange → Working State → Result (Working State) Counter
-edited path change w = edited_by path (map.get w.state.host.world.texts path) change w
+edited path change w = edited_by path (text_at w.state.host.world path) change w
 
 -- a document that isn't open is logged; else its version is set, also where each change is skipped
 unfoldable pub changed_at : Result (List ℕ) UrlFault → DidChange → Working State → Result (Working State) Counter
@@ -134,12 +133,7 @@ counted w = at_desk counted_at_desk w
 unfoldable pub taken_in : Meaning → Event → Working State → Result (Working State) Counter
 taken_in meaning event w = and_then (counted w) (happened meaning event)
 
--- what the later parts of a turn need to know of what was before it
-pub record Facts : Type 0 where
-  pub revision : ℕ
-  -- how many commands were ordered
-  pub ordered : ℕ
-
+-- the state within a turn, and what its later parts need to know of what was before it
 pub record Turning : Type 0 where
   pub state : State
   pub facts : Facts
