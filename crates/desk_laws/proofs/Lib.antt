@@ -3,6 +3,7 @@ pub mod Fitting
 pub mod Held
 pub mod Keyed
 pub mod Numbered
+pub mod Once
 pub mod Orders
 pub mod Reacting
 pub mod Results

@@ -38,6 +38,7 @@ use Rattle.session_port.specs.declared.job.JobResult.TheVariants.{Value, Fault, 
 use Rattle.session_port.specs.declared.job.JobValue.TheVariants.{Json}
 use Rattle.turn_parts.specs.Working.{Working, logged, ordered, replied}
 use Rattle.turn_parts.specs.Written.{responses_in}
+use Rattle.turn_parts.specs.declared.fault.Counter.{Counter}
 use Rattle.desk.specs.Desk.{Desk, waiting_for}
 use Rattle.desk.specs.Folds.{asked_among, closed_by, closed_with, pending_after, shutdown_after}
 use Rattle.desk.specs.Meaning.{Meaning, can_read}
@@ -223,7 +224,7 @@ noted-waits id w = id_of-registered w.state.turns id w.state.pending
 
 -- a request of a method that has no row
 unknown-cases : (r : Request) (w : Working Desk) (b : Bool) → id_of w.state.turns w.state.pending ≡ Some r.id
-    → IfOk (if b then Ok (responded w.state.turns shut_already w) else Ok (unknown w.state.turns r.method w)) (λ v. Settled None w v (if b then says (shut_already r.id) else says (unknown_request r.id)) w.state.jobs)
+    → IfOk {E = Counter} (if b then Ok (responded w.state.turns shut_already w) else Ok (unknown w.state.turns r.method w)) (λ v. Settled None w v (if b then says (shut_already r.id) else says (unknown_request r.id)) w.state.jobs)
 unknown-cases r w true waits = respond-settles w.state.turns r.id shut_already w waits refl
 unknown-cases r w false waits = unknown-settles w.state.turns r.id r.method w waits
 
