@@ -6,5 +6,6 @@ pub mod Numbered
 pub mod Once
 pub mod Orders
 pub mod Reacting
+pub mod Refusing
 pub mod Results
 pub mod Settling
