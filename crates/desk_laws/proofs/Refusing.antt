@@ -2,6 +2,7 @@
 use Rattle.std.proofs.Common.{◌≡◌, ℕ, ◌+◌, ◌-◌, ◌^◌, ◌≤◌, length, Bool, true, false, refl, sym, ap, ◌∙◌, subst, arith}
 use Rattle.std.proofs.lemmas.Bool.{ltb-false}
 use Rattle.std.specs.Prelude.{Result, Ok, Err, IfErr, Option, None, Some, ◌&&◌, not, if◌then◌else◌, ltb}
+use Rattle.std.specs.FinMap as map
 use Rattle.serde_json.specs.Data.{Data}
 use Rattle.lsp_frame.specs.Pending.{is_pending}
 use Rattle.lsp_frame.specs.declared.message.Request.{Request}
@@ -156,7 +157,7 @@ job-errs : (meaning : Meaning) (scene : Scene) (job : Option Job) (message : Tas
 unfolding ended
 job-errs meaning scene None message w = tt
 job-errs meaning scene (Some job) message w =
-    subst (λ d. IfErr (brought meaning scene (final_of message.body) job (without message.job w)) (TooMany w.state.handed d)) (row-without meaning scene w.state _ (final_of message.body) job)
+    subst (λ d. IfErr (brought meaning scene (final_of message.body) job (without message.job w)) (TooMany w.state.handed d)) (row-without meaning scene w.state (map.remove w.state.jobs message.job) (final_of message.body) job)
     (final-errs meaning scene (final_of message.body) job (without message.job w))
 
 pub message-errs : (meaning : Meaning) (scene : Scene) (message : TaskMsg) (w : Working Desk) → IfErr (taken meaning scene message w) (TooMany w.state.handed (message_row meaning scene w.state message))
