@@ -5,6 +5,7 @@ use Rattle.analysis_host.specs.SnapshotData.{SnapshotData}
 use Rattle.analysis_host.specs.declared.ask.Ask.{Ask}
 use Rattle.session_port.specs.Jobs.{final_of}
 use Rattle.session_port.specs.Honest.{IsResultOf}
+use Rattle.session_port.specs.Runs.{IsFinal}
 use Rattle.session_port.specs.declared.event.TaskMsg.{TaskMsg}
 use Rattle.session_port.specs.declared.job.Job.{Job}
 use Rattle.crossing.specs.declared.worker.Worker.{Worker}
@@ -12,7 +13,7 @@ use Rattle.crossing.specs.declared.worker.Worker.TheVariants.{Running, Ended}
 
 -- the message has this job's number, and brings a result of this job
 abbrev pub IsMessageOf : (SnapshotData → Ask → Finding) → Job → TaskMsg → Type 0
-IsMessageOf answer job message = (message.job ≡ job.number) × IsResultOf answer job (final_of message.body)
+IsMessageOf answer job message = (message.job ≡ job.number) × IsFinal (final_of message.body) (IsResultOf answer job)
 
 module _ {A : Type 0} where
   -- it promises this job's message, or has it

@@ -13,11 +13,11 @@ use Rattle.lsp_frame.specs.declared.frame.Cut.{Cut}
 use Rattle.lsp_frame.specs.declared.frame.Cut.TheVariants.{NeedMore, Bad, Frame}
 use Rattle.session_peers.specs.Coming.{Comes, ComesAsBytes, ComesAsEnd, source_after}
 use Rattle.session_peers.specs.Framed.{FramedData, waiting as framed_waiting, IsRead, EndsBy, EndsPiece}
-use Rattle.session_peers.specs.Inline.{InlineData, waiting, IsFirstPiece, IsNextPiece, GivesBytes, IfBytes}
+use Rattle.session_peers.specs.Inline.{InlineData, waiting, IsFirstPiece, IsNextPiece, GivesBytes}
 use Rattle.session_port.specs.Jobs.{Jobs}
 use Rattle.session_port.specs.Record.{before_piece}
 use Rattle.session_port.specs.declared.event.HostEvent.{HostEvent}
-use Rattle.session_port.specs.declared.event.HostEvent.TheVariants.{Bytes, Ended, Tasks}
+use Rattle.session_port.specs.declared.event.HostEvent.TheVariants.{Bytes}
 
 -- while more bytes are needed each read brings the bound nearer
 pub read_nearer : (old new : FramedData) (more : Bool) (held : List ℕ) → IsRead old new more → more ≡ true → held ≡ old.held → NeedMore ≡ cut_of held
@@ -100,10 +100,9 @@ gives_bytes old new out before source piece same_out same_held same_left same_wa
       unread = λ shown. sym new_left ∙ ap (λ s. s.left) (comes.unread (λ needs. shown (ap cut_of (sym same_held) ∙ needs))) ∙ same_left;
     }
 
-pub event_bytes : (answer : SnapshotData → Ask → Finding) (event : HostEvent) (old new : InlineData) (out : Jobs) (before source : FramedData) → out ≡ old.out
-    → before.held ≡ old.held → before.left ≡ old.left → framed_waiting source ≡ framed_waiting before → (source_after event source).held ≡ new.held
-    → (source_after event source).left ≡ new.left → Comes answer out before source event → IfBytes event (GivesBytes old new)
-event_bytes answer (Bytes piece) old new out before source same_out same_held same_left same_waiting new_held new_left comes =
-    gives_bytes old new out before source piece same_out same_held same_left same_waiting new_held new_left comes
-event_bytes answer Ended old new out before source same_out same_held same_left same_waiting new_held new_left comes = tt
-event_bytes answer (Tasks batch) old new out before source same_out same_held same_left same_waiting new_held new_left comes = tt
+pub event_bytes : (answer : SnapshotData → Ask → Finding) (event : HostEvent) (piece : List ℕ) (old new : InlineData) (out : Jobs) (before source : FramedData)
+    → event ≡ Bytes piece → out ≡ old.out → before.held ≡ old.held → before.left ≡ old.left → framed_waiting source ≡ framed_waiting before → (source_after event source).held ≡ new.held
+    → (source_after event source).left ≡ new.left → Comes answer out before source event → GivesBytes old new piece
+event_bytes answer event piece old new out before source is same_out same_held same_left same_waiting new_held new_left comes =
+    gives_bytes old new out before source piece same_out same_held same_left same_waiting (ap (λ e. (source_after e source).held) (sym is) ∙ new_held) new_left
+    (subst (Comes answer out before source) is comes)

@@ -15,6 +15,7 @@ use Rattle.analysis_host.specs.declared.ask.Ask.{Ask}
 use Rattle.session_port.specs.Honest.{IsHonestMessage, AreHonest}
 use Rattle.session_port.specs.Jobs.{Jobs, after_message, after_batch}
 use Rattle.session_port.specs.Record.{AreRising, last_number, with_jobs}
+use Rattle.session_peers.proofs.Fitting.{after_fitting}
 use Rattle.session_peers.specs.Results.{Finishes}
 use Rattle.session_port.specs.Runs.{AreUncancelled}
 use Rattle.session_port.specs.declared.event.TaskMsg.{TaskMsg}
@@ -109,11 +110,16 @@ none_out (job ∷ jobs) rising is = absurd (has_none (sym (get_first 0 job jobs 
     has_none e = cc
 
 module _ (answer : SnapshotData → Ask → Finding) where
-  -- a result of the first job takes it off
+  -- a result of the first job names it
+  out_first : (low : ℕ) (job : Job) (jobs : List Job) (message : TaskMsg) → AreRising low (job ∷ jobs) → Finishes answer job message
+      → map.get (with_jobs (job ∷ jobs) map.empty) message.job ≡ Some job
+  out_first low job jobs message rising finishes = ap (map.get (with_jobs (job ∷ jobs) map.empty)) finishes.number ∙ get_first low job jobs rising
+
+  -- it takes it off
   after_first : (low : ℕ) (job : Job) (jobs : List Job) (message : TaskMsg) → AreRising low (job ∷ jobs) → Finishes answer job message
       → after_message message (with_jobs (job ∷ jobs) map.empty) ≡ with_jobs jobs map.empty
   after_first low job jobs message rising finishes =
-      ap (λ b. cond b (map.remove (with_jobs (job ∷ jobs) map.empty) message.job) (with_jobs (job ∷ jobs) map.empty)) finishes.plain
+      after_fitting message (with_jobs (job ∷ jobs) map.empty) job (out_first low job jobs message rising finishes) finishes.fits
       ∙ ap (λ number. map.remove (with_jobs (job ∷ jobs) map.empty) number) finishes.number
       ∙ remove_first low job jobs rising
 
@@ -121,7 +127,7 @@ module _ (answer : SnapshotData → Ask → Finding) where
       → IsHonestMessage answer (with_jobs (job ∷ jobs) map.empty) message
   honest_first low job jobs message rising finishes = record {
     job = job;
-    is_out = ap (map.get (with_jobs (job ∷ jobs) map.empty)) finishes.number ∙ get_first low job jobs rising;
+    is_out = out_first low job jobs message rising finishes;
     is_result = finishes.result;
   }
 

@@ -12,6 +12,7 @@ use Rattle.analysis_host.specs.SnapshotData.{SnapshotData}
 use Rattle.analysis_host.specs.declared.ask.Ask.{Ask}
 use Rattle.session_port.specs.Honest.{AreHonest, IsHonest}
 use Rattle.session_port.specs.Jobs.{Jobs, after_message}
+use Rattle.session_peers.proofs.Fitting.{after_fitting}
 use Rattle.session_peers.specs.Script.{Gift, event, results, named, left_out, can_see, stopped, gift_of, next_gift, FinishesAt, IsGift}
 use Rattle.session_port.specs.declared.event.HostEvent.{HostEvent}
 use Rattle.session_port.specs.declared.event.HostEvent.TheVariants.{Bytes, Ended, Tasks}
@@ -75,9 +76,9 @@ module _ (answer : SnapshotData → Ask → Finding) where
       by_job others None none batch zip = subst (λ o. AreHonest answer o batch) (remove_absent out number none) (others batch zip)
       by_job others (Some job) some [] zip = absurd zip
       by_job others (Some job) some (message ∷ batch) zip =
-          let off : after_message message out ≡ map.remove out number =
-          ap (λ b. cond b (map.remove out message.job) out) zip.0.plain ∙ ap (map.remove out) zip.0.number in (
-            record { job = job; is_out = ap (map.get out) zip.0.number ∙ some; is_result = zip.0.result },
+          let there : map.get out message.job ≡ Some job = ap (map.get out) zip.0.number ∙ some in
+          let off : after_message message out ≡ map.remove out number = after_fitting message out job there zip.0.fits ∙ ap (map.remove out) zip.0.number in (
+            record { job = job; is_out = there; is_result = zip.0.result },
             subst (λ o. AreHonest answer o batch) (sym off) (others batch zip.1),
           )
 
@@ -95,12 +96,9 @@ module _ (answer : SnapshotData → Ask → Finding) where
   honest_gift out (Give (Bytes bytes)) gift coming is comes = honest_event (Bytes bytes) coming out tt (subst (λ g. IsGift answer g coming) (sym (some_gift _ _ is)) comes)
   honest_gift out (Give Ended) gift coming is comes = honest_event Ended coming out tt (subst (λ g. IsGift answer g coming) (sym (some_gift _ _ is)) comes)
   honest_gift out (Give (Tasks batch)) gift coming is comes = cc
-  honest_gift out (Finish numbers) gift coming is comes = by_event coming (subst (λ g. IsGift answer g coming) (sym (some_gift _ _ is)) comes)
-    where
-      by_event : (coming : HostEvent) → IsGift answer (results (named numbers out)) coming → IsHonest answer out coming
-      by_event (Bytes bytes) comes = absurd comes
-      by_event Ended comes = absurd comes
-      by_event (Tasks batch) comes = honest_named numbers out batch comes
+  honest_gift out (Finish numbers) gift coming is comes =
+      let given : IsGift answer (results (named numbers out)) coming = subst (λ g. IsGift answer g coming) (sym (some_gift _ _ is)) comes in
+      subst (IsHonest answer out) (sym given.1) (honest_named numbers out given.0 given.2)
   honest_gift out (Cancel number saw) gift coming is comes = by_test (can_see (map.get out number) saw) refl is
     where
       by_test : (b : Bool) → can_see (map.get out number) saw ≡ b → cond b (Some (event (Tasks (stopped number saw ∷ [])))) None ≡ Some gift → IsHonest answer out coming

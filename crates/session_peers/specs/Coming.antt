@@ -7,6 +7,7 @@ use Rattle.analysis_host.specs.declared.ask.Ask.{Ask}
 use Rattle.lsp_frame.specs.Frames.{cut_of}
 use Rattle.lsp_frame.specs.declared.frame.Cut.TheVariants.{NeedMore}
 use Rattle.session_peers.specs.Framed.{FramedData, EndsPiece}
+use Rattle.session_port.specs.Events.{bytes_of}
 use Rattle.session_port.specs.Honest.{AreHonest}
 use Rattle.session_peers.specs.Inline.{IsDry}
 use Rattle.session_port.specs.Jobs.{Jobs, after_batch}
@@ -52,15 +53,11 @@ pub record NeedsRead (out : Jobs) (source : FramedData) : Type 0 where
 
 -- the bytes that an event takes are held
 abbrev pub IsHeld : FramedData → HostEvent → Type 0
-IsHeld source (Bytes piece) = length piece ≤ length source.held
-IsHeld source Ended = Unit {0}
-IsHeld source (Tasks batch) = Unit {0}
+IsHeld source event = length (bytes_of event) ≤ length source.held
 
 -- what is held after an event was given
 abbrev pub source_after : HostEvent → FramedData → FramedData
-source_after (Bytes piece) source = record source { held = drop (length piece) source.held }
-source_after Ended source = source
-source_after (Tasks batch) source = source
+source_after event source = record source { held = drop (length (bytes_of event)) source.held }
 
 abbrev pub jobs_after : HostEvent → JobsData → JobsData
 jobs_after (Bytes piece) jobs = jobs

@@ -7,8 +7,6 @@ use Rattle.lsp_frame.specs.declared.frame.Cut.TheVariants.{NeedMore, Bad, Frame}
 use Rattle.session_port.specs.Jobs.{Jobs}
 use Rattle.session_port.specs.Record.{HostCall, before_piece}
 use Rattle.session_port.specs.Runs.{AreUncancelled}
-use Rattle.session_port.specs.declared.event.HostEvent.{HostEvent}
-use Rattle.session_port.specs.declared.event.HostEvent.TheVariants.{Bytes, Ended, Tasks}
 use Rattle.session_port.specs.declared.event.TaskMsg.{TaskMsg}
 
 -- the jobs out and the last number handed over, the bytes that were read and not given, those that the source has left, if it
@@ -77,19 +75,3 @@ pub record GivesEnd (old new : InlineData) : Type 0 where
 pub record ReadsNow (old : InlineData) : Type 0 where
   pub idle : old.out ≡ map.empty
   pub needs : cut_of old.held ≡ NeedMore
-
--- a fact for one kind of event
-abbrev pub IfBytes : HostEvent → (List ℕ → Type 0) → Type 0
-IfBytes (Bytes bytes) P = P bytes
-IfBytes Ended P = Unit {0}
-IfBytes (Tasks batch) P = Unit {0}
-
-abbrev pub IfTasks : HostEvent → (List TaskMsg → Type 0) → Type 0
-IfTasks (Bytes bytes) P = Unit {0}
-IfTasks Ended P = Unit {0}
-IfTasks (Tasks batch) P = P batch
-
-abbrev pub IfEnded : HostEvent → Type 0 → Type 0
-IfEnded (Bytes bytes) P = Unit {0}
-IfEnded Ended P = P
-IfEnded (Tasks batch) P = Unit {0}

@@ -7,11 +7,11 @@ use Rattle.std.specs.Option.{option_map, option_to_list, unwrap_or}
 use Rattle.analysis_host.specs.Answers.{Finding}
 use Rattle.analysis_host.specs.SnapshotData.{SnapshotData}
 use Rattle.analysis_host.specs.declared.ask.Ask.{Ask}
-use Rattle.session_port.specs.Honest.{IsResultOf}
-use Rattle.session_port.specs.Jobs.{Jobs, final_of, plain_result}
+use Rattle.session_port.specs.Honest.{IsFinalOf}
+use Rattle.session_port.specs.Jobs.{Jobs, final_of, fits}
 use Rattle.session_peers.specs.Memory.{PlanData, no_calls}
 use Rattle.session_port.specs.Record.{HostCall}
-use Rattle.session_port.specs.Runs.{IsUncancelled}
+use Rattle.session_port.specs.Runs.{IsFinal, IsUncancelled}
 use Rattle.session_port.specs.declared.event.HostEvent.{HostEvent}
 use Rattle.session_port.specs.declared.event.HostEvent.TheVariants.{Bytes, Ended, Tasks}
 use Rattle.session_port.specs.declared.event.TaskBody.TheVariants.{Final}
@@ -63,18 +63,16 @@ abbrev pub next_event : List HostEvent → HostEvent × List HostEvent
 next_event [] = (Ended, [])
 next_event (first ∷ events) = (first, events)
 
--- a message with the result of a run that nothing stopped, whose JSON is plain
+-- a message with the result of a run that nothing stopped, of its job's kind, whose JSON is plain
 pub record FinishesAt (answer : SnapshotData → Ask → Finding) (entry : ℕ × Job) (message : TaskMsg) : Type 0 where
   pub number : message.job ≡ entry.0
-  pub result : IsResultOf answer entry.1 (final_of message.body)
-  pub plain : plain_result (final_of message.body) ≡ true
-  pub uncancelled : IsUncancelled (final_of message.body)
+  pub result : IsFinalOf answer entry.1 (final_of message.body)
+  pub fits : fits entry.1 message.body ≡ true
+  pub uncancelled : IsFinal (final_of message.body) IsUncancelled
 
 abbrev pub IsGift : (SnapshotData → Ask → Finding) → Gift → HostEvent → Type 0
 IsGift answer (event given) coming = coming ≡ given
-IsGift answer (results entries) (Bytes bytes) = ⊥
-IsGift answer (results entries) Ended = ⊥
-IsGift answer (results entries) (Tasks batch) = AllZip (FinishesAt answer) entries batch
+IsGift answer (results entries) coming = (batch : List TaskMsg) × (coming ≡ Tasks batch) × AllZip (FinishesAt answer) entries batch
 
 -- what a step gave, if anything
 abbrev pub IsGiven : (SnapshotData → Ask → Finding) → Option Gift → Option HostEvent → Type 0

@@ -1,9 +1,10 @@
 // The host that runs everything on one thread.
-ghost use Rattle.std.specs.Prelude.{◌≡◌, true, false, Err, IsTrue, IfOk, IfErr, OnErr, option_copied};
+ghost use Rattle.std.specs.Prelude.{◌≡◌, ℕ, List, true, false, Err, IsTrue, IfOk, IfErr, OnErr, option_copied};
 ghost use Rattle.session_peers.specs.Coming.{Comes, IsHeld, NeedsRead, source_after, jobs_after};
 ghost use Rattle.session_peers.specs.Framed.{waiting as framed_waiting};
 ghost use Rattle.session_port.specs.Honest.{IsHonest};
-ghost use Rattle.session_peers.specs.Inline.{new_inline, waiting, IfBytes, IfTasks, IfEnded, GivesBytes, GivesResults, GivesEnd, ReadsNow};
+ghost use Rattle.session_peers.specs.Inline.{new_inline, waiting, GivesBytes, GivesResults, GivesEnd, ReadsNow};
+ghost use Rattle.session_port.specs.declared.event.TaskMsg.{TaskMsg};
 ghost use Rattle.session_port.specs.Record.{HasCause, AreRising, UnlessEnded, added, after_given, after_ok, after_order, gave, last_number, spawned, took};
 
 use crate::framed_source::FramedSource;
@@ -132,9 +133,9 @@ impl<'a, S: Source, A: Analysis> Host<A> for InlineHost<'a, S, A> {
         ensures cause { HasCause self.old.faults self.new.faults result }
 
         // What comes, and when. The source is read only where nothing else is there to give.
-        ensures bytes { IfOk result (λ event. IfBytes event (GivesBytes self.old self.new)) }
-        ensures results { IfOk result (λ event. IfTasks event (GivesResults self.old self.new)) }
-        ensures ended { IfOk result (λ event. IfEnded event (GivesEnd self.old self.new)) }
+        ensures bytes { IfOk result (λ event. (piece : List ℕ) → event ≡ HostEvent.Bytes piece → GivesBytes self.old self.new piece) }
+        ensures results { IfOk result (λ event. (batch : List TaskMsg) → event ≡ HostEvent.Tasks batch → GivesResults self.old self.new batch) }
+        ensures ended { IfOk result (λ event. event ≡ HostEvent.Ended → GivesEnd self.old self.new) }
         // It may be called again after the end too.
         ensures fresh_at_end { IfOk result (λ _. self.new.spent ≡ false) }
         ensures kept { OnErr result (waiting self.new ≡ waiting self.old) }

@@ -5,7 +5,7 @@ ghost use Rattle.session_port.specs.Jobs.{after_batch, after_message};
 ghost use Rattle.session_port.specs.Record.{after_event, after_order, last_number, spawned};
 
 use plain::{ByNumber, Items};
-use session_port::{Command, HostEvent, Job, TaskBody, TaskMsg};
+use session_port::{Command, HostEvent, Job, TaskMsg};
 use std::alloc::{AllocError, Global};
 
 /// The jobs out by their numbers, and the number of the last one that came.
@@ -15,12 +15,14 @@ pub(crate) struct NumberedJobs {
     pub handed: u64,
 }
 
-/// Takes off the job that a message ends.
+/// Takes off the job that a message ends, where it fits one.
 fn end_job(out: &mut ByNumber<Job>, message: &TaskMsg)
     ensures { out.new ≡ after_message message.now out.old }
 {
-    let TaskBody::Final(result) = &message.body;
-    if result.is_plain() {
+    let Some(job) = out.get(message.job) else {
+        return;
+    };
+    if message.body.fits(job) {
         out.remove(message.job);
     }
 }

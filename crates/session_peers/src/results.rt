@@ -1,6 +1,6 @@
 // What a job comes to where nothing cancels it.
 ghost use Rattle.std.specs.Prelude.{◌≡◌, true};
-ghost use Rattle.session_port.specs.Jobs.{plain_result};
+ghost use Rattle.session_port.specs.Jobs.{fits_kind};
 ghost use Rattle.session_port.specs.Honest.{IsResultOf};
 ghost use Rattle.session_port.specs.Runs.{IsUncancelled};
 
@@ -11,7 +11,7 @@ use session_port::{Job, JobResult, run_job};
 pub fn result_of<A: Analysis>(job: &Job, analysis: &A) -> JobResult
     ensures is { IsResultOf A.answer job.now result }
     ensures uncancelled { IsUncancelled result }
-    ensures plain { plain_result result ≡ true }
+    ensures fits { fits_kind job.now.kind result ≡ true }
 {
     // A revision fits 64 bits.
     let _revision = job.snapshot.revision();

@@ -1,5 +1,8 @@
 // What a host gives.
-use crate::job::JobResult;
+ghost use Rattle.std.specs.Prelude.{◌≡◌};
+ghost use Rattle.session_port.specs.Jobs.{fits};
+
+use crate::job::{Job, JobKind, JobResult};
 use plain::{Bytes, Copied, Items};
 
 /// What a message says of its job.
@@ -25,6 +28,17 @@ pub enum HostEvent {
     Ended,
     /// Messages of jobs, in the order in which they came.
     Tasks(Items<TaskMsg>),
+}
+
+impl TaskBody {
+    /// Whether a job of this kind may say so: the value is of its kind, and the JSON in it is plain.
+    pub fn fits(&self, job: &Job) -> bool
+        ensures { result ≡ fits job.now self.now }
+    {
+        match (self, &job.kind) {
+            (TaskBody::Final(result), JobKind::Request { .. }) => result.is_plain(),
+        }
+    }
 }
 
 impl Copied for TaskMsg {

@@ -1,7 +1,7 @@
 // What a job comes to.
 ghost use Rattle.std.specs.Prelude.{◌≡◌, ◌≤◌, ◌<◌, true, None, Some, IfOk};
 ghost use Rattle.analysis_host.specs.Polls.{HasPolled};
-ghost use Rattle.session_port.specs.Jobs.{plain_result};
+ghost use Rattle.session_port.specs.Jobs.{fits_kind};
 ghost use Rattle.session_port.specs.Honest.{IsResultOf};
 ghost use Rattle.session_port.specs.Runs.{IfCancelled, UnlessNoMemory};
 
@@ -18,7 +18,8 @@ pub fn run_job<A: Analysis, C: Cancel>(job: &Job, analysis: &A, cancel: &mut C) 
     ensures is { IsResultOf A.answer job.now result }
     ensures held { IfCancelled result (λ saw. C.held cancel.new ≡ Some saw) }
     ensures above { IfCancelled result (λ saw. C.floor cancel.old < saw) }
-    ensures plain { plain_result result ≡ true }
+    // Its value is of the job's kind, and its JSON is plain.
+    ensures fits { fits_kind job.now.kind result ≡ true }
 
     ensures polled { UnlessNoMemory result (HasPolled (C.polls cancel.old) (C.polls cancel.new)) }
     ensures key { C.key cancel.new ≡ C.key cancel.old }
@@ -40,7 +41,7 @@ fn query<A: Analysis, C: Cancel>(
     ensures is { IfOk result (IsResultOf A.answer job.now) }
     ensures held { IfOk result (λ r. IfCancelled r (λ saw. C.held cancel.new ≡ Some saw)) }
     ensures above { IfOk result (λ r. IfCancelled r (λ saw. C.floor cancel.old < saw)) }
-    ensures plain { IfOk result (λ r. plain_result r ≡ true) }
+    ensures fits { IfOk result (λ r. fits_kind job.now.kind r ≡ true) }
     ensures polled { IfOk result (λ _. HasPolled (C.polls cancel.old) (C.polls cancel.new)) }
     ensures key { C.key cancel.new ≡ C.key cancel.old }
     ensures floor_stays { C.floor cancel.new ≡ C.floor cancel.old }
