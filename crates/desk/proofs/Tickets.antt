@@ -4,7 +4,8 @@ use Rattle.std.specs.Prelude.{is_some, List}
 use Rattle.serde_json.specs.Data.{Data}
 use Rattle.lsp_frame.specs.declared.incoming.Registered.TheVariants.{New, AlreadyPending}
 use Rattle.lsp_frame.specs.declared.message.Request.{Request}
-use Rattle.lsp_frame.specs.Pending.{Registers, is_pending, registered}
+use Rattle.lsp_frame.specs.Pending.{Pending, IsAbove, Registers, completed, is_pending, registered}
+use Rattle.lsp_frame.proofs.InStep.{waits-completed}
 use Rattle.turn_parts.specs.Working.{replied}
 use Rattle.turn_parts.specs.Written.{Written}
 use Rattle.desk.specs.Desk.{Desk}
@@ -30,3 +31,7 @@ requested_new meaning scene r state new out registers others =
     let after : new ≡ record state { pending = registered state.turns r.id state.pending } = others ∙ ap (λ p. record state { pending = p }) registers.1 in
     let waits : is_pending r.id state.pending ≡ false = ap is_some registers.0 in
     rw (waits, after) refl
+
+-- what closing by a ticket leaves
+pub completed_above : (n ticket : ℕ) (p q : Pending) → q ≡ completed ticket p → IsAbove n p → IsAbove n q
+completed_above n ticket p q is h = rw is (record { below = λ other id waits. h.below other id (waits-completed ticket other id p waits).before })
