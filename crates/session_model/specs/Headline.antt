@@ -184,18 +184,20 @@ row meaning (Next (Task batch)) place = batch_row meaning batch place
 
 -- ---- what holds between turns
 
--- a job for a request was handed over by an earlier turn, the one that read its request or a later one, on the documents of all inputs before that turn
-pub record WasHandedOver (settings : ConfigData) (turns : List Turn) (job : Job) : Type 0 where
+-- a job for the request with this ticket was handed over by an earlier turn, the one that read the request or a later one, on the documents of all
+-- inputs before that turn
+pub record WasHandedOver (settings : ConfigData) (turns : List Turn) (ticket : ℕ) (job : Job) : Type 0 where
   pub before : List Turn
   pub turn : Turn
   pub later : List Turn
   pub split : turns ≡ before ++ turn ∷ later
-  pub not_before : (ticket : ℕ) → ticket_of job.kind ≡ Some ticket → ticket ≤ next_turn (place_after_all before (beginning settings))
+  pub not_before : ticket ≤ next_turn (place_after_all before (beginning settings))
   pub snapshot : job.snapshot ≡ snapshot_at (place_after_all before (beginning settings))
   pub handed : Contains (spawned turn.commands) job
 
 abbrev pub AreHandedOver : ConfigData → List Turn → Jobs → Type 0
-AreHandedOver settings turns jobs = (number : ℕ) (job : Job) → map.get jobs number ≡ Some job → WasHandedOver settings turns job
+AreHandedOver settings turns jobs =
+    (number : ℕ) (job : Job) (ticket : ℕ) → map.get jobs number ≡ Some job → ticket_of job.kind ≡ Some ticket → WasHandedOver settings turns ticket job
 
 -- the texts stay and the revision stays, or they are others and it is one more
 abbrev pub Revises : Place → Place → Type 0
@@ -214,7 +216,7 @@ pub record Answers (meaning : Meaning) (settings : ConfigData) (honest : Bool) (
       AnswersOnce (next_turn place) (request_in turn.input) (responses_in turn.messages) place.desk.pending
   -- after it each pending request is held by exactly one job out
   pub held : AreHeld (place_after_all (before ++ turn ∷ []) (beginning settings)).desk
-  -- each job out was handed over by the turn that read its request, or a later one, on the documents of all inputs before that turn
+  -- each job out for a request was handed over by the turn that read it, or a later one, on the documents of all inputs before that turn
   pub handed_over : AreHandedOver settings before (place_after_all before (beginning settings)).desk.jobs
   -- the revision rises by one exactly where a text changed
   pub revised : let place = place_after_all before (beginning settings) in Revises place (place_after turn place)

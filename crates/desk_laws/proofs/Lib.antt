@@ -1,0 +1,9 @@
+pub mod Appends
+pub mod Fitting
+pub mod Held
+pub mod Keyed
+pub mod Numbered
+pub mod Orders
+pub mod Reacting
+pub mod Results
+pub mod Settling
