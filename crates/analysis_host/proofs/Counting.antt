@@ -8,7 +8,8 @@ use Rattle.std.proofs.lemmas.Bool.{cases_lt}
 use Rattle.std.proofs.lemmas.Nat.{mul-le}
 use Rattle.shared_map.specs.Costs.{IsQuick}
 use Rattle.docs_vfs.specs.Paths.{path_cmp}
-use Rattle.analysis_host.specs.HostData.{with_text}
+use Rattle.analysis_host.specs.HostData.{with_entry}
+use Rattle.analysis_host.specs.declared.text_entry.TextEntry.{TextEntry}
 use Rattle.analysis_host.specs.Costs.{AreQuick}
 
 level : (n : ℕ) → 2 ^ 0 ≤ (n + 1) * (n + 1)
@@ -50,11 +51,11 @@ either : (b : Bool) (x y n : ℕ) → x ≤ n → y ≤ n → cond b x y ≤ n
 either true x y n p q = p
 either false x y n p q = q
 
--- a text that is set makes at most one path more
-pub len_with : (path : List ℕ) (text : Option (List ℕ)) (texts : map.FinMap path_cmp (List ℕ)) → map.len (with_text path text texts) ≤ map.len texts + 1
+-- an entry that is set makes at most one path more
+pub len_with : (path : List ℕ) (entry : Option TextEntry) (texts : map.FinMap path_cmp TextEntry) → map.len (with_entry path entry texts) ≤ map.len texts + 1
 len_with path None texts =
     let n = map.len texts in
     rw (map.len-remove nat_list_cmp_total texts path) (either (map.contains_key texts path) (n - 1) n (n + 1) (omega arith) (omega arith))
-len_with path (Some text) texts =
+len_with path (Some entry) texts =
     let n = map.len texts in
-    rw (map.len-insert nat_list_cmp_total texts path text) (either (map.contains_key texts path) n (n + 1) (n + 1) (omega arith) (omega arith))
+    rw (map.len-insert nat_list_cmp_total texts path entry) (either (map.contains_key texts path) n (n + 1) (n + 1) (omega arith) (omega arith))

@@ -14,7 +14,7 @@ use Rattle.text_core.specs.declared.position.PositionEncoding.TheVariants.{Wide}
 use Rattle.text_core.specs.declared.position.WideEncoding.TheVariants.{Utf16}
 use Rattle.text_core.specs.declared.position.OffsetFault.{OffsetFault}
 use Rattle.text_core.specs.declared.position.Range.{Range}
-use Rattle.analysis_host.specs.SnapshotData.{SnapshotData}
+use Rattle.analysis_host.specs.SnapshotData.{SnapshotData, text_at}
 use Rattle.analysis_host.specs.declared.file_places.FilePosition.{FilePosition}
 use Rattle.analysis_host.specs.declared.file_places.FileRange.{FileRange}
 use Rattle.analysis_host.specs.declared.file_places.ProtoFault.{ProtoFault}
@@ -71,7 +71,7 @@ in_file at find (Some text) = placed at (find text)
 -- the same, where the URL names a path
 abbrev pub in_url : {P F : Type 0} → SnapshotData → (List ℕ → P → F) → (List ℕ → Result P OffsetFault) → Result (List ℕ) UrlFault → Result F ProtoFault
 in_url snapshot at find (Err fault) = Err (Url fault)
-in_url snapshot at find (Ok path) = in_file (at path) find (map.get snapshot.world.texts path)
+in_url snapshot at find (Ok path) = in_file (at path) find (text_at snapshot.world path)
 
 abbrev pub position_in : SnapshotData → Position → Result (List ℕ) UrlFault → Result FilePosition ProtoFault
 position_in snapshot position named =

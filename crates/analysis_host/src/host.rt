@@ -1,11 +1,12 @@
 // The world that changes: each change makes a new one, and those that were given out stay as they are.
 ghost use Rattle.std.specs.Prelude.{◌≡◌, ◌<◌, ◌+◌, length, IfOk, OnErr, option_copied};
 ghost use Rattle.std.specs.FinMap as map;
+ghost use Rattle.analysis_host.specs.SnapshotData.{text_at};
 ghost use Rattle.analysis_host.specs.HostData.{new_host, new_host_at, changed, Changes};
 ghost use Rattle.analysis_host.specs.Costs.{AreQuick};
 ghost use Rattle.analysis_host.specs.declared.host.WorldFault.TheVariants.{NoMemory as OutOfMemory};
 
-use crate::shared_text::SharedText;
+use crate::text_entry::TextEntry;
 use crate::world::World;
 use docs_vfs::VfsPath;
 use plain::Items;
@@ -15,11 +16,11 @@ use std::marker::{Brand, Model};
 use std::sync::ledger::{Blank, Ledger};
 use text_core::TextIndex;
 
-/// A file's new text, or that it has none.
+/// A file's new text with its line endings, or that it has none.
 #[derive(Drop)]
 pub struct FileChange {
     pub path: VfsPath,
-    pub text: Option<SharedText>,
+    pub entry: Option<TextEntry>,
 }
 
 /// What changes in one step, in order.
@@ -52,6 +53,7 @@ pub struct AnalysisHost {
 }
 
 impl Model for AnalysisHost {
+    ghost use Rattle.analysis_host.specs.SnapshotData.{text_at};
     ghost use Rattle.analysis_host.specs.HostData.{HostData};
 
     ghost Value = { HostData };
@@ -94,16 +96,23 @@ impl AnalysisHost {
         self.world.clone()
     }
 
+    /// What the present world keeps of a path.
+    pub fn entry(&self, path: &VfsPath) -> Option<&TextEntry>
+        ensures { option_copied result ≡ map.get self.now.world.texts path.now }
+    {
+        self.world.entry(path)
+    }
+
     /// The present text of a path.
     pub fn text(&self, path: &VfsPath) -> Option<&str>
-        ensures { option_copied result ≡ map.get self.now.world.texts path.now }
+        ensures { option_copied result ≡ text_at self.now.world path.now }
     {
         self.world.text(path)
     }
 
     /// The present text of a path, with its lines.
     pub fn index(&self, path: &VfsPath) -> Option<&TextIndex>
-        ensures { option_copied result ≡ map.get self.now.world.texts path.now }
+        ensures { option_copied result ≡ text_at self.now.world path.now }
     {
         self.world.index(path)
     }

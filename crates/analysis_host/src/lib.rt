@@ -11,6 +11,7 @@ mod host;
 mod path_map;
 mod shared_text;
 mod snapshot;
+mod text_entry;
 mod versions;
 mod world;
 
@@ -24,5 +25,6 @@ pub use method_table::RowId;
 pub use path_map::{PathMap, TextTree};
 pub use shared_text::SharedText;
 pub use snapshot::{GlobalStateSnapshot, SnapshotParts};
+pub use text_entry::TextEntry;
 pub use versions::Versions;
 pub use world::World;

@@ -4,7 +4,7 @@ ghost use Rattle.std.specs.FinMap as map;
 ghost use Rattle.shared_map.specs.AsMap.{set_in_map};
 ghost use Rattle.shared_map.specs.Costs.{IsQuick};
 
-use crate::shared_text::SharedText;
+use crate::text_entry::TextEntry;
 use docs_vfs::VfsPath;
 use plain::Copied;
 use shared_map::{SharedMap, Steps};
@@ -19,8 +19,8 @@ pub struct PathMap<V> {
     rows: SharedMap<VfsPath, V>,
 }
 
-/// The texts of a world by path.
-pub type TextTree = PathMap<SharedText>;
+/// What a world keeps of each file by path: its text and its line endings.
+pub type TextTree = PathMap<TextEntry>;
 
 impl<V> Model for PathMap<V> {
     ghost use Rattle.std.specs.FinMap as map;

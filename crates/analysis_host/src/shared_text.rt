@@ -1,5 +1,6 @@
 // A text that worlds share, with the index of its lines.
 ghost use Rattle.std.specs.Prelude.{◌≡◌, ◌<◌, ◌^◌, length, IfOk};
+ghost use Rattle.std.specs.Arc.{arc_value};
 
 use plain::{Copied, Text};
 use std::alloc::{AllocError, Global};
@@ -37,6 +38,13 @@ impl SharedText {
         Ok(SharedText {
             index: Arc::new(alloc, index)?,
         })
+    }
+
+    /// The text and its index, shared.
+    pub fn share(&self) -> Result<Arc<TextIndex, Global>, AllocError>
+        ensures { IfOk result (λ index. arc_value index ≡ self.now) }
+    {
+        Arc::try_clone(&self.index)
     }
 
     pub fn index(&self) -> &TextIndex

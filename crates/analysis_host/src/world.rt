@@ -2,12 +2,13 @@
 ghost use Rattle.std.specs.Prelude.{◌≡◌, ◌+◌, length, IfOk, option_copied};
 ghost use Rattle.std.specs.FinMap as map;
 ghost use Rattle.shared_map.specs.Costs.{IsQuick};
-ghost use Rattle.analysis_host.specs.SnapshotData.{empty_world};
-ghost use Rattle.analysis_host.specs.HostData.{with_files, with_text};
+ghost use Rattle.analysis_host.specs.SnapshotData.{empty_world, text_at};
+ghost use Rattle.analysis_host.specs.HostData.{with_files, with_entry};
 ghost use Rattle.analysis_host.specs.Costs.{AreQuick};
 
 use crate::host::FileChange;
 use crate::path_map::TextTree;
+use crate::text_entry::TextEntry;
 use docs_vfs::VfsPath;
 use plain::{Copied, Items};
 use shared_map::Steps;
@@ -34,18 +35,18 @@ impl Model for World {
     ghost view = { λ w. record { texts = w.texts } };
 }
 
-/// The texts with one file's text set, or taken away.
+/// The texts with one file's text and line endings set, or taken away.
 #[tactic(auto, using(crate::proofs::Counting::at_rest))]
-fn set_text<L: Ledger>(
+fn set_entry<L: Ledger>(
     texts: &TextTree,
     file: FileChange,
     steps: &mut Steps<L>,
 ) -> Result<TextTree, AllocError>
-    ensures ok { IfOk result (λ new. new ≡ with_text file.path file.text texts.now) }
+    ensures ok { IfOk result (λ new. new ≡ with_entry file.path file.entry texts.now) }
     ensures cost { IsQuick (map.len texts.now) steps.old steps.new }
 {
-    let FileChange { path, text } = file;
-    texts.set(path, text, steps)
+    let FileChange { path, entry } = file;
+    texts.set(path, entry, steps)
 }
 
 impl World {
@@ -58,22 +59,29 @@ impl World {
         })
     }
 
-    /// The text of a path.
-    pub fn text(&self, path: &VfsPath) -> Option<&str>
+    /// What the world keeps of a path.
+    pub fn entry(&self, path: &VfsPath) -> Option<&TextEntry>
         ensures { option_copied result ≡ map.get self.now.texts path.now }
     {
-        match self.index(path) {
-            Some(index) => Some(index.text()),
+        self.texts.get(path)
+    }
+
+    /// The text of a path.
+    pub fn text(&self, path: &VfsPath) -> Option<&str>
+        ensures { option_copied result ≡ text_at self.now path.now }
+    {
+        match self.entry(path) {
+            Some(entry) => Some(entry.text.as_str()),
             None => None,
         }
     }
 
     /// The text of a path, with its lines.
     pub fn index(&self, path: &VfsPath) -> Option<&TextIndex>
-        ensures { option_copied result ≡ map.get self.now.texts path.now }
+        ensures { option_copied result ≡ text_at self.now path.now }
     {
-        match self.texts.get(path) {
-            Some(text) => Some(text.index()),
+        match self.entry(path) {
+            Some(entry) => Some(entry.text.index()),
             None => None,
         }
     }
@@ -90,7 +98,7 @@ impl World {
     {
         let mut texts = self.texts.clone()?;
         for file in files.into_vec() {
-            texts = set_text(&texts, file, steps)?;
+            texts = set_entry(&texts, file, steps)?;
         }
         Ok(World { texts })
     }

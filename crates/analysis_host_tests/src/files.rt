@@ -1,7 +1,7 @@
 // Files, hosts and snapshots that the tests stand on. Nothing is claimed of them but what calls require.
 use analysis_host::{
-    AnalysisHost, Change, FileChange, GlobalStateSnapshot, SharedText, SnapshotParts, Versions,
-    World, WorldFault,
+    AnalysisHost, Change, FileChange, GlobalStateSnapshot, SharedText, SnapshotParts, TextEntry,
+    Versions, World, WorldFault,
 };
 use docs_vfs::VfsPath;
 use plain::{Items, Text};
@@ -9,6 +9,7 @@ use ra_config::Config;
 use std::alloc::Global;
 use std::sync::Arc;
 use std::test::Fail;
+use text_core::LineEndings;
 
 /// A path, or a failed test.
 pub fn path_at(alloc: Global, text: &str) -> Result<VfsPath, Fail> {
@@ -22,12 +23,12 @@ pub fn push_file(
     path: &str,
     text: Option<&str>,
 ) -> Result<(), Fail> {
-    let text = match text {
-        Some(text) => Some(shared(alloc, text)?),
+    let entry = match text {
+        Some(text) => Some(entry_of(alloc, text, LineEndings::Unix)?),
         None => None,
     };
     let path = path_at(alloc, path)?;
-    files.push(FileChange { path, text })?;
+    files.push(FileChange { path, entry })?;
     Ok(())
 }
 
@@ -123,12 +124,24 @@ fn third_version(alloc: Global) -> Result<Versions, Fail> {
     with_version(alloc, &versions, &path_at(alloc, "/w/a.rs")?, Some(3))
 }
 
-/// A snapshot with one text, of version 3, at revision 9.
-pub fn snapshot(alloc: Global) -> Result<GlobalStateSnapshot, Fail> {
+/// A snapshot of a world with version 3 of `/w/a.rs`, at revision 9.
+pub fn snapshot_of(alloc: Global, world: World) -> Result<GlobalStateSnapshot, Fail> {
     let config = settings(alloc)?;
     let versions = third_version(alloc)?;
-    let world = world_of_two(alloc, "", "mod b;")?;
     Ok(frozen(world, versions, config, 9))
+}
+
+/// The same of a world with one text.
+pub fn snapshot(alloc: Global) -> Result<GlobalStateSnapshot, Fail> {
+    snapshot_of(alloc, world_of_two(alloc, "", "mod b;")?)
+}
+
+/// What worlds keep of a file, or a failed test where its text is too long for one.
+pub fn entry_of(alloc: Global, text: &str, endings: LineEndings) -> Result<TextEntry, Fail> {
+    Ok(TextEntry {
+        text: shared(alloc, text)?,
+        endings,
+    })
 }
 
 /// A text that worlds share, or a failed test where it is too long for one.

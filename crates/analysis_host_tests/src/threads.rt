@@ -1,10 +1,11 @@
 // What may go to another thread, and what threads may share.
-use crate::files::{files_of, shared};
+use crate::files::{entry_of, files_of};
 use analysis_host::{
     AnalysisHost, Answer, Ask, Never, Outcome, RowId, TextTree, Versions, World, WorldFault,
 };
 use plain::{Json, SharedJson};
 use std::test::Fail;
+use text_core::LineEndings;
 
 /// Lets go of a value that may go to another thread.
 fn sends<T: Send + Drop>(x: T) {
@@ -25,7 +26,8 @@ fn values_cross_threads(rt: HostRuntime) -> Result<(), Fail> {
     sends(Versions::new(alloc)?);
     shares(Versions::new(alloc)?);
     sends(files_of(alloc, "/w/a.rs", None)?);
-    sends(shared(alloc, "")?.clone()?);
+    sends(entry_of(alloc, "", LineEndings::Unix)?.clone()?);
+    shares(entry_of(alloc, "", LineEndings::Dos)?);
     shares(TextTree::new(alloc));
     sends(Never::new());
     Ok(())

@@ -1,7 +1,7 @@
 // Tables of texts that share what they have in common, and changes whose steps are counted.
 ghost use Rattle.std.specs.Prelude.{◌≡◌, ◌<◌};
 
-use crate::files::{done, files_of, path_at, present, shared};
+use crate::files::{done, entry_of, files_of, path_at, present};
 use analysis_host::{AnalysisHost, Change, TextTree};
 use docs_vfs::VfsPath;
 use shared_map::Steps;
@@ -9,6 +9,7 @@ use std::alloc::Global;
 use std::marker::Brand;
 use std::sync::ledger::{Blank, Ledger};
 use std::test::Fail;
+use text_core::LineEndings;
 
 /// The table with a path set to a text, or to none.
 fn set<L: Ledger>(
@@ -20,7 +21,7 @@ fn set<L: Ledger>(
 ) -> Result<TextTree, Fail> {
     let path = path_at(alloc, path)?;
     let entry = match text {
-        Some(text) => Some(shared(alloc, text)?),
+        Some(text) => Some(entry_of(alloc, text, LineEndings::Dos)?),
         None => None,
     };
     Ok(tree.set(path, entry, steps)?)
@@ -38,7 +39,7 @@ fn rest_told<L: Ledger>(
 
 fn text_at<'a>(tree: &'a TextTree, path: &VfsPath) -> &'a str {
     match tree.get(path) {
-        Some(text) => text.as_str(),
+        Some(entry) => entry.text.as_str(),
         None => "none",
     }
 }

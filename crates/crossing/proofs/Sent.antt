@@ -7,7 +7,7 @@ use Rattle.shared_map.proofs.tree.Tree.TheLaws.TheKnot as knot
 use Rattle.plain.proofs.text.Text.TheSendSync as Text
 use Rattle.docs_vfs.proofs.path.VfsPath.TheSendSync as VfsPath
 use Rattle.ra_config.proofs.config.Config.TheSendSync as Config
-use Rattle.analysis_host.proofs.shared_text.SharedText.TheSendSync as SharedText
+use Rattle.analysis_host.proofs.text_entry.TextEntry.TheSendSync as TextEntry
 use Rattle.analysis_host.specs.contracts.snapshot.GlobalStateSnapshot as Snapshot
 use Rattle.analysis_host.specs.contracts.snapshot.GlobalStateSnapshot.TheInside as SnapshotInside
 use Rattle.analysis_host.specs.contracts.snapshot.SnapshotParts as SnapshotParts
@@ -19,7 +19,7 @@ use Rattle.method_table.proofs.class.PoolClass.TheSendSync as PoolClass
 use Rattle.session_port.specs.contracts.command.Command as Command
 use Rattle.session_port.specs.contracts.job.Job as Job
 
-ruleset trees = (SharedText.the_send, SharedText.the_sync, VfsPath.the_send, VfsPath.the_sync, heap.crosses, knot.crosses, sendable)
+ruleset trees = (TextEntry.the_send, TextEntry.the_sync, VfsPath.the_send, VfsPath.the_sync, heap.crosses, knot.crosses, sendable)
 
 pub world_send : IsSend World.the_row
 world_send = search trees depth 60 fits 20000

@@ -2,7 +2,7 @@
 use Rattle.std.specs.Prelude.{◌≡◌, ◌⊎◌, ℕ, List, [], Option, None, Some, true}
 use Rattle.std.specs.Io.KnownBytes.{Appends}
 use Rattle.server.specs.Serving.{Serves, is_session}
-use Rattle.session_model.specs.Meaning.{meaning_of}
+use Rattle.desk.specs.Meaning.{meaning_of}
 use Rattle.session_model.specs.Run.{told_of}
 use Rattle.session_port.specs.Record.{HostCall, Rose}
 use Rattle.small_analysis.specs.Small.{small_decodes, small_answer}

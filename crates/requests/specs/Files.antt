@@ -1,11 +1,10 @@
 -- The text that a request speaks of, and the faults by which a request is refused.
 use Rattle.std.specs.Prelude.{ℕ, ◌++◌, List, codes, None, Result, Ok, Err}
-use Rattle.std.specs.FinMap as finmap
 use Rattle.std.specs.Option.{ok_or}
 use Rattle.docs_vfs.specs.FileUrls.{path_of}
 use Rattle.docs_vfs.specs.declared.file_url.UrlFault.{UrlFault}
 use Rattle.analysis_host.specs.Answers.{Finding, fault}
-use Rattle.analysis_host.specs.SnapshotData.{SnapshotData}
+use Rattle.analysis_host.specs.SnapshotData.{SnapshotData, text_at as world_text}
 
 -- a fault without code
 abbrev pub refusal : List ℕ → Finding
@@ -17,7 +16,7 @@ malformed = refusal (codes "invalid params")
 -- the text of the file that a URL names, or why there is none
 abbrev pub text_at : SnapshotData → Result (List ℕ) UrlFault → Result (List ℕ) (List ℕ)
 text_at snapshot (Err e) = Err (codes "url is not a file")
-text_at snapshot (Ok path) = ok_or (finmap.get snapshot.world.texts path) (codes "file not found: " ++ path)
+text_at snapshot (Ok path) = ok_or (world_text snapshot.world path) (codes "file not found: " ++ path)
 
 abbrev pub text_of : SnapshotData → List ℕ → Result (List ℕ) (List ℕ)
 text_of snapshot uri = text_at snapshot (path_of uri)

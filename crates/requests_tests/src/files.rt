@@ -1,7 +1,7 @@
 // The text that a request speaks of. Each function holds one large value, so that it stays quick to prove.
 use analysis_host::{
     AnalysisHost, Change, FileChange, GlobalStateSnapshot, Outcome, SharedText, SnapshotParts,
-    Versions,
+    TextEntry, Versions,
 };
 use docs_vfs::VfsPath;
 use plain::{Items, Text};
@@ -10,6 +10,7 @@ use requests::{malformed, refusal, text_of};
 use std::alloc::Global;
 use std::sync::Arc;
 use std::test::Fail;
+use text_core::LineEndings;
 
 fn path(alloc: Global, text: &str) -> Result<VfsPath, Fail> {
     Ok(VfsPath::new(alloc, text)?.ok_or("no path")?)
@@ -19,7 +20,10 @@ fn file(alloc: Global) -> Result<FileChange, Fail> {
     let text = SharedText::new(alloc, Text::from_str(alloc, "fn a() {}")?)?;
     Ok(FileChange {
         path: path(alloc, "/w/a.rs")?,
-        text: Some(text),
+        entry: Some(TextEntry {
+            text,
+            endings: LineEndings::Unix,
+        }),
     })
 }
 

@@ -2,7 +2,7 @@
 use Rattle.std.proofs.Common.{Bool, refl}
 use Rattle.std.specs.Prelude.{⊤, Err}
 use Rattle.session_model.specs.Headline.{EndsByCause, IsAnswered}
-use Rattle.session_model.specs.Meaning.{Meaning}
+use Rattle.desk.specs.Meaning.{Meaning}
 use Rattle.session_model.specs.Run.{Told, empty_reader, IsRun}
 use Rattle.session_model.specs.declared.fault.SessionError.TheVariants.{NoMemory}
 use Rattle.session_laws.proofs.Answered.{run-answered}

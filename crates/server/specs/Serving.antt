@@ -2,7 +2,7 @@
 use Rattle.std.specs.Prelude.{◌≡◌, ℕ, List, [], ◌∷◌, Bool, true, false, codes, ⊤, Result}
 use Rattle.ra_config.specs.Config.{ConfigData, config_at}
 use Rattle.session_model.specs.Headline.{IsAnswered, EndsByCause, IsComplete}
-use Rattle.session_model.specs.Meaning.{Meaning}
+use Rattle.desk.specs.Meaning.{Meaning}
 use Rattle.session_model.specs.Run.{Told, IsRun, empty_reader}
 use Rattle.session_model.specs.Texts.{same_text}
 use Rattle.session_model.specs.declared.fault.SessionError.{SessionError}

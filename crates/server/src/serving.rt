@@ -2,7 +2,7 @@
 ghost use Rattle.std.specs.Prelude.{◌≡◌, IfOk, true, false, ◌↔◌};
 ghost use Rattle.std.specs.FinMap as map;
 ghost use Rattle.session_port.specs.Record.{Rose};
-ghost use Rattle.session_model.specs.Meaning.{meaning_of};
+ghost use Rattle.desk.specs.Meaning.{meaning_of};
 ghost use Rattle.session_model.specs.Run.{told_of};
 ghost use Rattle.server.specs.Serving.{is_session, session_config, Serves, RanSession};
 ghost use Rattle.server.specs.Status.{status_of, bad_words};

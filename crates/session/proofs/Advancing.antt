@@ -9,7 +9,7 @@ use Rattle.session_port.specs.Record.{gave}
 use Rattle.session_port.specs.declared.event.HostEvent.{HostEvent}
 use Rattle.session_port.specs.declared.event.HostEvent.TheVariants.{Bytes}
 use Rattle.session_model.specs.Course.{Course, takes, waits, session_course, bytes_in}
-use Rattle.session_model.specs.Meaning.{Meaning}
+use Rattle.desk.specs.Meaning.{Meaning}
 use Rattle.session_model.specs.Run.{Told, Brings, Stretch, IsRun, Ends, EndsBy, IsHonestInput, MayAsk, after_input, fed_bytes, giving, telling}
 use Rattle.session_model.specs.State.{State, fresh}
 use Rattle.session_model.specs.declared.fault.SessionError.{SessionError}

@@ -6,7 +6,7 @@ use Rattle.session_port.specs.Record.{HostCall, gave}
 use Rattle.session_port.specs.declared.event.HostEvent.{HostEvent}
 use Rattle.session_port.specs.declared.event.HostEvent.TheVariants.{Bytes}
 use Rattle.session_model.specs.Course.{Course, takes, waits}
-use Rattle.session_model.specs.Meaning.{Meaning}
+use Rattle.desk.specs.Meaning.{Meaning}
 use Rattle.session_model.specs.Run.{Told, Turn, Brings, BreaksOffUnwritten, BreaksOffWritten, EndsBy, IsHonestInput, MayAsk, giving, telling}
 use Rattle.session_model.specs.State.{State}
 use Rattle.session_model.specs.declared.fault.SessionError.{SessionError}

@@ -4,11 +4,11 @@ use Rattle.lsp_frame.specs.Reader.{Reader}
 use Rattle.session_port.specs.Jobs.{Jobs}
 use Rattle.session_port.specs.Record.{took, after_order}
 use Rattle.session_model.specs.Machine.{step}
-use Rattle.session_model.specs.Meaning.{Meaning}
+use Rattle.desk.specs.Meaning.{Meaning}
 use Rattle.session_model.specs.Run.{Turn, Told, Steps, Stretch, EndsWell, EndsBy, begun, commands_of, fed_bytes, telling}
 use Rattle.session_model.specs.State.{State}
-use Rattle.session_model.specs.Written.{AreRead}
-use Rattle.session_model.specs.declared.fault.Counter.TheVariants.{Bytes as BytesCounter}
+use Rattle.turn_parts.specs.Written.{AreRead}
+use Rattle.turn_parts.specs.declared.fault.Counter.TheVariants.{Bytes as BytesCounter}
 use Rattle.session_model.specs.declared.fault.SessionError.{SessionError}
 use Rattle.session_model.specs.declared.fault.SessionError.TheVariants.{ClientExited, BadFrame, BadMessage, HostFault, WriteFault, Exhausted, NoMemory}
 use Rattle.session_model.specs.declared.input.Input.{Input}
@@ -45,7 +45,7 @@ TurnDone meaning input before now old new out out_now (Err NoMemory) = new ≡ o
 
 -- what a loop that counts turns and bytes has left
 abbrev pub left_of : State → ℕ → ℕ
-left_of state used = (2 ^ 64 - state.turns) + (2 ^ 64 - used)
+left_of state used = (2 ^ 64 - state.desk.turns) + (2 ^ 64 - used)
 
 -- a stretch from which the run goes on
 pub record Goes (meaning : Meaning) (before now : State) (reader reader_now : Reader) (old new : Told) (honest : Bool) (out out_now : Jobs) : Type 0 where

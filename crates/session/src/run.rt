@@ -5,9 +5,9 @@ ghost use Rattle.lsp_frame.specs.Frames.{cut_of};
 ghost use Rattle.lsp_frame.specs.declared.frame.Cut.TheVariants.{NeedMore};
 ghost use Rattle.session_port.specs.Record.{HasCause, Rose, after_ok, added, took};
 ghost use Rattle.session_model.specs.Headline.{IsAnswered, EndsByCause, IsComplete};
-ghost use Rattle.session_model.specs.Meaning.{meaning_of};
+ghost use Rattle.desk.specs.Meaning.{meaning_of};
 ghost use Rattle.session_model.specs.Machine.{step};
-ghost use Rattle.session_model.specs.Meets.{Meets};
+ghost use Rattle.turn_parts.specs.Meets.{Meets};
 ghost use Rattle.session_model.specs.Run.{IsRun, empty_reader, told_of, turn_error_of, fed_bytes};
 ghost use Rattle.session.specs.Looping.{Advances, AdvancesByEvent, TurnDone, IsFeedError};
 
@@ -63,11 +63,11 @@ fn run_turn<H: Host<A>, S: Sink, A: Analysis>(
 ) -> Result<(), SessionError>
     requires host_fresh { H.spent host.old ≡ false }
     requires sink_fresh { S.spent sink.old ≡ false }
-    requires handed { H.handed host.old ≡ state.old.jobs_given }
+    requires handed { H.handed host.old ≡ state.old.desk.handed }
     ensures host_fresh { OnOk result (H.spent host.new ≡ false) }
     ensures sink_fresh { OnOk result (S.spent sink.new ≡ false) }
     ensures turn { TurnDone (meaning_of A.decodes A.answer) input state.old state.new (told_of (H.calls host.old) (S.turns sink.old)) (told_of (H.calls host.new) (S.turns sink.new)) (H.out host.old) (H.out host.new) result }
-    ensures handed { OnOk result (H.handed host.new ≡ state.new.jobs_given) }
+    ensures handed { OnOk result (H.handed host.new ≡ state.new.desk.handed) }
     ensures honest_stays { H.honest host.new ≡ H.honest host.old }
     ensures host_later { H.faults host.old ≤ H.faults host.new }
     ensures host_fault { result ≡ Err SessionError.HostFault → Rose (H.faults host.old) (H.faults host.new) }
@@ -133,11 +133,11 @@ fn take_event<H: Host<A>, S: Sink, A: Analysis>(
     requires sink_fresh { S.spent sink.old ≡ false }
     requires waits { cut_of reader.old.held ≡ NeedMore }
     requires sound { reader.old.failed ≡ false }
-    requires handed { H.handed host.old ≡ state.old.jobs_given }
+    requires handed { H.handed host.old ≡ state.old.desk.handed }
     ensures host_fresh { OnOk result (H.spent host.new ≡ false) }
     ensures sink_fresh { OnOk result (S.spent sink.new ≡ false) }
     ensures turn { AdvancesByEvent (meaning_of A.decodes A.answer) state.old state.new reader.old reader.new (told_of (H.calls host.old) (S.turns sink.old)) (told_of (H.calls host.new) (S.turns sink.new)) (H.honest host.old) (H.out host.old) (H.out host.new) result }
-    ensures handed { OnOk result (H.handed host.new ≡ state.new.jobs_given) }
+    ensures handed { OnOk result (H.handed host.new ≡ state.new.desk.handed) }
     ensures honest_stays { H.honest host.new ≡ H.honest host.old }
     ensures host_later { H.faults host.old ≤ H.faults host.new }
     ensures host_fault { result ≡ Err SessionError.HostFault → Rose (H.faults host.old) (H.faults host.new) }
@@ -177,11 +177,11 @@ fn advance<H: Host<A>, S: Sink, A: Analysis>(
 ) -> Result<Turned, SessionError>
     requires host_fresh { H.spent host.old ≡ false }
     requires sink_fresh { S.spent sink.old ≡ false }
-    requires handed { H.handed host.old ≡ state.old.jobs_given }
+    requires handed { H.handed host.old ≡ state.old.desk.handed }
     ensures host_fresh { result ≡ Ok Turned.Going → H.spent host.new ≡ false }
     ensures sink_fresh { result ≡ Ok Turned.Going → S.spent sink.new ≡ false }
     ensures turn { Advances (meaning_of A.decodes A.answer) state.old state.new reader.old reader.new (told_of (H.calls host.old) (S.turns sink.old)) (told_of (H.calls host.new) (S.turns sink.new)) (H.honest host.old) (H.out host.old) (H.out host.new) result }
-    ensures handed { result ≡ Ok Turned.Going → H.handed host.new ≡ state.new.jobs_given }
+    ensures handed { result ≡ Ok Turned.Going → H.handed host.new ≡ state.new.desk.handed }
     ensures honest_stays { H.honest host.new ≡ H.honest host.old }
     ensures host_later { H.faults host.old ≤ H.faults host.new }
     ensures host_fault { result ≡ Err SessionError.HostFault → Rose (H.faults host.old) (H.faults host.new) }

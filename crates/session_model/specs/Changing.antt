@@ -7,8 +7,9 @@ use Rattle.serde_json.specs.Find.{get_member, as_str, as_object, as_array}
 use Rattle.text_core.specs.Changes.{document}
 use Rattle.text_core.specs.Skips.{skips}
 use Rattle.text_core.specs.declared.change.ContentChange.{ContentChange}
+use Rattle.text_core.specs.declared.position.PositionEncoding.{PositionEncoding}
 use Rattle.text_core.specs.declared.position.Range.{Range}
-use Rattle.analysis_host.specs.FromProto.{columns, range_of}
+use Rattle.analysis_host.specs.FromProto.{range_of}
 use Rattle.session_model.specs.declared.notice.DidChange.{DidChange}
 
 -- a range that is absent or null is none
@@ -53,12 +54,12 @@ abbrev pub text_held : Option (List ℕ) → List ℕ
 text_held held = unwrap_or held []
 
 -- the text that the changes leave
-unfoldable pub text_after : List ContentChange → Option (List ℕ) → List ℕ
-text_after changes held = document columns text_limit (text_held held) changes
+unfoldable pub text_after : PositionEncoding → List ContentChange → Option (List ℕ) → List ℕ
+text_after encoding changes held = document encoding text_limit (text_held held) changes
 
 -- one of them was skipped
-unfoldable pub has_skipped : List ContentChange → Option (List ℕ) → Bool
-has_skipped changes held = skips columns text_limit (text_held held) changes
+unfoldable pub has_skipped : PositionEncoding → List ContentChange → Option (List ℕ) → Bool
+has_skipped encoding changes held = skips encoding text_limit (text_held held) changes
 
 -- the text, where it is another one than the one held
 abbrev pub IsNews : Option (List ℕ) → List ℕ → Option (List ℕ) → Type 0

@@ -7,6 +7,7 @@ use Rattle.lsp_frame.specs.Frames.{cut_of, Frames, frame, rest, frames_from}
 use Rattle.lsp_frame.specs.Rules.{message_of}
 use Rattle.lsp_frame.specs.declared.message.Message.{Message}
 use Rattle.lsp_frame.specs.declared.message.Message.TheVariants.{Request as RequestMessage, Notification as NotificationMessage, Response as ResponseMessage}
+use Rattle.session_port.specs.Events.{bytes_of}
 use Rattle.session_port.specs.declared.event.HostEvent.{HostEvent}
 use Rattle.session_port.specs.declared.event.HostEvent.TheVariants.{Bytes, Ended, Tasks}
 use Rattle.session_model.specs.Texts.{same_text}
@@ -68,9 +69,7 @@ session_course at held events = takes Start (course_of at held events)
 -- how many bytes events bring
 abbrev pub bytes_in : List HostEvent → ℕ
 bytes_in [] = 0
-bytes_in (Bytes bytes ∷ events) = length bytes + bytes_in events
-bytes_in (Tasks batch ∷ events) = bytes_in events
-bytes_in (Ended ∷ events) = bytes_in events
+bytes_in (event ∷ events) = length (bytes_of event) + bytes_in events
 
 -- what ends a course, if anything does
 abbrev pub end_of : Course → Option Stop

@@ -2,14 +2,12 @@ pub mod Cancelling
 pub mod Changing
 pub mod Codes
 pub mod Course
+pub mod Entries
 pub mod Headline
+pub mod Inputs
 pub mod Machine
-pub mod Meaning
-pub mod Meets
 pub mod Notices
 pub mod Opening
-pub mod Replies
 pub mod Run
 pub mod State
 pub mod Texts
-pub mod Written

@@ -11,20 +11,20 @@ use Rattle.session_port.specs.declared.command.Command.{Command}
 use Rattle.session_port.specs.declared.command.Command.TheVariants.{Stop as StopCommand}
 use Rattle.session_port.specs.declared.event.HostEvent.{HostEvent}
 use Rattle.session_port.specs.declared.event.HostEvent.TheVariants.{Bytes, Ended}
+use Rattle.turn_parts.specs.Working.{Working}
+use Rattle.turn_parts.specs.Written.{AreRead, frames_for, nothing_done}
+use Rattle.turn_parts.specs.declared.fault.Counter.{Counter}
+use Rattle.turn_parts.specs.declared.fault.Counter.TheVariants.{Bytes as BytesCounter}
+use Rattle.turn_parts.specs.declared.fault.TurnError.{TurnError}
+use Rattle.turn_parts.specs.declared.fault.TurnError.TheVariants.{Exhausted as TurnExhausted, NoMemory as TurnNoMemory}
+use Rattle.desk.specs.Meaning.{Meaning}
 use Rattle.session_model.specs.Course.{Course, takes, stops, waits, exit, bad_frame, bad_message, client_gone, session_course, bytes_in}
-use Rattle.session_model.specs.Machine.{Working, step}
-use Rattle.session_model.specs.Meaning.{Meaning}
+use Rattle.session_model.specs.Inputs.{batch_of}
+use Rattle.session_model.specs.Machine.{step}
 use Rattle.session_model.specs.State.{State, fresh}
-use Rattle.session_model.specs.Written.{AreRead, frames_for, nothing_done}
-use Rattle.session_model.specs.declared.fault.Counter.{Counter}
-use Rattle.session_model.specs.declared.fault.Counter.TheVariants.{Bytes as BytesCounter}
 use Rattle.session_model.specs.declared.fault.SessionError.{SessionError}
 use Rattle.session_model.specs.declared.fault.SessionError.TheVariants.{ClientExited, BadFrame, BadMessage, HostFault, WriteFault, Exhausted, NoMemory}
-use Rattle.session_model.specs.declared.fault.TurnError.{TurnError}
-use Rattle.session_model.specs.declared.fault.TurnError.TheVariants.{Exhausted as TurnExhausted, NoMemory as TurnNoMemory}
-use Rattle.session_model.specs.declared.input.Event.TheVariants.{Lsp, Task}
 use Rattle.session_model.specs.declared.input.Input.{Input}
-use Rattle.session_model.specs.declared.input.Input.TheVariants.{Start, Next}
 
 -- one turn: what it took in, and what it wrote and ordered
 pub record Turn : Type 0 where
@@ -35,7 +35,7 @@ pub record Turn : Type 0 where
 abbrev pub bytes_of : Turn → List ℕ
 bytes_of turn = frames_for turn.messages
 
-abbrev pub begun : State → Working
+abbrev pub begun : State → Working State
 begun state = record { state = state; out = nothing_done }
 
 -- the machine takes this turn
@@ -55,9 +55,7 @@ AllRead (turn ∷ turns) = AreRead turn.messages × AllRead turns
 
 -- the jobs out after an input
 abbrev pub after_input : Input → Jobs → Jobs
-after_input Start out = out
-after_input (Next (Lsp message)) out = out
-after_input (Next (Task batch)) out = after_batch batch out
+after_input input out = after_batch (batch_of input) out
 
 -- the jobs out after a turn, by its input and its commands
 abbrev pub out_after : Turn → Jobs → Jobs
@@ -67,11 +65,9 @@ abbrev pub out_after_all : List Turn → Jobs → Jobs
 out_after_all [] out = out
 out_after_all (turn ∷ turns) out = out_after_all turns (out_after turn out)
 
--- each message of a batch is an honest host's
+-- each message of a job that an input brings is an honest host's
 abbrev pub IsHonestInput : Meaning → Jobs → Input → Type 0
-IsHonestInput meaning out Start = Unit {0}
-IsHonestInput meaning out (Next (Lsp message)) = Unit {0}
-IsHonestInput meaning out (Next (Task batch)) = AreHonestMessages meaning.answer out batch
+IsHonestInput meaning out input = AreHonestMessages meaning.answer out (batch_of input)
 
 abbrev pub AreHonest : Meaning → Jobs → List Turn → Type 0
 AreHonest meaning out [] = Unit {0}

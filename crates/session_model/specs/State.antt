@@ -1,46 +1,32 @@
--- The session's state, as contracts see it.
-use Rattle.std.specs.Prelude.{ℕ, ℤ, Bool, false}
+-- The session's state, as contracts see it: a record of its parts.
+use Rattle.std.specs.Prelude.{ℤ, Bool, false}
 use Rattle.std.specs.FinMap as map
 use Rattle.docs_vfs.specs.Paths.{path_cmp}
 use Rattle.ra_config.specs.Config.{ConfigData}
-use Rattle.lsp_frame.specs.Pending.{Pending, none_pending}
 use Rattle.analysis_host.specs.SnapshotData.{SnapshotData}
 use Rattle.analysis_host.specs.HostData.{HostData, new_host}
-use Rattle.session_port.specs.Jobs.{Jobs}
+use Rattle.desk.specs.Desk.{Desk, new_desk}
+use Rattle.desk.specs.declared.scene.Scene.{Scene}
 
 pub record State : Type 0 where
-  pub config : ConfigData
+  pub settings : ConfigData
   -- the world and its revision
   pub host : HostData
   -- the versions of the open documents
   pub versions : map.FinMap path_cmp ℤ
-  -- how many turns were counted
-  pub turns : ℕ
-  -- how many jobs were handed over
-  pub jobs_given : ℕ
-  -- the requests that wait for an answer
-  pub pending : Pending
-  -- the jobs that were handed over and have not ended
-  pub jobs : Jobs
-  -- `shutdown` was requested
-  pub shutdown : Bool
+  -- requests and jobs
+  pub desk : Desk
   -- files are loading
   pub loading : Bool
 
 -- the snapshot of the present
 abbrev pub snapshot_of : State → SnapshotData
-snapshot_of state = record { world = state.host.world; versions = state.versions; config = state.config; revision = state.host.revision }
+snapshot_of state = record { world = state.host.world; versions = state.versions; config = state.settings; revision = state.host.revision }
+
+-- what a request meets; the crate graph counts as complete
+abbrev pub scene_of : State → Scene
+scene_of state = record { snapshot = snapshot_of state; loading = state.loading; incomplete = false }
 
 -- the state before any turn
 abbrev pub fresh : ConfigData → State
-fresh config = record {
-  config = config;
-  host = new_host;
-  versions = map.empty;
-  turns = 0;
-  jobs_given = 0;
-  pending = none_pending;
-  jobs = map.empty;
-  shutdown = false;
-  loading = false;
-}
+fresh settings = record { settings = settings; host = new_host; versions = map.empty; desk = new_desk; loading = false }

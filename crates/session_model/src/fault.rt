@@ -1,43 +1,10 @@
-// Why a turn or a session ends.
+// Why a session ends.
 ghost use Rattle.std.specs.Prelude.{◌≡◌};
 ghost use Rattle.session_model.specs.declared.fault.SessionError.TheVariants.{NoMemory as SessionOutOfMemory};
-ghost use Rattle.session_model.specs.declared.fault.TurnError.TheVariants.{NoMemory as TurnOutOfMemory};
 
 use std::alloc::{AllocError, AllocFailed};
 use thiserror::Error;
-
-/// What is counted, each up to the greatest number of its type.
-#[derive(Clone, Copy, Debug, PartialEq, Eq, PartialOrd, Ord, Hash)]
-pub enum Counter {
-    Turns,
-    Bytes,
-    Jobs,
-    Revisions,
-}
-
-/// Why a turn was broken off. The state is spent after it.
-#[derive(Clone, Copy, Debug, PartialEq, Eq)]
-pub enum TurnError {
-    /// One more of this counter was needed than there are.
-    Exhausted { counter: Counter },
-    NoMemory,
-}
-
-impl From<AllocError> for TurnError {
-    ghost from_gives = { λ _ e. e ≡ TurnOutOfMemory };
-
-    fn from(_: AllocError) -> Self {
-        TurnError::NoMemory
-    }
-}
-
-impl<T: Drop> From<AllocFailed<T>> for TurnError {
-    ghost from_gives = { λ _ e. e ≡ TurnOutOfMemory };
-
-    fn from(_: AllocFailed<T>) -> Self {
-        TurnError::NoMemory
-    }
-}
+use turn_parts::Counter;
 
 /// Why a session ended otherwise than by `exit`.
 #[derive(Clone, Copy, Debug, PartialEq, Eq, Error)]

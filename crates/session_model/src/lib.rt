@@ -2,10 +2,13 @@
 //! requests and answers. The laws that carry it and the code that is it are in crates above; here are its types.
 #![tactic(auto)]
 
+mod facts;
 mod fault;
 mod input;
 mod notice;
 
-pub use fault::{Counter, SessionError, TurnError};
+pub use facts::Facts;
+pub use fault::SessionError;
 pub use input::{Event, Input};
 pub use notice::{DidChange, DidOpen, Notice};
+pub use turn_parts::{Counter, TurnError};

@@ -6,13 +6,15 @@ use Rattle.std.specs.Cmp.Lexicographic.{bytes_decides}
 use Rattle.text_core.specs.Changes.{IsOther}
 use Rattle.session_model.specs.Changing.{IsNews}
 use Rattle.lsp_frame.specs.declared.message.Notification.{Notification}
-use Rattle.session_model.specs.Machine.{Working, holds_text, noticed}
-use Rattle.session_model.specs.Meets.{Meets}
+use Rattle.session_model.specs.Entries.{holds_text}
+use Rattle.session_model.specs.Machine.{noticed}
+use Rattle.turn_parts.specs.Meets.{Meets}
+use Rattle.turn_parts.specs.Working.{Working}
 use Rattle.session_model.specs.Notices.{notice_of}
 use Rattle.session_model.specs.State.{State}
 use Rattle.session_model.specs.Texts.{same_text}
-use Rattle.session_model.specs.Written.{Written}
-use Rattle.session_model.specs.declared.fault.TurnError.{TurnError}
+use Rattle.turn_parts.specs.Written.{Written}
+use Rattle.turn_parts.specs.declared.fault.TurnError.{TurnError}
 use Rattle.session_model.specs.declared.notice.Notice.{Notice}
 
 some-same : (a b : List ℕ) → Some a ≡ Some b → a ≡ b
@@ -41,6 +43,6 @@ held_not None text other = refl
 held_not (Some held) text other = either (same_text held text) held text refl other
 
 -- what is told by a notice that a notification is
-pub noticed_as : {T : Type 0} (notice : Notice) (n : Notification) (result : Result T TurnError) (w : Working) (state : State) (out : Written) → notice ≡ notice_of n
+pub noticed_as : {T : Type 0} (notice : Notice) (n : Notification) (result : Result T TurnError) (w : Working State) (state : State) (out : Written) → notice ≡ notice_of n
     → Meets result (noticed notice n.method w) state out → Meets result (noticed (notice_of n) n.method w) state out
 noticed_as notice n result w state out is meets = subst (λ (x : Notice). Meets result (noticed x n.method w) state out) is meets

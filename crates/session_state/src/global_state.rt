@@ -1,51 +1,44 @@
 // The session's state and its turns.
-ghost use Rattle.std.specs.Prelude.{◌≡◌, ◌+◌, IfOk, OnOk, MatchResult, drop};
-ghost use Rattle.session_port.specs.Record.{after_order};
-ghost use Rattle.session_model.specs.Machine.{step, taken_in, happened, counted, kept, revised, replied, answered, logged, ordered, next_number};
-ghost use Rattle.session_model.specs.Meaning.{Meaning, meaning_of};
-ghost use Rattle.session_model.specs.Meets.{Meets, Gives};
-ghost use Rattle.session_model.specs.State.{snapshot_of, fresh};
-ghost use Rattle.session_model.specs.declared.fault.TurnError.TheVariants.{Exhausted};
-ghost use Rattle.session_model.specs.declared.input.Input.TheVariants.{Start, Next};
-ghost use Rattle.lsp_frame.specs.Pending.{IsAbove};
+ghost use Rattle.std.specs.Prelude.{◌≡◌, IfOk, OnOk, Some, is_some, not};
+ghost use Rattle.lsp_frame.specs.Pending.{IsAbove, id_of, is_pending};
 ghost use Rattle.lsp_frame.specs.Written.{AreWritable};
 ghost use Rattle.lsp_frame.specs.declared.message.Message.TheVariants.{Response as ResponseMessage};
+ghost use Rattle.turn_parts.specs.Meets.{Meets, Gives};
+ghost use Rattle.turn_parts.specs.Working.{ordered, logged};
+ghost use Rattle.desk.specs.Meaning.{Meaning, meaning_of};
+ghost use Rattle.desk.specs.Steps.{responded, cancelled};
+ghost use Rattle.session_model.specs.Machine.{at_desk, closed, counted, facts_of, happened, kept, revised, step, taken_in};
+ghost use Rattle.session_model.specs.State.{scene_of, snapshot_of, fresh};
+ghost use Rattle.session_model.specs.declared.input.Input.TheVariants.{Start, Next};
 
+mod messages;
 mod notifications;
-mod pending;
-mod requests;
-mod results;
 
 use analysis_host::{Analysis, AnalysisHost, GlobalStateSnapshot, SnapshotParts, Versions};
-use lsp_frame::{Incoming, Message, RequestId, Response};
-use plain::{ByNumber, Text};
+use desk::{Desk, Scene};
+use lsp_frame::{RequestId, Response};
+use plain::{NoMemory, Text};
 use ra_config::Config;
-use session_messages::TurnOut;
-use session_model::{Counter, Event, TurnError};
-use session_port::{Command, Job, LogCode};
+use session_model::{Event, Facts, TurnError};
+use session_port::{Command, LogCode};
 use std::alloc::{AllocError, Global};
 use std::marker::Model;
 use std::sync::Arc;
+use turn_parts::TurnOut;
 
 /// The state of a session.
 #[derive(Drop)]
 pub struct GlobalState {
     alloc: Global,
-    config: Arc<Config, Global>,
+    settings: Arc<Config, Global>,
     host: AnalysisHost,
     versions: Versions,
-    turns: u64,
-    jobs_given: u64,
-    pending: Incoming,
-    jobs: ByNumber<Job>,
-    shutdown: bool,
+    desk: Desk,
     loading: bool,
 }
 
 impl Model for GlobalState {
-    ghost use Rattle.std.specs.Prelude.{◌+◌};
     ghost use Rattle.std.specs.Arc.{arc_value};
-    ghost use Rattle.lsp_frame.specs.Pending.{IsAbove};
     ghost use Rattle.session_port.specs.contracts.job.Job as job;
     ghost use Rattle.session_model.specs.Codes.{state_code};
     ghost use Rattle.session_model.specs.State.{State};
@@ -54,57 +47,20 @@ impl Model for GlobalState {
 
     ghost coded = { state_code job.the_row.coded };
 
-    ghost view = { λ g. record { config = arc_value g.config; host = g.host; versions = g.versions; turns = g.turns; jobs_given = g.jobs_given; pending = g.pending; jobs = g.jobs; shutdown = g.shutdown; loading = g.loading } };
-
-    ghost invariant = { λ g. IsAbove (g.turns + 1) g.pending };
-}
-
-// The next number after those that were used.
-fn next_number(used: u64, counter: Counter) -> Result<u64, TurnError>
-    ensures meets { MatchResult result (λ n. next_number used counter ≡ Ok n) (λ e. (e ≡ Exhausted counter) × (next_number used counter ≡ Err counter)) }
-    ensures value { IfOk result (λ n. n ≡ used + 1) }
-{
-    if used == u64::MAX {
-        return Err(TurnError::Exhausted { counter });
-    }
-    Ok(used + 1)
-}
-
-// What stands behind so many.
-fn behind<T>(items: &[T], at: usize) -> &[T]
-    ensures { result.now ≡ drop at items.now }
-{
-    if at <= items.len() { &items[at..] } else { &[] }
-}
-
-// The jobs that commands hand over are out.
-fn put_jobs(jobs: &mut ByNumber<Job>, commands: &[Command]) -> Result<(), AllocError>
-    ensures { IfOk result (λ _. jobs.new ≡ after_order commands.now jobs.old) }
-{
-    for command in commands {
-        if let Command::Spawn(job) = command {
-            jobs.insert(job.number, job.clone()?)?;
-        }
-    }
-    Ok(())
+    ghost view = { λ g. record { settings = arc_value g.settings; host = g.host; versions = g.versions; desk = g.desk; loading = g.loading } };
 }
 
 impl GlobalState {
     /// The state before any turn.
-    #[tactic(auto, using(lsp_frame::proofs::Above::none_above))]
-    pub fn new(alloc: Global, config: Config) -> Result<Self, AllocError>
-        ensures { IfOk result (λ state. state ≡ fresh config) }
+    pub fn new(alloc: Global, settings: Config) -> Result<Self, AllocError>
+        ensures { IfOk result (λ state. state ≡ fresh settings) }
     {
         Ok(GlobalState {
             alloc,
-            config: Arc::new(alloc, config)?,
+            settings: Arc::new(alloc, settings)?,
             host: AnalysisHost::new(alloc)?,
             versions: Versions::new(alloc)?,
-            turns: 0,
-            jobs_given: 0,
-            pending: Incoming::new(alloc),
-            jobs: ByNumber::new(alloc),
-            shutdown: false,
+            desk: Desk::new(alloc),
             loading: false,
         })
     }
@@ -123,15 +79,61 @@ impl GlobalState {
         Ok(GlobalStateSnapshot::new(SnapshotParts {
             world: self.host.world()?,
             versions: self.versions.clone()?,
-            config: Arc::try_clone(&self.config)?,
+            config: Arc::try_clone(&self.settings)?,
             revision: self.host.revision(),
         }))
     }
+
+    // What a request meets. The crate graph counts as complete.
+    fn scene(&self) -> Result<Scene, AllocError>
+        ensures { IfOk result (λ scene. scene ≡ scene_of self.now) }
+    {
+        Ok(Scene {
+            snapshot: self.snapshot()?,
+            loading: self.loading,
+            incomplete: false,
+        })
+    }
 }
 
-// What is written and ordered.
+// Requests by their tickets and ids.
 impl GlobalState {
-    #[tactic(auto, unfolding(session_model::specs::Machine::ordered))]
+    /// Answers the request of a ticket under its id, and closes it; false where it isn't pending. After an `Err` the state is spent.
+    pub fn respond(
+        &mut self,
+        ticket: u64,
+        response: Response,
+        out: &mut TurnOut,
+    ) -> Result<bool, NoMemory>
+        requires { AreWritable (ResponseMessage response) }
+        ensures pending { IfOk result (λ done. done ≡ is_some (id_of ticket self.old.desk.pending)) }
+        ensures others { self.new ≡ record self.old { desk = self.new.desk } }
+        ensures after { OnOk result (record { state = self.new.desk; out = out.new } ≡ responded ticket (λ id. record response { id = Some id }) (record { state = self.old.desk; out = out.old })) }
+    {
+        self.desk.respond(ticket, response, out)
+    }
+
+    /// Answers the request of an id as one that the client cancelled, and closes it; false where it isn't pending. After an `Err` the
+    /// state is spent.
+    pub fn cancel(&mut self, id: RequestId, out: &mut TurnOut) -> Result<bool, NoMemory>
+        ensures pending { IfOk result (λ done. done ≡ is_pending id self.old.desk.pending) }
+        ensures others { self.new ≡ record self.old { desk = self.new.desk } }
+        ensures after { OnOk result (record { state = self.new.desk; out = out.new } ≡ cancelled id (record { state = self.old.desk; out = out.old })) }
+    {
+        self.desk.cancel(id, out)
+    }
+
+    /// Whether no request waits under a ticket.
+    pub fn is_completed(&self, ticket: u64) -> bool
+        ensures { result ≡ not (is_some (id_of ticket self.now.desk.pending)) }
+    {
+        self.desk.is_completed(ticket)
+    }
+}
+
+// What is ordered.
+impl GlobalState {
+    #[tactic(auto, unfolding(turn_parts::specs::Working::ordered))]
     fn order(&mut self, command: Command, out: &mut TurnOut) -> Result<(), TurnError>
         ensures gives { Gives result (ordered command (record { state = self.old; out = out.old })) self.new out.new }
         ensures same { self.new ≡ self.old }
@@ -140,48 +142,24 @@ impl GlobalState {
         Ok(())
     }
 
-    #[tactic(auto, unfolding(session_model::specs::Machine::logged))]
+    #[tactic(auto, unfolding(turn_parts::specs::Working::logged))]
     fn log(&mut self, code: LogCode, text: Text, out: &mut TurnOut) -> Result<(), TurnError>
         ensures gives { Gives result (logged code text (record { state = self.old; out = out.old })) self.new out.new }
         ensures same { self.new ≡ self.old }
     {
         self.order(Command::Log(code, text), out)
     }
-
-    #[tactic(auto, unfolding(session_model::specs::Machine::replied))]
-    fn reply(&mut self, response: Response, out: &mut TurnOut) -> Result<(), TurnError>
-        requires { AreWritable (ResponseMessage response) }
-        ensures { Gives result (replied response (record { state = self.old; out = out.old })) self.new out.new }
-    {
-        out.reply(response)?;
-        Ok(())
-    }
-
-    // Answers a pending request and closes it.
-    #[tactic(auto, using(lsp_frame::proofs::Above::closed_above), unfolding(session_model::specs::Machine::answered))]
-    fn answer(
-        &mut self,
-        id: &RequestId,
-        response: Response,
-        out: &mut TurnOut,
-    ) -> Result<(), TurnError>
-        requires { AreWritable (ResponseMessage response) }
-        ensures { Gives result (answered id.now response (record { state = self.old; out = out.old })) self.new out.new }
-    {
-        self.pending.cancel(id);
-        self.reply(response, out)
-    }
 }
 
 // Turns.
 impl GlobalState {
-    #[tactic(auto, using(lsp_frame::proofs::Above::counted_above, lsp_frame::proofs::Above::later_above), unfolding(session_model::specs::Machine::counted))]
+    // The turn is counted.
+    #[tactic(auto, using(turn_parts::proofs::Parts::within-meets), unfolding(session_model::specs::Machine::counted))]
     fn count(&mut self, out: &mut TurnOut) -> Result<(), TurnError>
-        ensures above { OnOk result (IsAbove self.new.turns self.new.pending) }
+        ensures above { OnOk result (IsAbove self.new.desk.turns self.new.desk.pending) }
         ensures meets { Meets result (counted (record { state = self.old; out = out.old })) self.new out.new }
     {
-        self.turns = next_number(self.turns, Counter::Turns)?;
-        Ok(())
+        self.desk.count(out)
     }
 
     #[tactic(auto, unfolding(session_model::specs::Machine::happened))]
@@ -191,7 +169,7 @@ impl GlobalState {
         analysis: &A,
         out: &mut TurnOut,
     ) -> Result<(), TurnError>
-        requires { IsAbove self.old.turns self.old.pending }
+        requires { IsAbove self.old.desk.turns self.old.desk.pending }
         ensures { Meets result (happened (meaning_of A.decodes A.answer) event (record { state = self.old; out = out.old })) self.new out.new }
     {
         match event {
@@ -200,18 +178,31 @@ impl GlobalState {
         }
     }
 
-    // The jobs that this turn hands over are out.
-    #[tactic(auto, unfolding(session_model::specs::Machine::kept))]
-    fn keep_jobs(&mut self, before: usize, out: &mut TurnOut) -> Result<(), TurnError>
-        ensures { Gives result (kept before (record { state = self.old; out = out.old })) self.new out.new }
+    // The turn is counted, and its event is taken in.
+    #[tactic(auto, unfolding(session_model::specs::Machine::taken_in))]
+    fn take_in<A: Analysis>(
+        &mut self,
+        event: Event,
+        analysis: &A,
+        out: &mut TurnOut,
+    ) -> Result<(), TurnError>
+        ensures { Meets result (taken_in (meaning_of A.decodes A.answer) event (record { state = self.old; out = out.old })) self.new out.new }
     {
-        put_jobs(&mut self.jobs, behind(out.commands(), before))?;
-        Ok(())
+        self.count(out)?;
+        self.on_event(event, analysis, out)
+    }
+
+    // The jobs that this turn hands over are out.
+    #[tactic(auto, using(turn_parts::proofs::Parts::within-meets), unfolding(session_model::specs::Machine::kept))]
+    fn keep_jobs(&mut self, before: usize, out: &mut TurnOut) -> Result<(), TurnError>
+        ensures { Meets result (kept before (record { state = self.old; out = out.old })) self.new out.new }
+    {
+        self.desk.keep_jobs(before, out)
     }
 
     // The host is told of a revision that rose in this turn.
     #[tactic(auto, unfolding(session_model::specs::Machine::revised))]
-    fn close_turn(&mut self, before: u64, out: &mut TurnOut) -> Result<(), TurnError>
+    fn revise(&mut self, before: u64, out: &mut TurnOut) -> Result<(), TurnError>
         ensures { Gives result (revised before (record { state = self.old; out = out.old })) self.new out.new }
     {
         let revision = self.host.revision();
@@ -221,19 +212,35 @@ impl GlobalState {
         self.order(Command::Revise(revision), out)
     }
 
+    // What closes a turn.
+    fn close_turn(&mut self, facts: Facts, out: &mut TurnOut) -> Result<(), TurnError>
+        ensures { Meets result (closed facts (record { state = self.old; out = out.old })) self.new out.new }
+    {
+        self.keep_jobs(facts.ordered, out)?;
+        self.revise(facts.revision, out)
+    }
+
+    // The facts before a turn.
+    fn facts(&self, out: &TurnOut) -> Facts
+        ensures { result ≡ facts_of (record { state = self.now; out = out.now }) }
+    {
+        Facts {
+            revision: self.host.revision(),
+            ordered: out.commands().len(),
+        }
+    }
+
     /// Turn 0. It uses no number of the turns. After an `Err` the state is spent.
-    #[tactic(auto, unfolding(session_model::specs::Machine::step, session_model::specs::Machine::taken_in))]
+    #[tactic(auto, unfolding(session_model::specs::Machine::step, session_model::specs::Machine::closing_part, turn_parts::specs::Working::within))]
     pub fn start(&mut self, out: &mut TurnOut) -> Result<(), TurnError>
         ensures { (meaning : Meaning) → Meets result (step meaning Start (record { state = self.old; out = out.old })) self.new out.new }
     {
-        let before = self.host.revision();
-        let ordered = out.commands().len();
-        self.keep_jobs(ordered, out)?;
-        self.close_turn(before, out)
+        let facts = self.facts(out);
+        self.close_turn(facts, out)
     }
 
     /// One turn. After an `Err` the state is spent.
-    #[tactic(auto, unfolding(session_model::specs::Machine::step, session_model::specs::Machine::taken_in))]
+    #[tactic(auto, unfolding(session_model::specs::Machine::step, session_model::specs::Machine::event_part, session_model::specs::Machine::closing_part, turn_parts::specs::Working::within))]
     pub fn handle_event<A: Analysis>(
         &mut self,
         event: Event,
@@ -242,11 +249,8 @@ impl GlobalState {
     ) -> Result<(), TurnError>
         ensures { Meets result (step (meaning_of A.decodes A.answer) (Next event) (record { state = self.old; out = out.old })) self.new out.new }
     {
-        let before = self.host.revision();
-        let ordered = out.commands().len();
-        self.count(out)?;
-        self.on_event(event, analysis, out)?;
-        self.keep_jobs(ordered, out)?;
-        self.close_turn(before, out)
+        let facts = self.facts(out);
+        self.take_in(event, analysis, out)?;
+        self.close_turn(facts, out)
     }
 }

@@ -4,4 +4,5 @@
 mod global_state;
 
 pub use global_state::GlobalState;
-pub use session_messages::{TurnOut, is_name};
+pub use session_messages::is_name;
+pub use turn_parts::TurnOut;

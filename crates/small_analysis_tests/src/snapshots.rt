@@ -1,6 +1,7 @@
 // Snapshots of one file, `/w/a.rs`. Each function holds one large value, so that it stays quick to prove.
 use analysis_host::{
-    AnalysisHost, Change, FileChange, GlobalStateSnapshot, SharedText, SnapshotParts, Versions,
+    AnalysisHost, Change, FileChange, GlobalStateSnapshot, SharedText, SnapshotParts, TextEntry,
+    Versions,
 };
 use docs_vfs::VfsPath;
 use plain::{Items, Text};
@@ -8,6 +9,7 @@ use ra_config::Config;
 use std::alloc::Global;
 use std::sync::Arc;
 use std::test::Fail;
+use text_core::LineEndings;
 
 fn path(alloc: Global, text: &str) -> Result<VfsPath, Fail> {
     Ok(VfsPath::new(alloc, text)?.ok_or("no path")?)
@@ -24,7 +26,10 @@ fn file(alloc: Global, text: &str) -> Result<FileChange, Fail> {
     let text = shared(alloc, text)?;
     Ok(FileChange {
         path: path(alloc, "/w/a.rs")?,
-        text: Some(text),
+        entry: Some(TextEntry {
+            text,
+            endings: LineEndings::Unix,
+        }),
     })
 }
 

@@ -1,24 +1,28 @@
-// Messages of the client: notifications, and which message is what.
+// Notifications.
 ghost use Rattle.std.specs.Prelude.{◌≡◌, ◌<◌, ◌^◌, List, ℕ, [], ◌∷◌, length, None, Some, Ok, IfOk, OnOk, IfSome, is_some};
 ghost use Rattle.std.specs.FinMap as map;
-ghost use Rattle.lsp_frame.specs.Pending.{IsAbove};
 ghost use Rattle.session_model.specs.Changing.{text_after, has_skipped, IsNews};
-ghost use Rattle.session_model.specs.Machine.{received, noticed, opened_at, open_noted, changed_at, edited, edited_by, skip_noted, cancelled, logged, version_set, text_set, holds_text, world_changed};
-ghost use Rattle.session_model.specs.Meaning.{meaning_of};
-ghost use Rattle.session_model.specs.Meets.{Meets, Gives};
+ghost use Rattle.analysis_host.specs.FromProto.{columns};
+ghost use Rattle.analysis_host.specs.SnapshotData.{text_at};
+ghost use Rattle.turn_parts.specs.Meets.{Meets, Gives};
+ghost use Rattle.turn_parts.specs.Working.{logged};
+ghost use Rattle.desk.specs.Steps.{cancelled};
+ghost use Rattle.session_model.specs.Machine.{at_desk, noticed, opened_at, open_noted, changed_at, edited, edited_by, skip_noted, version_set, text_set, world_changed};
+ghost use Rattle.session_model.specs.Entries.{entry_of, holds_text};
 ghost use Rattle.session_model.specs.Notices.{notice_of, FitsWorld};
 ghost use Rattle.docs_vfs.specs.FileUrls.{path_of};
 
 use crate::global_state::GlobalState;
-use analysis_host::{Analysis, Change, FileChange, SharedText, WorldFault, columns};
+use analysis_host::{Change, FileChange, SharedText, TextEntry, WorldFault, columns};
 use docs_vfs::{UrlFault, VfsPath, path_of_url};
-use lsp_frame::{Message, Notification, RequestId};
+use lsp_frame::{Notification, RequestId};
 use plain::{Items, Text};
-use session_messages::{TurnOut, canceled_by_client, id_text, notice_of};
+use session_messages::notice_of;
 use session_model::{Counter, DidChange, DidOpen, Notice, TurnError};
 use session_port::LogCode;
 use std::alloc::{AllocError, Global};
-use text_core::{ContentChange, TextIndex, edit_document};
+use text_core::{ContentChange, LineEndings, TextIndex, edit_document};
+use turn_parts::TurnOut;
 
 // What edits make of a text.
 #[derive(Drop)]
@@ -46,8 +50,8 @@ fn edit_text(
     index: &TextIndex,
     changes: Items<ContentChange>,
 ) -> Result<Edited, AllocError>
-    ensures text { IfOk result (λ edited. IsNews (Some index.now) (text_after changes (Some index.now)) edited.news) }
-    ensures skipped { IfOk result (λ edited. edited.skipped ≡ has_skipped changes (Some index.now)) }
+    ensures text { IfOk result (λ edited. IsNews (Some index.now) (text_after columns changes (Some index.now)) edited.news) }
+    ensures skipped { IfOk result (λ edited. edited.skipped ≡ has_skipped columns changes (Some index.now)) }
 {
     let edited = edit_document(alloc, columns(), index, changes)?;
     Ok(Edited {
@@ -59,8 +63,8 @@ fn edit_text(
 // The same of a document that has no text.
 #[tactic(auto, using(crate::proofs::News::news_of_none), unfolding(session_model::specs::Changing::text_after, session_model::specs::Changing::has_skipped))]
 fn edit_nothing(alloc: Global, changes: Items<ContentChange>) -> Result<Edited, AllocError>
-    ensures text { IfOk result (λ edited. IsNews None (text_after changes None) edited.news) }
-    ensures skipped { IfOk result (λ edited. edited.skipped ≡ has_skipped changes None) }
+    ensures text { IfOk result (λ edited. IsNews None (text_after columns changes None) edited.news) }
+    ensures skipped { IfOk result (λ edited. edited.skipped ≡ has_skipped columns changes None) }
 {
     let empty = TextIndex::from_text(alloc, Text::new(alloc))?;
     let edited = edit_document(alloc, columns(), &empty, changes)?;
@@ -93,12 +97,15 @@ impl GlobalState {
         text: SharedText,
         out: &mut TurnOut,
     ) -> Result<(), TurnError>
-        ensures { Meets result (world_changed ((record { path = path; text = Some text }) ∷ []) (record { state = self.old; out = out.old })) self.new out.new }
+        ensures { Meets result (world_changed ((record { path = path; entry = Some (entry_of text) }) ∷ []) (record { state = self.old; out = out.old })) self.new out.new }
     {
         let mut files = Items::new(self.alloc);
         files.push(FileChange {
             path,
-            text: Some(text),
+            entry: Some(TextEntry {
+                text,
+                endings: LineEndings::Unix,
+            }),
         })?;
         self.change_world(files, out)
     }
@@ -124,7 +131,7 @@ impl GlobalState {
         news: Option<SharedText>,
         out: &mut TurnOut,
     ) -> Result<(), TurnError>
-        ensures { (text : List ℕ) → IsNews (map.get self.old.host.world.texts path) text news
+        ensures { (text : List ℕ) → IsNews (text_at self.old.host.world path) text news
             → Meets result (text_set path text (record { state = self.old; out = out.old })) self.new out.new }
     {
         match news {
@@ -134,7 +141,7 @@ impl GlobalState {
     }
 
     fn has_text(&self, path: &VfsPath, text: &Text) -> bool
-        ensures { result ≡ holds_text (map.get self.now.host.world.texts path.now) text.now }
+        ensures { result ≡ holds_text (text_at self.now.host.world path.now) text.now }
     {
         match self.host.text(path) {
             None => false,
@@ -218,9 +225,9 @@ impl GlobalState {
 
     // The text that the changes leave of a document's, where it is another one; a document that has none is empty.
     fn edit_held(&self, path: &VfsPath, changes: Items<ContentChange>) -> Result<Edited, AllocError>
-        ensures text { let held = map.get self.now.host.world.texts path.now in
-            IfOk result (λ edited. IsNews held (text_after changes held) edited.news) }
-        ensures skipped { IfOk result (λ edited. edited.skipped ≡ has_skipped changes (map.get self.now.host.world.texts path.now)) }
+        ensures text { let held = text_at self.now.host.world path.now in
+            IfOk result (λ edited. IsNews held (text_after columns changes held) edited.news) }
+        ensures skipped { IfOk result (λ edited. edited.skipped ≡ has_skipped columns changes (text_at self.now.host.world path.now)) }
     {
         match self.host.index(path) {
             Some(index) => edit_text(self.alloc, index, changes),
@@ -297,15 +304,12 @@ impl GlobalState {
     }
 
     // The request of an id is cancelled, where it is pending.
-    #[tactic(auto, unfolding(session_model::specs::Machine::cancelled))]
-    fn on_cancel(&mut self, id: &RequestId, out: &mut TurnOut) -> Result<(), TurnError>
-        ensures { Gives result (cancelled id.now (record { state = self.old; out = out.old })) self.new out.new }
+    #[tactic(auto, using(turn_parts::proofs::Parts::within-meets))]
+    fn on_cancel(&mut self, id: RequestId, out: &mut TurnOut) -> Result<(), TurnError>
+        ensures { Meets result (at_desk (λ d. Ok (cancelled id d)) (record { state = self.old; out = out.old })) self.new out.new }
     {
-        if !self.pending.has_id(id) {
-            return Ok(());
-        }
-        let response = canceled_by_client(self.alloc, id.clone()?)?;
-        self.answer(id, response, out)
+        self.desk.cancel(id, out)?;
+        Ok(())
     }
 
     // What a notification of this method tells.
@@ -322,7 +326,7 @@ impl GlobalState {
         match notice {
             Notice::Opened(document) => self.on_open(document, out),
             Notice::Changed(change) => self.on_change(change, out),
-            Notice::Cancel(id) => self.on_cancel(&id, out),
+            Notice::Cancel(id) => self.on_cancel(id, out),
             Notice::Malformed => self.log(LogCode::MalformedNotification, method, out),
             Notice::Unhandled => self.log(LogCode::UnhandledNotification, method, out),
             Notice::Silent => Ok(()),
@@ -330,7 +334,7 @@ impl GlobalState {
     }
 
     #[tactic(auto, using(crate::proofs::News::noticed_as))]
-    fn on_notification(
+    pub(super) fn on_notification(
         &mut self,
         notification: Notification,
         out: &mut TurnOut,
@@ -340,25 +344,5 @@ impl GlobalState {
         let Notification { method, params } = notification;
         let notice = notice_of(self.alloc, &method, params)?;
         self.on_notice(notice, method, out)
-    }
-
-    #[tactic(auto, unfolding(session_model::specs::Machine::received))]
-    pub(super) fn on_message<A: Analysis>(
-        &mut self,
-        message: Message,
-        analysis: &A,
-        out: &mut TurnOut,
-    ) -> Result<(), TurnError>
-        requires { IsAbove self.old.turns self.old.pending }
-        ensures { Meets result (received (meaning_of A.decodes A.answer) message (record { state = self.old; out = out.old })) self.new out.new }
-    {
-        match message {
-            Message::Request(request) => self.on_request(request, analysis, out),
-            Message::Notification(notification) => self.on_notification(notification, out),
-            Message::Response(response) => {
-                let text = id_text(self.alloc, response.id)?;
-                self.log(LogCode::UnknownResponse, text, out)
-            }
-        }
     }
 }

@@ -1,7 +1,7 @@
 use Rattle.std.proofs.Common.{◌≤◌, ◌≡◌, false}
 use Rattle.std.specs.FinMap as map
 use Rattle.session_model.specs.Course.{session_course}
-use Rattle.session_model.specs.Meaning.{meaning_of}
+use Rattle.desk.specs.Meaning.{meaning_of}
 use Rattle.session_model.specs.Run.{Stretch, told_of, fed_bytes}
 use Rattle.session_model.specs.State.{fresh}
 use Rattle.session.specs.Looping.{left_of}
@@ -15,7 +15,7 @@ invariant-inputs g l = record {
       (g.H.Host.honest l.fn.host) map.empty (g.H.Host.out l.host);
   host_fresh : g.H.Host.spent l.host ≡ false;
   sink_fresh : g.S.Sink.spent l.sink ≡ false;
-  handed : g.H.Host.handed l.host ≡ l.state.jobs_given;
+  handed : g.H.Host.handed l.host ≡ l.state.desk.handed;
   honest_stays : g.H.Host.honest l.host ≡ g.H.Host.honest l.fn.host;
   host_later : g.H.Host.faults l.fn.host ≤ g.H.Host.faults l.host;
   sink_later : g.S.Sink.faults l.fn.sink ≤ g.S.Sink.faults l.sink;

@@ -1,7 +1,7 @@
 use Rattle.std.proofs.Common.{rules, arith, refl, inr, sym, subst, ◌≡◌}
 use Rattle.std.proofs.lemmas.Grind.{common_steps}
 use Rattle.session_port.specs.Record.{AreRising, spawned}
-use Rattle.session_model.specs.Meaning.{Meaning, meaning_of}
+use Rattle.desk.specs.Meaning.{Meaning, meaning_of}
 use Rattle.session_model.specs.Run.{Turn, Steps, told_of}
 use Rattle.session_laws.proofs.Rising.{steps-hand}
 use Rattle.session_laws.proofs.Stretches.{telling-turn}
@@ -37,7 +37,7 @@ returns-in-Ok-order-clause-handed g c =
     let turn : Turn = record { input = c.args.input; messages = c.take_input.new.out.messages; commands = c.take_input.new.out.commands } in
     let steps : Steps meaning c.args.state.now turn c.take_input.new.state = search rules in
     let same : c.into_commands.result ≡ turn.commands = search rules in
-    let before : g.H.Host.handed c.args.host.now ≡ c.args.state.now.jobs_given = c.requires.handed in
+    let before : g.H.Host.handed c.args.host.now ≡ c.args.state.now.desk.handed = c.requires.handed in
     let last = (steps-hand meaning c.args.state.now turn c.take_input.new.state steps).last in
     let h = c.in-Ok-order.ensures in
     grind (arith, common_steps, h, last, same, before)

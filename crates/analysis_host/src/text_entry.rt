@@ -1,0 +1,18 @@
+// What a world keeps of a file.
+ghost use Rattle.std.specs.Prelude.{◌≡◌};
+ghost use Rattle.std.proofs.Common.{rules};
+
+use crate::shared_text::SharedText;
+use plain::Copied;
+use text_core::LineEndings;
+
+/// A file's text, and how its lines ended before it was normalised. Its clones share the text and the index of its lines.
+#[derive(Clone, Drop)]
+pub struct TextEntry {
+    pub text: SharedText,
+    pub endings: LineEndings,
+}
+
+impl Copied for TextEntry {
+    ghost copies = { λ x y h. Prim.search rules };
+}

@@ -1,0 +1,7 @@
+pub mod Codes
+pub mod Desk
+pub mod Folds
+pub mod Meaning
+pub mod Reactions
+pub mod Replies
+pub mod Steps

@@ -1,0 +1,169 @@
+-- What the desk does: with a request that is read, one that is cancelled, and the messages of jobs.
+use Rattle.std.specs.Prelude.{ℕ, ◌+◌, ◌&&◌, Bool, true, false, not, List, decimal, drop, Option, None, Some, Result, Ok, Err, if◌then◌else◌, ltb}
+use Rattle.std.specs.FinMap as map
+use Rattle.serde_json.specs.Data.{Data, null}
+use Rattle.lsp_frame.specs.Pending.{is_pending, id_of, registered, closed}
+use Rattle.lsp_frame.specs.declared.message.RequestId.{RequestId}
+use Rattle.lsp_frame.specs.declared.message.Request.{Request}
+use Rattle.lsp_frame.specs.declared.message.Response.{Response}
+use Rattle.analysis_host.specs.declared.ask.Ask.TheVariants.{Request as RequestAsk}
+use Rattle.method_table.specs.Plans.{plan, is_shutdown}
+use Rattle.method_table.specs.Rows.{row_of, class_of, retries, default_of}
+use Rattle.method_table.specs.declared.class.PoolClass.{PoolClass}
+use Rattle.method_table.specs.declared.planned.Plan.{Plan}
+use Rattle.method_table.specs.declared.planned.Plan.TheVariants as plans
+use Rattle.method_table.specs.declared.row_id.RowId.{RowId}
+use Rattle.state_params.specs.StateRequests.{request_of}
+use Rattle.state_params.specs.Unit.{is_unit}
+use Rattle.state_params.specs.declared.request.StateRequest.{StateRequest}
+use Rattle.dispatch.specs.Responses.{response_with}
+use Rattle.session_port.specs.Jobs.{final_of, fitting_job}
+use Rattle.session_port.specs.Record.{after_order}
+use Rattle.session_port.specs.declared.command.Command.TheVariants.{Spawn}
+use Rattle.session_port.specs.declared.command.LogCode.TheVariants.{UnknownRequest, StrangeResult}
+use Rattle.session_port.specs.declared.event.TaskMsg.{TaskMsg}
+use Rattle.session_port.specs.declared.job.Job.{Job}
+use Rattle.session_port.specs.declared.job.JobKind.{JobKind}
+use Rattle.session_port.specs.declared.job.JobKind.TheVariants.{Request as RequestJob}
+use Rattle.session_port.specs.declared.job.JobResult.{JobResult}
+use Rattle.turn_parts.specs.Working.{Working, and_then, next_number, replied, ordered, logged}
+use Rattle.turn_parts.specs.declared.fault.Counter.{Counter}
+use Rattle.turn_parts.specs.declared.fault.Counter.TheVariants.{Turns, Jobs}
+use Rattle.desk.specs.Desk.{Desk, waiting_for}
+use Rattle.desk.specs.Meaning.{Meaning, can_read}
+use Rattle.desk.specs.Replies.{already_pending, shut_already, unknown_request, invalid_params, canceled_by_client}
+use Rattle.desk.specs.Replies.{stopped_reply, finding_reply, finished_reply}
+use Rattle.desk.specs.declared.scene.Scene.{Scene}
+
+-- ---- what is written
+
+-- a pending request is answered, and so closed
+unfoldable pub answered : RequestId → Response → Working Desk → Working Desk
+answered id response w = replied response (record w { state = record w.state { pending = closed id w.state.pending } })
+
+unfoldable pub answered_if : Option RequestId → (RequestId → Response) → Working Desk → Working Desk
+answered_if None reply w = w
+answered_if (Some id) reply w = answered id (reply id) w
+
+-- the request of a ticket is answered, where it waits
+unfoldable pub responded : ℕ → (RequestId → Response) → Working Desk → Working Desk
+responded ticket reply w = answered_if (id_of ticket w.state.pending) reply w
+
+-- ---- requests
+
+-- the turn is counted
+unfoldable pub counted : Working Desk → Result (Working Desk) Counter
+counted w = and_then (next_number w.state.turns Turns) (λ n. Ok (record w { state = record w.state { turns = n } }))
+
+-- the request waits for an answer, under the turn's number as its ticket
+unfoldable pub noted : RequestId → Working Desk → Working Desk
+noted id w = record w { state = record w.state { pending = registered w.state.turns id w.state.pending } }
+
+-- a job on the present snapshot is handed over; it is out from the end of the turn on
+unfoldable pub dispatched : Scene → PoolClass → ℕ → RowId → Data → Working Desk → Result (Working Desk) Counter
+dispatched scene class ticket row params w = and_then (next_number w.state.handed Jobs) (λ n.
+    let job : Job = record { number = n; class = class; kind = RequestJob ticket row params; snapshot = scene.snapshot } in
+    Ok (ordered (Spawn job) (record w { state = record w.state { handed = n } })))
+
+-- a request is answered by its own params, where they can be read
+unfoldable pub echoed : Bool → ℕ → Data → Working Desk → Working Desk
+echoed reads ticket params w = if reads then responded ticket (λ id. response_with id params) w else responded ticket invalid_params w
+
+-- the same by a query on the present snapshot
+unfoldable pub queried : Meaning → Scene → Bool → ℕ → RowId → Data → Working Desk → Working Desk
+queried meaning scene reads ticket row params w =
+    if reads then responded ticket (λ id. finding_reply id (meaning.answer scene.snapshot (RequestAsk row params))) w
+    else responded ticket invalid_params w
+
+-- the same by a job
+unfoldable pub submitted : Scene → Bool → PoolClass → ℕ → RowId → Data → Working Desk → Result (Working Desk) Counter
+submitted scene reads class ticket row params w =
+    if reads then dispatched scene class ticket row params w else Ok (responded ticket invalid_params w)
+
+-- a request to change the session's own state is answered by null; nothing else is done for it yet
+unfoldable pub stated : ℕ → Option StateRequest → Working Desk → Working Desk
+stated ticket None w = responded ticket invalid_params w
+stated ticket (Some request) w = responded ticket (λ id. response_with id null) w
+
+-- what is planned for a request of a row
+unfoldable pub planned : Meaning → Scene → Plan → ℕ → RowId → Data → Working Desk → Result (Working Desk) Counter
+planned meaning scene plans.Shutdown ticket row params w = Ok (stated ticket (request_of row params) w)
+planned meaning scene plans.Refuse ticket row params w = Ok (responded ticket shut_already w)
+planned meaning scene plans.Unknown ticket row params w = Ok (responded ticket unknown_request w)
+planned meaning scene plans.Default ticket row params w = Ok (responded ticket (λ id. response_with id (default_of row)) w)
+planned meaning scene plans.Identity ticket row params w = Ok (echoed (can_read meaning row params) ticket params w)
+planned meaning scene plans.State ticket row params w = Ok (stated ticket (request_of row params) w)
+planned meaning scene plans.OnLoop ticket row params w = Ok (queried meaning scene (can_read meaning row params) ticket row params w)
+planned meaning scene (plans.Job class) ticket row params w = submitted scene (can_read meaning row params) class ticket row params w
+
+-- a request of a row
+unfoldable pub classed : Meaning → Scene → ℕ → RowId → Data → Working Desk → Result (Working Desk) Counter
+classed meaning scene ticket row params w =
+    planned meaning scene (plan (Some row) scene.loading scene.incomplete w.state.shutdown) ticket row params w
+
+unfoldable pub unknown : ℕ → List ℕ → Working Desk → Working Desk
+unknown ticket method w = logged UnknownRequest method (responded ticket unknown_request w)
+
+-- a request that isn't `shutdown`
+unfoldable pub asked : Meaning → Scene → Option RowId → List ℕ → Data → Working Desk → Result (Working Desk) Counter
+asked meaning scene None method params w =
+    if w.state.shutdown then Ok (responded w.state.turns shut_already w) else Ok (unknown w.state.turns method w)
+asked meaning scene (Some row) method params w = classed meaning scene w.state.turns row params w
+
+-- the request `shutdown`: from now on no other request is taken
+unfoldable pub shut_down : Data → Working Desk → Working Desk
+shut_down params w =
+    if is_unit params then responded w.state.turns (λ id. response_with id null) (record w { state = record w.state { shutdown = true } })
+    else responded w.state.turns invalid_params w
+
+-- a request that waits now, under the turn's number
+unfoldable pub admitted : Meaning → Scene → List ℕ → Data → Working Desk → Result (Working Desk) Counter
+admitted meaning scene method params w =
+    if is_shutdown (row_of method) then Ok (shut_down params w) else asked meaning scene (row_of method) method params w
+
+unfoldable pub requested : Meaning → Scene → Request → Working Desk → Result (Working Desk) Counter
+requested meaning scene r w =
+    if is_pending r.id w.state.pending then Ok (replied (already_pending r.id) w)
+    else admitted meaning scene r.method r.params (noted r.id w)
+
+-- the request of an id is cancelled, where it is pending; its job stays out
+unfoldable pub cancelled : RequestId → Working Desk → Working Desk
+cancelled id w = if is_pending id w.state.pending then answered id (canceled_by_client id) w else w
+
+-- ---- results
+
+-- where the revision is above that of the job's snapshot, a row that isn't to be tried again is refused; else the request is taken as one that is
+-- read now, under the ticket that it has
+unfoldable pub stopped : Meaning → Scene → ℕ → JobKind → Working Desk → Result (Working Desk) Counter
+stopped meaning scene revision (RequestJob ticket row params) w =
+    if ltb revision scene.snapshot.revision && not (retries row) then Ok (responded ticket (stopped_reply (class_of row)) w)
+    else classed meaning scene ticket row params w
+
+unfoldable pub settled : Meaning → Scene → Option Response → RequestId → Job → Working Desk → Result (Working Desk) Counter
+settled meaning scene (Some response) id job w = Ok (answered id response w)
+settled meaning scene None id job w = stopped meaning scene job.snapshot.revision job.kind w
+
+-- a job's result, where its request still waits
+unfoldable pub delivered : Meaning → Scene → Option RequestId → Job → JobResult → Working Desk → Result (Working Desk) Counter
+delivered meaning scene None job result w = Ok w
+delivered meaning scene (Some id) job result w = settled meaning scene (finished_reply id result) id job w
+
+-- what a message tells of a job: where it has ended, its request gets the result
+unfoldable pub brought : Meaning → Scene → Option JobResult → Job → Working Desk → Result (Working Desk) Counter
+brought meaning scene None job w = Ok w
+brought meaning scene (Some result) job w = delivered meaning scene (waiting_for job w.state) job result w
+
+-- a job that a message fits is off the list; a message that fits none is logged
+unfoldable pub ended : Meaning → Scene → Option Job → TaskMsg → Working Desk → Result (Working Desk) Counter
+ended meaning scene None message w = Ok (logged StrangeResult (decimal message.job) w)
+ended meaning scene (Some job) message w =
+    brought meaning scene (final_of message.body) job (record w { state = record w.state { jobs = map.remove w.state.jobs message.job } })
+
+abbrev pub taken : Meaning → Scene → TaskMsg → Working Desk → Result (Working Desk) Counter
+taken meaning scene message w = ended meaning scene (fitting_job message w.state.jobs) message w
+
+-- ---- the end of a turn
+
+-- the jobs that were handed over after so many commands are out
+unfoldable pub kept : ℕ → Working Desk → Working Desk
+kept before w = record w { state = record w.state { jobs = after_order (drop before w.out.commands) w.state.jobs } }

@@ -1,0 +1,14 @@
+//! The desk of a session: the requests that wait for an answer, the jobs that work on them, and the reply table that
+//! says what each gets.
+#![tactic(auto)]
+
+mod replies;
+mod scene;
+mod state;
+
+pub use replies::{
+    already_pending, canceled_by_client, fault_reply, finished_reply, invalid_params, shut_already,
+    stopped_reply, unknown_request,
+};
+pub use scene::Scene;
+pub use state::Desk;

@@ -1,0 +1,159 @@
+// The desk: the requests that wait, and the jobs that work on them.
+ghost use Rattle.std.specs.Prelude.{◌≡◌, ◌+◌, IfOk, OnOk, MatchResult, drop};
+ghost use Rattle.session_port.specs.Record.{after_order};
+ghost use Rattle.turn_parts.specs.Meets.{Meets, Gives};
+ghost use Rattle.turn_parts.specs.Working.{next_number, replied, ordered, logged};
+ghost use Rattle.turn_parts.specs.declared.fault.TurnError.TheVariants.{Exhausted};
+ghost use Rattle.desk.specs.Desk.{new_desk};
+ghost use Rattle.desk.specs.Steps.{counted, kept, responded};
+ghost use Rattle.lsp_frame.specs.Pending.{IsAbove};
+ghost use Rattle.lsp_frame.specs.Written.{AreWritable};
+ghost use Rattle.lsp_frame.specs.declared.message.Message.TheVariants.{Response as ResponseMessage};
+
+mod pending;
+mod requests;
+mod results;
+
+use lsp_frame::{Incoming, Response};
+use plain::{ByNumber, Text};
+use session_port::{Command, Job, LogCode};
+use std::alloc::{AllocError, Global};
+use std::marker::Model;
+use turn_parts::{Counter, TurnError, TurnOut};
+
+/// The requests that wait for an answer, and the jobs that were handed over. A request's ticket is the number of the
+/// turn that read it.
+#[derive(Drop)]
+pub struct Desk {
+    alloc: Global,
+    turns: u64,
+    pending: Incoming,
+    jobs: ByNumber<Job>,
+    handed: u64,
+    shutdown: bool,
+}
+
+impl Model for Desk {
+    ghost use Rattle.std.specs.Prelude.{◌+◌};
+    ghost use Rattle.lsp_frame.specs.Pending.{IsAbove};
+    ghost use Rattle.session_port.specs.contracts.job.Job as job;
+    ghost use Rattle.desk.specs.Codes.{desk_code};
+    ghost use Rattle.desk.specs.Desk.{Desk};
+
+    ghost Value = { Desk };
+
+    ghost coded = { desk_code job.the_row.coded };
+
+    ghost view = { λ d. record { turns = d.turns; pending = d.pending; jobs = d.jobs; handed = d.handed; shutdown = d.shutdown } };
+
+    ghost invariant = { λ d. IsAbove (d.turns + 1) d.pending };
+}
+
+// The next number after those that were used.
+fn next_number(used: u64, counter: Counter) -> Result<u64, TurnError>
+    ensures meets { MatchResult result (λ n. next_number used counter ≡ Ok n) (λ e. (e ≡ Exhausted counter) × (next_number used counter ≡ Err counter)) }
+    ensures value { IfOk result (λ n. n ≡ used + 1) }
+{
+    if used == u64::MAX {
+        return Err(TurnError::Exhausted { counter });
+    }
+    Ok(used + 1)
+}
+
+// What stands behind so many.
+fn behind<T>(items: &[T], at: usize) -> &[T]
+    ensures { result.now ≡ drop at items.now }
+{
+    if at <= items.len() { &items[at..] } else { &[] }
+}
+
+// The jobs that commands hand over are out.
+fn put_jobs(jobs: &mut ByNumber<Job>, commands: &[Command]) -> Result<(), AllocError>
+    ensures { IfOk result (λ _. jobs.new ≡ after_order commands.now jobs.old) }
+{
+    for command in commands {
+        if let Command::Spawn(job) = command {
+            jobs.insert(job.number, job.clone()?)?;
+        }
+    }
+    Ok(())
+}
+
+impl Desk {
+    /// The desk before any turn.
+    #[tactic(auto, using(lsp_frame::proofs::Above::none_above))]
+    pub fn new(alloc: Global) -> Self
+        ensures { result ≡ new_desk }
+    {
+        Desk {
+            alloc,
+            turns: 0,
+            pending: Incoming::new(alloc),
+            jobs: ByNumber::new(alloc),
+            handed: 0,
+            shutdown: false,
+        }
+    }
+
+    /// How many turns were counted.
+    pub fn turns(&self) -> u64
+        ensures { result ≡ self.now.turns }
+    {
+        self.turns
+    }
+
+    /// How many jobs were handed over.
+    pub fn handed(&self) -> u64
+        ensures { result ≡ self.now.handed }
+    {
+        self.handed
+    }
+
+    /// The turn is counted. After an `Err` the desk is spent.
+    #[tactic(auto, using(lsp_frame::proofs::Above::counted_above, lsp_frame::proofs::Above::later_above), unfolding(desk::specs::Steps::counted))]
+    pub fn count(&mut self, out: &mut TurnOut) -> Result<(), TurnError>
+        ensures above { OnOk result (IsAbove self.new.turns self.new.pending) }
+        ensures meets { Meets result (counted (record { state = self.old; out = out.old })) self.new out.new }
+    {
+        self.turns = next_number(self.turns, Counter::Turns)?;
+        Ok(())
+    }
+
+    /// The jobs that this turn hands over, behind so many commands, are out.
+    #[tactic(auto, unfolding(desk::specs::Steps::kept))]
+    pub fn keep_jobs(&mut self, before: usize, out: &mut TurnOut) -> Result<(), TurnError>
+        ensures { Gives result (kept before (record { state = self.old; out = out.old })) self.new out.new }
+    {
+        put_jobs(&mut self.jobs, behind(out.commands(), before))?;
+        Ok(())
+    }
+}
+
+// What is written and ordered.
+impl Desk {
+    #[tactic(auto, unfolding(turn_parts::specs::Working::ordered))]
+    fn order(&mut self, command: Command, out: &mut TurnOut) -> Result<(), TurnError>
+        ensures gives { Gives result (ordered command (record { state = self.old; out = out.old })) self.new out.new }
+        ensures same { self.new ≡ self.old }
+    {
+        out.order(command)?;
+        Ok(())
+    }
+
+    #[tactic(auto, unfolding(turn_parts::specs::Working::logged))]
+    fn log(&mut self, code: LogCode, text: Text, out: &mut TurnOut) -> Result<(), TurnError>
+        ensures gives { Gives result (logged code text (record { state = self.old; out = out.old })) self.new out.new }
+        ensures same { self.new ≡ self.old }
+    {
+        self.order(Command::Log(code, text), out)
+    }
+
+    #[tactic(auto, unfolding(turn_parts::specs::Working::replied))]
+    fn reply(&mut self, response: Response, out: &mut TurnOut) -> Result<(), TurnError>
+        requires { AreWritable (ResponseMessage response) }
+        ensures { Gives result (replied response (record { state = self.old; out = out.old })) self.new out.new }
+    {
+        out.reply(response)?;
+        Ok(())
+    }
+}

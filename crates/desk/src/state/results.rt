@@ -1,0 +1,132 @@
+// Messages of jobs.
+ghost use Rattle.std.specs.Prelude.{◌≡◌, true, decimal, MatchOption};
+ghost use Rattle.std.specs.FinMap as map;
+ghost use Rattle.method_table.specs.Rows.{class_of};
+ghost use Rattle.session_port.specs.Jobs.{fitting_job, plain_result};
+ghost use Rattle.turn_parts.specs.Meets.{Meets, Gives};
+ghost use Rattle.turn_parts.specs.Working.{logged};
+ghost use Rattle.desk.specs.Desk.{waiting_for};
+ghost use Rattle.desk.specs.Meaning.{meaning_of};
+ghost use Rattle.desk.specs.Replies.{stopped_reply};
+ghost use Rattle.desk.specs.Steps.{taken, delivered, stopped, responded};
+
+use crate::state::Desk;
+use crate::replies::{finished_reply, stopped_reply};
+use crate::scene::Scene;
+use analysis_host::{Analysis, RowId};
+use method_table::{class_of, retries};
+use plain::Text;
+use session_port::{Job, JobKind, JobResult, LogCode, TaskBody, TaskMsg};
+use turn_parts::{TurnError, TurnOut};
+
+impl Desk {
+    // The request of a job that stopped is refused, since the texts have changed.
+    #[tactic(auto, unfolding(desk::specs::Steps::responded, desk::specs::Steps::answered_if, desk::specs::Steps::answered))]
+    fn refuse_stopped(
+        &mut self,
+        ticket: u64,
+        row: RowId,
+        out: &mut TurnOut,
+    ) -> Result<(), TurnError>
+        ensures { Gives result (responded ticket (stopped_reply (class_of row)) (record { state = self.old; out = out.old })) self.new out.new }
+    {
+        let Some(id) = self.close(ticket) else {
+            return Ok(());
+        };
+        let response = stopped_reply(self.alloc, class_of(row), id)?;
+        self.reply(response, out)
+    }
+
+    // A job stopped whose request waits: it is refused, or taken as one that is read now, under the ticket that it has.
+    #[tactic(auto, unfolding(desk::specs::Steps::stopped))]
+    fn on_stopped<A: Analysis>(
+        &mut self,
+        scene: &Scene,
+        job: Job,
+        analysis: &A,
+        out: &mut TurnOut,
+    ) -> Result<(), TurnError>
+        ensures { Meets result (stopped (meaning_of A.decodes A.answer) scene.now job.snapshot.revision job.kind (record { state = self.old; out = out.old })) self.new out.new }
+    {
+        let Job { kind, snapshot, .. } = job;
+        let JobKind::Request {
+            ticket,
+            row,
+            params,
+        } = kind;
+        if snapshot.revision() < scene.snapshot.revision() && !retries(row) {
+            return self.refuse_stopped(ticket, row, out);
+        }
+        self.on_class(scene, ticket, row, params, analysis, out)
+    }
+
+    // A result, where its request still waits.
+    #[tactic(auto, unfolding(desk::specs::Steps::delivered, desk::specs::Steps::settled, desk::specs::Steps::answered))]
+    fn deliver<A: Analysis>(
+        &mut self,
+        scene: &Scene,
+        job: Job,
+        outcome: JobResult,
+        analysis: &A,
+        out: &mut TurnOut,
+    ) -> Result<(), TurnError>
+        requires { plain_result outcome ≡ true }
+        ensures { Meets result (delivered (meaning_of A.decodes A.answer) scene.now (waiting_for job self.old) job outcome (record { state = self.old; out = out.old })) self.new out.new }
+    {
+        let JobKind::Request { ticket, .. } = &job.kind;
+        let ticket = *ticket;
+        if self.is_completed(ticket) {
+            return Ok(());
+        }
+        if let JobResult::Cancelled { .. } = &outcome {
+            return self.on_stopped(scene, job, analysis, out);
+        }
+        let Some(id) = self.close(ticket) else {
+            return Ok(());
+        };
+        match finished_reply(self.alloc, id, outcome)? {
+            Some(response) => self.reply(response, out),
+            None => Ok(()),
+        }
+    }
+
+    // A message of a job that fits none.
+    fn on_strange(&mut self, number: u64, out: &mut TurnOut) -> Result<(), TurnError>
+        ensures { Gives result (logged LogCode.StrangeResult (decimal number) (record { state = self.old; out = out.old })) self.new out.new }
+    {
+        let text = Text::from_string(format!(in self.alloc; "{number}")?);
+        self.log(LogCode::StrangeResult, text, out)
+    }
+
+    // Takes the job off that a message fits, where it fits one.
+    fn take_fitting(&mut self, message: &TaskMsg) -> Option<Job>
+        ensures value { result ≡ fitting_job message.now self.old.jobs }
+        ensures state { MatchOption result (self.new ≡ self.old) (λ _. self.new ≡ record self.old { jobs = map.remove self.old.jobs message.now.job }) }
+    {
+        let TaskBody::Final(outcome) = &message.body;
+        if !outcome.is_plain() || !self.jobs.contains(message.job) {
+            return None;
+        }
+        self.jobs.remove(message.job)
+    }
+
+    /// A message of a job. After an `Err` the desk is spent.
+    #[tactic(auto, unfolding(desk::specs::Steps::ended, desk::specs::Steps::brought))]
+    pub fn on_task<A: Analysis>(
+        &mut self,
+        scene: &Scene,
+        message: TaskMsg,
+        analysis: &A,
+        out: &mut TurnOut,
+    ) -> Result<(), TurnError>
+        ensures { Meets result (taken (meaning_of A.decodes A.answer) scene.now message (record { state = self.old; out = out.old })) self.new out.new }
+    {
+        match self.take_fitting(&message) {
+            None => self.on_strange(message.job, out),
+            Some(job) => {
+                let TaskBody::Final(outcome) = message.body;
+                self.deliver(scene, job, outcome, analysis, out)
+            }
+        }
+    }
+}

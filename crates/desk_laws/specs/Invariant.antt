@@ -1,0 +1,19 @@
+-- What holds of a desk between turns.
+use Rattle.std.specs.Prelude.{◌≡◌, ℕ, ◌≤◌, Some}
+use Rattle.std.specs.FinMap as map
+use Rattle.lsp_frame.specs.Pending.{AreDistinct, id_of}
+use Rattle.lsp_frame.specs.declared.message.RequestId.{RequestId}
+use Rattle.session_port.specs.Jobs.{ticket_of}
+use Rattle.session_port.specs.declared.job.Job.{Job}
+use Rattle.desk.specs.Desk.{Desk}
+use Rattle.desk.specs.Folds.{AreHeld}
+
+-- the ids that wait are distinct, and turns that were have read them; the jobs out have numbers that were given; those for requests are for ones that
+-- turns have read, and have snapshots of no later revision; and each request that waits is held by exactly one of them
+pub record Sound (desk : Desk) (revision : ℕ) : Type 0 where
+  pub distinct : AreDistinct desk.pending
+  pub tickets : (ticket : ℕ) (id : RequestId) → id_of ticket desk.pending ≡ Some id → ticket ≤ desk.turns
+  pub numbers : (n : ℕ) (job : Job) → map.get desk.jobs n ≡ Some job → n ≤ desk.handed
+  pub below : (n : ℕ) (job : Job) (ticket : ℕ) → map.get desk.jobs n ≡ Some job → ticket_of job.kind ≡ Some ticket → ticket ≤ desk.turns
+  pub revisions : (n : ℕ) (job : Job) (ticket : ℕ) → map.get desk.jobs n ≡ Some job → ticket_of job.kind ≡ Some ticket → job.snapshot.revision ≤ revision
+  pub held : AreHeld desk

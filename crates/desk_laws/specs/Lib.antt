@@ -1,0 +1,4 @@
+pub mod Invariant
+pub mod Numbers
+pub mod Reacting
+pub mod Settled

@@ -1,0 +1,39 @@
+-- What is asked of an input, each by one question.
+use Rattle.std.specs.Prelude.{ℕ, ◌+◌, List, [], Option, None, Some}
+use Rattle.lsp_frame.specs.declared.message.Request.{Request}
+use Rattle.lsp_frame.specs.declared.message.Message.{Message}
+use Rattle.lsp_frame.specs.declared.message.Message.TheVariants.{Request as RequestMessage, Notification as NotificationMessage, Response as ResponseMessage}
+use Rattle.session_port.specs.declared.event.TaskMsg.{TaskMsg}
+use Rattle.session_model.specs.Notices.{notice_of}
+use Rattle.session_model.specs.declared.input.Event.{Event}
+use Rattle.session_model.specs.declared.input.Event.TheVariants.{Lsp, Task}
+use Rattle.session_model.specs.declared.input.Input.{Input}
+use Rattle.session_model.specs.declared.input.Input.TheVariants.{Start, Next}
+use Rattle.session_model.specs.declared.notice.Notice.{Notice}
+
+-- the request that an input is, if it is one
+abbrev pub request_in : Input → Option Request
+request_in Start = None
+request_in (Next (Lsp (RequestMessage r))) = Some r
+request_in (Next (Lsp (NotificationMessage n))) = None
+request_in (Next (Lsp (ResponseMessage r))) = None
+request_in (Next (Task batch)) = None
+
+-- what an input tells, if it is a notification
+abbrev pub notice_in : Input → Option Notice
+notice_in Start = None
+notice_in (Next (Lsp (RequestMessage r))) = None
+notice_in (Next (Lsp (NotificationMessage n))) = Some (notice_of n)
+notice_in (Next (Lsp (ResponseMessage r))) = None
+notice_in (Next (Task batch)) = None
+
+-- the messages of jobs that an input brings
+abbrev pub batch_of : Input → List TaskMsg
+batch_of Start = []
+batch_of (Next (Lsp message)) = []
+batch_of (Next (Task batch)) = batch
+
+-- the start uses no number of the turns
+abbrev pub turns_after : Input → ℕ → ℕ
+turns_after Start turns = turns
+turns_after (Next event) turns = turns + 1

@@ -1,0 +1,81 @@
+// Messages of the client and of jobs: which is what.
+ghost use Rattle.std.specs.Prelude.{◌≡◌};
+ghost use Rattle.lsp_frame.specs.Pending.{IsAbove};
+ghost use Rattle.turn_parts.specs.Meets.{Meets};
+ghost use Rattle.desk.specs.Meaning.{meaning_of};
+ghost use Rattle.desk.specs.Steps.{requested};
+ghost use Rattle.session_model.specs.Machine.{at_desk, batched, received, taken};
+ghost use Rattle.session_model.specs.State.{scene_of};
+
+use crate::global_state::GlobalState;
+use analysis_host::Analysis;
+use lsp_frame::{Message, Request};
+use plain::Items;
+use session_messages::id_text;
+use session_model::TurnError;
+use session_port::{LogCode, TaskMsg};
+use turn_parts::TurnOut;
+
+impl GlobalState {
+    #[tactic(auto, using(turn_parts::proofs::Parts::within-meets))]
+    fn on_request<A: Analysis>(
+        &mut self,
+        request: Request,
+        analysis: &A,
+        out: &mut TurnOut,
+    ) -> Result<(), TurnError>
+        requires { IsAbove self.old.desk.turns self.old.desk.pending }
+        ensures { Meets result (at_desk (requested (meaning_of A.decodes A.answer) (scene_of self.old) request) (record { state = self.old; out = out.old })) self.new out.new }
+    {
+        let scene = self.scene()?;
+        self.desk.on_request(&scene, request, analysis, out)
+    }
+
+    #[tactic(auto, unfolding(session_model::specs::Machine::received))]
+    pub(super) fn on_message<A: Analysis>(
+        &mut self,
+        message: Message,
+        analysis: &A,
+        out: &mut TurnOut,
+    ) -> Result<(), TurnError>
+        requires { IsAbove self.old.desk.turns self.old.desk.pending }
+        ensures { Meets result (received (meaning_of A.decodes A.answer) message (record { state = self.old; out = out.old })) self.new out.new }
+    {
+        match message {
+            Message::Request(request) => self.on_request(request, analysis, out),
+            Message::Notification(notification) => self.on_notification(notification, out),
+            Message::Response(response) => {
+                let text = id_text(self.alloc, response.id)?;
+                self.log(LogCode::UnknownResponse, text, out)
+            }
+        }
+    }
+
+    #[tactic(auto, using(turn_parts::proofs::Parts::within-meets))]
+    fn on_task<A: Analysis>(
+        &mut self,
+        message: TaskMsg,
+        analysis: &A,
+        out: &mut TurnOut,
+    ) -> Result<(), TurnError>
+        ensures { Meets result (taken (meaning_of A.decodes A.answer) message (record { state = self.old; out = out.old })) self.new out.new }
+    {
+        let scene = self.scene()?;
+        self.desk.on_task(&scene, message, analysis, out)
+    }
+
+    // The messages of a batch, one after another.
+    pub(super) fn on_batch<A: Analysis>(
+        &mut self,
+        batch: Items<TaskMsg>,
+        analysis: &A,
+        out: &mut TurnOut,
+    ) -> Result<(), TurnError>
+        ensures { Meets result (batched (meaning_of A.decodes A.answer) batch (record { state = self.old; out = out.old })) self.new out.new }
+    {
+        for message in batch.into_vec() {
+            self.on_task(message, analysis, out)?;
+        }
+        Ok(())
+    }
+}

@@ -1,0 +1,4 @@
+pub mod Codes
+pub mod Meets
+pub mod Working
+pub mod Written
