@@ -55,9 +55,10 @@ impl Desk {
         ensures pending { IfOk result (λ done. done ≡ is_pending id self.old.pending) }
         ensures after { OnOk result (record { state = self.new; out = out.new } ≡ cancelled id (record { state = self.old; out = out.old })) }
     {
-        if self.pending.cancel(&id).is_none() {
+        if !self.pending.has_id(&id) {
             return Ok(false);
         }
+        self.pending.cancel(&id);
         let response = canceled_by_client(self.alloc, id)?;
         out.reply(response)?;
         Ok(true)

@@ -1,9 +1,10 @@
 // Requests.
-ghost use Rattle.std.specs.Prelude.{◌≡◌, IfOk, OnOk, Some};
+ghost use Rattle.std.specs.Prelude.{◌≡◌, IfOk, OnOk, Some, true};
 ghost use Rattle.lsp_frame.specs.Pending.{IsAbove, Registers, id_of};
 ghost use Rattle.lsp_frame.specs.declared.message.RequestId.{RequestId};
 ghost use Rattle.lsp_frame.specs.Written.{AreWritable};
 ghost use Rattle.lsp_frame.specs.declared.message.Message.TheVariants.{Response as ResponseMessage};
+ghost use Rattle.plain.specs.Plain.{is_plain};
 ghost use Rattle.analysis_host.specs.declared.ask.Ask.TheVariants.{Request as RequestAsk};
 ghost use Rattle.method_table.specs.Plans.{is_shutdown};
 ghost use Rattle.method_table.specs.Rows.{default_of};
@@ -107,6 +108,7 @@ impl Desk {
         value: Json,
         out: &mut TurnOut,
     ) -> Result<(), TurnError>
+        requires { is_plain value ≡ true }
         ensures { Gives result (responded ticket (λ id. response_with id value) (record { state = self.old; out = out.old })) self.new out.new }
     {
         let Some(id) = self.close(ticket) else {
