@@ -110,7 +110,7 @@ impl Desk {
     }
 
     /// The turn is counted. After an `Err` the desk is spent.
-    #[tactic(auto, using(lsp_frame::proofs::Above::counted_above, lsp_frame::proofs::Above::later_above), unfolding(desk::specs::Steps::counted))]
+    #[tactic(auto, using(lsp_frame::proofs::Above::counted_above, lsp_frame::proofs::Above::later_above), unfolding(crate::specs::Steps::counted))]
     pub fn count(&mut self, out: &mut TurnOut) -> Result<(), TurnError>
         ensures above { OnOk result (IsAbove self.new.turns self.new.pending) }
         ensures meets { Meets result (counted (record { state = self.old; out = out.old })) self.new out.new }
@@ -120,7 +120,7 @@ impl Desk {
     }
 
     /// The jobs that this turn hands over, behind so many commands, are out.
-    #[tactic(auto, unfolding(desk::specs::Steps::kept))]
+    #[tactic(auto, unfolding(crate::specs::Steps::kept))]
     pub fn keep_jobs(&mut self, before: usize, out: &mut TurnOut) -> Result<(), TurnError>
         ensures { Gives result (kept before (record { state = self.old; out = out.old })) self.new out.new }
     {

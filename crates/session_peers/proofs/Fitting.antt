@@ -1,5 +1,5 @@
 -- Messages that fit a job out.
-use Rattle.std.proofs.Common.{◌≡◌, true, refl, ap, ◌∙◌}
+use Rattle.std.proofs.Common.{◌≡◌, true, ap, ◌∙◌}
 use Rattle.std.specs.Prelude.{None, Some, option_and_then, if◌then◌else◌}
 use Rattle.std.specs.FinMap as map
 use Rattle.session_port.specs.Jobs.{Jobs, fits, if_fits, without_fitting, after_message}

@@ -13,7 +13,7 @@ use turn_parts::TurnOut;
 
 impl Desk {
     // Closes the request of a ticket, where it waits, and answers its id.
-    #[tactic(auto, using(lsp_frame::proofs::Above::closed_above))]
+    #[tactic(auto, using(crate::proofs::Tickets::completed_above))]
     pub(super) fn close(&mut self, ticket: u64) -> Option<RequestId>
         ensures value { result ≡ id_of ticket self.old.pending }
         ensures after { MatchOption result (self.new ≡ self.old) (λ id. self.new ≡ record self.old { pending = closed id self.old.pending }) }
@@ -25,7 +25,7 @@ impl Desk {
     }
 
     /// Answers the request of a ticket under its id, and closes it; false where it isn't pending. After an `Err` the desk is spent.
-    #[tactic(auto, unfolding(desk::specs::Steps::responded, desk::specs::Steps::answered_if, desk::specs::Steps::answered, turn_parts::specs::Working::replied))]
+    #[tactic(auto, unfolding(crate::specs::Steps::responded, crate::specs::Steps::answered_if, crate::specs::Steps::answered, turn_parts::specs::Working::replied))]
     pub fn respond(
         &mut self,
         ticket: u64,
@@ -50,14 +50,15 @@ impl Desk {
 
     /// Answers the request of an id as one that the client cancelled, and closes it; false where it isn't pending. After an `Err` the
     /// desk is spent.
-    #[tactic(auto, using(lsp_frame::proofs::Above::closed_above), unfolding(desk::specs::Steps::cancelled, desk::specs::Steps::answered, turn_parts::specs::Working::replied))]
+    #[tactic(auto, using(lsp_frame::proofs::Above::closed_above), unfolding(crate::specs::Steps::cancelled, crate::specs::Steps::answered, turn_parts::specs::Working::replied))]
     pub fn cancel(&mut self, id: RequestId, out: &mut TurnOut) -> Result<bool, NoMemory>
         ensures pending { IfOk result (λ done. done ≡ is_pending id self.old.pending) }
         ensures after { OnOk result (record { state = self.new; out = out.new } ≡ cancelled id (record { state = self.old; out = out.old })) }
     {
-        if self.pending.cancel(&id).is_none() {
+        if !self.pending.has_id(&id) {
             return Ok(false);
         }
+        self.pending.cancel(&id);
         let response = canceled_by_client(self.alloc, id)?;
         out.reply(response)?;
         Ok(true)

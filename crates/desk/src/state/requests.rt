@@ -1,9 +1,10 @@
 // Requests.
-ghost use Rattle.std.specs.Prelude.{◌≡◌, IfOk, OnOk, Some};
+ghost use Rattle.std.specs.Prelude.{◌≡◌, IfOk, OnOk, Some, true};
 ghost use Rattle.lsp_frame.specs.Pending.{IsAbove, Registers, id_of};
 ghost use Rattle.lsp_frame.specs.declared.message.RequestId.{RequestId};
 ghost use Rattle.lsp_frame.specs.Written.{AreWritable};
 ghost use Rattle.lsp_frame.specs.declared.message.Message.TheVariants.{Response as ResponseMessage};
+ghost use Rattle.plain.specs.Plain.{is_plain};
 ghost use Rattle.analysis_host.specs.declared.ask.Ask.TheVariants.{Request as RequestAsk};
 ghost use Rattle.method_table.specs.Plans.{is_shutdown};
 ghost use Rattle.method_table.specs.Rows.{default_of};
@@ -64,7 +65,7 @@ fn answer_now<A: Analysis>(
 // What a request of a row is answered at once.
 impl Desk {
     // Refuses a request whose params can't be read.
-    #[tactic(auto, unfolding(desk::specs::Steps::responded, desk::specs::Steps::answered_if, desk::specs::Steps::answered))]
+    #[tactic(auto, unfolding(crate::specs::Steps::responded, crate::specs::Steps::answered_if, crate::specs::Steps::answered))]
     fn refuse_params(&mut self, ticket: u64, out: &mut TurnOut) -> Result<(), TurnError>
         ensures { Gives result (responded ticket invalid_params (record { state = self.old; out = out.old })) self.new out.new }
     {
@@ -76,7 +77,7 @@ impl Desk {
     }
 
     // Refuses a request after a shutdown.
-    #[tactic(auto, unfolding(desk::specs::Steps::responded, desk::specs::Steps::answered_if, desk::specs::Steps::answered))]
+    #[tactic(auto, unfolding(crate::specs::Steps::responded, crate::specs::Steps::answered_if, crate::specs::Steps::answered))]
     fn refuse_shut(&mut self, ticket: u64, out: &mut TurnOut) -> Result<(), TurnError>
         ensures { Gives result (responded ticket shut_already (record { state = self.old; out = out.old })) self.new out.new }
     {
@@ -88,7 +89,7 @@ impl Desk {
     }
 
     // Refuses a request of a row that the table doesn't have.
-    #[tactic(auto, unfolding(desk::specs::Steps::responded, desk::specs::Steps::answered_if, desk::specs::Steps::answered))]
+    #[tactic(auto, unfolding(crate::specs::Steps::responded, crate::specs::Steps::answered_if, crate::specs::Steps::answered))]
     fn refuse_unknown(&mut self, ticket: u64, out: &mut TurnOut) -> Result<(), TurnError>
         ensures { Gives result (responded ticket unknown_request (record { state = self.old; out = out.old })) self.new out.new }
     {
@@ -100,13 +101,14 @@ impl Desk {
     }
 
     // Answers a request by a value.
-    #[tactic(auto, unfolding(desk::specs::Steps::responded, desk::specs::Steps::answered_if, desk::specs::Steps::answered))]
+    #[tactic(auto, unfolding(crate::specs::Steps::responded, crate::specs::Steps::answered_if, crate::specs::Steps::answered))]
     fn answer_value(
         &mut self,
         ticket: u64,
         value: Json,
         out: &mut TurnOut,
     ) -> Result<(), TurnError>
+        requires { is_plain value ≡ true }
         ensures { Gives result (responded ticket (λ id. response_with id value) (record { state = self.old; out = out.old })) self.new out.new }
     {
         let Some(id) = self.close(ticket) else {
@@ -129,7 +131,7 @@ impl Desk {
     }
 
     // Answers a request by a query on the present snapshot.
-    #[tactic(auto, unfolding(desk::specs::Steps::responded, desk::specs::Steps::answered_if, desk::specs::Steps::answered))]
+    #[tactic(auto, unfolding(crate::specs::Steps::responded, crate::specs::Steps::answered_if, crate::specs::Steps::answered))]
     fn answer_query<A: Analysis>(
         &mut self,
         scene: &Scene,
@@ -152,7 +154,7 @@ impl Desk {
 // What is planned for a request.
 impl Desk {
     // Hands over a job on the present snapshot.
-    #[tactic(auto, unfolding(desk::specs::Steps::dispatched))]
+    #[tactic(auto, unfolding(crate::specs::Steps::dispatched))]
     fn dispatch(
         &mut self,
         scene: &Scene,
@@ -180,7 +182,7 @@ impl Desk {
     }
 
     // Answers a request by its own params, where they can be read.
-    #[tactic(auto, unfolding(desk::specs::Steps::echoed))]
+    #[tactic(auto, unfolding(crate::specs::Steps::echoed))]
     fn echo<A: Analysis>(
         &mut self,
         ticket: u64,
@@ -200,7 +202,7 @@ impl Desk {
     }
 
     // The same by a query on the present snapshot.
-    #[tactic(auto, unfolding(desk::specs::Steps::queried))]
+    #[tactic(auto, unfolding(crate::specs::Steps::queried))]
     fn query<A: Analysis>(
         &mut self,
         scene: &Scene,
@@ -220,7 +222,7 @@ impl Desk {
     }
 
     // The same by a job.
-    #[tactic(auto, unfolding(desk::specs::Steps::submitted))]
+    #[tactic(auto, unfolding(crate::specs::Steps::submitted))]
     fn submit<A: Analysis>(
         &mut self,
         scene: &Scene,
@@ -241,7 +243,7 @@ impl Desk {
     }
 
     // A request to change the session's own state. Nothing is done for it yet.
-    #[tactic(auto, unfolding(desk::specs::Steps::stated))]
+    #[tactic(auto, unfolding(crate::specs::Steps::stated))]
     fn on_state(
         &mut self,
         ticket: u64,
@@ -258,7 +260,7 @@ impl Desk {
     }
 
     // What is planned for a request of a row.
-    #[tactic(auto, unfolding(desk::specs::Steps::planned))]
+    #[tactic(auto, unfolding(crate::specs::Steps::planned))]
     fn carry_out<A: Analysis>(
         &mut self,
         scene: &Scene,
@@ -284,7 +286,7 @@ impl Desk {
     }
 
     // A request of a row.
-    #[tactic(auto, unfolding(desk::specs::Steps::classed))]
+    #[tactic(auto, unfolding(crate::specs::Steps::classed))]
     pub(super) fn on_class<A: Analysis>(
         &mut self,
         scene: &Scene,
@@ -303,7 +305,7 @@ impl Desk {
 
 // Requests that are read.
 impl Desk {
-    #[tactic(auto, unfolding(desk::specs::Steps::unknown))]
+    #[tactic(auto, unfolding(crate::specs::Steps::unknown))]
     fn on_unknown(
         &mut self,
         ticket: u64,
@@ -317,7 +319,7 @@ impl Desk {
     }
 
     // A request that isn't `shutdown`.
-    #[tactic(auto, unfolding(desk::specs::Steps::asked))]
+    #[tactic(auto, unfolding(crate::specs::Steps::asked))]
     fn on_row<A: Analysis>(
         &mut self,
         scene: &Scene,
@@ -341,7 +343,7 @@ impl Desk {
     }
 
     // From now on no other request is taken.
-    #[tactic(auto, unfolding(desk::specs::Steps::shut_down))]
+    #[tactic(auto, unfolding(crate::specs::Steps::shut_down))]
     fn shut_down(&mut self, params: &Json, out: &mut TurnOut) -> Result<(), TurnError>
         ensures { Gives result (shut_down params.now (record { state = self.old; out = out.old })) self.new out.new }
     {
@@ -354,7 +356,7 @@ impl Desk {
     }
 
     // A request that waits now.
-    #[tactic(auto, unfolding(desk::specs::Steps::admitted))]
+    #[tactic(auto, unfolding(crate::specs::Steps::admitted))]
     fn admit<A: Analysis>(
         &mut self,
         scene: &Scene,

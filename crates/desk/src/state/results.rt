@@ -21,7 +21,7 @@ use turn_parts::{TurnError, TurnOut};
 
 impl Desk {
     // The request of a job that stopped is refused, since the texts have changed.
-    #[tactic(auto, unfolding(desk::specs::Steps::responded, desk::specs::Steps::answered_if, desk::specs::Steps::answered))]
+    #[tactic(auto, unfolding(crate::specs::Steps::responded, crate::specs::Steps::answered_if, crate::specs::Steps::answered))]
     fn refuse_stopped(
         &mut self,
         ticket: u64,
@@ -38,7 +38,7 @@ impl Desk {
     }
 
     // A job stopped whose request waits: it is refused, or taken as one that is read now, under the ticket that it has.
-    #[tactic(auto, unfolding(desk::specs::Steps::stopped))]
+    #[tactic(auto, unfolding(crate::specs::Steps::stopped))]
     fn on_stopped<A: Analysis>(
         &mut self,
         scene: &Scene,
@@ -61,7 +61,7 @@ impl Desk {
     }
 
     // A result, where its request still waits.
-    #[tactic(auto, unfolding(desk::specs::Steps::delivered, desk::specs::Steps::settled, desk::specs::Steps::answered))]
+    #[tactic(auto, unfolding(crate::specs::Steps::delivered, crate::specs::Steps::settled, crate::specs::Steps::answered))]
     fn deliver<A: Analysis>(
         &mut self,
         scene: &Scene,
@@ -111,7 +111,7 @@ impl Desk {
     }
 
     /// A message of a job. After an `Err` the desk is spent.
-    #[tactic(auto, unfolding(desk::specs::Steps::ended, desk::specs::Steps::brought))]
+    #[tactic(auto, unfolding(crate::specs::Steps::ended, crate::specs::Steps::brought))]
     pub fn on_task<A: Analysis>(
         &mut self,
         scene: &Scene,

@@ -1,4 +1,4 @@
-use Rattle.std.proofs.Common.{ap, sym, ◌∙◌}
+use Rattle.std.proofs.Common.{ap, sym}
 use Rattle.session_peers.proofs.FirstPieces.{event_bytes}
 use Rattle.session_peers.proofs.inline_host.InlineHostHost.next.Goals as goal
 
