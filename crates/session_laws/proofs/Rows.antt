@@ -365,7 +365,7 @@ unfolding happened
 event-mid meaning s (Lsp message) = message-mid meaning s message
 event-mid meaning s (Task batch) = batch-mid meaning s batch
 
-counted-is : (s : State) → IfOk (counted (begun s)) (λ v. v ≡ counted_turn s)
+pub counted-is : (s : State) → IfOk (counted (begun s)) (λ v. v ≡ counted_turn s)
 unfolding counted counted_at_desk
 counted-is s = IfOk-within desk_in with_desk counted_at_desk (begun s) (λ v. v ≡ counted_turn s) (IfOk-next s.desk.turns _ _ (λ v. desk_now s v ≡ counted_turn s) refl)
 
