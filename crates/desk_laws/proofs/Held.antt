@@ -22,7 +22,7 @@ use Rattle.desk.specs.Meaning.{Meaning}
 use Rattle.desk.specs.Reactions.{Reaction, silent, says, hands_over, new_row, request_row, cancel_row, ticket_row, final_row, fitting_row, message_row}
 use Rattle.desk.specs.Replies.{already_pending, canceled_by_client, finished_reply}
 use Rattle.desk.specs.declared.scene.Scene.{Scene}
-use Rattle.desk_laws.specs.Invariant.{Sound}
+use Rattle.desk_laws.specs.Invariant.{KeepsSound, Sound, desk_then}
 use Rattle.desk_laws.specs.Reacting.{Reacts}
 use Rattle.desk_laws.proofs.Appends.{with_jobs-append}
 use Rattle.desk_laws.proofs.Fitting.{after_message-none, after_message-some}
@@ -264,7 +264,7 @@ sound-again turns p js handed revision n ticket found job is was_for its no_late
     }
 
 -- a job that is for no request is handed over
-sound-beside : (turns : ℕ) (p : Pending) (js : Jobs) (handed revision : ℕ) (job : Job) → ticket_of job.kind ≡ None → SoundOf turns p js handed revision
+pub sound-beside : (turns : ℕ) (p : Pending) (js : Jobs) (handed revision : ℕ) (job : Job) → ticket_of job.kind ≡ None → SoundOf turns p js handed revision
     → SoundOf turns p (map.insert js (handed + 1) job) (handed + 1) revision
 sound-beside turns p js handed revision job none s = record {
   distinct = s.distinct;
@@ -557,3 +557,41 @@ going-fitting meaning first scene desk js message (Some found) is b =
 pub message-going : (meaning : Meaning) (first : ℕ) (scene : Scene) (desk : Desk) (js : List Job) (message : TaskMsg) → Batching first desk js scene.snapshot.revision
     → Going first desk js scene.snapshot.revision message (message_row meaning scene desk message)
 message-going meaning first scene desk js message b = going-fitting meaning first scene desk js message (fitting_job message desk.jobs) refl b
+
+-- ---- one row, and then the turn's end
+
+keeps-whole : (turns : ℕ) (request : Option Request) (done : Reaction) (jobs : Jobs) (desk : Desk) (revision : ℕ) → Keeps turns request turns desk jobs revision done → KeepsSound turns request done jobs desk revision
+keeps-whole turns request done jobs desk revision k = record { sound = sound-whole (desk_then turns request done jobs desk) revision k.sound; once = k.once }
+
+pub request-sound : (meaning : Meaning) (scene : Scene) (desk : Desk) (r : Request) → Sound desk scene.snapshot.revision
+    → KeepsSound (desk.turns + 1) (Some r) (request_row meaning scene desk (desk.turns + 1) r) desk.jobs desk scene.snapshot.revision
+request-sound meaning scene desk r s = keeps-whole (desk.turns + 1) (Some r) _ desk.jobs desk scene.snapshot.revision (request-kept meaning scene r desk s)
+
+pub cancel-sound : (desk : Desk) (revision : ℕ) (id : RequestId) → Sound desk revision → KeepsSound (desk.turns + 1) None (cancel_row id desk) desk.jobs desk revision
+cancel-sound desk revision id s = keeps-whole (desk.turns + 1) None _ desk.jobs desk revision (cancel-kept id desk revision s)
+
+pub message-sound : (meaning : Meaning) (scene : Scene) (desk : Desk) (message : TaskMsg) → Sound desk scene.snapshot.revision
+    → KeepsSound (desk.turns + 1) None (message_row meaning scene desk message) (after_message message desk.jobs) desk scene.snapshot.revision
+message-sound meaning scene desk message s =
+    let done = message_row meaning scene desk message in
+    let going : Going desk.handed desk [] scene.snapshot.revision message done = message-going meaning desk.handed scene desk [] message (batching-begins desk scene.snapshot.revision s) in
+    keeps-whole (desk.turns + 1) None done (after_message message desk.jobs) desk scene.snapshot.revision
+    (record { sound = sound-later desk.turns (desk.turns + 1) _ _ _ _ _ _ (omega arith) (omega arith) (omega arith) going.0.sound; once = going.1 })
+
+-- ---- one request
+
+new-cases : (meaning : Meaning) (scene : Scene) (desk : Desk) (ticket : ℕ) (r : Request) (b : Bool) → b ≡ false → Reacts scene desk.handed ticket r.id (if b then says (already_pending r.id) else new_row meaning scene desk ticket r)
+new-cases meaning scene desk ticket r true new = absurd cc
+new-cases meaning scene desk ticket r false new = new-reacts meaning scene desk ticket r
+
+pub request-reacts : (meaning : Meaning) (scene : Scene) (desk : Desk) (ticket : ℕ) (r : Request) → is_pending r.id desk.pending ≡ false → Reacts scene desk.handed ticket r.id (request_row meaning scene desk ticket r)
+request-reacts meaning scene desk ticket r new = new-cases meaning scene desk ticket r (is_pending r.id desk.pending) new
+
+pub message-reacts : (meaning : Meaning) (scene : Scene) (desk : Desk) (message : TaskMsg) (job : Job) (ticket : ℕ) (id : RequestId) → fitting_job message desk.jobs ≡ Some job → ticket_of job.kind ≡ Some ticket → id_of ticket desk.pending ≡ Some id
+    → Reacts scene desk.handed ticket id (message_row meaning scene desk message)
+message-reacts meaning scene desk message job ticket id is its waits =
+    let k = fit-final message (map.get desk.jobs message.job) job (final_of message.body) is refl in
+    let there : waiting_for job desk ≡ Some id = ap (λ o. option_and_then (λ u. id_of u desk.pending) o) its ∙ waits in
+    let row : message_row meaning scene desk message ≡ ticket_row meaning scene desk (Some id) job k.0 =
+    ap (λ o. fitting_row meaning scene desk o message) is ∙ ap (λ o. final_row meaning scene desk o job) k.1 ∙ ap (λ o. ticket_row meaning scene desk o job k.0) there in
+    subst (Reacts scene desk.handed ticket id) (sym row) (result-reacts meaning scene desk ticket id job k.0 (finished_reply id k.0) refl its)

@@ -3,7 +3,9 @@ pub mod Fitting
 pub mod Held
 pub mod Keyed
 pub mod Numbered
+pub mod Once
 pub mod Orders
 pub mod Reacting
+pub mod Refusing
 pub mod Results
 pub mod Settling

@@ -38,6 +38,7 @@ use Rattle.session_port.specs.declared.job.JobResult.TheVariants.{Value, Fault, 
 use Rattle.session_port.specs.declared.job.JobValue.TheVariants.{Json}
 use Rattle.turn_parts.specs.Working.{Working, logged, ordered, replied}
 use Rattle.turn_parts.specs.Written.{responses_in}
+use Rattle.turn_parts.specs.declared.fault.Counter.{Counter}
 use Rattle.desk.specs.Desk.{Desk, waiting_for}
 use Rattle.desk.specs.Folds.{asked_among, closed_by, closed_with, pending_after, shutdown_after}
 use Rattle.desk.specs.Meaning.{Meaning, can_read}
@@ -223,7 +224,7 @@ noted-waits id w = id_of-registered w.state.turns id w.state.pending
 
 -- a request of a method that has no row
 unknown-cases : (r : Request) (w : Working Desk) (b : Bool) → id_of w.state.turns w.state.pending ≡ Some r.id
-    → IfOk (if b then Ok (responded w.state.turns shut_already w) else Ok (unknown w.state.turns r.method w)) (λ v. Settled None w v (if b then says (shut_already r.id) else says (unknown_request r.id)) w.state.jobs)
+    → IfOk {E = Counter} (if b then Ok (responded w.state.turns shut_already w) else Ok (unknown w.state.turns r.method w)) (λ v. Settled None w v (if b then says (shut_already r.id) else says (unknown_request r.id)) w.state.jobs)
 unknown-cases r w true waits = respond-settles w.state.turns r.id shut_already w waits refl
 unknown-cases r w false waits = unknown-settles w.state.turns r.id r.method w waits
 
@@ -359,7 +360,7 @@ abbrev pub without : ℕ → Working Desk → Working Desk
 without number w = record w { state = record w.state { jobs = map.remove w.state.jobs number } }
 
 -- a row doesn't ask which jobs are out, once its own is found
-row-without : (meaning : Meaning) (scene : Scene) (desk : Desk) (jobs : Jobs) (final : Option JobResult) (job : Job) → final_row meaning scene (record desk { jobs = jobs }) final job ≡ final_row meaning scene desk final job
+pub row-without : (meaning : Meaning) (scene : Scene) (desk : Desk) (jobs : Jobs) (final : Option JobResult) (job : Job) → final_row meaning scene (record desk { jobs = jobs }) final job ≡ final_row meaning scene desk final job
 row-without meaning scene desk jobs None job = refl
 row-without meaning scene desk jobs (Some result) job = by_request (waiting_for job desk)
   where
@@ -405,3 +406,36 @@ job-settles meaning scene (Some job) message w is =
 pub message-settles : (meaning : Meaning) (scene : Scene) (message : TaskMsg) (w : Working Desk)
     → IfOk (taken meaning scene message w) (λ v. Settled None w v (message_row meaning scene w.state message) (after_message message w.state.jobs))
 message-settles meaning scene message w = job-settles meaning scene (fitting_job message w.state.jobs) message w refl
+
+-- ---- no row asks how many turns were counted
+
+request-turns-method : (meaning : Meaning) (scene : Scene) (desk : Desk) (turns ticket : ℕ) (o : Option RowId) (r : Request) → method_row meaning scene (record desk { turns = turns }) ticket o r ≡ method_row meaning scene desk ticket o r
+request-turns-method meaning scene desk turns ticket None r = refl
+request-turns-method meaning scene desk turns ticket (Some row) r = refl
+
+pub request-turns : (meaning : Meaning) (scene : Scene) (desk : Desk) (turns ticket : ℕ) (r : Request) → request_row meaning scene (record desk { turns = turns }) ticket r ≡ request_row meaning scene desk ticket r
+request-turns meaning scene desk turns ticket r =
+    ap (λ done. if is_pending r.id desk.pending then says (already_pending r.id) else if is_shutdown (row_of r.method) then shutdown_row r.id r.params else done)
+    (request-turns-method meaning scene desk turns ticket (row_of r.method) r)
+
+pub message-turns : (meaning : Meaning) (scene : Scene) (desk : Desk) (turns : ℕ) (message : TaskMsg) → message_row meaning scene (record desk { turns = turns }) message ≡ message_row meaning scene desk message
+message-turns meaning scene desk turns message = by_job (fitting_job message desk.jobs)
+  where
+    by_kind : (id : RequestId) (revision : ℕ) (kind : JobKind) → stopped_row meaning scene (record desk { turns = turns }) id revision kind ≡ stopped_row meaning scene desk id revision kind
+    by_kind id revision (RequestJob ticket row params) = refl
+
+    by_reply : (o : Option Response) (id : RequestId) (job : Job) → result_row meaning scene (record desk { turns = turns }) o id job ≡ result_row meaning scene desk o id job
+    by_reply (Some response) id job = refl
+    by_reply None id job = by_kind id job.snapshot.revision job.kind
+
+    by_request : (o : Option RequestId) (job : Job) (result : JobResult) → ticket_row meaning scene (record desk { turns = turns }) o job result ≡ ticket_row meaning scene desk o job result
+    by_request None job result = refl
+    by_request (Some id) job result = by_reply (finished_reply id result) id job
+
+    by_final : (o : Option JobResult) (job : Job) → final_row meaning scene (record desk { turns = turns }) o job ≡ final_row meaning scene desk o job
+    by_final None job = refl
+    by_final (Some result) job = by_request (waiting_for job desk) job result
+
+    by_job : (o : Option Job) → fitting_row meaning scene (record desk { turns = turns }) o message ≡ fitting_row meaning scene desk o message
+    by_job None = refl
+    by_job (Some job) = by_final (final_of message.body) job

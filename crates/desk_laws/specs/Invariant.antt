@@ -1,12 +1,15 @@
 -- What holds of a desk between turns.
-use Rattle.std.specs.Prelude.{◌≡◌, ℕ, ◌≤◌, Some}
+use Rattle.std.specs.Prelude.{◌≡◌, ℕ, ◌+◌, ◌≤◌, length, Option, Some}
 use Rattle.std.specs.FinMap as map
 use Rattle.lsp_frame.specs.Pending.{AreDistinct, id_of}
 use Rattle.lsp_frame.specs.declared.message.RequestId.{RequestId}
-use Rattle.session_port.specs.Jobs.{ticket_of}
+use Rattle.lsp_frame.specs.declared.message.Request.{Request}
+use Rattle.session_port.specs.Jobs.{Jobs, ticket_of}
+use Rattle.session_port.specs.Record.{with_jobs}
 use Rattle.session_port.specs.declared.job.Job.{Job}
 use Rattle.desk.specs.Desk.{Desk}
-use Rattle.desk.specs.Folds.{AreHeld}
+use Rattle.desk.specs.Folds.{AreHeld, AnswersOnce, pending_after, shutdown_after}
+use Rattle.desk.specs.Reactions.{Reaction}
 
 -- the ids that wait are distinct, and turns that were have read them; the jobs out have numbers that were given; those for requests are for ones that
 -- turns have read, and have snapshots of no later revision; and each request that waits is held by exactly one of them
@@ -17,3 +20,18 @@ pub record Sound (desk : Desk) (revision : ℕ) : Type 0 where
   pub below : (n : ℕ) (job : Job) (ticket : ℕ) → map.get desk.jobs n ≡ Some job → ticket_of job.kind ≡ Some ticket → ticket ≤ desk.turns
   pub revisions : (n : ℕ) (job : Job) (ticket : ℕ) → map.get desk.jobs n ≡ Some job → ticket_of job.kind ≡ Some ticket → job.snapshot.revision ≤ revision
   pub held : AreHeld desk
+
+-- the desk after the turn of this number, which read this request, if any, did this, and left these jobs of earlier turns out
+abbrev pub desk_then : ℕ → Option Request → Reaction → Jobs → Desk → Desk
+desk_then turns request done jobs desk = record {
+  turns = turns;
+  pending = pending_after turns request done.responses desk.pending;
+  jobs = with_jobs done.jobs jobs;
+  handed = desk.handed + length done.jobs;
+  shutdown = shutdown_after request done.responses desk.shutdown;
+}
+
+-- the turn keeps what holds, and each of its responses answers one request
+pub record KeepsSound (turns : ℕ) (request : Option Request) (done : Reaction) (jobs : Jobs) (desk : Desk) (revision : ℕ) : Type 0 where
+  pub sound : Sound (desk_then turns request done jobs desk) revision
+  pub once : AnswersOnce turns request done.responses desk.pending

@@ -1,3 +1,4 @@
+pub mod Answering
 pub mod Invariant
 pub mod Numbers
 pub mod Reacting

@@ -1,15 +1,19 @@
 // Laws of the desk.
-ghost use Rattle.std.specs.Prelude.{IfOk, None, Some};
+ghost use Rattle.std.specs.Prelude.{◌≡◌, ◌+◌, ℕ, false, IfOk, None, Some};
+ghost use Rattle.lsp_frame.specs.Pending.{id_of, is_pending};
 ghost use Rattle.lsp_frame.specs.declared.message.Request.{Request};
 ghost use Rattle.lsp_frame.specs.declared.message.RequestId.{RequestId};
-ghost use Rattle.session_port.specs.Jobs.{after_message};
+ghost use Rattle.session_port.specs.Jobs.{after_message, fitting_job, ticket_of};
 ghost use Rattle.session_port.specs.declared.event.TaskMsg.{TaskMsg};
+ghost use Rattle.session_port.specs.declared.job.Job.{Job};
 ghost use Rattle.turn_parts.specs.Working.{Working};
-ghost use Rattle.desk.specs.Desk.{Desk};
+ghost use Rattle.desk.specs.Desk.{Desk, new_desk};
 ghost use Rattle.desk.specs.Meaning.{Meaning};
 ghost use Rattle.desk.specs.Reactions.{cancel_row, message_row, request_row};
 ghost use Rattle.desk.specs.Steps.{cancelled, requested, taken};
 ghost use Rattle.desk.specs.declared.scene.Scene.{Scene};
+ghost use Rattle.desk_laws.specs.Invariant.{KeepsSound, Sound};
+ghost use Rattle.desk_laws.specs.Reacting.{Reacts};
 ghost use Rattle.desk_laws.specs.Settled.{Settled};
 
 /// What the desk does with a request, with a cancelled one and with a message of a job is its row of the reply table.
@@ -19,4 +23,25 @@ pub fn steps_are_rows()
     ensures cancels { (id : RequestId) (w : Working Desk) → Settled None w (cancelled id w) (cancel_row id w.state) w.state.jobs }
     ensures messages { (meaning : Meaning) (scene : Scene) (message : TaskMsg) (w : Working Desk)
         → IfOk (taken meaning scene message w) (λ v. Settled None w v (message_row meaning scene w.state message) (after_message message w.state.jobs)) }
+{}
+
+/// A new request, and the message of a job whose request waits, get one response, or one job is handed over for them.
+pub fn rows_answer_or_hand_over()
+    ensures requests { (meaning : Meaning) (scene : Scene) (desk : Desk) (ticket : ℕ) (r : Request) → is_pending r.id desk.pending ≡ false
+        → Reacts scene desk.handed ticket r.id (request_row meaning scene desk ticket r) }
+    ensures messages { (meaning : Meaning) (scene : Scene) (desk : Desk) (message : TaskMsg) (job : Job) (ticket : ℕ) (id : RequestId)
+        → fitting_job message desk.jobs ≡ Some job → ticket_of job.kind ≡ Some ticket → id_of ticket desk.pending ≡ Some id
+        → Reacts scene desk.handed ticket id (message_row meaning scene desk message) }
+{}
+
+/// Each request that waits is held by exactly one job out: so it is at the beginning, and each row keeps it so. Each of its
+/// responses answers one request that waits.
+pub fn rows_keep_requests_held()
+    ensures beginning { (revision : ℕ) → Sound new_desk revision }
+    ensures requests { (meaning : Meaning) (scene : Scene) (desk : Desk) (r : Request) → Sound desk scene.snapshot.revision
+        → KeepsSound (desk.turns + 1) (Some r) (request_row meaning scene desk (desk.turns + 1) r) desk.jobs desk scene.snapshot.revision }
+    ensures cancels { (desk : Desk) (revision : ℕ) (id : RequestId) → Sound desk revision
+        → KeepsSound (desk.turns + 1) None (cancel_row id desk) desk.jobs desk revision }
+    ensures messages { (meaning : Meaning) (scene : Scene) (desk : Desk) (message : TaskMsg) → Sound desk scene.snapshot.revision
+        → KeepsSound (desk.turns + 1) None (message_row meaning scene desk message) (after_message message desk.jobs) desk scene.snapshot.revision }
 {}

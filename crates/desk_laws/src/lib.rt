@@ -4,4 +4,4 @@
 
 mod laws;
 
-pub use laws::steps_are_rows;
+pub use laws::{rows_answer_or_hand_over, rows_keep_requests_held, steps_are_rows};

@@ -1,15 +1,12 @@
--- Each job out is for a request that waits, or for one that was answered.
-use Rattle.std.proofs.Common.{◌≡◌, ℕ, ◌+◌, List, [], ◌∷◌, ◌++◌, Bool, true, false, refl, sym, ap, ◌∙◌, subst, arith, append-nil, append_assoc, inl, inr}
+-- Each job out for a request is for one that waits, or for one that was answered.
+use Rattle.std.proofs.Common.{◌≡◌, ℕ, ◌+◌, List, [], ◌∷◌, ◌++◌, Bool, true, false, refl, sym, ap, ◌∙◌, subst, append-nil, append_assoc, inl, inr}
 use Rattle.std.specs.Prelude.{◌⊎◌, Option, None, Some, Contains, if◌then◌else◌}
-use Rattle.std.specs.List.{All}
-use Rattle.std.proofs.lemmas.List.Elements.{All-cons, All-contains}
 use Rattle.std.specs.FinMap as map
-use Rattle.lsp_frame.specs.Pending.{Pending, id_of, is_pending}
+use Rattle.lsp_frame.specs.Pending.{Pending, id_of, is_pending, registered}
 use Rattle.lsp_frame.specs.declared.message.Request.{Request}
 use Rattle.lsp_frame.specs.declared.message.RequestId.{RequestId}
 use Rattle.lsp_frame.specs.declared.message.Response.{Response}
 use Rattle.lsp_frame.specs.declared.message.Notification.{Notification}
-use Rattle.lsp_frame.specs.declared.message.Message.{Message}
 use Rattle.lsp_frame.specs.declared.message.Message.TheVariants.{Request as RequestMessage, Notification as NotificationMessage, Response as ResponseMessage}
 use Rattle.lsp_frame.proofs.InStep.{id_of-registered}
 use Rattle.ra_config.specs.Config.{ConfigData}
@@ -18,110 +15,110 @@ use Rattle.session_port.specs.Record.{spawned}
 use Rattle.session_port.specs.declared.event.TaskMsg.{TaskMsg}
 use Rattle.session_port.specs.declared.job.Job.{Job}
 use Rattle.session_port.specs.declared.job.JobResult.{JobResult}
-use Rattle.session_model.specs.Headline.{Place, Reaction, reaction_of, row, says, silent, new_row, notice_row, ticket_row, final_row, message_row, batch_row, place_past, number_after, beginning, closed_by, pending_after, place_after, place_after_all}
-use Rattle.session_model.specs.Meaning.{Meaning}
+use Rattle.desk.specs.Desk.{waiting_for}
+use Rattle.desk.specs.Folds.{closed_by, pending_after}
+use Rattle.desk.specs.Meaning.{Meaning}
+use Rattle.desk.specs.Reactions.{Reaction, says, silent, new_row, ticket_row, final_row, fitting_row, message_row}
+use Rattle.desk.specs.Replies.{already_pending, canceled_by_client, finished_reply}
+use Rattle.desk_laws.specs.Answering.{IsAmong, IsThere}
+use Rattle.desk_laws.specs.Reacting.{Reacts}
+use Rattle.desk_laws.proofs.Held.{has-ticket}
+use Rattle.desk_laws.proofs.Once.{Turns, closes}
+use Rattle.desk_laws.proofs.Reacting.{new-reacts, result-reacts}
+use Rattle.session_model.specs.Headline.{Place, reaction_of, row, notice_row, batch_row, place_past, beginning, next_turn, place_after, place_after_all, scene_at}
+use Rattle.session_model.specs.Inputs.{request_in}
 use Rattle.session_model.specs.Notices.{notice_of}
-use Rattle.session_model.specs.Replies.{already_pending, canceled_by_client, finished_reply}
 use Rattle.session_model.specs.Run.{Turn, after_input}
 use Rattle.session_model.specs.declared.input.Event.TheVariants.{Lsp, Task}
 use Rattle.session_model.specs.declared.input.Input.{Input}
 use Rattle.session_model.specs.declared.input.Input.TheVariants.{Start, Next}
 use Rattle.session_model.specs.declared.notice.Notice.{Notice}
 use Rattle.session_model.specs.declared.notice.Notice.TheVariants.{Opened, Changed, Cancel, Malformed, Unhandled, Silent}
-use Rattle.session_laws.specs.Answering.{answered_at, answered_by, AreAccountedFor, IsAmong, IsThere}
+use Rattle.session_laws.specs.Answering.{answered_by, answered_by_turn, AreAccountedFor}
+use Rattle.session_laws.proofs.Each.{Each, each-append, each-asked, each-one, each-weaker, no-ticket}
 use Rattle.session_laws.proofs.Handed.{input-out, jobs-out}
-use Rattle.session_laws.proofs.Once.{Turns, closes, turn-closes}
-use Rattle.session_laws.proofs.Reacting.{Reacts, new-reacts, result-reacts}
+use Rattle.session_laws.proofs.Once.{closes-turn}
 
--- each of these jobs is for a request that waits
-abbrev AreAwaited : Pending → List Job → Type 0
-AreAwaited pending [] = Unit {0}
-AreAwaited pending (job ∷ jobs) = IsThere (ticket_of job.kind) pending × AreAwaited pending jobs
+some-same : {X : Type 0} (x y : X) → Some x ≡ Some y → x ≡ y
+some-same x y e = cc
 
-awaited-append : (pending : Pending) (xs ys : List Job) → AreAwaited pending xs → AreAwaited pending ys → AreAwaited pending (xs ++ ys)
-awaited-append pending [] ys a b = b
-awaited-append pending (x ∷ xs) ys a b = (a.0, awaited-append pending xs ys a.1 b)
-
--- what waits after some responses waited before them
-awaited-before : (messages : List Message) (pending : Pending) (jobs : List Job) → AreAwaited (closed_by messages pending) jobs → AreAwaited pending jobs
-awaited-before messages pending [] h = tt
-awaited-before messages pending (job ∷ jobs) h =
-    let was = h.0 in
-    ((was.0, (closes messages pending).kept (ticket_of job.kind) was.0 was.1), awaited-before messages pending jobs h.1)
+-- the job's request waits, if it is for one
+abbrev IsAwaited : Pending → Job → Type 0
+IsAwaited pending job = (ticket : ℕ) → ticket_of job.kind ≡ Some ticket → IsThere ticket pending
 
 -- ---- what a batch hands over is for requests that wait before it
 
-reacts-awaited : (config : ConfigData) (place : Place) (ticket : ℕ) (id : RequestId) (done : Reaction) (pending : Pending) → Reacts config place ticket id done → IsThere ticket pending → AreAwaited pending done.jobs
-reacts-awaited config place ticket id done pending (inl (response, is, said)) there = subst (λ (d : Reaction). AreAwaited pending d.jobs) (sym said) tt
-reacts-awaited config place ticket id done pending (inr (class, row_id, params, hands)) there = subst (λ (d : Reaction). AreAwaited pending d.jobs) (sym hands) (there, tt)
+reacts-awaited : (place : Place) (ticket : ℕ) (id : RequestId) (done : Reaction) (pending : Pending) → Reacts (scene_at place) place.desk.handed ticket id done → IsThere ticket pending → Each (IsAwaited pending) done.jobs
+reacts-awaited place ticket id done pending (inl (response, is, said)) there = subst (λ (d : Reaction). Each (IsAwaited pending) d.jobs) (sym said) tt
+reacts-awaited place ticket id done pending (inr (class, row_id, params, hands)) there =
+    subst (λ (d : Reaction). Each (IsAwaited pending) d.jobs) (sym hands) (λ t its. subst (λ u. IsThere u pending) (some-same ticket t its) there, tt)
 
-ticket-awaited : (meaning : Meaning) (config : ConfigData) (place : Place) (o : Option RequestId) (job : Job) (result : JobResult) → id_of (ticket_of job.kind) place.pending ≡ o
-    → AreAwaited place.pending (ticket_row meaning config place o job result).jobs
-ticket-awaited meaning config place None job result is = tt
-ticket-awaited meaning config place (Some id) job result is =
-    reacts-awaited config place (ticket_of job.kind) id _ place.pending (result-reacts meaning config place id job result (finished_reply id result) refl) (id, is)
+ticket-awaited : (meaning : Meaning) (place : Place) (o : Option RequestId) (job : Job) (result : JobResult) → waiting_for job place.desk ≡ o
+    → Each (IsAwaited place.desk.pending) (ticket_row meaning (scene_at place) place.desk o job result).jobs
+ticket-awaited meaning place None job result is = tt
+ticket-awaited meaning place (Some id) job result is =
+    let k = has-ticket job place.desk id is in
+    reacts-awaited place k.ticket id _ place.desk.pending (result-reacts meaning (scene_at place) place.desk k.ticket id job result (finished_reply id result) refl k.its) (id, k.waits)
 
-final-awaited : (meaning : Meaning) (config : ConfigData) (place : Place) (o : Option Job) (message : TaskMsg) → AreAwaited place.pending (final_row meaning config place o message).jobs
-final-awaited meaning config place None message = tt
-final-awaited meaning config place (Some job) message = ticket-awaited meaning config place (id_of (ticket_of job.kind) place.pending) job (final_of message.body) refl
+final-awaited : (meaning : Meaning) (place : Place) (o : Option JobResult) (job : Job) → Each (IsAwaited place.desk.pending) (final_row meaning (scene_at place) place.desk o job).jobs
+final-awaited meaning place None job = tt
+final-awaited meaning place (Some result) job = ticket-awaited meaning place (waiting_for job place.desk) job result refl
 
-batch-awaited : (meaning : Meaning) (config : ConfigData) (batch : List TaskMsg) (place : Place) → AreAwaited place.pending (batch_row meaning config batch place).jobs
-batch-awaited meaning config [] place = tt
-batch-awaited meaning config (m ∷ ms) place =
-    let done = message_row meaning config place m in
-    awaited-append place.pending done.jobs (batch_row meaning config ms (place_past m done place)).jobs
-    (final-awaited meaning config place (fitting_job m place.out) m)
-    (awaited-before done.messages place.pending _ (batch-awaited meaning config ms (place_past m done place)))
+fitting-awaited : (meaning : Meaning) (place : Place) (o : Option Job) (message : TaskMsg) → Each (IsAwaited place.desk.pending) (fitting_row meaning (scene_at place) place.desk o message).jobs
+fitting-awaited meaning place None message = tt
+fitting-awaited meaning place (Some job) message = final-awaited meaning place (final_of message.body) job
+
+-- what waits after some responses waited before them
+awaited-before : (responses : List Response) (pending : Pending) (job : Job) → IsAwaited (closed_by responses pending) job → IsAwaited pending job
+awaited-before responses pending job h = λ ticket its. let was = h ticket its in (was.0, (closes responses pending).kept ticket was.0 was.1)
+
+batch-awaited : (meaning : Meaning) (batch : List TaskMsg) (place : Place) → Each (IsAwaited place.desk.pending) (batch_row meaning batch place).jobs
+batch-awaited meaning [] place = tt
+batch-awaited meaning (m ∷ ms) place =
+    let done = message_row meaning (scene_at place) place.desk m in
+    let past = place_past m done place in
+    each-append (IsAwaited place.desk.pending) done.jobs (batch_row meaning ms past).jobs
+    (fitting-awaited meaning place (fitting_job m place.desk.jobs) m)
+    (each-weaker (IsAwaited past.desk.pending) (IsAwaited place.desk.pending) _ (awaited-before done.responses place.desk.pending) (batch-awaited meaning ms past))
 
 -- ---- what a turn hands over is for requests that wait before it or after it
 
 abbrev IsReady : Pending → Pending → Job → Type 0
-IsReady before after job = IsThere (ticket_of job.kind) before ⊎ IsThere (ticket_of job.kind) after
-
-abbrev AreReady : Pending → Pending → List Job → Type 0
-AreReady before after [] = Unit {0}
-AreReady before after (job ∷ jobs) = IsReady before after job × AreReady before after jobs
-
-awaited-ready : (before after : Pending) (jobs : List Job) → AreAwaited before jobs → AreReady before after jobs
-awaited-ready before after [] h = tt
-awaited-ready before after (job ∷ jobs) h = (inl h.0, awaited-ready before after jobs h.1)
-
-ready-all : (before after : Pending) (jobs : List Job) → AreReady before after jobs → All (IsReady before after) jobs
-ready-all before after [] h = λ i d lt. absurd (omega (arith, lt))
-ready-all before after (j ∷ js) h = All-cons (IsReady before after) j js h.0 (ready-all before after js h.1)
+IsReady before after job = (ticket : ℕ) → ticket_of job.kind ≡ Some ticket → IsThere ticket before ⊎ IsThere ticket after
 
 -- what a row hands over is ready, after what it writes
 abbrev RowReady : Place → Input → Reaction → Type 0
-RowReady place input done = AreReady place.pending (pending_after place.number input done.messages place.pending) done.jobs
+RowReady place input done = Each (IsReady place.desk.pending (pending_after (next_turn place) (request_in input) done.responses place.desk.pending)) done.jobs
 
-reacts-ready : (config : ConfigData) (place : Place) (r : Request) (done : Reaction) → is_pending r.id place.pending ≡ false → Reacts config place place.number r.id done → RowReady place (Next (Lsp (RequestMessage r))) done
-reacts-ready config place r done new (inl (response, is, said)) = subst (RowReady place (Next (Lsp (RequestMessage r)))) (sym said) tt
-reacts-ready config place r done new (inr (class, row_id, params, hands)) =
-    subst (RowReady place (Next (Lsp (RequestMessage r)))) (sym hands) (rw new (inr (r.id, id_of-registered place.number r.id place.pending), tt))
+reacts-ready : (place : Place) (r : Request) (done : Reaction) → is_pending r.id place.desk.pending ≡ false → Reacts (scene_at place) place.desk.handed (next_turn place) r.id done → RowReady place (Next (Lsp (RequestMessage r))) done
+reacts-ready place r done new (inl (response, is, said)) = subst (RowReady place (Next (Lsp (RequestMessage r)))) (sym said) tt
+reacts-ready place r done new (inr (class, row_id, params, hands)) =
+    subst (RowReady place (Next (Lsp (RequestMessage r)))) (sym hands)
+    (rw new (λ t its. inr (r.id, ap (λ u. id_of u (registered (next_turn place) r.id place.desk.pending)) (some-same t (next_turn place) (sym its)) ∙ id_of-registered (next_turn place) r.id place.desk.pending), tt))
 
-request-ready : (meaning : Meaning) (config : ConfigData) (place : Place) (r : Request) (b : Bool) → is_pending r.id place.pending ≡ b
-    → RowReady place (Next (Lsp (RequestMessage r))) (if b then says (already_pending r.id) else new_row meaning config place r)
-request-ready meaning config place r true is = tt
-request-ready meaning config place r false is = reacts-ready config place r (new_row meaning config place r) is (new-reacts meaning config place r)
+request-ready : (meaning : Meaning) (place : Place) (r : Request) (b : Bool) → is_pending r.id place.desk.pending ≡ b
+    → RowReady place (Next (Lsp (RequestMessage r))) (if b then says (already_pending r.id) else new_row meaning (scene_at place) place.desk (next_turn place) r)
+request-ready meaning place r true is = tt
+request-ready meaning place r false is = reacts-ready place r _ is (new-reacts meaning (scene_at place) place.desk (next_turn place) r)
 
 either-ready : (place : Place) (input : Input) (b : Bool) (response : Response) → RowReady place input (if b then says response else silent)
 either-ready place input true response = tt
 either-ready place input false response = tt
 
-notice-ready : (n : Notification) (notice : Notice) (place : Place) → RowReady place (Next (Lsp (NotificationMessage n))) (notice_row notice place)
-notice-ready n (Cancel id) place = either-ready place (Next (Lsp (NotificationMessage n))) (is_pending id place.pending) (canceled_by_client id)
+notice-ready : (n : Notification) (notice : Notice) (place : Place) → RowReady place (Next (Lsp (NotificationMessage n))) (notice_row notice place.desk)
+notice-ready n (Cancel id) place = either-ready place (Next (Lsp (NotificationMessage n))) (is_pending id place.desk.pending) (canceled_by_client id)
 notice-ready n (Opened document) place = tt
 notice-ready n (Changed change) place = tt
 notice-ready n Malformed place = tt
 notice-ready n Unhandled place = tt
 notice-ready n Silent place = tt
 
-row-ready : (meaning : Meaning) (config : ConfigData) (input : Input) (place : Place) → RowReady place input (row meaning config input place)
-row-ready meaning config Start place = tt
-row-ready meaning config (Next (Lsp (RequestMessage r))) place = request-ready meaning config place r (is_pending r.id place.pending) refl
-row-ready meaning config (Next (Lsp (NotificationMessage n))) place = notice-ready n (notice_of n) place
-row-ready meaning config (Next (Lsp (ResponseMessage r))) place = tt
-row-ready meaning config (Next (Task batch)) place = awaited-ready place.pending _ _ (batch-awaited meaning config batch place)
+row-ready : (meaning : Meaning) (input : Input) (place : Place) → RowReady place input (row meaning input place)
+row-ready meaning Start place = tt
+row-ready meaning (Next (Lsp (RequestMessage r))) place = request-ready meaning place r (is_pending r.id place.desk.pending) refl
+row-ready meaning (Next (Lsp (NotificationMessage n))) place = notice-ready n (notice_of n) place
+row-ready meaning (Next (Lsp (ResponseMessage r))) place = tt
+row-ready meaning (Next (Task batch)) place = each-weaker (IsAwaited place.desk.pending) _ _ (λ job h ticket its. inl (h ticket its)) (batch-awaited meaning batch place)
 
 -- ---- turns
 
@@ -138,59 +135,60 @@ among-right (x ∷ xs) ys t h = inr (among-right xs ys t h)
 pub answered_by-append : (xs ys : List Turn) (place : Place) → answered_by (xs ++ ys) place ≡ answered_by xs place ++ answered_by ys (place_after_all xs place)
 answered_by-append [] ys place = refl
 answered_by-append (x ∷ xs) ys place =
-    let first = answered_at place.number x.input x.messages place.pending in
-    ap (λ ts. first ++ ts) (answered_by-append xs ys (place_after x place)) ∙ sym (append_assoc first (answered_by xs (place_after x place)) _)
+    ap (λ ts. answered_by_turn x place ++ ts) (answered_by-append xs ys (place_after x place)) ∙ sym (append_assoc (answered_by_turn x place) (answered_by xs (place_after x place)) _)
 
 -- a turn that is its row keeps it so that each job out is accounted for
-pub turn-accounted : (meaning : Meaning) (config : ConfigData) (turn : Turn) (place : Place) (answered : List ℕ) → reaction_of turn ≡ row meaning config turn.input place
-    → AreAccountedFor place.pending answered place.out
-    → AreAccountedFor (place_after turn place).pending (answered ++ answered_at place.number turn.input turn.messages place.pending) (place_after turn place).out
-turn-accounted meaning config turn place answered does all = λ n job there. by_case job n (jobs-out (spawned turn.commands) (after_input turn.input place.out) n job there)
+pub turn-accounted : (meaning : Meaning) (turn : Turn) (place : Place) (answered : List ℕ) → reaction_of turn ≡ row meaning turn.input place
+    → AreAccountedFor place.desk.pending answered place.desk.jobs
+    → AreAccountedFor (place_after turn place).desk.pending (answered ++ answered_by_turn turn place) (place_after turn place).desk.jobs
+turn-accounted meaning turn place answered does all = λ n job t there its. by_case job n t its (jobs-out (spawned turn.commands) (after_input turn.input place.desk.jobs) n job there)
   where
+    before : Pending
+    before = place.desk.pending
+
     after : Pending
-    after = pending_after place.number turn.input turn.messages place.pending
+    after = (place_after turn place).desk.pending
 
     now : List ℕ
-    now = answered_at place.number turn.input turn.messages place.pending
+    now = answered_by_turn turn place
 
-    ready : AreReady place.pending after (spawned turn.commands)
-    ready = subst (RowReady place turn.input) (sym does) (row-ready meaning config turn.input place)
+    ready : Each (IsReady before after) (spawned turn.commands)
+    ready = each-asked (IsReady before after) (λ job none ticket its. no-ticket (ticket_of job.kind) ticket none its) (spawned turn.commands)
+        (subst (RowReady place turn.input) (sym does) (row-ready meaning turn.input place))
 
-    closing : Turns place.number (number_after turn.input place.number) now place.pending after
-    closing = turn-closes place.number turn.input turn.messages place.pending
+    closing : Turns (request_in turn.input) (next_turn place) now before after
+    closing = closes-turn turn place
 
     lost : (t : ℕ) → IsThere t after ⊎ IsAmong now t → IsThere t after ⊎ IsAmong (answered ++ now) t
     lost t (inl w) = inl w
     lost t (inr h) = inr (among-right answered now t h)
 
-    before : (t : ℕ) → IsThere t place.pending ⊎ IsAmong answered t → IsThere t after ⊎ IsAmong (answered ++ now) t
-    before t (inl w) = lost t (closing.lost t w)
-    before t (inr h) = inr (among-left answered now t h)
+    earlier : (t : ℕ) → IsThere t before ⊎ IsAmong answered t → IsThere t after ⊎ IsAmong (answered ++ now) t
+    earlier t (inl w) = lost t (closing.lost t w)
+    earlier t (inr h) = inr (among-left answered now t h)
 
-    fresh : (t : ℕ) → IsThere t place.pending ⊎ IsThere t after → IsThere t after ⊎ IsAmong (answered ++ now) t
+    fresh : (t : ℕ) → IsThere t before ⊎ IsThere t after → IsThere t after ⊎ IsAmong (answered ++ now) t
     fresh t (inl w) = lost t (closing.lost t w)
     fresh t (inr w) = inl w
 
-    by_case : (job : Job) (n : ℕ) → (map.get (after_input turn.input place.out) n ≡ Some job) ⊎ Contains (spawned turn.commands) job
-        → IsThere (ticket_of job.kind) after ⊎ IsAmong (answered ++ now) (ticket_of job.kind)
-    by_case job n (inl was) = before (ticket_of job.kind) (all n job (input-out turn.input place.out n job was))
-    by_case job n (inr new) =
-        fresh (ticket_of job.kind) (All-contains (IsReady place.pending after) (spawned turn.commands) job (ready-all place.pending after (spawned turn.commands) ready) new)
+    by_case : (job : Job) (n t : ℕ) → ticket_of job.kind ≡ Some t → (map.get (after_input turn.input place.desk.jobs) n ≡ Some job) ⊎ Contains (spawned turn.commands) job → IsThere t after ⊎ IsAmong (answered ++ now) t
+    by_case job n t its (inl was) = earlier t (all n job t (input-out turn.input place.desk.jobs n job was) its)
+    by_case job n t its (inr new) = fresh t (each-one (IsReady before after) (spawned turn.commands) job ready new t its)
 
 none-some : {X P : Type 0} (x : X) → None ≡ Some x → P
 none-some x e = absurd cc
 
-pub accounted-beginning : AreAccountedFor beginning.pending [] beginning.out
-accounted-beginning = λ n job there. none-some job (sym (map.get-empty _ n) ∙ there)
+pub accounted-beginning : (settings : ConfigData) → AreAccountedFor (beginning settings).desk.pending [] (beginning settings).desk.jobs
+accounted-beginning settings = λ n job t there its. none-some job (sym (map.get-empty _ n) ∙ there)
 
 -- the same after some turns and one more
-pub turns-accounted : (meaning : Meaning) (config : ConfigData) (before : List Turn) (turn : Turn) → reaction_of turn ≡ row meaning config turn.input (place_after_all before beginning)
-    → (let place = place_after_all before beginning in AreAccountedFor place.pending (answered_by before beginning) place.out)
-    → (let place = place_after turn (place_after_all before beginning) in AreAccountedFor place.pending (answered_by (before ++ turn ∷ []) beginning) place.out)
-turns-accounted meaning config before turn does all =
-    let place = place_after_all before beginning in
-    let now = answered_at place.number turn.input turn.messages place.pending in
-    let same : answered_by (before ++ turn ∷ []) beginning ≡ answered_by before beginning ++ now =
-    answered_by-append before (turn ∷ []) beginning ∙ ap (λ ts. answered_by before beginning ++ ts) (append-nil now) in
-    subst (λ ts. AreAccountedFor (place_after turn place).pending ts (place_after turn place).out) (sym same)
-    (turn-accounted meaning config turn place (answered_by before beginning) does all)
+pub turns-accounted : (meaning : Meaning) (settings : ConfigData) (before : List Turn) (turn : Turn) → reaction_of turn ≡ row meaning turn.input (place_after_all before (beginning settings))
+    → (let place = place_after_all before (beginning settings) in AreAccountedFor place.desk.pending (answered_by before (beginning settings)) place.desk.jobs)
+    → (let place = place_after turn (place_after_all before (beginning settings)) in AreAccountedFor place.desk.pending (answered_by (before ++ turn ∷ []) (beginning settings)) place.desk.jobs)
+turns-accounted meaning settings before turn does all =
+    let place = place_after_all before (beginning settings) in
+    let now = answered_by_turn turn place in
+    let same : answered_by (before ++ turn ∷ []) (beginning settings) ≡ answered_by before (beginning settings) ++ now =
+    answered_by-append before (turn ∷ []) (beginning settings) ∙ ap (λ ts. answered_by before (beginning settings) ++ ts) (append-nil now) in
+    subst (λ ts. AreAccountedFor (place_after turn place).desk.pending ts (place_after turn place).desk.jobs) (sym same)
+    (turn-accounted meaning turn place (answered_by before (beginning settings)) does all)

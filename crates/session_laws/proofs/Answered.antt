@@ -5,17 +5,18 @@ use Rattle.std.specs.FinMap as maps
 use Rattle.lsp_frame.specs.Reader.{Reader}
 use Rattle.ra_config.specs.Config.{ConfigData}
 use Rattle.session_port.specs.Jobs.{Jobs}
-use Rattle.session_port.specs.Record.{HostCall, gave, took, given_in, taken_in}
+use Rattle.session_port.specs.Record.{HostCall, gave, took, given_in, spawned, taken_in}
 use Rattle.session_port.specs.declared.command.Command.{Command}
 use Rattle.session_port.specs.declared.command.Command.TheVariants.{Stop}
 use Rattle.session_port.specs.declared.event.HostEvent.{HostEvent}
 use Rattle.session_port.specs.declared.event.HostEvent.TheVariants.{Bytes, Ended}
+use Rattle.desk_laws.specs.Numbers.{AreNumbered}
 use Rattle.session_model.specs.Course.{Course, takes, session_course, bytes_in}
 use Rattle.session_model.specs.Headline.{Place, Answers, AllTaken, EndsAt, IsAnswered, IsUsedUp, LastUntaken, NeedsMore, Revises, AreHandedOver, place_after, place_after_all, beginning, reaction_of, row}
-use Rattle.session_model.specs.Meaning.{Meaning}
+use Rattle.desk.specs.Meaning.{Meaning}
 use Rattle.session_model.specs.Run.{Turn, Told, Runs, Steps, AreHonest, AsksLast, BreaksOffWritten, Ends, EndsBy, IsRun, MayAsk, RunsOut, Stretch, TooManyBytes, commands_of, fed_bytes, giving, taking, telling}
 use Rattle.session_model.specs.State.{State, fresh}
-use Rattle.session_model.specs.declared.fault.Counter.{Counter}
+use Rattle.turn_parts.specs.declared.fault.Counter.{Counter}
 use Rattle.session_model.specs.declared.fault.SessionError.{SessionError}
 use Rattle.session_model.specs.declared.fault.SessionError.TheVariants.{ClientExited, BadFrame, BadMessage, HostFault, WriteFault, Exhausted, NoMemory}
 use Rattle.session_laws.specs.Answering.{answered_by, AreAccountedFor}
@@ -23,7 +24,7 @@ use Rattle.session_laws.specs.Invariant.{SoundAt, Stands, place_of}
 use Rattle.session_laws.proofs.Accounted.{accounted-beginning, turns-accounted}
 use Rattle.session_laws.proofs.Asking.{asks-on, asks-events, no-event, given-append, given-giving, taken-append, taken-giving, taking-append}
 use Rattle.session_laws.proofs.Exhausting.{step-needs}
-use Rattle.session_laws.proofs.Held.{turn-sound, turn-once, sound-beginning}
+use Rattle.session_laws.proofs.Held.{numbered-sound, turn-once, sound-beginning}
 use Rattle.session_laws.proofs.Handed.{turn-handed, handed-beginning, after_all-append}
 use Rattle.session_laws.proofs.Rows.{steps-fit}
 use Rattle.session_laws.proofs.Stretches.{runs-append, read-append, honest-append, bytes-append, telling-append, telling-none}
@@ -38,51 +39,55 @@ at-each meaning config honest first [] turn after h = subst (λ (ts : List Turn)
 at-each meaning config honest first (b ∷ bs) turn after h =
     subst (λ (ts : List Turn). Answers meaning config honest ts turn) (append_assoc first (b ∷ []) bs) (at-each meaning config honest (first ++ b ∷ []) bs turn after h.1)
 
-after-one : (before : List Turn) (turn : Turn) → place_after_all (before ++ turn ∷ []) beginning ≡ place_after turn (place_after_all before beginning)
-after-one before turn = after_all-append before (turn ∷ []) beginning
+-- where the lists stand after these turns
+abbrev placed : ConfigData → List Turn → Place
+placed config turns = place_after_all turns (beginning config)
+
+after-one : (config : ConfigData) (before : List Turn) (turn : Turn) → placed config (before ++ turn ∷ []) ≡ place_after turn (placed config before)
+after-one config before turn = after_all-append before (turn ∷ []) (beginning config)
 
 -- a turn of a machine that stands: it is its row, and the machine stands after it
 record Turned (meaning : Meaning) (config : ConfigData) (before : List Turn) (turn : Turn) (mid : State) : Type 0 where
-  does : reaction_of turn ≡ row meaning config turn.input (place_after_all before beginning)
+  does : reaction_of turn ≡ row meaning turn.input (placed config before)
   next : Stands config (before ++ turn ∷ []) mid
-  revised : Revises (place_after_all before beginning) (place_after turn (place_after_all before beginning))
+  revised : Revises (placed config before) (place_after turn (placed config before))
 
 turned : (meaning : Meaning) (config : ConfigData) (s : State) (before : List Turn) (turn : Turn) (mid : State) → Stands config before s → Steps meaning s turn mid → Turned meaning config before turn mid
 turned meaning config s before turn mid stands steps =
     let fit = steps-fit meaning s turn mid steps in
-    let here = place_after_all before beginning in
-    let does = subst (λ p. reaction_of turn ≡ row meaning config turn.input p) stands.place (subst (λ c. reaction_of turn ≡ row meaning c turn.input (place_of s)) stands.settings fit.does) in
+    let here = placed config before in
+    let does = subst (λ p. reaction_of turn ≡ row meaning turn.input p) stands.place fit.does in
+    let numbered : AreNumbered here.desk.handed (spawned turn.commands) = subst (λ (p : Place). AreNumbered p.desk.handed (spawned turn.commands)) stands.place fit.numbered in
     let place : place_of mid ≡ place_after turn here = fit.place ∙ ap (place_after turn) stands.place in
     let rises : here.revision ≤ (place_after turn here).revision = subst (λ (p : Place). p.revision ≤ (place_after turn here).revision) stands.place (subst (λ (p : Place). s.host.revision ≤ p.revision) place fit.later) in
-    let sound : SoundAt (place_after turn here) = turn-sound meaning config turn here does rises stands.sound in
-    let handed : AreHandedOver config (before ++ turn ∷ []) (place_after turn here).out = turn-handed meaning config before turn does stands.sound stands.handed in
+    let sound : SoundAt (place_after turn here) = numbered-sound meaning turn here does numbered rises stands.sound in
+    let handed : AreHandedOver config (before ++ turn ∷ []) (place_after turn here).desk.jobs = turn-handed meaning config before turn does stands.sound stands.handed in
     record {
       does = does;
       next = record {
-        settings = fit.config ∙ stands.settings;
-        place = place ∙ sym (after-one before turn);
-        sound = subst SoundAt (sym (after-one before turn)) sound;
-        handed = subst (λ (p : Place). AreHandedOver config (before ++ turn ∷ []) p.out) (sym (after-one before turn)) handed;
-        accounted = subst (λ (p : Place). AreAccountedFor p.pending (answered_by (before ++ turn ∷ []) beginning) p.out) (sym (after-one before turn))
+        place = place ∙ sym (after-one config before turn);
+        sound = subst SoundAt (sym (after-one config before turn)) sound;
+        handed = subst (λ (p : Place). AreHandedOver config (before ++ turn ∷ []) p.desk.jobs) (sym (after-one config before turn)) handed;
+        accounted = subst (λ (p : Place). AreAccountedFor p.desk.pending (answered_by (before ++ turn ∷ []) (beginning config)) p.desk.jobs) (sym (after-one config before turn))
             (turns-accounted meaning config before turn does stands.accounted);
       };
       revised = subst (λ (p : Place). Revises here p) place (subst (λ (p : Place). Revises p (place_of mid)) stands.place fit.revised);
     }
 
 all-answer : (meaning : Meaning) (config : ConfigData) (honest : Bool) (s : State) (before turns : List Turn) (last : State) → Stands config before s
-    → Runs meaning s turns last → (IsTrue honest → AreHonest meaning (place_after_all before beginning).out turns) → AllAnswer meaning config honest before turns
+    → Runs meaning s turns last → (IsTrue honest → AreHonest meaning (placed config before).desk.jobs turns) → AllAnswer meaning config honest before turns
 all-answer meaning config honest s before [] last stands runs fair = tt
 all-answer meaning config honest s before (turn ∷ turns) last stands (mid, steps, runs) fair =
     let t = turned meaning config s before turn mid stands steps in (
       record {
         does = t.does;
-        once = turn-once meaning config turn (place_after_all before beginning) t.does stands.sound;
+        once = turn-once meaning turn (placed config before) t.does stands.sound;
         held = t.next.sound.held;
         handed_over = stands.handed;
         revised = t.revised;
         value = λ h. (fair h).0;
       },
-      all-answer meaning config honest mid (before ++ turn ∷ []) turns last t.next runs (λ h. subst (λ (p : Place). AreHonest meaning p.out turns) (sym (after-one before turn)) (fair h).1),
+      all-answer meaning config honest mid (before ++ turn ∷ []) turns last t.next runs (λ h. subst (λ (p : Place). AreHonest meaning p.desk.jobs turns) (sym (after-one config before turn)) (fair h).1),
     )
 
 all-stand : (meaning : Meaning) (config : ConfigData) (s : State) (before turns : List Turn) (last : State) → Stands config before s → Runs meaning s turns last → Stands config (before ++ turns) last
@@ -92,7 +97,7 @@ all-stand meaning config s before (turn ∷ turns) last stands (mid, steps, runs
     subst (λ (ts : List Turn). Stands config ts last) (append_assoc before (turn ∷ []) turns) (all-stand meaning config mid (before ++ turn ∷ []) turns last t.next runs)
 
 stands-fresh : (config : ConfigData) → Stands config [] (fresh config)
-stands-fresh config = record { settings = refl; place = refl; sound = sound-beginning; handed = handed-beginning config; accounted = accounted-beginning }
+stands-fresh config = record { place = refl; sound = sound-beginning config; handed = handed-beginning config; accounted = accounted-beginning config }
 
 -- after each list of turns the machine stands where they say
 pub runs-stand : (meaning : Meaning) (config : ConfigData) (turns : List Turn) (last : State) → Runs meaning (fresh config) turns last → Stands config turns last
@@ -179,7 +184,7 @@ runs-out-used meaning config reader counter last to old new turns calls runs r =
       input = r.input;
       later = r.brings.later [];
       is = ap to (sym (append-nil r.events)) ∙ r.brings.course [];
-      needs = subst (λ (p : Place). NeedsMore meaning config p r.input counter) stands.place (subst (λ (c : ConfigData). NeedsMore meaning c (place_of last) r.input counter) stands.settings needs);
+      needs = subst (λ (p : Place). NeedsMore meaning p r.input counter) stands.place needs;
     })
 
 -- the bytes of the event are more than can be counted

@@ -6,9 +6,9 @@ use Rattle.ra_config.specs.Config.{ConfigData}
 use Rattle.session_port.specs.Record.{HostCall, given_in, grown}
 use Rattle.session_model.specs.Course.{Course, Stop, end_of, session_course}
 use Rattle.session_model.specs.Headline.{EndsAt, EndsByCause, IsAnswered, IsComplete, IsEnd, RanOut}
-use Rattle.session_model.specs.Meaning.{Meaning}
+use Rattle.desk.specs.Meaning.{Meaning}
 use Rattle.session_model.specs.Run.{Turn, Told, taking}
-use Rattle.session_model.specs.declared.fault.Counter.{Counter}
+use Rattle.turn_parts.specs.declared.fault.Counter.{Counter}
 use Rattle.session_model.specs.declared.fault.SessionError.{SessionError}
 use Rattle.session_model.specs.declared.fault.SessionError.TheVariants.{ClientExited, BadFrame, BadMessage, HostFault, WriteFault, Exhausted, NoMemory}
 

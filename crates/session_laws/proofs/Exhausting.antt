@@ -3,45 +3,37 @@ use Rattle.std.proofs.Common.{◌≡◌, ℕ, ◌+◌, ◌-◌, ◌^◌, ◌≤�
 use Rattle.std.proofs.lemmas.Bool.{ltb-false}
 use Rattle.std.proofs.lemmas.List.{length-append}
 use Rattle.std.proofs.lemmas.Result.{IfErr-at_err, IfOk-at_ok}
-use Rattle.std.specs.Prelude.{Result, Ok, Err, IfErr, ℤ, Option, None, Some, ◌&&◌, not, is_some, if◌then◌else◌, ltb}
+use Rattle.std.specs.Prelude.{Result, Ok, Err, IfErr, ℤ, Option, None, Some, is_some, if◌then◌else◌, ltb}
 use Rattle.std.specs.FinMap as map
-use Rattle.serde_json.specs.Data.{Data}
 use Rattle.docs_vfs.specs.FileUrls.{path_of}
 use Rattle.docs_vfs.specs.declared.file_url.UrlFault.{UrlFault}
-use Rattle.lsp_frame.specs.Pending.{is_pending, id_of}
 use Rattle.lsp_frame.specs.declared.message.Request.{Request}
-use Rattle.lsp_frame.specs.declared.message.RequestId.{RequestId}
-use Rattle.lsp_frame.specs.declared.message.Response.{Response}
-use Rattle.lsp_frame.specs.declared.message.Notification.{Notification}
-use Rattle.lsp_frame.specs.declared.message.Message.{Message}
 use Rattle.lsp_frame.specs.declared.message.Message.TheVariants.{Request as RequestMessage, Notification as NotificationMessage, Response as ResponseMessage}
-use Rattle.ra_config.specs.Config.{ConfigData}
+use Rattle.analysis_host.specs.FromProto.{columns}
 use Rattle.analysis_host.specs.HostData.{HostData}
-use Rattle.method_table.specs.Plans.{plan, is_shutdown}
-use Rattle.method_table.specs.Rows.{row_of, class_of, retries}
-use Rattle.method_table.specs.declared.class.PoolClass.{PoolClass}
-use Rattle.method_table.specs.declared.planned.Plan.{Plan}
-use Rattle.method_table.specs.declared.planned.Plan.TheVariants as plans
-use Rattle.method_table.specs.declared.row_id.RowId.{RowId}
+use Rattle.analysis_host.specs.SnapshotData.{text_at}
 use Rattle.analysis_host.specs.declared.host.WorldFault.TheVariants.{Exhausted}
-use Rattle.session_port.specs.Jobs.{ticket_of, final_of, fitting_job, after_message}
+use Rattle.session_port.specs.Jobs.{after_message}
 use Rattle.session_port.specs.declared.command.LogCode.{LogCode}
 use Rattle.session_port.specs.declared.command.LogCode.TheVariants.{DuplicateOpen, UnexpectedChange, SkippedChange}
 use Rattle.session_port.specs.declared.event.TaskMsg.{TaskMsg}
-use Rattle.session_port.specs.declared.job.Job.{Job}
-use Rattle.session_port.specs.declared.job.JobKind.{JobKind}
-use Rattle.session_port.specs.declared.job.JobKind.TheVariants.{Request as RequestJob}
-use Rattle.session_port.specs.declared.job.JobResult.{JobResult}
+use Rattle.turn_parts.specs.Working.{Working, and_then, logged, ordered, within}
+use Rattle.turn_parts.specs.declared.fault.Counter.{Counter}
+use Rattle.turn_parts.specs.declared.fault.Counter.TheVariants.{Turns, Jobs, Revisions}
+use Rattle.desk.specs.Meaning.{Meaning}
+use Rattle.desk.specs.Reactions.{Reaction, message_row, request_row}
+use Rattle.desk.specs.Steps.{cancelled, requested, counted as counted_at_desk, kept as kept_at_desk, taken as taken_at_desk}
+use Rattle.desk_laws.proofs.Refusing.{TooMany, counted-errs, err-and_then, err-weaker, message-errs, request-errs}
+use Rattle.desk_laws.proofs.Results.{IfErr-within}
+use Rattle.desk_laws.proofs.Settling.{message-turns, request-turns}
 use Rattle.session_model.specs.Changing.{text_after, has_skipped}
-use Rattle.session_model.specs.Headline.{Place, NeedsMore, Reaction, row, says, new_row, snapshot_at, hands_over, if_read, planned_row, class_row, stopped_row, result_row, ticket_row, final_row, message_row, batch_row, place_past}
-use Rattle.session_model.specs.Machine.{Working, and_then, next_number, counted, dispatched, submitted, planned, classed, asked, noted, shut_down, admitted, requested, answered, opened_at, open_noted, is_open, changed_at, skip_noted, version_set, text_set, edited, edited_by, holds_text, world_changed, world_by, noticed, received, logged, ordered, stopped, settled, delivered, ended, taken, batched, happened, taken_in, step}
-use Rattle.session_model.specs.Meaning.{Meaning, can_read}
+use Rattle.session_model.specs.Headline.{NeedsMore, row, batch_row, place_past, scene_at}
+use Rattle.session_model.specs.Machine.{Turning, at_desk, batched, changed_at, closed, closing_part, counted, desk_in, edited, edited_by, event_part, happened, is_open, kept, later_parts, noticed, open_noted, opened_at, received, skip_noted, state_in, step, taken, taken_in, text_set, turned, turning, version_set, with_desk, with_state, world_by, world_changed}
+use Rattle.session_model.specs.Entries.{entry_of, holds_text}
 use Rattle.session_model.specs.Notices.{notice_of}
-use Rattle.session_model.specs.Replies.{stopped_reply, finished_reply}
 use Rattle.session_model.specs.Run.{begun}
-use Rattle.session_model.specs.State.{State}
-use Rattle.session_model.specs.declared.fault.Counter.{Counter}
-use Rattle.session_model.specs.declared.fault.Counter.TheVariants.{Turns, Jobs, Revisions}
+use Rattle.session_model.specs.State.{State, scene_of}
+use Rattle.session_model.specs.declared.facts.Facts.{Facts}
 use Rattle.session_model.specs.declared.input.Event.{Event}
 use Rattle.session_model.specs.declared.input.Event.TheVariants.{Lsp, Task}
 use Rattle.session_model.specs.declared.input.Input.{Input}
@@ -51,158 +43,48 @@ use Rattle.session_model.specs.declared.notice.DidOpen.{DidOpen}
 use Rattle.session_model.specs.declared.notice.Notice.{Notice}
 use Rattle.session_model.specs.declared.notice.Notice.TheVariants.{Opened, Changed, Cancel, Malformed, Unhandled, Silent}
 use Rattle.session_laws.specs.Invariant.{place_of}
-use Rattle.session_laws.proofs.Rows.{counted_turn}
-use Rattle.session_laws.proofs.Settling.{Settled, place_at, without, message-settles, settled-place}
-
--- ---- parts that may be refused, one after another
-
-err-and_then : {X Y E : Type 0} (r : Result X E) (f : X → Result Y E) (P : E → Type 0) → IfErr r P → ((x : X) → r ≡ Ok x → IfErr (f x) P) → IfErr (and_then r f) P
-err-and_then (Ok x) f P p q = q x refl
-err-and_then (Err e) f P p q = p
-
-next-cases : {Y : Type 0} (b : Bool) (n : ℕ) (counter : Counter) (f : ℕ → Result Y Counter) (P : Counter → Type 0) → ltb n (2 ^ 64 - 1) ≡ b → (2 ^ 64 - 1 ≤ n → P counter) → IfErr (f (n + 1)) P
-    → IfErr (and_then (if b then Ok (n + 1) else Err counter) f) P
-next-cases true n counter f P h last on = on
-next-cases false n counter f P h last on = last (ltb-false _ _ h)
-
--- the next number is refused only where the last one was used
-err-next : {Y : Type 0} (n : ℕ) (counter : Counter) (f : ℕ → Result Y Counter) (P : Counter → Type 0) → (2 ^ 64 - 1 ≤ n → P counter) → IfErr (f (n + 1)) P → IfErr (and_then (next_number n counter) f) P
-err-next n counter f P last on = next-cases (ltb n (2 ^ 64 - 1)) n counter f P refl last on
-
-err-weaker : {X E : Type 0} (r : Result X E) (P Q : E → Type 0) → IfErr r P → ((e : E) → P e → Q e) → IfErr r Q
-err-weaker (Ok x) P Q p q = tt
-err-weaker (Err e) P Q p q = q e p
+use Rattle.session_laws.proofs.Rows.{DoesAtDesk, at, counted-is, counted_turn, place_at, settled-place, taken-settles}
 
 -- ---- jobs
 
--- so many jobs pass the last number
-abbrev TooMany : ℕ → Reaction → Counter → Type 0
-TooMany given done counter = (counter ≡ Jobs) × (2 ^ 64 ≤ given + length done.jobs)
-
-dispatch-errs : (n : ℕ) (class : PoolClass) (ticket : ℕ) (row : RowId) (params : Data) (w : Working)
-    → IfErr (dispatched class ticket row params w) (TooMany w.state.jobs_given (hands_over w.state.jobs_given (snapshot_at w.state.config (place_at n w.state)) class ticket row params))
-unfolding dispatched
-dispatch-errs n class ticket row params w =
-    let done = hands_over w.state.jobs_given (snapshot_at w.state.config (place_at n w.state)) class ticket row params in
-    err-next w.state.jobs_given Jobs _ (TooMany w.state.jobs_given done) (λ last. (refl, omega (arith, last))) tt
-
-submit-errs : (n : ℕ) (reads : Bool) (class : PoolClass) (ticket : ℕ) (id : RequestId) (row : RowId) (params : Data) (w : Working)
-    → IfErr (submitted reads class ticket id row params w)
-    (TooMany w.state.jobs_given (if_read reads id (hands_over w.state.jobs_given (snapshot_at w.state.config (place_at n w.state)) class ticket row params)))
-unfolding submitted
-submit-errs n true class ticket id row params w = dispatch-errs n class ticket row params w
-submit-errs n false class ticket id row params w = tt
-
-plan-errs : (meaning : Meaning) (n : ℕ) (p : Plan) (ticket : ℕ) (id : RequestId) (row : RowId) (params : Data) (w : Working)
-    → IfErr (planned meaning p ticket id row params w)
-    (TooMany w.state.jobs_given (planned_row meaning w.state.jobs_given (snapshot_at w.state.config (place_at n w.state)) p ticket id row params))
-unfolding planned
-plan-errs meaning n plans.Shutdown ticket id row params w = tt
-plan-errs meaning n plans.Refuse ticket id row params w = tt
-plan-errs meaning n plans.Unknown ticket id row params w = tt
-plan-errs meaning n plans.Default ticket id row params w = tt
-plan-errs meaning n plans.Identity ticket id row params w = tt
-plan-errs meaning n plans.State ticket id row params w = tt
-plan-errs meaning n plans.OnLoop ticket id row params w = tt
-plan-errs meaning n (plans.Job class) ticket id row params w = submit-errs n (can_read meaning row params) class ticket id row params w
-
-class-errs : (meaning : Meaning) (n ticket : ℕ) (id : RequestId) (row : RowId) (params : Data) (w : Working)
-    → IfErr (classed meaning ticket id row params w) (TooMany w.state.jobs_given (class_row meaning w.state.config (place_at n w.state) ticket id row params))
-unfolding classed
-class-errs meaning n ticket id row params w = plan-errs meaning n (plan (Some row) w.state.loading false w.state.shutdown) ticket id row params w
-
-stop-cases : (meaning : Meaning) (n ticket : ℕ) (id : RequestId) (row : RowId) (params : Data) (w : Working) (b : Bool)
-    → IfErr (if b then Ok (answered id (stopped_reply (class_of row) id) w) else classed meaning ticket id row params w)
-    (TooMany w.state.jobs_given (if b then says (stopped_reply (class_of row) id) else class_row meaning w.state.config (place_at n w.state) ticket id row params))
-stop-cases meaning n ticket id row params w true = tt
-stop-cases meaning n ticket id row params w false = class-errs meaning n ticket id row params w
-
-stop-errs : (meaning : Meaning) (n number : ℕ) (id : RequestId) (revision : ℕ) (kind : JobKind) (w : Working)
-    → IfErr (stopped meaning id revision kind (without number w)) (TooMany w.state.jobs_given (stopped_row meaning w.state.config (place_at n w.state) id revision kind))
-unfolding stopped
-stop-errs meaning n number id revision (RequestJob ticket row params) w = stop-cases meaning n ticket id row params (without number w) (ltb revision w.state.host.revision && not (retries row))
-
-result-errs : (meaning : Meaning) (n number : ℕ) (id : RequestId) (job : Job) (o : Option Response) (w : Working)
-    → IfErr (settled meaning o id job (without number w)) (TooMany w.state.jobs_given (result_row meaning w.state.config (place_at n w.state) o id job))
-unfolding settled
-result-errs meaning n number id job (Some response) w = tt
-result-errs meaning n number id job None w = stop-errs meaning n number id job.snapshot.revision job.kind w
-
-ticket-errs : (meaning : Meaning) (n number : ℕ) (request : Option RequestId) (job : Job) (result : JobResult) (w : Working)
-    → IfErr (delivered meaning request job result (without number w)) (TooMany w.state.jobs_given (ticket_row meaning w.state.config (place_at n w.state) request job result))
-unfolding delivered
-ticket-errs meaning n number None job result w = tt
-ticket-errs meaning n number (Some id) job result w = result-errs meaning n number id job (finished_reply id result) w
-
-job-errs : (meaning : Meaning) (n : ℕ) (job : Option Job) (message : TaskMsg) (w : Working)
-    → IfErr (ended meaning job message w) (TooMany w.state.jobs_given (final_row meaning w.state.config (place_at n w.state) job message))
-unfolding ended
-job-errs meaning n None message w = tt
-job-errs meaning n (Some job) message w = ticket-errs meaning n message.job (id_of (ticket_of job.kind) w.state.pending) job (final_of message.body) w
-
-message-errs : (meaning : Meaning) (config : ConfigData) (place : Place) (message : TaskMsg) (w : Working) → w.state.config ≡ config → place_at place.number w.state ≡ place
-    → IfErr (taken meaning message w) (TooMany w.state.jobs_given (message_row meaning config place message))
-message-errs meaning config place message w settings here =
-    subst (λ c. IfErr (taken meaning message w) (TooMany w.state.jobs_given (message_row meaning c place message))) settings
-    (subst (λ p. IfErr (taken meaning message w) (TooMany w.state.jobs_given (message_row meaning w.state.config p message))) here
-    (job-errs meaning place.number (fitting_job message w.state.jobs) message w))
+taken-errs : (meaning : Meaning) (turns : ℕ) (message : TaskMsg) (w : Working State)
+    → IfErr (taken meaning message w) (TooMany w.state.desk.handed (message_row meaning (scene_of w.state) (record w.state.desk { turns = turns }) message))
+taken-errs meaning turns message w =
+    IfErr-within desk_in with_desk (taken_at_desk meaning (scene_of w.state) message) w _
+    (subst (λ d. IfErr (taken_at_desk meaning (scene_of w.state) message (at w)) (TooMany w.state.desk.handed d)) (sym (message-turns meaning (scene_of w.state) w.state.desk turns message))
+    (message-errs meaning (scene_of w.state) message (at w)))
 
 -- a batch: its first message that needs a job too many, behind those that the ones before have handed over
-batch-errs : (meaning : Meaning) (config : ConfigData) (place : Place) (batch : List TaskMsg) (w : Working) → w.state.config ≡ config → place_at place.number w.state ≡ place
-    → IfErr (batched meaning batch w) (TooMany w.state.jobs_given (batch_row meaning config batch place))
-batch-errs meaning config place [] w settings here = tt
-batch-errs meaning config place (m ∷ ms) w settings here =
-    let done = message_row meaning config place m in
+batch-errs : (meaning : Meaning) (turns : ℕ) (batch : List TaskMsg) (w : Working State) → IfErr (batched meaning batch w) (TooMany w.state.desk.handed (batch_row meaning batch (place_at turns w.state)))
+batch-errs meaning turns [] w = tt
+batch-errs meaning turns (m ∷ ms) w =
+    let place = place_at turns w.state in
+    let done = message_row meaning (scene_at place) place.desk m in
     let past = place_past m done place in
-    let rest = batch_row meaning config ms past in
+    let rest = batch_row meaning ms past in
+    let jobs = after_message m w.state.desk.jobs in
     let both : length (done.jobs ++ rest.jobs) ≡ length done.jobs + length rest.jobs = length-append done.jobs rest.jobs in
-    err-and_then (taken meaning m w) (batched meaning ms) (TooMany w.state.jobs_given (batch_row meaning config (m ∷ ms) place))
-    (err-weaker (taken meaning m w) (TooMany w.state.jobs_given done) _ (message-errs meaning config place m w settings here) (λ c h. (h.0, omega (arith, h.1, both))))
-    (λ v is. let a : Settled w v done (after_message m w.state.jobs) = IfOk-at_ok (λ v. Settled w v done (after_message m w.state.jobs)) is (message-settles meaning config place m w settings here) in
-    err-weaker (batched meaning ms v) (TooMany v.state.jobs_given rest) _
-    (batch-errs meaning config past ms v (ap (λ (s : State). s.config) a.same ∙ settings) (settled-place place.number w v m done a ∙ ap (place_past m done) here))
-    (λ c h. (h.0, omega (arith, h.1, a.given, both))))
-
--- ---- requests
+    err-and_then (taken meaning m w) (batched meaning ms) (TooMany w.state.desk.handed (batch_row meaning (m ∷ ms) place))
+    (err-weaker (taken meaning m w) (TooMany w.state.desk.handed done) _ (taken-errs meaning turns m w) (λ c h. (h.0, omega (arith, h.1, both))))
+    (λ v is. let a : DoesAtDesk w v done jobs = IfOk-at_ok (λ v. DoesAtDesk w v done jobs) is (taken-settles meaning turns m w) in
+    let given : v.state.desk.handed ≡ w.state.desk.handed + length done.jobs = a.desk.handed in
+    err-weaker (batched meaning ms v) (TooMany v.state.desk.handed rest) _
+    (subst (λ p. IfErr (batched meaning ms v) (TooMany v.state.desk.handed (batch_row meaning ms p))) (settled-place turns m w v done a) (batch-errs meaning turns ms v))
+    (λ c h. (h.0, omega (arith, h.1, given, both))))
 
 abbrev Needs : Meaning → State → Input → Counter → Type 0
-Needs meaning s input counter = NeedsMore meaning s.config (place_of s) input counter
+Needs meaning s input counter = NeedsMore meaning (place_of s) input counter
 
-needs-jobs : (meaning : Meaning) (s : State) (input : Input) (done : Reaction) (counter : Counter) → row meaning s.config input (place_of s) ≡ done → TooMany s.jobs_given done counter → Needs meaning s input counter
+needs-jobs : (meaning : Meaning) (s : State) (input : Input) (done : Reaction) (counter : Counter) → row meaning input (place_of s) ≡ done → TooMany s.desk.handed done counter → Needs meaning s input counter
 needs-jobs meaning s input done counter is h =
-    subst (Needs meaning s input) (sym h.0) (subst (λ (d : Reaction). 2 ^ 64 ≤ s.jobs_given + length d.jobs) (sym is) h.1)
+    subst (Needs meaning s input) (sym h.0) (subst (λ (d : Reaction). 2 ^ 64 ≤ s.desk.handed + length d.jobs) (sym is) h.1)
 
-abbrev request_input : Request → Input
-request_input r = Next (Lsp (RequestMessage r))
-
-none-errs : (b : Bool) (refused answered : Working) (P : Counter → Type 0) → IfErr (if b then Ok refused else Ok answered) P
-none-errs true refused answered P = tt
-none-errs false refused answered P = tt
-
-method-errs : (meaning : Meaning) (s : State) (r : Request) (o : Option RowId) → is_pending r.id s.pending ≡ false → is_shutdown (row_of r.method) ≡ false → row_of r.method ≡ o
-    → IfErr (asked meaning o r (noted r.id (counted_turn s))) (Needs meaning s (request_input r))
-unfolding asked noted
-method-errs meaning s r None new other is = none-errs s.shutdown _ _ (Needs meaning s (request_input r))
-method-errs meaning s r (Some row_id) new other is =
-    let done = class_row meaning s.config (place_of s) (s.turns + 1) r.id row_id r.params in
-    err-weaker _ (TooMany s.jobs_given done) (Needs meaning s (request_input r))
-    (class-errs meaning (s.turns + 1) (s.turns + 1) r.id row_id r.params (noted r.id (counted_turn s)))
-    (λ c h. needs-jobs meaning s (request_input r) done c (rw (new, other, is) refl) h)
-
-admit-errs : (meaning : Meaning) (s : State) (r : Request) (b : Bool) → is_pending r.id s.pending ≡ false → is_shutdown (row_of r.method) ≡ b
-    → IfErr (if b then Ok (shut_down r.id r.params (noted r.id (counted_turn s))) else asked meaning (row_of r.method) r (noted r.id (counted_turn s))) (Needs meaning s (request_input r))
-admit-errs meaning s r true new named = tt
-admit-errs meaning s r false new other = method-errs meaning s r (row_of r.method) new other refl
-
-request-cases : (meaning : Meaning) (s : State) (r : Request) (b : Bool) (refused : Working) → is_pending r.id s.pending ≡ b
-    → IfErr (if b then Ok refused else admitted meaning r (noted r.id (counted_turn s))) (Needs meaning s (request_input r))
-unfolding admitted noted
-request-cases meaning s r true refused is = tt
-request-cases meaning s r false refused is = admit-errs meaning s r (is_shutdown (row_of r.method)) is refl
-
-request-errs : (meaning : Meaning) (s : State) (r : Request) → IfErr (requested meaning r (counted_turn s)) (Needs meaning s (request_input r))
-unfolding requested
-request-errs meaning s r = request-cases meaning s r (is_pending r.id s.pending) _ refl
+read-errs : (meaning : Meaning) (s : State) (r : Request) → IfErr (at_desk (requested meaning (scene_of s) r) (counted_turn s)) (Needs meaning s (Next (Lsp (RequestMessage r))))
+read-errs meaning s r =
+    let done = request_row meaning (scene_of s) (counted_turn s).state.desk (s.desk.turns + 1) r in
+    IfErr-within desk_in with_desk (requested meaning (scene_of s) r) (counted_turn s) _
+    (err-weaker _ (TooMany s.desk.handed done) _ (request-errs meaning (scene_of s) r (at (counted_turn s)))
+    (λ c h. needs-jobs meaning s (Next (Lsp (RequestMessage r))) done c (sym (request-turns meaning (scene_of s) s.desk (s.desk.turns + 1) (s.desk.turns + 1) r)) h))
 
 -- ---- notifications
 
@@ -210,48 +92,48 @@ request-errs meaning s r = request-cases meaning s r (is_pending r.id s.pending)
 abbrev AtLast : ℕ → Counter → Type 0
 AtLast revision counter = (counter ≡ Revisions) × (2 ^ 64 - 1 ≤ revision)
 
-room-errs : (host : HostData) (w : Working) (b : Bool) → ltb w.state.host.revision (2 ^ 64 - 1) ≡ b → IfErr (world_by (if b then Ok host else Err Exhausted) w) (AtLast w.state.host.revision)
+room-errs : (host : HostData) (w : Working State) (b : Bool) → ltb w.state.host.revision (2 ^ 64 - 1) ≡ b → IfErr (world_by (if b then Ok host else Err Exhausted) w) (AtLast w.state.host.revision)
 unfolding world_by
 room-errs host w true h = tt
 room-errs host w false h = (refl, ltb-false _ _ h)
 
-text-cases : (path text : List ℕ) (w : Working) (b : Bool) → IfErr (if b then Ok w else world_changed ((record { path = path; text = Some text }) ∷ []) w) (AtLast w.state.host.revision)
+text-cases : (path text : List ℕ) (w : Working State) (b : Bool) → IfErr (if b then Ok w else world_changed ((record { path = path; entry = Some (entry_of text) }) ∷ []) w) (AtLast w.state.host.revision)
 unfolding world_changed
 text-cases path text w true = tt
 text-cases path text w false = room-errs _ w (ltb w.state.host.revision (2 ^ 64 - 1)) refl
 
-text-errs : (path text : List ℕ) (w : Working) → IfErr (text_set path text w) (AtLast w.state.host.revision)
+text-errs : (path text : List ℕ) (w : Working State) → IfErr (text_set path text w) (AtLast w.state.host.revision)
 unfolding text_set
-text-errs path text w = text-cases path text w (holds_text (map.get w.state.host.world.texts path) text)
+text-errs path text w = text-cases path text w (holds_text (text_at w.state.host.world path) text)
 
 -- the same where a line is logged first, or not
-noted-errs : (code : LogCode) (path : List ℕ) (version : ℤ) (text : List ℕ) (w : Working) (b : Bool)
+noted-errs : (code : LogCode) (path : List ℕ) (version : ℤ) (text : List ℕ) (w : Working State) (b : Bool)
     → IfErr (text_set path text (version_set path version (if b then logged code path w else w))) (AtLast w.state.host.revision)
 unfolding version_set logged ordered
 noted-errs code path version text w true = text-errs path text (version_set path version (logged code path w))
 noted-errs code path version text w false = text-errs path text (version_set path version w)
 
-open-path-errs : (o : Result (List ℕ) UrlFault) (document : DidOpen) (w : Working) → IfErr (opened_at o document w) (AtLast w.state.host.revision)
+open-path-errs : (o : Result (List ℕ) UrlFault) (document : DidOpen) (w : Working State) → IfErr (opened_at o document w) (AtLast w.state.host.revision)
 unfolding opened_at open_noted
 open-path-errs (Err fault) document w = tt
 open-path-errs (Ok path) document w = noted-errs DuplicateOpen path document.version document.text w (is_open path w)
 
-is_open-errs : (path : List ℕ) (change : DidChange) (w : Working) (b : Bool) → IfErr (if b then edited path change w else Ok (logged UnexpectedChange path w)) (AtLast w.state.host.revision)
+is_open-errs : (path : List ℕ) (change : DidChange) (w : Working State) (b : Bool) → IfErr (if b then edited path change w else Ok (logged UnexpectedChange path w)) (AtLast w.state.host.revision)
 unfolding edited edited_by skip_noted
 is_open-errs path change w true =
-    let held = map.get w.state.host.world.texts path in noted-errs SkippedChange path change.version (text_after change.changes held) w (has_skipped change.changes held)
+    let held = text_at w.state.host.world path in noted-errs SkippedChange path change.version (text_after columns change.changes held) w (has_skipped columns change.changes held)
 is_open-errs path change w false = tt
 
-change-path-errs : (o : Result (List ℕ) UrlFault) (change : DidChange) (w : Working) → IfErr (changed_at o change w) (AtLast w.state.host.revision)
+change-path-errs : (o : Result (List ℕ) UrlFault) (change : DidChange) (w : Working State) → IfErr (changed_at o change w) (AtLast w.state.host.revision)
 unfolding changed_at
 change-path-errs (Err fault) change w = tt
 change-path-errs (Ok path) change w = is_open-errs path change w (is_open path w)
 
-notice-errs : (notice : Notice) (method : List ℕ) (w : Working) → IfErr (noticed notice method w) (AtLast w.state.host.revision)
+notice-errs : (notice : Notice) (method : List ℕ) (w : Working State) → IfErr (noticed notice method w) (AtLast w.state.host.revision)
 unfolding noticed
 notice-errs (Opened document) method w = open-path-errs (path_of document.uri) document w
 notice-errs (Changed change) method w = change-path-errs (path_of change.uri) change w
-notice-errs (Cancel id) method w = tt
+notice-errs (Cancel id) method w = IfErr-within desk_in with_desk (λ d. Ok (cancelled id d)) w (AtLast w.state.host.revision) tt
 notice-errs Malformed method w = tt
 notice-errs Unhandled method w = tt
 notice-errs Silent method w = tt
@@ -263,31 +145,47 @@ needs-revision meaning s input counter h = subst (Needs meaning s input) (sym h.
 
 event-errs : (meaning : Meaning) (s : State) (event : Event) → IfErr (happened meaning event (counted_turn s)) (Needs meaning s (Next event))
 unfolding happened received
-event-errs meaning s (Lsp (RequestMessage r)) = request-errs meaning s r
+event-errs meaning s (Lsp (RequestMessage r)) = read-errs meaning s r
 event-errs meaning s (Lsp (NotificationMessage n)) =
     err-weaker _ (AtLast s.host.revision) _ (notice-errs (notice_of n) n.method (counted_turn s)) (λ c h. needs-revision meaning s (Next (Lsp (NotificationMessage n))) c h)
 event-errs meaning s (Lsp (ResponseMessage r)) = tt
 event-errs meaning s (Task batch) =
-    let done = batch_row meaning s.config batch (place_of s) in
-    err-weaker _ (TooMany s.jobs_given done) _ (batch-errs meaning s.config (place_of s) batch (counted_turn s) refl refl) (λ c h. needs-jobs meaning s (Next (Task batch)) done c refl h)
+    let done = batch_row meaning batch (place_of s) in
+    err-weaker _ (TooMany s.desk.handed done) _ (batch-errs meaning s.desk.turns batch (counted_turn s)) (λ c h. needs-jobs meaning s (Next (Task batch)) done c refl h)
 
-counted-errs : (s : State) (f : Working → Result Working Counter) (P : Counter → Type 0) → (2 ^ 64 - 1 ≤ s.turns → P Turns) → IfErr (f (counted_turn s)) P → IfErr (and_then (counted (begun s)) f) P
+turns-errs : (meaning : Meaning) (s : State) (event : Event) → IfErr (counted (begun s)) (Needs meaning s (Next event))
 unfolding counted
-counted-errs s f P last on = and_then-and_then (next_number s.turns _) _ f P (err-next s.turns _ _ P last on)
-  where
-    and_then-and_then : {X Y Z E : Type 0} (r : Result X E) (g : X → Result Y E) (f : Y → Result Z E) (P : E → Type 0) → IfErr (and_then r (λ x. and_then (g x) f)) P → IfErr (and_then (and_then r g) f) P
-    and_then-and_then (Ok x) g f P q = q
-    and_then-and_then (Err e) g f P q = q
+turns-errs meaning s event =
+    IfErr-within desk_in with_desk counted_at_desk (begun s) (Needs meaning s (Next event))
+    (err-weaker _ (λ c. (c ≡ Turns) × (2 ^ 64 - 1 ≤ s.desk.turns)) _ (counted-errs (at (begun s))) (λ c h. subst (Needs meaning s (Next event)) (sym h.0) (omega (arith, h.1))))
 
-input-errs : (meaning : Meaning) (s : State) (input : Input) → IfErr (taken_in meaning input (begun s)) (Needs meaning s input)
+input-errs : (meaning : Meaning) (s : State) (event : Event) → IfErr (taken_in meaning event (begun s)) (Needs meaning s (Next event))
 unfolding taken_in
-input-errs meaning s Start = tt
-input-errs meaning s (Next event) = counted-errs s _ (Needs meaning s (Next event)) (λ last. omega (arith, last)) (event-errs meaning s event)
+input-errs meaning s event =
+    err-and_then (counted (begun s)) (happened meaning event) (Needs meaning s (Next event)) (turns-errs meaning s event)
+    (λ v is. let same : v ≡ counted_turn s = IfOk-at_ok (λ v. v ≡ counted_turn s) is (counted-is s) in
+    subst (λ w. IfErr (happened meaning event w) (Needs meaning s (Next event))) (sym same) (event-errs meaning s event))
+
+event-part-errs : (meaning : Meaning) (s : State) (event : Event) → IfErr (event_part meaning event (turning (begun s))) (Needs meaning s (Next event))
+unfolding event_part
+event-part-errs meaning s event = IfErr-within state_in with_state (taken_in meaning event) (turning (begun s)) (Needs meaning s (Next event)) (input-errs meaning s event)
+
+closed-errs : (facts : Facts) (w : Working State) (P : Counter → Type 0) → IfErr (closed facts w) P
+unfolding kept within
+closed-errs facts w P = tt
+
+closing-errs : (t : Working Turning) (P : Counter → Type 0) → IfErr (closing_part t) P
+unfolding closing_part
+closing-errs t P = IfErr-within state_in with_state (closed t.state.facts) t P (closed-errs t.state.facts _ P)
 
 step-errs : (meaning : Meaning) (s : State) (input : Input) → IfErr (step meaning input (begun s)) (Needs meaning s input)
 unfolding step
-step-errs meaning s input = err-and_then (taken_in meaning input (begun s)) _ (Needs meaning s input) (input-errs meaning s input) (λ v is. tt)
+step-errs meaning s Start = err-and_then (closing_part (turning (begun s))) turned (Needs meaning s Start) (closing-errs (turning (begun s)) (Needs meaning s Start)) (λ v is. tt)
+step-errs meaning s (Next event) =
+    err-and_then (and_then (event_part meaning event (turning (begun s))) later_parts) turned (Needs meaning s (Next event))
+    (err-and_then (event_part meaning event (turning (begun s))) later_parts (Needs meaning s (Next event)) (event-part-errs meaning s event) (λ t is. closing-errs t (Needs meaning s (Next event))))
+    (λ v is. tt)
 
 -- where the machine can't take a turn, one more of the counter that it names is needed than there are
-pub step-needs : (meaning : Meaning) (s : State) (input : Input) (counter : Counter) → step meaning input (begun s) ≡ Err counter → NeedsMore meaning s.config (place_of s) input counter
+pub step-needs : (meaning : Meaning) (s : State) (input : Input) (counter : Counter) → step meaning input (begun s) ≡ Err counter → NeedsMore meaning (place_of s) input counter
 step-needs meaning s input counter refused = IfErr-at_err (Needs meaning s input) refused (step-errs meaning s input)

@@ -1,33 +1,40 @@
--- Each job out was handed over by the turn that read its request, or a later one, on the documents of all inputs before that turn.
-use Rattle.std.proofs.Common.{◌≡◌, ℕ, ◌<◌, ◌≤◌, List, [], ◌∷◌, ◌++◌, Bool, true, false, refl, sym, ap, ◌∙◌, subst, arith, append_assoc, inl, inr}
+-- Each job out for a request was handed over by the turn that read it, or a later one, on the documents of all inputs before that turn.
+use Rattle.std.proofs.Common.{◌≡◌, ℕ, ◌+◌, ◌≤◌, List, [], ◌∷◌, ◌++◌, Bool, true, false, refl, sym, ap, ◌∙◌, subst, arith, append_assoc, inl, inr}
 use Rattle.std.specs.Prelude.{Option, None, Some, Contains, ◌⊎◌, if◌then◌else◌}
-use Rattle.std.specs.List.{All}
 use Rattle.std.specs.FinMap as map
-use Rattle.std.proofs.lemmas.List.Elements.{All-cons, All-contains, Contains-append_left, Contains-append_right, Contains-push}
-use Rattle.lsp_frame.specs.Pending.{is_pending, id_of}
+use Rattle.std.proofs.lemmas.List.Elements.{Contains-append_left, Contains-append_right, Contains-push}
+use Rattle.lsp_frame.specs.Pending.{is_pending}
+use Rattle.lsp_frame.specs.declared.message.Request.{Request}
 use Rattle.lsp_frame.specs.declared.message.RequestId.{RequestId}
 use Rattle.lsp_frame.specs.declared.message.Message.TheVariants.{Request as RequestMessage, Notification as NotificationMessage, Response as ResponseMessage}
 use Rattle.ra_config.specs.Config.{ConfigData}
-use Rattle.session_port.specs.Jobs.{Jobs, ticket_of, final_of, plain_result, fitting_job, after_message, after_batch}
+use Rattle.session_port.specs.Jobs.{Jobs, ticket_of, final_of, fitting_job, after_message, after_batch, without_fitting}
 use Rattle.session_port.specs.Record.{spawned, with_jobs}
 use Rattle.session_port.specs.declared.event.TaskMsg.{TaskMsg}
 use Rattle.session_port.specs.declared.job.Job.{Job}
 use Rattle.session_port.specs.declared.job.JobResult.{JobResult}
+use Rattle.desk.specs.Desk.{waiting_for}
+use Rattle.desk.specs.Folds.{is_asked}
+use Rattle.desk.specs.Meaning.{Meaning}
+use Rattle.desk.specs.Reactions.{Reaction, says, silent, new_row, request_row, cancel_row, ticket_row, final_row, fitting_row, message_row}
+use Rattle.desk.specs.Replies.{already_pending, canceled_by_client, finished_reply}
+use Rattle.desk_laws.specs.Reacting.{Reacts}
+use Rattle.desk_laws.proofs.Fitting.{after_message-some}
+use Rattle.desk_laws.proofs.Held.{has-ticket, still-out}
+use Rattle.desk_laws.proofs.Keyed.{by_key, get-insert_same, get-insert_other}
+use Rattle.desk_laws.proofs.Orders.{by_number_total, by_number_same}
+use Rattle.desk_laws.proofs.Reacting.{new-reacts, result-reacts}
 use Rattle.session_model.specs.Notices.{notice_of}
-use Rattle.session_model.specs.Headline.{Place, Reaction, reaction_of, row, says, silent, new_row, notice_row, ticket_row, final_row, message_row, batch_row, place_past, snapshot_at, beginning, place_after, place_after_all, WasHandedOver, AreHandedOver}
-use Rattle.session_laws.specs.Invariant.{SoundAt}
-use Rattle.session_model.specs.Meaning.{Meaning}
-use Rattle.session_model.specs.Replies.{already_pending, canceled_by_client, finished_reply}
+use Rattle.session_model.specs.Headline.{Place, reaction_of, row, notice_row, batch_row, place_past, next_turn, scene_at, snapshot_at, beginning, place_after, place_after_all, WasHandedOver, AreHandedOver}
+use Rattle.session_model.specs.Inputs.{batch_of}
 use Rattle.session_model.specs.Run.{Turn, after_input}
 use Rattle.session_model.specs.declared.notice.Notice.{Notice}
 use Rattle.session_model.specs.declared.notice.Notice.TheVariants.{Opened, Changed, Cancel, Malformed, Unhandled, Silent}
 use Rattle.session_model.specs.declared.input.Event.TheVariants.{Lsp, Task}
 use Rattle.session_model.specs.declared.input.Input.{Input}
 use Rattle.session_model.specs.declared.input.Input.TheVariants.{Start, Next}
-use Rattle.session_laws.proofs.Fitting.{after_message-some}
-use Rattle.session_laws.proofs.Keyed.{by_key, get-insert_same, get-insert_other, get-remove_same, get-remove_other}
-use Rattle.session_laws.proofs.Orders.{by_number_total, by_number_same}
-use Rattle.session_laws.proofs.Reacting.{Reacts, new-reacts, result-reacts}
+use Rattle.session_laws.specs.Invariant.{SoundAt}
+use Rattle.session_laws.proofs.Each.{Each, each-append, each-asked, each-one, each-weaker, no-ticket}
 
 some-same : {X : Type 0} (x y : X) → Some x ≡ Some y → x ≡ y
 some-same x y e = cc
@@ -35,94 +42,97 @@ some-same x y e = cc
 none-some : {X P : Type 0} (x : X) → None ≡ Some x → P
 none-some x e = absurd cc
 
--- a job that is handed over at this place: for a request that was read by then, on the documents of all earlier inputs
-record IsDue (config : ConfigData) (place : Place) (job : Job) : Type 0 where
-  not_before : ticket_of job.kind ≤ place.number
-  snapshot : job.snapshot ≡ snapshot_at config place
+-- a job that is handed over at this place for a request: for one that was read by then, on the documents of all earlier inputs
+record IsDue (place : Place) (job : Job) (ticket : ℕ) : Type 0 where
+  not_before : ticket ≤ next_turn place
+  snapshot : job.snapshot ≡ snapshot_at place
 
-abbrev AreDue : ConfigData → Place → List Job → Type 0
-AreDue config place [] = Unit {0}
-AreDue config place (job ∷ jobs) = IsDue config place job × AreDue config place jobs
+abbrev IsDueIfAsked : Place → Job → Type 0
+IsDueIfAsked place job = (ticket : ℕ) → ticket_of job.kind ≡ Some ticket → IsDue place job ticket
 
-due-append : (config : ConfigData) (place : Place) (xs ys : List Job) → AreDue config place xs → AreDue config place ys → AreDue config place (xs ++ ys)
-due-append config place [] ys a b = b
-due-append config place (x ∷ xs) ys a b = (a.0, due-append config place xs ys a.1 b)
+abbrev AreDue : Place → List Job → Type 0
+AreDue place jobs = Each (IsDueIfAsked place) jobs
 
 -- what is out after an input was out before it
+fitting-out : (o : Option Job) (message : TaskMsg) (out : Jobs) (n : ℕ) (job : Job) → map.get (without_fitting o message out) n ≡ Some job → map.get out n ≡ Some job
+fitting-out None message out n job there = there
+fitting-out (Some found) message out n job there = still-out message.job n out job there
+
 message-out : (message : TaskMsg) (out : Jobs) (n : ℕ) (job : Job) → map.get (after_message message out) n ≡ Some job → map.get out n ≡ Some job
-message-out message out n job there = by_plain (plain_result (final_of message.body)) there
-  where
-    by_plain : (b : Bool) → map.get (if b then map.remove out message.job else out) n ≡ Some job → map.get out n ≡ Some job
-    by_plain true there = by_key by_number_total by_number_same n message.job
-        (λ same. none-some job (sym (get-remove_same by_number_total by_number_same out message.job) ∙ ap (map.get (map.remove out message.job)) (sym same) ∙ there))
-        (λ other. sym (get-remove_other by_number_total by_number_same out message.job n other) ∙ there)
-    by_plain false there = there
+message-out message out n job there = fitting-out (fitting_job message out) message out n job there
 
 batch-out : (batch : List TaskMsg) (out : Jobs) (n : ℕ) (job : Job) → map.get (after_batch batch out) n ≡ Some job → map.get out n ≡ Some job
 batch-out [] out n job there = there
 batch-out (m ∷ ms) out n job there = message-out m out n job (batch-out ms (after_message m out) n job there)
 
 pub input-out : (input : Input) (out : Jobs) (n : ℕ) (job : Job) → map.get (after_input input out) n ≡ Some job → map.get out n ≡ Some job
-input-out Start out n job there = there
-input-out (Next (Lsp message)) out n job there = there
-input-out (Next (Task batch)) out n job there = batch-out batch out n job there
+input-out input out n job there = batch-out (batch_of input) out n job there
 
 -- what a row hands over is due
 
-reacts-due : (config : ConfigData) (place : Place) (ticket : ℕ) (id : RequestId) (done : Reaction) → ticket ≤ place.number → Reacts config place ticket id done → AreDue config place done.jobs
-reacts-due config place ticket id done by_then (inl (response, is, says_it)) = subst (λ (d : Reaction). AreDue config place d.jobs) (sym says_it) tt
-reacts-due config place ticket id done by_then (inr (class, row_id, params, hands)) = subst (λ (d : Reaction). AreDue config place d.jobs) (sym hands) (record { not_before = by_then; snapshot = refl }, tt)
+reacts-due : (place : Place) (ticket : ℕ) (id : RequestId) (done : Reaction) → ticket ≤ next_turn place → Reacts (scene_at place) place.desk.handed ticket id done → AreDue place done.jobs
+reacts-due place ticket id done by_then (inl (response, is, says_it)) = subst (λ (d : Reaction). AreDue place d.jobs) (sym says_it) tt
+reacts-due place ticket id done by_then (inr (class, row_id, params, hands)) =
+    subst (λ (d : Reaction). AreDue place d.jobs) (sym hands) (λ t its. let same : ticket ≡ t = some-same ticket t its in record { not_before = omega (arith, by_then, same); snapshot = refl }, tt)
 
--- the jobs out are for requests that were read before
+-- the jobs out for requests are for ones that were read before
 IsBelow : Place → Type 0
-IsBelow place = (n : ℕ) (job : Job) → map.get place.out n ≡ Some job → ticket_of job.kind < place.number
+IsBelow place = (n : ℕ) (job : Job) (ticket : ℕ) → map.get place.desk.jobs n ≡ Some job → ticket_of job.kind ≡ Some ticket → ticket ≤ place.desk.turns
 
-ticket-due : (meaning : Meaning) (config : ConfigData) (place : Place) (o : Option RequestId) (found : Job) (result : JobResult) → ticket_of found.kind < place.number → AreDue config place (ticket_row meaning config place o found result).jobs
-ticket-due meaning config place None found result before = tt
-ticket-due meaning config place (Some id) found result before =
-    reacts-due config place (ticket_of found.kind) id _ (omega (arith, before)) (result-reacts meaning config place id found result (finished_reply id result) refl)
+ticket-due : (meaning : Meaning) (place : Place) (o : Option RequestId) (found : Job) (result : JobResult) → waiting_for found place.desk ≡ o → ((ticket : ℕ) → ticket_of found.kind ≡ Some ticket → ticket ≤ place.desk.turns)
+    → AreDue place (ticket_row meaning (scene_at place) place.desk o found result).jobs
+ticket-due meaning place None found result waits before = tt
+ticket-due meaning place (Some id) found result waits before =
+    let k = has-ticket found place.desk id waits in
+    reacts-due place k.ticket id _ (omega (arith, before k.ticket k.its)) (result-reacts meaning (scene_at place) place.desk k.ticket id found result (finished_reply id result) refl k.its)
 
-final-due : (meaning : Meaning) (config : ConfigData) (place : Place) (o : Option Job) (message : TaskMsg) → fitting_job message place.out ≡ o → IsBelow place → AreDue config place (final_row meaning config place o message).jobs
+final-due : (meaning : Meaning) (place : Place) (o : Option JobResult) (found : Job) → ((ticket : ℕ) → ticket_of found.kind ≡ Some ticket → ticket ≤ place.desk.turns)
+    → AreDue place (final_row meaning (scene_at place) place.desk o found).jobs
+final-due meaning place None found before = tt
+final-due meaning place (Some result) found before = ticket-due meaning place (waiting_for found place.desk) found result refl before
+
+fitting-due : (meaning : Meaning) (place : Place) (o : Option Job) (message : TaskMsg) → fitting_job message place.desk.jobs ≡ o → IsBelow place → AreDue place (fitting_row meaning (scene_at place) place.desk o message).jobs
 unfolding IsBelow
-final-due meaning config place None message is below = tt
-final-due meaning config place (Some found) message is below =
-    ticket-due meaning config place (id_of (ticket_of found.kind) place.pending) found (final_of message.body) (below message.job found (after_message-some message place.out found is).1)
+fitting-due meaning place None message is below = tt
+fitting-due meaning place (Some found) message is below =
+    final-due meaning place (final_of message.body) found (λ ticket its. below message.job found ticket (after_message-some message place.desk.jobs found is).1 its)
 
 past-below : (place : Place) (message : TaskMsg) (done : Reaction) → IsBelow place → IsBelow (place_past message done place)
 unfolding IsBelow
-past-below place message done below = λ n job there. below n job (message-out message place.out n job there)
+past-below place message done below = λ n job ticket there its. below n job ticket (message-out message place.desk.jobs n job there) its
 
-batch-due : (meaning : Meaning) (config : ConfigData) (batch : List TaskMsg) (place : Place) → IsBelow place → AreDue config place (batch_row meaning config batch place).jobs
-batch-due meaning config [] place below = tt
-batch-due meaning config (m ∷ ms) place below =
-    let done = message_row meaning config place m in
-    due-append config place done.jobs (batch_row meaning config ms (place_past m done place)).jobs
-    (final-due meaning config place (fitting_job m place.out) m refl below) (past-due (batch_row meaning config ms (place_past m done place)).jobs done (batch-due meaning config ms (place_past m done place) (past-below place m done below)))
-  where
-    past-due : (jobs : List Job) (done : Reaction) → AreDue config (place_past m done place) jobs → AreDue config place jobs
-    past-due [] done h = tt
-    past-due (j ∷ js) done h = (record { not_before = h.0.not_before; snapshot = h.0.snapshot }, past-due js done h.1)
+batch-due : (meaning : Meaning) (batch : List TaskMsg) (place : Place) → IsBelow place → AreDue place (batch_row meaning batch place).jobs
+batch-due meaning [] place below = tt
+batch-due meaning (m ∷ ms) place below =
+    let done = message_row meaning (scene_at place) place.desk m in
+    let past = place_past m done place in
+    let later = (batch_row meaning ms past).jobs in
+    each-append (IsDueIfAsked place) done.jobs later
+    (fitting-due meaning place (fitting_job m place.desk.jobs) m refl below)
+    (each-weaker (IsDueIfAsked past) (IsDueIfAsked place) later (λ job due ticket its. let d = due ticket its in record { not_before = d.not_before; snapshot = d.snapshot })
+    (batch-due meaning ms past (past-below place m done below)))
 
-either-due : (config : ConfigData) (place : Place) (b : Bool) (x y : Reaction) → AreDue config place x.jobs → AreDue config place y.jobs → AreDue config place (if b then x else y).jobs
-either-due config place true x y p q = p
-either-due config place false x y p q = q
+either-due : (place : Place) (b : Bool) (x y : Reaction) → AreDue place x.jobs → AreDue place y.jobs → AreDue place (if b then x else y).jobs
+either-due place true x y p q = p
+either-due place false x y p q = q
 
-notice-due : (config : ConfigData) (notice : Notice) (place : Place) → AreDue config place (notice_row notice place).jobs
-notice-due config (Cancel id) place = either-due config place (is_pending id place.pending) (says (canceled_by_client id)) silent tt tt
-notice-due config (Opened document) place = tt
-notice-due config (Changed change) place = tt
-notice-due config Malformed place = tt
-notice-due config Unhandled place = tt
-notice-due config Silent place = tt
+notice-due : (notice : Notice) (place : Place) → AreDue place (notice_row notice place.desk).jobs
+notice-due (Cancel id) place = either-due place (is_pending id place.desk.pending) (says (canceled_by_client id)) silent tt tt
+notice-due (Opened document) place = tt
+notice-due (Changed change) place = tt
+notice-due Malformed place = tt
+notice-due Unhandled place = tt
+notice-due Silent place = tt
 
-row-due : (meaning : Meaning) (config : ConfigData) (input : Input) (place : Place) → SoundAt place → AreDue config place (row meaning config input place).jobs
+row-due : (meaning : Meaning) (input : Input) (place : Place) → SoundAt place → AreDue place (row meaning input place).jobs
 unfolding IsBelow
-row-due meaning config Start place s = tt
-row-due meaning config (Next (Lsp (RequestMessage r))) place s =
-    either-due config place (is_pending r.id place.pending) (says (already_pending r.id)) (new_row meaning config place r) tt (reacts-due config place place.number r.id (new_row meaning config place r) (omega arith) (new-reacts meaning config place r))
-row-due meaning config (Next (Lsp (NotificationMessage n))) place s = notice-due config (notice_of n) place
-row-due meaning config (Next (Lsp (ResponseMessage r))) place s = tt
-row-due meaning config (Next (Task batch)) place s = batch-due meaning config batch place s.below
+row-due meaning Start place s = tt
+row-due meaning (Next (Lsp (RequestMessage r))) place s =
+    either-due place (is_pending r.id place.desk.pending) (says (already_pending r.id)) (new_row meaning (scene_at place) place.desk (next_turn place) r) tt
+    (reacts-due place (next_turn place) r.id _ (omega arith) (new-reacts meaning (scene_at place) place.desk (next_turn place) r))
+row-due meaning (Next (Lsp (NotificationMessage n))) place s = notice-due (notice_of n) place
+row-due meaning (Next (Lsp (ResponseMessage r))) place s = tt
+row-due meaning (Next (Task batch)) place s = batch-due meaning batch place s.below
 
 -- a job out after jobs were handed over was out before, or is one of these
 pub jobs-out : (jobs : List Job) (out : Jobs) (n : ℕ) (job : Job) → map.get (with_jobs jobs out) n ≡ Some job → (map.get out n ≡ Some job) ⊎ Contains jobs job
@@ -135,20 +145,13 @@ jobs-out (j ∷ js) out n job there = by_case (jobs-out js (map.insert out j.num
         (λ other. inl (sym (get-insert_other by_number_total by_number_same out j.number j n other) ∙ was))
     by_case (inr new) = inr (Contains-append_right (j ∷ []) js job new)
 
-due-all : (config : ConfigData) (place : Place) (jobs : List Job) → AreDue config place jobs → All (IsDue config place) jobs
-due-all config place [] h = λ i d lt. absurd (omega (arith, lt))
-due-all config place (j ∷ js) h = All-cons (IsDue config place) j js h.0 (due-all config place js h.1)
-
-due-one : (config : ConfigData) (place : Place) (jobs : List Job) (job : Job) → AreDue config place jobs → Contains jobs job → IsDue config place job
-due-one config place jobs job h there = All-contains (IsDue config place) jobs job (due-all config place jobs h) there
-
 pub after_all-append : (xs ys : List Turn) (place : Place) → place_after_all (xs ++ ys) place ≡ place_after_all ys (place_after_all xs place)
 after_all-append [] ys place = refl
 after_all-append (x ∷ xs) ys place = after_all-append xs ys (place_after x place)
 
 -- what was handed over by some turns was handed over by them and more
-handed-more : (config : ConfigData) (turns more : List Turn) (job : Job) → WasHandedOver config turns job → WasHandedOver config (turns ++ more) job
-handed-more config turns more job h = record {
+handed-more : (settings : ConfigData) (turns more : List Turn) (ticket : ℕ) (job : Job) → WasHandedOver settings turns ticket job → WasHandedOver settings (turns ++ more) ticket job
+handed-more settings turns more ticket job h = record {
   before = h.before;
   turn = h.turn;
   later = h.later ++ more;
@@ -158,22 +161,24 @@ handed-more config turns more job h = record {
   handed = h.handed;
 }
 
--- a turn that is its row keeps it so that each job out was handed over
-pub turn-handed : (meaning : Meaning) (config : ConfigData) (before : List Turn) (turn : Turn) → reaction_of turn ≡ row meaning config turn.input (place_after_all before beginning) → SoundAt (place_after_all before beginning)
-    → AreHandedOver config before (place_after_all before beginning).out → AreHandedOver config (before ++ turn ∷ []) (place_after turn (place_after_all before beginning)).out
-turn-handed meaning config before turn does sound all = λ n job there. by_case job n (jobs-out (spawned turn.commands) (after_input turn.input here.out) n job there)
+-- a turn that is its row keeps it so that each job out for a request was handed over
+pub turn-handed : (meaning : Meaning) (settings : ConfigData) (before : List Turn) (turn : Turn) → reaction_of turn ≡ row meaning turn.input (place_after_all before (beginning settings)) → SoundAt (place_after_all before (beginning settings))
+    → AreHandedOver settings before (place_after_all before (beginning settings)).desk.jobs
+    → AreHandedOver settings (before ++ turn ∷ []) (place_after turn (place_after_all before (beginning settings))).desk.jobs
+turn-handed meaning settings before turn does sound all = λ n job ticket there its. by_case job n ticket its (jobs-out (spawned turn.commands) (after_input turn.input here.desk.jobs) n job there)
   where
     here : Place
-    here = place_after_all before beginning
+    here = place_after_all before (beginning settings)
 
-    due : AreDue config here (spawned turn.commands)
-    due = subst (λ (r : Reaction). AreDue config here r.jobs) (sym does) (row-due meaning config turn.input here sound)
+    due : AreDue here (spawned turn.commands)
+    due = each-asked (IsDueIfAsked here) (λ job none ticket its. no-ticket (ticket_of job.kind) ticket none its) (spawned turn.commands)
+        (subst (λ (r : Reaction). AreDue here r.jobs) (sym does) (row-due meaning turn.input here sound))
 
-    by_case : (job : Job) (n : ℕ) → (map.get (after_input turn.input here.out) n ≡ Some job) ⊎ Contains (spawned turn.commands) job → WasHandedOver config (before ++ turn ∷ []) job
-    by_case job n (inl was) = handed-more config before (turn ∷ []) job (all n job (input-out turn.input here.out n job was))
-    by_case job n (inr new) =
-        let is_due = due-one config here (spawned turn.commands) job due new in
+    by_case : (job : Job) (n ticket : ℕ) → ticket_of job.kind ≡ Some ticket → (map.get (after_input turn.input here.desk.jobs) n ≡ Some job) ⊎ Contains (spawned turn.commands) job → WasHandedOver settings (before ++ turn ∷ []) ticket job
+    by_case job n ticket its (inl was) = handed-more settings before (turn ∷ []) ticket job (all n job ticket (input-out turn.input here.desk.jobs n job was) its)
+    by_case job n ticket its (inr new) =
+        let is_due = each-one (IsDueIfAsked here) (spawned turn.commands) job due new ticket its in
         record { before = before; turn = turn; later = []; split = refl; not_before = is_due.not_before; snapshot = is_due.snapshot; handed = new }
 
-pub handed-beginning : (config : ConfigData) → AreHandedOver config [] beginning.out
-handed-beginning config = λ n job there. none-some job (sym (map.get-empty _ n) ∙ there)
+pub handed-beginning : (settings : ConfigData) → AreHandedOver settings [] (beginning settings).desk.jobs
+handed-beginning settings = λ n job ticket there its. none-some job (sym (map.get-empty _ n) ∙ there)

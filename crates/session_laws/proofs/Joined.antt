@@ -13,7 +13,7 @@ use Rattle.lsp_frame.proofs.Written.{frames_written}
 use Rattle.session_port.specs.declared.event.HostEvent.{HostEvent}
 use Rattle.session_port.specs.declared.event.HostEvent.TheVariants.{Bytes}
 use Rattle.session_model.specs.Course.{Course, waits, message_then, rest_then, frames_then, event_then, course_of}
-use Rattle.session_model.specs.Written.{AreRead, AreShort, frames_for, messages_in}
+use Rattle.turn_parts.specs.Written.{AreRead, AreShort, frames_for, messages_in}
 use Rattle.session_laws.proofs.Courses.{course-bad}
 
 -- the messages of frames, and then what comes of the bytes that are left, whatever they are

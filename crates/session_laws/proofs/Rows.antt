@@ -1,45 +1,58 @@
 -- The machine's turns are the rows of the reply table.
-use Rattle.std.proofs.Common.{◌≡◌, ◌≢◌, ℕ, ◌+◌, ◌-◌, ◌^◌, ◌≤◌, List, [], ◌∷◌, ◌++◌, length, Bool, true, false, refl, sym, ap, ◌∙◌, arith, eqb-true, append-nil, inl, inr}
+use Rattle.std.proofs.Common.{◌≡◌, ◌≢◌, ℕ, ◌+◌, ◌-◌, ◌^◌, ◌≤◌, List, [], ◌∷◌, ◌++◌, length, Bool, true, false, refl, sym, ap, ◌∙◌, subst, arith, eqb-true, append-nil, inl, inr}
 use Rattle.std.proofs.lemmas.Bool.{true≢false}
 use Rattle.docs_vfs.specs.Paths.{path_cmp}
-use Rattle.std.specs.Prelude.{◌⊎◌, Result, Ok, Err, IfOk, ℤ, Option, None, Some, ◌==◌, ◌&&◌, is_some, if◌then◌else◌, ltb}
+use Rattle.std.specs.Prelude.{◌⊎◌, Result, Ok, Err, IfOk, ℤ, Option, None, Some, ◌==◌, is_some, if◌then◌else◌, ltb}
 use Rattle.std.specs.Cmp.Lexicographic.{bytes_decides}
 use Rattle.std.specs.FinMap as map
+use Rattle.std.specs.List.{filter_map}
 use Rattle.std.proofs.lemmas.Result.{IfOk-at_ok}
-use Rattle.serde_json.specs.Data.{null}
 use Rattle.docs_vfs.specs.FileUrls.{path_of}
 use Rattle.docs_vfs.specs.declared.file_url.UrlFault.{UrlFault}
-use Rattle.lsp_frame.specs.Pending.{is_pending}
 use Rattle.lsp_frame.specs.declared.message.Request.{Request}
 use Rattle.lsp_frame.specs.declared.message.RequestId.{RequestId}
+use Rattle.lsp_frame.specs.declared.message.Response.{Response}
 use Rattle.lsp_frame.specs.declared.message.Notification.{Notification}
 use Rattle.lsp_frame.specs.declared.message.Message.{Message}
 use Rattle.lsp_frame.specs.declared.message.Message.TheVariants.{Request as RequestMessage, Notification as NotificationMessage, Response as ResponseMessage}
+use Rattle.analysis_host.specs.FromProto.{columns}
 use Rattle.analysis_host.specs.HostData.{HostData}
-use Rattle.method_table.specs.Plans.{is_shutdown}
-use Rattle.method_table.specs.Rows.{row_of}
-use Rattle.method_table.specs.declared.row_id.RowId.{RowId}
-use Rattle.state_params.specs.Unit.{is_unit}
+use Rattle.analysis_host.specs.SnapshotData.{text_at, text_of}
+use Rattle.analysis_host.specs.declared.text_entry.TextEntry.{TextEntry}
 use Rattle.analysis_host.specs.declared.host.WorldFault.TheVariants.{Exhausted}
+use Rattle.session_port.specs.Events.{revision_of}
+use Rattle.session_port.specs.Jobs.{Jobs, after_message, after_batch}
 use Rattle.session_port.specs.Record.{spawned, with_jobs}
+use Rattle.session_port.specs.declared.command.Command.{Command}
 use Rattle.session_port.specs.declared.command.Command.TheVariants.{Revise}
 use Rattle.session_port.specs.declared.command.LogCode.{LogCode}
 use Rattle.session_port.specs.declared.command.LogCode.TheVariants.{DuplicateOpen, UnexpectedChange, SkippedChange}
 use Rattle.session_port.specs.declared.event.TaskMsg.{TaskMsg}
 use Rattle.session_port.specs.declared.job.Job.{Job}
+use Rattle.turn_parts.specs.Working.{Working, and_then, logged, ordered, within}
+use Rattle.turn_parts.specs.Written.{Written, nothing_done, responses_in}
+use Rattle.turn_parts.specs.declared.fault.Counter.{Counter}
+use Rattle.desk.specs.Desk.{Desk}
+use Rattle.desk.specs.Folds.{asked_among, desk_past, pending_after, shutdown_after}
+use Rattle.desk.specs.Meaning.{Meaning}
+use Rattle.desk.specs.Reactions.{Reaction, silent, joined, cancel_row, message_row, request_row}
+use Rattle.desk.specs.Steps.{cancelled, requested, counted as counted_at_desk, kept as kept_at_desk, taken as taken_at_desk}
+use Rattle.desk_laws.specs.Numbers.{AreNumbered}
+use Rattle.desk_laws.specs.Settled.{Settled}
+use Rattle.desk_laws.proofs.Appends.{spawned-append, revisions-append}
+use Rattle.desk_laws.proofs.Keyed.{get-insert_same}
+use Rattle.desk_laws.proofs.Orders.{by_path_total, by_path_same}
+use Rattle.desk_laws.proofs.Results.{IfOk-and_then, IfOk-next, IfOk-weaker, IfOk-within}
+use Rattle.desk_laws.proofs.Settling.{cancel-settles, message-settles, message-turns, nothing-settles, request-settles, request-turns, settled-on}
 use Rattle.session_model.specs.Changing.{text_after, has_skipped}
-use Rattle.session_model.specs.Headline.{Documents, Reaction, Revises, silent, says, reaction_of, row, class_row, new_row, notice_row, batch_row, place_after, number_after, documents_after, pending_after, revision_after, shutdown_after, closed_by}
-use Rattle.session_laws.specs.Invariant.{StepFits, place_of}
-use Rattle.session_model.specs.Machine.{Working, and_then, next_number, counted, asked, noted, unknown, shut_down, admitted, requested, opened_at, open_noted, changed_at, cancelled, version_set, text_set, skip_noted, edited, edited_by, holds_text, world_changed, world_by, noticed, received, answered, replied, logged, ordered, batched, happened, taken_in, kept, revised, step}
-use Rattle.session_model.specs.Meaning.{Meaning}
+use Rattle.session_model.specs.Headline.{Documents, Place, Revises, reaction_of, row, notice_row, batch_row, desk_after, place_after, place_past, documents_after, last_of, revision_after, scene_at}
+use Rattle.session_model.specs.Inputs.{request_in, turns_after}
+use Rattle.session_model.specs.Machine.{Turning, at_desk, batched, changed_at, closed, closing_part, counted, desk_in, edited, edited_by, event_part, facts_of, happened, in_state, kept, later_parts, noticed, open_noted, opened_at, received, revised, skip_noted, state_in, step, taken, taken_in, text_set, turned, turning, version_set, with_desk, with_state, world_by, world_changed}
+use Rattle.session_model.specs.Entries.{entry_of, holds_text, text_put}
 use Rattle.session_model.specs.Notices.{notice_of}
-use Rattle.dispatch.specs.Responses.{response_with}
-use Rattle.session_model.specs.Replies.{already_pending, shut_already, unknown_request, invalid_params, canceled_by_client}
-use Rattle.session_model.specs.Run.{Turn, Steps, begun, after_input}
-use Rattle.session_model.specs.State.{State}
-use Rattle.session_model.specs.Texts.{same_text}
-use Rattle.session_model.specs.Written.{Written, nothing_done}
-use Rattle.session_model.specs.declared.fault.Counter.{Counter}
+use Rattle.session_model.specs.Run.{Turn, Steps, begun, after_input, out_after}
+use Rattle.session_model.specs.State.{State, scene_of}
+use Rattle.session_model.specs.declared.facts.Facts.{Facts}
 use Rattle.session_model.specs.declared.input.Event.{Event}
 use Rattle.session_model.specs.declared.input.Event.TheVariants.{Lsp, Task}
 use Rattle.session_model.specs.declared.input.Input.{Input}
@@ -48,212 +61,149 @@ use Rattle.session_model.specs.declared.notice.DidChange.{DidChange}
 use Rattle.session_model.specs.declared.notice.DidOpen.{DidOpen}
 use Rattle.session_model.specs.declared.notice.Notice.{Notice}
 use Rattle.session_model.specs.declared.notice.Notice.TheVariants.{Opened, Changed, Cancel, Malformed, Unhandled, Silent}
-use Rattle.session_laws.proofs.Appends.{spawned-append, revision-append}
-use Rattle.session_laws.proofs.Keyed.{insert-there, get-insert_same}
-use Rattle.session_laws.proofs.Orders.{by_path_total, by_path_same}
-use Rattle.session_laws.proofs.Results.{IfOk-and_then, IfOk-next, IfOk-weaker}
-use Rattle.session_laws.proofs.Settling.{Settled, nothing-settles, unknown-settles, answer-settles, log-settles, class-settles, batch-settles, same_place}
-
--- what a turn has done, as a turn of a run
-abbrev pub turn_of : Input → Working → Turn
-turn_of input w = record { input = input; messages = w.out.messages; commands = w.out.commands }
+use Rattle.session_laws.specs.Beside.{Beside, Serves, turn_of}
+use Rattle.session_laws.specs.Invariant.{StepFits, place_of}
+use Rattle.session_laws.proofs.Beside.{beside-fits, beside-logged, beside-none, beside-revised}
+use Rattle.session_laws.proofs.Rising.{row-numbered}
+use Rattle.session_laws.proofs.Same.{none-handed, same_desk, same_place}
 
 -- the turn is counted, and nothing else was done
-abbrev pub counted_turn : State → Working
-counted_turn s = record { state = record s { turns = s.turns + 1 }; out = nothing_done }
+abbrev pub counted_desk : Desk → Working Desk
+counted_desk d = record { state = record d { turns = d.turns + 1 }; out = nothing_done }
+
+abbrev pub counted_turn : State → Working State
+counted_turn s = record { state = record s { desk = record s.desk { turns = s.desk.turns + 1 } }; out = nothing_done }
+
+-- the session where the desk has come to this
+abbrev pub desk_now : State → Working Desk → Working State
+desk_now s v = record { state = record s { desk = v.state }; out = v.out }
 
 -- the world stays, or its texts are others and its revision is one more
 abbrev pub Raises : HostData → HostData → Type 0
 Raises old new = (new ≡ old) ⊎ ((new.world.texts ≢ old.world.texts) × (new.revision ≡ old.revision + 1))
 
 -- a turn before it closes
-pub record Mid (meaning : Meaning) (s : State) (input : Input) (u : Working) : Type 0 where
-  pub turns : u.state.turns + 1 ≡ number_after input (s.turns + 1)
-  pub config : u.state.config ≡ s.config
-  pub does : reaction_of (turn_of input u) ≡ row meaning s.config input (place_of s)
+pub record Mid (meaning : Meaning) (s : State) (input : Input) (u : Working State) : Type 0 where
+  pub serves : Serves meaning s input (after_input input s.desk.jobs) u
+  pub settings : u.state.settings ≡ s.settings
   pub texts : u.state.host.world.texts ≡ (documents_after input (place_of s).documents).texts
   pub versions : u.state.versions ≡ (documents_after input (place_of s).documents).versions
-  pub pending : u.state.pending ≡ pending_after (s.turns + 1) input u.out.messages s.pending
-  pub jobs : u.state.jobs ≡ after_input input s.jobs
-  pub handed : u.state.jobs_given ≡ s.jobs_given + length (spawned u.out.commands)
-  pub shutdown : u.state.shutdown ≡ shutdown_after input u.out.messages s.shutdown
   pub loading : u.state.loading ≡ s.loading
-  pub unrevised : (r : ℕ) → revision_after u.out.commands r ≡ r
+  pub unrevised : filter_map revision_of u.out.commands ≡ []
   pub later : s.host.revision ≤ u.state.host.revision
   pub raised : Raises s.host u.state.host
+
+-- ---- the desk
+
+-- what the desk has done serves the turn
+serves-desk : (meaning : Meaning) (s : State) (input : Input) (done : Reaction) (v : Working Desk) → turns_after input s.desk.turns ≡ s.desk.turns + 1 → row meaning input (place_of s) ≡ done
+    → Settled (request_in input) (counted_desk s.desk) v done (after_input input s.desk.jobs) → Serves meaning s input (after_input input s.desk.jobs) (desk_now s v)
+serves-desk meaning s input done v number is a = record {
+  does = (λ i. record { responses = a.responses i; jobs = asked i }) ∙ sym is;
+  numbered = subst (AreNumbered s.desk.handed) (sym a.spawns) (subst (λ (d : Reaction). AreNumbered s.desk.handed d.jobs) is (row-numbered meaning input (place_of s)));
+  desk = same_desk _ _ (a.turns ∙ sym number)
+      (a.pending ∙ ap (λ rs. pending_after (s.desk.turns + 1) (request_in input) rs s.desk.pending) (sym a.responses)) a.out
+      (a.handed ∙ ap (λ (js : List Job). s.desk.handed + length js) (sym a.spawns))
+      (a.shutdown ∙ ap (λ rs. shutdown_after (request_in input) rs s.desk.shutdown) (sym a.responses));
+}
+  where
+    asked : asked_among (spawned v.out.commands) ≡ done.jobs
+    asked = ap asked_among a.spawns ∙ a.asked
+
+-- a turn that changed nothing but the desk
+desk-mid : (meaning : Meaning) (s : State) (input : Input) (done : Reaction) (v : Working Desk) → turns_after input s.desk.turns ≡ s.desk.turns + 1 → row meaning input (place_of s) ≡ done
+    → documents_after input (place_of s).documents ≡ (place_of s).documents → Settled (request_in input) (counted_desk s.desk) v done (after_input input s.desk.jobs) → Mid meaning s input (desk_now s v)
+desk-mid meaning s input done v number is same a = record {
+  serves = serves-desk meaning s input done v number is a;
+  settings = refl;
+  texts = sym (ap (λ (d : Documents). d.texts) same);
+  versions = sym (ap (λ (d : Documents). d.versions) same);
+  loading = refl;
+  unrevised = a.unrevised;
+  later = omega arith;
+  raised = inl refl;
+}
 
 -- ---- requests
 
 abbrev request_input : Request → Input
 request_input r = Next (Lsp (RequestMessage r))
 
--- a request that waits, and what was done for it
-request-mid : (meaning : Meaning) (s : State) (r : Request) (done : Reaction) (u : Working) → is_pending r.id s.pending ≡ false → new_row meaning s.config (place_of s) r ≡ done
-    → shutdown_after (request_input r) u.out.messages s.shutdown ≡ s.shutdown → Settled (noted r.id (counted_turn s)) u done s.jobs → Mid meaning s (request_input r) u
-unfolding noted
-request-mid meaning s r done u new is stays a = record {
-  turns = ap (λ (t : State). t.turns + 1) a.same;
-  config = ap (λ (t : State). t.config) a.same;
-  does = (λ i. record { messages = a.messages i; jobs = a.spawns i }) ∙ sym (rw new is);
-  texts = ap (λ (t : State). t.host.world.texts) a.same;
-  versions = ap (λ (t : State). t.versions) a.same;
-  pending = a.pending ∙ sym (rw (new, a.messages) refl);
-  jobs = a.out;
-  handed = a.given ∙ ap (λ (js : List Job). s.jobs_given + length js) (sym a.spawns);
-  shutdown = ap (λ (t : State). t.shutdown) a.same ∙ sym stays;
-  loading = ap (λ (t : State). t.loading) a.same;
-  unrevised = a.unrevised;
-  later = omega (arith, ap (λ (t : State). t.host.revision) a.same);
-  raised = inl (ap (λ (t : State). t.host) a.same);
-}
-
--- the same of a method that isn't shutdown
-other-mid : (meaning : Meaning) (s : State) (r : Request) (done : Reaction) (u : Working) → is_pending r.id s.pending ≡ false → new_row meaning s.config (place_of s) r ≡ done
-    → is_shutdown (row_of r.method) ≡ false → Settled (noted r.id (counted_turn s)) u done s.jobs → Mid meaning s (request_input r) u
-other-mid meaning s r done u new is other a = request-mid meaning s r done u new is (rw other refl) a
-
--- a request of a method that has no row
-unknown-cases : (meaning : Meaning) (s : State) (r : Request) (b : Bool) → is_pending r.id s.pending ≡ false → is_shutdown (row_of r.method) ≡ false → row_of r.method ≡ None → s.shutdown ≡ b
-    → IfOk {E = Counter} (if b then Ok (answered r.id (shut_already r.id) (noted r.id (counted_turn s))) else Ok (unknown r.id r.method (noted r.id (counted_turn s)))) (Mid meaning s (request_input r))
-unfolding noted
-unknown-cases meaning s r true new other is shut =
-    other-mid meaning s r (says (shut_already r.id)) _ new (rw (other, is, shut) refl) other (answer-settles r.id (shut_already r.id) (noted r.id (counted_turn s)) refl)
-unknown-cases meaning s r false new other is stays =
-    other-mid meaning s r (says (unknown_request r.id)) _ new (rw (other, is, stays) refl) other (unknown-settles r.id r.method (noted r.id (counted_turn s)))
-
-method-cases : (meaning : Meaning) (s : State) (r : Request) (o : Option RowId) → is_pending r.id s.pending ≡ false → is_shutdown (row_of r.method) ≡ false → row_of r.method ≡ o
-    → IfOk (asked meaning o r (noted r.id (counted_turn s))) (Mid meaning s (request_input r))
-unfolding asked noted
-method-cases meaning s r None new other is = unknown-cases meaning s r s.shutdown new other is refl
-method-cases meaning s r (Some row_id) new other is =
-    let done = class_row meaning s.config (place_of s) (s.turns + 1) r.id row_id r.params in
-    IfOk-weaker _ (λ u. Settled (noted r.id (counted_turn s)) u done s.jobs) (Mid meaning s (request_input r))
-    (class-settles meaning (s.turns + 1) (s.turns + 1) r.id row_id r.params (noted r.id (counted_turn s)))
-    (λ u a. other-mid meaning s r done u new (rw (other, is) refl) other a)
-
--- shutdown is requested
-shutdown-cases : (meaning : Meaning) (s : State) (r : Request) (b : Bool) → is_pending r.id s.pending ≡ false → is_shutdown (row_of r.method) ≡ true → is_unit r.params ≡ b
-    → Mid meaning s (request_input r) (if b then answered r.id (response_with r.id null) (record (noted r.id (counted_turn s)) { state = record (noted r.id (counted_turn s)).state { shutdown = true } }) else answered r.id (invalid_params r.id) (noted r.id (counted_turn s)))
-unfolding noted answered replied
-shutdown-cases meaning s r true new named unit = record {
-  turns = refl;
-  config = refl;
-  does = rw (new, named, unit) refl;
-  texts = refl;
-  versions = refl;
-  pending = rw new refl;
-  jobs = refl;
-  handed = omega arith;
-  shutdown = rw named refl;
-  loading = refl;
-  unrevised = λ q. refl;
-  later = omega arith;
-  raised = inl refl;
-}
-shutdown-cases meaning s r false new named unit =
-    request-mid meaning s r (says (invalid_params r.id)) _ new (rw (named, unit) refl) (rw named refl) (answer-settles r.id (invalid_params r.id) (noted r.id (counted_turn s)) refl)
-
-admit-cases : (meaning : Meaning) (s : State) (r : Request) (b : Bool) → is_pending r.id s.pending ≡ false → is_shutdown (row_of r.method) ≡ b
-    → IfOk (if b then Ok (shut_down r.id r.params (noted r.id (counted_turn s))) else asked meaning (row_of r.method) r (noted r.id (counted_turn s))) (Mid meaning s (request_input r))
-unfolding shut_down
-admit-cases meaning s r true new named = shutdown-cases meaning s r (is_unit r.params) new named refl
-admit-cases meaning s r false new other = method-cases meaning s r (row_of r.method) new other refl
-
--- the id is pending: nothing is registered
-refused-mid : (meaning : Meaning) (s : State) (r : Request) → is_pending r.id s.pending ≡ true → Mid meaning s (request_input r) (replied (already_pending r.id) (counted_turn s))
-unfolding replied
-refused-mid meaning s r is = record {
-  turns = refl;
-  config = refl;
-  does = rw is refl;
-  texts = refl;
-  versions = refl;
-  pending = rw is refl;
-  jobs = refl;
-  handed = omega arith;
-  shutdown = sym (no-null (is_shutdown (row_of r.method)));
-  loading = refl;
-  unrevised = λ q. refl;
-  later = omega arith;
-  raised = inl refl;
-}
-  where
-    no-null : (b : Bool) → (if b && false then true else s.shutdown) ≡ s.shutdown
-    no-null true = refl
-    no-null false = refl
-
-request-cases : (meaning : Meaning) (s : State) (r : Request) (b : Bool) → is_pending r.id s.pending ≡ b
-    → IfOk (if b then Ok (replied (already_pending r.id) (counted_turn s)) else admitted meaning r (noted r.id (counted_turn s))) (Mid meaning s (request_input r))
-unfolding admitted noted
-request-cases meaning s r true is = refused-mid meaning s r is
-request-cases meaning s r false is = admit-cases meaning s r (is_shutdown (row_of r.method)) is refl
-
-requested-mid : (meaning : Meaning) (s : State) (r : Request) → IfOk (requested meaning r (counted_turn s)) (Mid meaning s (request_input r))
-unfolding requested
-requested-mid meaning s r = request-cases meaning s r (is_pending r.id s.pending) refl
+requested-mid : (meaning : Meaning) (s : State) (r : Request) → IfOk (at_desk (requested meaning (scene_of s) r) (counted_turn s)) (Mid meaning s (request_input r))
+requested-mid meaning s r =
+    IfOk-within desk_in with_desk (requested meaning (scene_of s) r) (counted_turn s) (Mid meaning s (request_input r))
+    (IfOk-weaker _ (λ v. Settled (Some r) (counted_desk s.desk) v (request_row meaning (scene_of s) (counted_desk s.desk).state (s.desk.turns + 1) r) s.desk.jobs) (λ v. Mid meaning s (request_input r) (desk_now s v))
+    (request-settles meaning (scene_of s) r (counted_desk s.desk))
+    (λ v a. desk-mid meaning s (request_input r) (request_row meaning (scene_of s) (counted_desk s.desk).state (s.desk.turns + 1) r) v refl (sym (request-turns meaning (scene_of s) s.desk (s.desk.turns + 1) (s.desk.turns + 1) r)) refl a))
 
 -- ---- notifications
 
 abbrev notification_input : Notification → Input
 notification_input n = Next (Lsp (NotificationMessage n))
 
--- a notification that leaves the documents as they are, and what was done for it
-notification-mid : (meaning : Meaning) (s : State) (n : Notification) (done : Reaction) (u : Working) → notice_row (notice_of n) (place_of s) ≡ done → documents_after (notification_input n) (place_of s).documents ≡ (place_of s).documents
-    → Settled (counted_turn s) u done s.jobs → Mid meaning s (notification_input n) u
-notification-mid meaning s n done u is same a = record {
-  turns = ap (λ (t : State). t.turns + 1) a.same;
-  config = ap (λ (t : State). t.config) a.same;
-  does = (λ i. record { messages = a.messages i; jobs = a.spawns i }) ∙ sym is;
-  texts = ap (λ (t : State). t.host.world.texts) a.same ∙ sym (ap (λ (d : Documents). d.texts) same);
-  versions = ap (λ (t : State). t.versions) a.same ∙ sym (ap (λ (d : Documents). d.versions) same);
-  pending = a.pending ∙ sym (ap (λ (ms : List Message). closed_by ms s.pending) a.messages);
-  jobs = a.out;
-  handed = a.given ∙ ap (λ (js : List Job). s.jobs_given + length js) (sym a.spawns);
-  shutdown = ap (λ (t : State). t.shutdown) a.same;
-  loading = ap (λ (t : State). t.loading) a.same;
-  unrevised = a.unrevised;
-  later = omega (arith, ap (λ (t : State). t.host.revision) a.same);
-  raised = inl (ap (λ (t : State). t.host) a.same);
+-- a notification that the desk does nothing for
+silent-serves : (meaning : Meaning) (s : State) (n : Notification) → notice_row (notice_of n) s.desk ≡ silent → Serves meaning s (notification_input n) s.desk.jobs (counted_turn s)
+silent-serves meaning s n quiet = serves-desk meaning s (notification_input n) silent (counted_desk s.desk) refl quiet (nothing-settles (counted_desk s.desk))
+
+-- one that leaves the documents as they are
+still-mid : (meaning : Meaning) (s : State) (n : Notification) → notice_row (notice_of n) s.desk ≡ silent → documents_after (notification_input n) (place_of s).documents ≡ (place_of s).documents
+    → Mid meaning s (notification_input n) (counted_turn s)
+still-mid meaning s n quiet same = desk-mid meaning s (notification_input n) silent (counted_desk s.desk) refl quiet same (nothing-settles (counted_desk s.desk))
+
+-- a log line alone
+logged-mid : (meaning : Meaning) (s : State) (input : Input) (code : LogCode) (text : List ℕ) → Mid meaning s input (counted_turn s) → Mid meaning s input (logged code text (counted_turn s))
+unfolding logged ordered
+logged-mid meaning s input code text mid = record {
+  serves = beside-fits meaning s input (after_input input s.desk.jobs) (counted_turn s) (logged code text (counted_turn s)) (beside-logged code text (counted_turn s)) mid.serves;
+  settings = refl;
+  texts = mid.texts;
+  versions = mid.versions;
+  loading = refl;
+  unrevised = refl;
+  later = omega arith;
+  raised = inl refl;
 }
 
--- what a document's turn has done before its text is set: nothing, or a log line
-record IsQuiet (out : Written) : Type 0 where
-  written : out.messages ≡ []
-  none : spawned out.commands ≡ []
-  unrevised : (q : ℕ) → revision_after out.commands q ≡ q
-
-same_text-is : (a b : List ℕ) → same_text a b ≡ true → a ≡ b
-same_text-is a b e = (bytes_decides a b).0 e
-
--- where the world has the text, it has it
-held-there : (o : Option (List ℕ)) (text : List ℕ) → holds_text o text ≡ true → o ≡ Some text
-held-there None text e = absurd cc
-held-there (Some held) text e = ap Some (same_text-is held text e)
+-- what a document's turn has written before its text is set: nothing, or a log line
+record IsQuiet (s : State) (out : Written) : Type 0 where
+  beside : Beside (counted_turn s) (record { state = (counted_turn s).state; out = out })
+  unrevised : filter_map revision_of out.commands ≡ []
 
 -- the notification sets the version and the text of a path
 record Sets (s : State) (n : Notification) (path : List ℕ) (version : ℤ) (text : List ℕ) : Type 0 where
-  silent : notice_row (notice_of n) (place_of s) ≡ silent
-  texts : (documents_after (notification_input n) (place_of s).documents).texts ≡ map.insert s.host.world.texts path text
+  silent : notice_row (notice_of n) s.desk ≡ silent
+  texts : (documents_after (notification_input n) (place_of s).documents).texts ≡ text_put path text s.host.world.texts
   versions : (documents_after (notification_input n) (place_of s).documents).versions ≡ map.insert s.versions path version
 
 abbrev set_state : State → List ℕ → ℤ → State
-set_state s path version = record s { turns = s.turns + 1; versions = map.insert s.versions path version }
+set_state s path version = record s { desk = record s.desk { turns = s.desk.turns + 1 }; versions = map.insert s.versions path version }
 
-abbrev setting_turn : State → List ℕ → ℤ → Written → Working
+abbrev setting_turn : State → List ℕ → ℤ → Written → Working State
 setting_turn s path version out = record { state = set_state s path version; out = out }
 
-set-mid : (meaning : Meaning) (s : State) (n : Notification) (path : List ℕ) (version : ℤ) (text : List ℕ) (out : Written) (host : HostData) → IsQuiet out → Sets s n path version text
-    → host.world.texts ≡ map.insert s.host.world.texts path text → s.host.revision ≤ host.revision → Raises s.host host → Mid meaning s (notification_input n) (record { state = record (set_state s path version) { host = host }; out = out })
+abbrev set_turn : State → List ℕ → ℤ → Written → HostData → Working State
+set_turn s path version out host = record { state = record (set_state s path version) { host = host }; out = out }
+
+-- the desk is where it was
+set-beside : (s : State) (path : List ℕ) (version : ℤ) (out : Written) (host : HostData) → Beside (counted_turn s) (record { state = (counted_turn s).state; out = out }) → Beside (counted_turn s) (set_turn s path version out host)
+set-beside s path version out host b = record {
+  messages = b.messages;
+  commands = b.commands;
+  written = b.written;
+  ordered = b.ordered;
+  answers_none = b.answers_none;
+  asks_none = b.asks_none;
+  numbered = b.numbered;
+  desk = b.desk;
+}
+
+set-mid : (meaning : Meaning) (s : State) (n : Notification) (path : List ℕ) (version : ℤ) (text : List ℕ) (out : Written) (host : HostData) → IsQuiet s out → Sets s n path version text
+    → host.world.texts ≡ text_put path text s.host.world.texts → s.host.revision ≤ host.revision → Raises s.host host → Mid meaning s (notification_input n) (set_turn s path version out host)
 set-mid meaning s n path version text out host quiet sets texts later raised = record {
-  turns = refl;
-  config = refl;
-  does = (λ i. record { messages = quiet.written i; jobs = quiet.none i }) ∙ sym sets.silent;
+  serves = beside-fits meaning s (notification_input n) s.desk.jobs (counted_turn s) (set_turn s path version out host) (set-beside s path version out host quiet.beside) (silent-serves meaning s n sets.silent);
+  settings = refl;
   texts = texts ∙ sym sets.texts;
   versions = sym sets.versions;
-  pending = sym (ap (λ (ms : List Message). closed_by ms s.pending) quiet.written);
-  jobs = refl;
-  handed = omega (arith, ap (λ (js : List Job). length js) quiet.none);
-  shutdown = refl;
   loading = refl;
   unrevised = quiet.unrevised;
   later = later;
@@ -261,53 +211,47 @@ set-mid meaning s n path version text out host quiet sets texts later raised = r
 }
 
 -- a text that the world doesn't have changes it
-other-texts : (texts : map.FinMap path_cmp (List ℕ)) (path text : List ℕ) → holds_text (map.get texts path) text ≡ false → map.insert texts path text ≢ texts
+other-texts : (texts : map.FinMap path_cmp TextEntry) (path text : List ℕ) → holds_text (text_of (map.get texts path)) text ≡ false → map.insert texts path (entry_of text) ≢ texts
 other-texts texts path text other same =
-    let there : map.get texts path ≡ Some text = ap (λ (t : map.FinMap path_cmp (List ℕ)). map.get t path) (sym same) ∙ get-insert_same by_path_total by_path_same texts path text in
-    let held : holds_text (map.get texts path) text ≡ true = ap (λ o. holds_text o text) there ∙ (bytes_decides text text).1 refl in
+    let there : map.get texts path ≡ Some (entry_of text) = ap (λ (t : map.FinMap path_cmp TextEntry). map.get t path) (sym same) ∙ get-insert_same by_path_total by_path_same texts path (entry_of text) in
+    let held : holds_text (text_of (map.get texts path)) text ≡ true = ap (λ o. holds_text (text_of o) text) there ∙ (bytes_decides text text).1 refl in
     true≢false (sym held ∙ other)
 
 -- the world after the change
 abbrev later_host : State → List ℕ → List ℕ → HostData
-later_host s path text = record { world = record { texts = map.insert s.host.world.texts path text }; revision = s.host.revision + 1 }
+later_host s path text = record { world = record { texts = map.insert s.host.world.texts path (entry_of text) }; revision = s.host.revision + 1 }
 
-room-cases : (meaning : Meaning) (s : State) (n : Notification) (path : List ℕ) (version : ℤ) (text : List ℕ) (out : Written) (b : Bool) → IsQuiet out → Sets s n path version text → holds_text (map.get s.host.world.texts path) text ≡ false
+room-cases : (meaning : Meaning) (s : State) (n : Notification) (path : List ℕ) (version : ℤ) (text : List ℕ) (out : Written) (b : Bool) → IsQuiet s out → Sets s n path version text → holds_text (text_at s.host.world path) text ≡ false
     → IfOk (world_by (if b then Ok (later_host s path text) else Err Exhausted) (setting_turn s path version out)) (Mid meaning s (notification_input n))
 unfolding world_by
 room-cases meaning s n path version text out true quiet sets other =
-    set-mid meaning s n path version text out (later_host s path text) quiet sets refl (omega arith) (inr (other-texts s.host.world.texts path text other, refl))
+    set-mid meaning s n path version text out (later_host s path text) quiet sets (rw other refl) (omega arith) (inr (other-texts s.host.world.texts path text other, refl))
 room-cases meaning s n path version text out false quiet sets other = tt
 
-text-cases : (meaning : Meaning) (s : State) (n : Notification) (path : List ℕ) (version : ℤ) (text : List ℕ) (out : Written) (b : Bool) → IsQuiet out → Sets s n path version text
-    → holds_text (map.get s.host.world.texts path) text ≡ b
-    → IfOk (if b then Ok (setting_turn s path version out) else world_changed ((record { path = path; text = Some text }) ∷ []) (setting_turn s path version out)) (Mid meaning s (notification_input n))
+text-cases : (meaning : Meaning) (s : State) (n : Notification) (path : List ℕ) (version : ℤ) (text : List ℕ) (out : Written) (b : Bool) → IsQuiet s out → Sets s n path version text
+    → holds_text (text_at s.host.world path) text ≡ b
+    → IfOk (if b then Ok (setting_turn s path version out) else world_changed ((record { path = path; entry = Some (entry_of text) }) ∷ []) (setting_turn s path version out)) (Mid meaning s (notification_input n))
 unfolding world_changed
 text-cases meaning s n path version text out true quiet sets held =
-    set-mid meaning s n path version text out s.host quiet sets
-    (sym (insert-there by_path_total by_path_same s.host.world.texts path text (held-there (map.get s.host.world.texts path) text held))) (omega arith) (inl refl)
+    set-mid meaning s n path version text out s.host quiet sets (rw held refl) (omega arith) (inl refl)
 text-cases meaning s n path version text out false quiet sets held = room-cases meaning s n path version text out (ltb s.host.revision (2 ^ 64 - 1)) quiet sets held
 
-text-mid : (meaning : Meaning) (s : State) (n : Notification) (path : List ℕ) (version : ℤ) (text : List ℕ) (out : Written) → IsQuiet out → Sets s n path version text
-    → IfOk (text_set path text (version_set path version (record { state = record s { turns = s.turns + 1 }; out = out }))) (Mid meaning s (notification_input n))
+text-mid : (meaning : Meaning) (s : State) (n : Notification) (path : List ℕ) (version : ℤ) (text : List ℕ) (out : Written) → IsQuiet s out → Sets s n path version text
+    → IfOk (text_set path text (version_set path version (record { state = (counted_turn s).state; out = out }))) (Mid meaning s (notification_input n))
 unfolding text_set version_set
-text-mid meaning s n path version text out quiet sets = text-cases meaning s n path version text out (holds_text (map.get s.host.world.texts path) text) quiet sets refl
+text-mid meaning s n path version text out quiet sets = text-cases meaning s n path version text out (holds_text (text_at s.host.world path) text) quiet sets refl
 
 -- the same where a line is logged first, or not
 noted-cases : (meaning : Meaning) (s : State) (n : Notification) (code : LogCode) (path : List ℕ) (version : ℤ) (text : List ℕ) (b : Bool) → Sets s n path version text
     → IfOk (text_set path text (version_set path version (if b then logged code path (counted_turn s) else counted_turn s))) (Mid meaning s (notification_input n))
 unfolding logged ordered
-noted-cases meaning s n code path version text true sets = text-mid meaning s n path version text _ (record { written = refl; none = refl; unrevised = λ q. refl }) sets
-noted-cases meaning s n code path version text false sets = text-mid meaning s n path version text _ (record { written = refl; none = refl; unrevised = λ q. refl }) sets
-
--- a log line alone
-logged-mid : (meaning : Meaning) (s : State) (n : Notification) (code : LogCode) (text : List ℕ) → notice_row (notice_of n) (place_of s) ≡ silent
-    → documents_after (notification_input n) (place_of s).documents ≡ (place_of s).documents → Mid meaning s (notification_input n) (logged code text (counted_turn s))
-logged-mid meaning s n code text quiet same = notification-mid meaning s n silent _ quiet same (log-settles code text (counted_turn s))
+noted-cases meaning s n code path version text true sets = text-mid meaning s n path version text _ (record { beside = beside-logged code path (counted_turn s); unrevised = refl }) sets
+noted-cases meaning s n code path version text false sets = text-mid meaning s n path version text _ (record { beside = beside-none (counted_turn s); unrevised = refl }) sets
 
 opened-cases : (meaning : Meaning) (s : State) (n : Notification) (document : DidOpen) (o : Result (List ℕ) UrlFault) → notice_of n ≡ Opened document → path_of document.uri ≡ o
     → IfOk (opened_at o document (counted_turn s)) (Mid meaning s (notification_input n))
 unfolding opened_at open_noted
-opened-cases meaning s n document (Err fault) told is = logged-mid meaning s n _ _ (rw told refl) (rw (told, is) refl)
+opened-cases meaning s n document (Err fault) told is = logged-mid meaning s (notification_input n) _ _ (still-mid meaning s n (rw told refl) (rw (told, is) refl))
 opened-cases meaning s n document (Ok path) told is =
     noted-cases meaning s n DuplicateOpen path document.version document.text (is_some (map.get s.versions path))
     (record { silent = rw told refl; texts = rw (told, is) refl; versions = rw (told, is) refl })
@@ -316,125 +260,214 @@ is_open-cases : (meaning : Meaning) (s : State) (n : Notification) (change : Did
     → IfOk (if b then edited path change (counted_turn s) else Ok (logged UnexpectedChange path (counted_turn s))) (Mid meaning s (notification_input n))
 unfolding edited edited_by skip_noted
 is_open-cases meaning s n change path true told is stays =
-    let held = map.get s.host.world.texts path in
-    noted-cases meaning s n SkippedChange path change.version (text_after change.changes held) (has_skipped change.changes held)
+    let held = text_at s.host.world path in
+    noted-cases meaning s n SkippedChange path change.version (text_after columns change.changes held) (has_skipped columns change.changes held)
     (record { silent = rw told refl; texts = rw (told, is, stays) refl; versions = rw (told, is, stays) refl })
-is_open-cases meaning s n change path false told is shut = logged-mid meaning s n _ _ (rw told refl) (rw (told, is, shut) refl)
+is_open-cases meaning s n change path false told is shut = logged-mid meaning s (notification_input n) _ _ (still-mid meaning s n (rw told refl) (rw (told, is, shut) refl))
 
 changed-cases : (meaning : Meaning) (s : State) (n : Notification) (change : DidChange) (o : Result (List ℕ) UrlFault) → notice_of n ≡ Changed change → path_of change.uri ≡ o
     → IfOk (changed_at o change (counted_turn s)) (Mid meaning s (notification_input n))
 unfolding changed_at
-changed-cases meaning s n change (Err fault) told is = logged-mid meaning s n _ _ (rw told refl) (rw (told, is) refl)
+changed-cases meaning s n change (Err fault) told is = logged-mid meaning s (notification_input n) _ _ (still-mid meaning s n (rw told refl) (rw (told, is) refl))
 changed-cases meaning s n change (Ok path) told is = is_open-cases meaning s n change path (is_some (map.get s.versions path)) told is refl
 
-cancel-cases : (meaning : Meaning) (s : State) (n : Notification) (id : RequestId) (b : Bool) → notice_of n ≡ Cancel id → is_pending id s.pending ≡ b
-    → Mid meaning s (notification_input n) (if b then answered id (canceled_by_client id) (counted_turn s) else counted_turn s)
-cancel-cases meaning s n id true told waits =
-    notification-mid meaning s n (says (canceled_by_client id)) _ (rw (told, waits) refl) (rw told refl) (answer-settles id (canceled_by_client id) (counted_turn s) refl)
-cancel-cases meaning s n id false told none = notification-mid meaning s n silent _ (rw (told, none) refl) (rw told refl) (nothing-settles (counted_turn s))
+cancel-mid : (meaning : Meaning) (s : State) (n : Notification) (id : RequestId) → notice_of n ≡ Cancel id → IfOk (at_desk (λ d. Ok (cancelled id d)) (counted_turn s)) (Mid meaning s (notification_input n))
+cancel-mid meaning s n id told =
+    IfOk-within desk_in with_desk (λ d. Ok (cancelled id d)) (counted_turn s) (Mid meaning s (notification_input n))
+    (desk-mid meaning s (notification_input n) (cancel_row id s.desk) (cancelled id (counted_desk s.desk)) refl (rw told refl) (rw told refl) (cancel-settles id (counted_desk s.desk)))
 
 notice-cases : (meaning : Meaning) (s : State) (n : Notification) (notice : Notice) → notice_of n ≡ notice → IfOk (noticed notice n.method (counted_turn s)) (Mid meaning s (notification_input n))
-unfolding noticed cancelled
+unfolding noticed
 notice-cases meaning s n (Opened document) told = opened-cases meaning s n document (path_of document.uri) told refl
 notice-cases meaning s n (Changed change) told = changed-cases meaning s n change (path_of change.uri) told refl
-notice-cases meaning s n (Cancel id) told = cancel-cases meaning s n id (is_pending id s.pending) told refl
-notice-cases meaning s n Malformed told = logged-mid meaning s n _ _ (rw told refl) (rw told refl)
-notice-cases meaning s n Unhandled told = logged-mid meaning s n _ _ (rw told refl) (rw told refl)
-notice-cases meaning s n Silent told = notification-mid meaning s n silent _ (rw told refl) (rw told refl) (nothing-settles (counted_turn s))
+notice-cases meaning s n (Cancel id) told = cancel-mid meaning s n id told
+notice-cases meaning s n Malformed told = logged-mid meaning s (notification_input n) _ _ (still-mid meaning s n (rw told refl) (rw told refl))
+notice-cases meaning s n Unhandled told = logged-mid meaning s (notification_input n) _ _ (still-mid meaning s n (rw told refl) (rw told refl))
+notice-cases meaning s n Silent told = still-mid meaning s n (rw told refl) (rw told refl)
+
+-- ---- batches
+
+-- where the machine stands, as the lists say it before its turn was counted
+abbrev pub place_at : ℕ → State → Place
+place_at turns s = record (place_of s) { desk = record s.desk { turns = turns } }
+
+-- the desk, and what was written and ordered
+abbrev pub at : Working State → Working Desk
+at w = record { state = w.state.desk; out = w.out }
+
+-- the desk has done this, and nothing else has changed
+pub record DoesAtDesk (w u : Working State) (done : Reaction) (jobs : Jobs) : Type 0 where
+  pub desk : Settled None (at w) (at u) done jobs
+  pub rest : u.state ≡ record w.state { desk = u.state.desk }
+
+-- a message of a batch
+pub taken-settles : (meaning : Meaning) (turns : ℕ) (message : TaskMsg) (w : Working State)
+    → IfOk (taken meaning message w) (λ u. DoesAtDesk w u (message_row meaning (scene_of w.state) (record w.state.desk { turns = turns }) message) (after_message message w.state.desk.jobs))
+taken-settles meaning turns message w =
+    let scene = scene_of w.state in
+    let jobs = after_message message w.state.desk.jobs in
+    IfOk-within desk_in with_desk (taken_at_desk meaning scene message) w _
+    (IfOk-weaker _ (λ v. Settled None (at w) v (message_row meaning scene w.state.desk message) jobs) _ (message-settles meaning scene message (at w))
+    (λ v a. record { desk = subst (λ d. Settled None (at w) v d jobs) (sym (message-turns meaning scene w.state.desk turns message)) a; rest = refl }))
+
+-- what a message leaves is the next one's place
+pub settled-place : (turns : ℕ) (message : TaskMsg) (w v : Working State) (done : Reaction) → DoesAtDesk w v done (after_message message w.state.desk.jobs) → place_at turns v.state ≡ place_past message done (place_at turns w.state)
+settled-place turns message w v done a = same_place _ _
+    (ap (λ (s : State). s.settings) a.rest) (ap (λ (s : State). s.host.world.texts) a.rest) (ap (λ (s : State). s.versions) a.rest) (ap (λ (s : State). s.host.revision) a.rest)
+    (same_desk _ _ refl a.desk.pending a.desk.out a.desk.handed a.desk.shutdown) (ap (λ (s : State). s.loading) a.rest)
+
+does-on : (w v u : Working State) (a b : Reaction) (js ks : Jobs) → DoesAtDesk w v a js → DoesAtDesk v u b ks → DoesAtDesk w u (joined a b) ks
+does-on w v u a b js ks p q = record {
+  desk = settled-on (at w) (at v) (at u) a b js ks p.desk q.desk;
+  rest = q.rest ∙ ap (λ (s : State). record s { desk = u.state.desk }) p.rest;
+}
+
+-- a batch is its messages, one after another
+batch-settles : (meaning : Meaning) (turns : ℕ) (batch : List TaskMsg) (w : Working State)
+    → IfOk (batched meaning batch w) (λ u. DoesAtDesk w u (batch_row meaning batch (place_at turns w.state)) (after_batch batch w.state.desk.jobs))
+batch-settles meaning turns [] w = record { desk = nothing-settles (at w); rest = refl }
+batch-settles meaning turns (m ∷ ms) w =
+    let place = place_at turns w.state in
+    let done = message_row meaning (scene_at place) place.desk m in
+    let past = place_past m done place in
+    let jobs = after_message m w.state.desk.jobs in
+    IfOk-and_then (taken meaning m w) (batched meaning ms) (λ v. DoesAtDesk w v done jobs) (λ u. DoesAtDesk w u (batch_row meaning (m ∷ ms) place) (after_batch ms jobs))
+    (taken-settles meaning turns m w)
+    (λ v a. IfOk-weaker (batched meaning ms v) (λ u. DoesAtDesk v u (batch_row meaning ms (place_at turns v.state)) (after_batch ms v.state.desk.jobs)) _
+    (batch-settles meaning turns ms v)
+    (λ u b. does-on w v u done (batch_row meaning ms past) jobs (after_batch ms jobs) a
+    (subst (λ js. DoesAtDesk v u (batch_row meaning ms past) (after_batch ms js)) a.desk.out
+    (subst (λ p. DoesAtDesk v u (batch_row meaning ms p) (after_batch ms v.state.desk.jobs)) (settled-place turns m w v done a) b))))
+
+batch-mid : (meaning : Meaning) (s : State) (batch : List TaskMsg) → IfOk (batched meaning batch (counted_turn s)) (Mid meaning s (Next (Task batch)))
+batch-mid meaning s batch =
+    let done = batch_row meaning batch (place_of s) in
+    IfOk-weaker _ (λ u. DoesAtDesk (counted_turn s) u done (after_batch batch s.desk.jobs)) (Mid meaning s (Next (Task batch)))
+    (batch-settles meaning s.desk.turns batch (counted_turn s))
+    (λ u a. subst (Mid meaning s (Next (Task batch))) (is-now u a.rest) (desk-mid meaning s (Next (Task batch)) done (at u) refl refl refl a.desk))
+  where
+    is-now : (u : Working State) → u.state ≡ record s { desk = u.state.desk } → desk_now s (at u) ≡ u
+    is-now u rest = λ i. record { state = sym rest i; out = u.out }
 
 -- ---- whole turns
 
--- a turn that changed no document, no flag and nothing that its input doesn't
-settled-mid : (meaning : Meaning) (s : State) (input : Input) (done : Reaction) (u : Working) → number_after input (s.turns + 1) ≡ s.turns + 1 + 1 → row meaning s.config input (place_of s) ≡ done → documents_after input (place_of s).documents ≡ (place_of s).documents
-    → ((messages : List Message) → pending_after (s.turns + 1) input messages s.pending ≡ closed_by messages s.pending) → ((messages : List Message) → shutdown_after input messages s.shutdown ≡ s.shutdown)
-    → Settled (counted_turn s) u done (after_input input s.jobs) → Mid meaning s input u
-settled-mid meaning s input done u number is same closes stays a = record {
-  turns = ap (λ (t : State). t.turns + 1) a.same ∙ sym number;
-  config = ap (λ (t : State). t.config) a.same;
-  does = (λ i. record { messages = a.messages i; jobs = a.spawns i }) ∙ sym is;
-  texts = ap (λ (t : State). t.host.world.texts) a.same ∙ sym (ap (λ (d : Documents). d.texts) same);
-  versions = ap (λ (t : State). t.versions) a.same ∙ sym (ap (λ (d : Documents). d.versions) same);
-  pending = a.pending ∙ sym (closes u.out.messages ∙ ap (λ (ms : List Message). closed_by ms s.pending) a.messages);
-  jobs = a.out;
-  handed = a.given ∙ ap (λ (js : List Job). s.jobs_given + length js) (sym a.spawns);
-  shutdown = ap (λ (t : State). t.shutdown) a.same ∙ sym (stays u.out.messages);
-  loading = ap (λ (t : State). t.loading) a.same;
-  unrevised = a.unrevised;
-  later = omega (arith, ap (λ (t : State). t.host.revision) a.same);
-  raised = inl (ap (λ (t : State). t.host) a.same);
-}
+response-mid : (meaning : Meaning) (s : State) (r : Response) → Mid meaning s (Next (Lsp (ResponseMessage r))) (counted_turn s)
+response-mid meaning s r = desk-mid meaning s (Next (Lsp (ResponseMessage r))) silent (counted_desk s.desk) refl refl refl (nothing-settles (counted_desk s.desk))
 
 message-mid : (meaning : Meaning) (s : State) (message : Message) → IfOk (received meaning message (counted_turn s)) (Mid meaning s (Next (Lsp message)))
 unfolding received
 message-mid meaning s (RequestMessage r) = requested-mid meaning s r
 message-mid meaning s (NotificationMessage n) = notice-cases meaning s n (notice_of n) refl
-message-mid meaning s (ResponseMessage r) = settled-mid meaning s (Next (Lsp (ResponseMessage r))) silent _ refl refl refl (λ ms. refl) (λ ms. refl) (log-settles _ _ (counted_turn s))
-
-batch-mid : (meaning : Meaning) (s : State) (batch : List TaskMsg) → IfOk (batched meaning batch (counted_turn s)) (Mid meaning s (Next (Task batch)))
-batch-mid meaning s batch =
-    let done = batch_row meaning s.config batch (place_of s) in
-    IfOk-weaker _ (λ u. Settled (counted_turn s) u done (after_input (Next (Task batch)) s.jobs)) (Mid meaning s (Next (Task batch)))
-    (batch-settles meaning s.config (place_of s) batch (counted_turn s) refl refl)
-    (λ u a. settled-mid meaning s (Next (Task batch)) done u refl refl refl (λ ms. refl) (λ ms. refl) a)
+message-mid meaning s (ResponseMessage r) = logged-mid meaning s (Next (Lsp (ResponseMessage r))) _ _ (response-mid meaning s r)
 
 event-mid : (meaning : Meaning) (s : State) (event : Event) → IfOk (happened meaning event (counted_turn s)) (Mid meaning s (Next event))
 unfolding happened
 event-mid meaning s (Lsp message) = message-mid meaning s message
 event-mid meaning s (Task batch) = batch-mid meaning s batch
 
-counted-gives : (s : State) (f : Working → Result Working Counter) (Q : Working → Type 0) → IfOk (f (counted_turn s)) Q → IfOk (and_then (counted (begun s)) f) Q
-unfolding counted
-counted-gives s f Q q = and_then-and_then (next_number s.turns _) _ f Q (IfOk-next s.turns _ _ Q q)
-  where
-    and_then-and_then : {X Y Z E : Type 0} (r : Result X E) (g : X → Result Y E) (f : Y → Result Z E) (Q : Z → Type 0) → IfOk (and_then r (λ x. and_then (g x) f)) Q → IfOk (and_then (and_then r g) f) Q
-    and_then-and_then (Ok x) g f Q q = q
-    and_then-and_then (Err e) g f Q q = tt
+counted-is : (s : State) → IfOk (counted (begun s)) (λ v. v ≡ counted_turn s)
+unfolding counted counted_at_desk
+counted-is s = IfOk-within desk_in with_desk counted_at_desk (begun s) (λ v. v ≡ counted_turn s) (IfOk-next s.desk.turns _ _ (λ v. desk_now s v ≡ counted_turn s) refl)
 
-mid-fits : (meaning : Meaning) (s : State) (input : Input) → IfOk (taken_in meaning input (begun s)) (Mid meaning s input)
+mid-fits : (meaning : Meaning) (s : State) (event : Event) → IfOk (taken_in meaning event (begun s)) (Mid meaning s (Next event))
 unfolding taken_in
-mid-fits meaning s Start = record { turns = refl; config = refl; does = refl; texts = refl; versions = refl; pending = refl; jobs = refl; handed = omega arith; shutdown = refl; loading = refl; unrevised = λ q. refl; later = omega arith; raised = inl refl }
-mid-fits meaning s (Next event) = counted-gives s _ (Mid meaning s (Next event)) (event-mid meaning s event)
+mid-fits meaning s event =
+    IfOk-and_then (counted (begun s)) (happened meaning event) (λ v. v ≡ counted_turn s) (Mid meaning s (Next event)) (counted-is s)
+    (λ v is. subst (λ w. IfOk (happened meaning event w) (Mid meaning s (Next event))) (sym is) (event-mid meaning s event))
+
+start-mid : (meaning : Meaning) (s : State) → Mid meaning s Start (begun s)
+start-mid meaning s = record {
+  serves = record { does = refl; numbered = tt; desk = none-handed s.desk };
+  settings = refl;
+  texts = refl;
+  versions = refl;
+  loading = refl;
+  unrevised = refl;
+  later = omega arith;
+  raised = inl refl;
+}
 
 -- a turn of the machine is a row, and what it leaves is the next place
-pub record Fits (meaning : Meaning) (s : State) (input : Input) (v : Working) : Type 0 where
-  pub does : reaction_of (turn_of input v) ≡ row meaning s.config input (place_of s)
+pub record Fits (meaning : Meaning) (s : State) (input : Input) (v : Working State) : Type 0 where
+  pub does : reaction_of (turn_of input v) ≡ row meaning input (place_of s)
+  pub numbered : AreNumbered s.desk.handed (spawned v.out.commands)
   pub place : place_of v.state ≡ place_after (turn_of input v) (place_of s)
-  pub config : v.state.config ≡ s.config
   pub later : s.host.revision ≤ v.state.host.revision
   pub raised : Raises s.host v.state.host
 
-close-cases : (meaning : Meaning) (s : State) (input : Input) (u : Working) (b : Bool) → (u.state.host.revision == s.host.revision) ≡ b → Mid meaning s input u
-    → Fits meaning s input (if b then kept 0 u else ordered (Revise u.state.host.revision) (kept 0 u))
-unfolding kept ordered
+-- the jobs that were handed over are out
+abbrev kept_turn : Working State → Working State
+kept_turn u = record { state = record u.state { desk = record u.state.desk { jobs = with_jobs (spawned u.out.commands) u.state.desk.jobs } }; out = u.out }
+
+kept-serves : (meaning : Meaning) (s : State) (input : Input) (u : Working State) → Serves meaning s input (after_input input s.desk.jobs) u → Serves meaning s input (out_after (turn_of input u) s.desk.jobs) (kept_turn u)
+kept-serves meaning s input u p = record {
+  does = p.does;
+  numbered = p.numbered;
+  desk = ap (λ (d : Desk). record d { jobs = with_jobs (spawned u.out.commands) d.jobs }) p.desk;
+}
+
+close-cases : (meaning : Meaning) (s : State) (input : Input) (u : Working State) (b : Bool) → (u.state.host.revision == s.host.revision) ≡ b → Mid meaning s input u
+    → Fits meaning s input (if b then kept_turn u else ordered (Revise u.state.host.revision) (kept_turn u))
+unfolding ordered
 close-cases meaning s input u true h mid =
-    let same : u.state.host.revision ≡ revision_after u.out.commands s.host.revision = eqb-true _ _ h ∙ sym (mid.unrevised s.host.revision) in
+    let serves = kept-serves meaning s input u mid.serves in
+    let same : u.state.host.revision ≡ revision_after u.out.commands s.host.revision = eqb-true _ _ h ∙ sym (ap (λ ns. last_of ns s.host.revision) mid.unrevised) in
     record {
-      does = mid.does;
-      place = same_place _ _ mid.turns mid.texts mid.versions same mid.pending (ap (with_jobs (spawned u.out.commands)) mid.jobs) mid.handed mid.shutdown mid.loading;
-      config = mid.config;
+      does = serves.does;
+      numbered = serves.numbered;
+      place = same_place _ _ mid.settings mid.texts mid.versions same serves.desk mid.loading;
       later = mid.later;
       raised = mid.raised;
     }
 close-cases meaning s input u false h mid =
-    let jobs : spawned (u.out.commands ++ Revise u.state.host.revision ∷ []) ≡ spawned u.out.commands = spawned-append u.out.commands _ ∙ append-nil _ in
-    let revision : revision_after (u.out.commands ++ Revise u.state.host.revision ∷ []) s.host.revision ≡ u.state.host.revision = revision-append u.out.commands _ s.host.revision in
+    let v = ordered (Revise u.state.host.revision) (kept_turn u) in
+    let beside = beside-revised u.state.host.revision (kept_turn u) in
+    let serves : Serves meaning s input (out_after (turn_of input u) s.desk.jobs) v = beside-fits meaning s input _ (kept_turn u) v beside (kept-serves meaning s input u mid.serves) in
+    let spawns : spawned v.out.commands ≡ spawned u.out.commands = spawned-append u.out.commands _ ∙ append-nil (spawned u.out.commands) in
+    let jobs : out_after (turn_of input u) s.desk.jobs ≡ out_after (turn_of input v) s.desk.jobs = ap (λ js. with_jobs js (after_input input s.desk.jobs)) (sym spawns) in
+    let numbers : filter_map revision_of v.out.commands ≡ u.state.host.revision ∷ [] = revisions-append u.out.commands _ ∙ ap (λ (ns : List ℕ). ns ++ u.state.host.revision ∷ []) mid.unrevised in
     record {
-      does = rw jobs mid.does;
-      place = same_place _ _ mid.turns mid.texts mid.versions (sym revision) mid.pending
-          (ap (with_jobs (spawned u.out.commands)) mid.jobs ∙ ap (λ js. with_jobs js (after_input input s.jobs)) (sym jobs)) (mid.handed ∙ ap (λ js. s.jobs_given + length js) (sym jobs)) mid.shutdown mid.loading;
-      config = mid.config;
+      does = serves.does;
+      numbered = serves.numbered;
+      place = same_place _ _ mid.settings mid.texts mid.versions (sym (ap (λ ns. last_of ns s.host.revision) numbers))
+          (serves.desk ∙ ap (λ js. record (desk_after (turn_of input v) s.desk) { jobs = js }) jobs) mid.loading;
       later = mid.later;
       raised = mid.raised;
     }
 
-close-fits : (meaning : Meaning) (s : State) (input : Input) (u : Working) → Mid meaning s input u → Fits meaning s input (revised s.host.revision (kept 0 u))
-unfolding revised kept
+close-fits : (meaning : Meaning) (s : State) (input : Input) (u : Working State) → Mid meaning s input u → IfOk (closed (facts_of (begun s)) u) (Fits meaning s input)
+unfolding revised kept kept_at_desk within
 close-fits meaning s input u mid = close-cases meaning s input u (u.state.host.revision == s.host.revision) refl mid
+
+-- the session within a turn
+abbrev pub session_in : Working Turning → Working State
+session_in t = record { state = t.state.state; out = t.out }
+
+record MidTurn (meaning : Meaning) (s : State) (input : Input) (t : Working Turning) : Type 0 where
+  facts : t.state.facts ≡ facts_of (begun s)
+  mid : Mid meaning s input (session_in t)
+
+closing-fits : (meaning : Meaning) (s : State) (input : Input) (t : Working Turning) → MidTurn meaning s input t → IfOk (closing_part t) (λ v. Fits meaning s input (session_in v))
+unfolding closing_part
+closing-fits meaning s input t m =
+    IfOk-within state_in with_state (closed t.state.facts) t (λ v. Fits meaning s input (session_in v))
+    (subst (λ (f : Facts). IfOk (closed f (session_in t)) (Fits meaning s input)) (sym m.facts) (close-fits meaning s input (session_in t) m.mid))
+
+event-fits : (meaning : Meaning) (s : State) (event : Event) → IfOk (event_part meaning event (turning (begun s))) (MidTurn meaning s (Next event))
+unfolding event_part
+event-fits meaning s event =
+    IfOk-within state_in with_state (taken_in meaning event) (turning (begun s)) (MidTurn meaning s (Next event))
+    (IfOk-weaker _ (Mid meaning s (Next event)) _ (mid-fits meaning s event) (λ v mid. record { facts = refl; mid = mid }))
 
 step-fits : (meaning : Meaning) (s : State) (input : Input) → IfOk (step meaning input (begun s)) (Fits meaning s input)
 unfolding step
-step-fits meaning s input =
-    IfOk-and_then (taken_in meaning input (begun s)) _ (Mid meaning s input) (Fits meaning s input) (mid-fits meaning s input) (λ u mid. close-fits meaning s input u mid)
+step-fits meaning s Start =
+    IfOk-and_then (closing_part (turning (begun s))) turned (λ v. Fits meaning s Start (session_in v)) (Fits meaning s Start)
+    (closing-fits meaning s Start (turning (begun s)) (record { facts = refl; mid = start-mid meaning s })) (λ v fits. fits)
+step-fits meaning s (Next event) =
+    IfOk-and_then (and_then (event_part meaning event (turning (begun s))) later_parts) turned (λ v. Fits meaning s (Next event) (session_in v)) (Fits meaning s (Next event))
+    (IfOk-and_then (event_part meaning event (turning (begun s))) later_parts (MidTurn meaning s (Next event)) (λ v. Fits meaning s (Next event) (session_in v))
+    (event-fits meaning s event) (λ t m. closing-fits meaning s (Next event) t m)) (λ v fits. fits)
 
 raises-revises : (s new : State) → Raises s.host new.host → Revises (place_of s) (place_of new)
 raises-revises s new (inl same) = inl (ap (λ (h : HostData). h.world.texts) same, ap (λ (h : HostData). h.revision) same)
@@ -443,4 +476,4 @@ raises-revises s new (inr h) = inr (h.0, h.1)
 pub steps-fit : (meaning : Meaning) (s : State) (turn : Turn) (new : State) → Steps meaning s turn new → StepFits meaning s turn new
 steps-fit meaning s turn new steps =
     let fits : Fits meaning s turn.input (record { state = new; out = record { messages = turn.messages; commands = turn.commands } }) = IfOk-at_ok (Fits meaning s turn.input) steps (step-fits meaning s turn.input) in
-    record { does = fits.does; place = fits.place; config = fits.config; later = fits.later; revised = raises-revises s new fits.raised }
+    record { does = fits.does; numbered = fits.numbered; place = fits.place; later = fits.later; revised = raises-revises s new fits.raised }

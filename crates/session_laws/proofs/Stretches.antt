@@ -5,12 +5,12 @@ use Rattle.session_port.specs.Jobs.{Jobs}
 use Rattle.session_port.specs.Record.{HostCall, gave, took, given_in, taken_in, grown, after_order}
 use Rattle.session_port.specs.declared.command.Command.{Command}
 use Rattle.session_port.specs.declared.event.HostEvent.{HostEvent}
-use Rattle.session_port.specs.declared.event.HostEvent.TheVariants.{Bytes, Ended, Tasks}
+use Rattle.session_port.specs.declared.event.HostEvent.TheVariants.{Bytes}
 use Rattle.session_model.specs.Course.{Course, takes, waits, bytes_in}
-use Rattle.session_model.specs.Meaning.{Meaning}
+use Rattle.desk.specs.Meaning.{Meaning}
 use Rattle.session_model.specs.Run.{Turn, Told, Runs, Steps, AllRead, AreHonest, AsksLast, HadTurns, IsHonestInput, MayAsk, Stretch, commands_of, giving, telling, taking, out_after, out_after_all, after_input, bytes_of}
 use Rattle.session_model.specs.State.{State}
-use Rattle.session_model.specs.Written.{AreRead}
+use Rattle.turn_parts.specs.Written.{AreRead}
 use Rattle.session_laws.proofs.Asking.{asks-on, asks-turn, asks-events, given-append, given-turn, given-giving, taken-append, taken-turn, taken-giving, commands-append, taking-append}
 
 pub grown-nil : {X : Type 0} (r : Option (List X)) → grown r [] ≡ r
@@ -43,9 +43,7 @@ honest-append meaning (t ∷ ts) us out r s = (r.0, honest-append meaning ts us 
 
 pub bytes-append : (es fs : List HostEvent) → bytes_in (es ++ fs) ≡ bytes_in es + bytes_in fs
 bytes-append [] fs = omega arith
-bytes-append (Bytes bytes ∷ es) fs = omega (arith, bytes-append es fs)
-bytes-append (Tasks batch ∷ es) fs = bytes-append es fs
-bytes-append (Ended ∷ es) fs = bytes-append es fs
+bytes-append (e ∷ es) fs = omega (arith, bytes-append es fs)
 
 pub telling-append : (cs ds : List HostCall) (ts us : List Turn) (old : Told) → telling ds us (telling cs ts old) ≡ telling (cs ++ ds) (ts ++ us) old
 telling-append cs ds ts us old =
