@@ -154,7 +154,7 @@ impl GlobalState {
 // Turns.
 impl GlobalState {
     // The turn is counted.
-    #[tactic(auto, using(turn_parts::proofs::Parts::within-meets), unfolding(session_model::specs::Machine::counted))]
+    #[tactic(auto, unfolding(session_model::specs::Machine::counted))]
     fn count(&mut self, out: &mut TurnOut) -> Result<(), TurnError>
         ensures above { OnOk result (IsAbove self.new.desk.turns self.new.desk.pending) }
         ensures meets { Meets result (counted (record { state = self.old; out = out.old })) self.new out.new }
@@ -193,7 +193,7 @@ impl GlobalState {
     }
 
     // The jobs that this turn hands over are out.
-    #[tactic(auto, using(turn_parts::proofs::Parts::within-meets), unfolding(session_model::specs::Machine::kept))]
+    #[tactic(auto, unfolding(session_model::specs::Machine::kept))]
     fn keep_jobs(&mut self, before: usize, out: &mut TurnOut) -> Result<(), TurnError>
         ensures { Meets result (kept before (record { state = self.old; out = out.old })) self.new out.new }
     {

@@ -1,8 +1,8 @@
 -- What is taken from a reader, and written to a writer, over several steps.
-use Rattle.std.proofs.Common.{◌≡◌, ℕ, List, [], ◌++◌, length, take, drop, refl, sym, ap, subst, ◌∙◌, append_assoc, append-nil, take-append-drop}
+use Rattle.std.proofs.Common.{◌≡◌, ℕ, List, [], ◌++◌, take, drop, refl, sym, ap, subst, ◌∙◌, append_assoc, append-nil, take-append-drop}
 use Rattle.std.specs.Prelude.{Option, None, Some}
-use Rattle.std.proofs.KnownBytes.{Appends-nil, Appends-trans, Keeps-trans}
-use Rattle.std.specs.Io.KnownBytes.{Keeps, Appends, Consumes, IsAtEnd}
+use Rattle.std.proofs.KnownBytes.{Appends-nil, Appends-trans}
+use Rattle.std.specs.Io.KnownBytes.{Keeps, Appends}
 use Rattle.stdio.specs.Streams.{IsTaken, BreaksOff}
 
 -- a piece that is taken after nothing changed

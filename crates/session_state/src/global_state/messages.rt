@@ -17,7 +17,6 @@ use session_port::{LogCode, TaskMsg};
 use turn_parts::TurnOut;
 
 impl GlobalState {
-    #[tactic(auto, using(turn_parts::proofs::Parts::within-meets))]
     fn on_request<A: Analysis>(
         &mut self,
         request: Request,
@@ -51,7 +50,6 @@ impl GlobalState {
         }
     }
 
-    #[tactic(auto, using(turn_parts::proofs::Parts::within-meets))]
     fn on_task<A: Analysis>(
         &mut self,
         message: TaskMsg,

@@ -304,7 +304,6 @@ impl GlobalState {
     }
 
     // The request of an id is cancelled, where it is pending.
-    #[tactic(auto, using(turn_parts::proofs::Parts::within-meets))]
     fn on_cancel(&mut self, id: RequestId, out: &mut TurnOut) -> Result<(), TurnError>
         ensures { Meets result (at_desk (λ d. Ok (cancelled id d)) (record { state = self.old; out = out.old })) self.new out.new }
     {

@@ -1,0 +1,30 @@
+-- A call of the desk, as a step of the session.
+use Rattle.std.proofs.Common.{◌≡◌, sym, ap, subst, ◌∙◌}
+use Rattle.std.specs.Prelude.{Result, Ok}
+use Rattle.turn_parts.proofs.Parts.{within_meets}
+use Rattle.turn_parts.specs.Meets.{Meets}
+use Rattle.turn_parts.specs.Working.{Working, within, put_back}
+use Rattle.turn_parts.specs.Written.{Written}
+use Rattle.turn_parts.specs.declared.fault.Counter.{Counter}
+use Rattle.turn_parts.specs.declared.fault.TurnError.{TurnError}
+use Rattle.desk.specs.Desk.{Desk}
+use Rattle.session_model.specs.Machine.{at_desk, desk_in, with_desk}
+use Rattle.session_model.specs.State.{State}
+
+pub desk_meets : {T : Type 0} (step : Working Desk → Result (Working Desk) Counter) (result : Result T TurnError) (before after : State) (desk desk_now : Desk) (out out_now : Written)
+    → before.desk ≡ desk → after ≡ record before { desk = desk_now } → Meets result (step (record { state = desk; out = out })) desk_now out_now
+    → Meets result (at_desk step (record { state = before; out = out })) after out_now
+desk_meets step result before after desk desk_now out out_now was is h =
+    subst (λ (s : State). Meets result (at_desk step (record { state = before; out = out })) s out_now) (sym is)
+    (within_meets desk_in with_desk step result (record { state = before; out = out }) desk_now out_now
+    (subst (λ (d : Desk). Meets result (step (record { state = d; out = out })) desk_now out_now) (sym was) h))
+
+-- the same of a step that no counter can refuse
+pub desk_gives : (step : Working Desk → Working Desk) (before after : State) (desk desk_now : Desk) (out out_now : Written)
+    → before.desk ≡ desk → after ≡ record before { desk = desk_now } → record { state = desk_now; out = out_now } ≡ step (record { state = desk; out = out })
+    → at_desk (λ d. Ok (step d)) (record { state = before; out = out }) ≡ Ok (record { state = after; out = out_now })
+unfolding within
+desk_gives step before after desk desk_now out out_now was is h =
+    ap (λ (d : Desk). put_back with_desk before (Ok (step (record { state = d; out = out })))) was
+    ∙ ap (λ (w : Working Desk). put_back with_desk before (Ok w)) (sym h)
+    ∙ ap (λ (s : State). Ok (record { state = s; out = out_now })) (sym is)
