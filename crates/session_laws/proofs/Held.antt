@@ -31,7 +31,7 @@ use Rattle.session_model.specs.declared.input.Input.{Input}
 use Rattle.session_model.specs.declared.input.Input.TheVariants.{Start, Next}
 use Rattle.session_laws.specs.Invariant.{SoundAt}
 use Rattle.session_laws.proofs.Each.{asked-here, asked-there}
-use Rattle.session_laws.proofs.Rising.{row-numbered}
+use Rattle.session_laws.proofs.Numbered.{row-numbered}
 
 -- ---- batches
 

@@ -8,9 +8,9 @@ pub mod Courses
 pub mod Each
 pub mod Exhausting
 pub mod Handed
-pub mod Handing
 pub mod Held
 pub mod Joined
+pub mod Numbered
 pub mod Once
 pub mod Rising
 pub mod Rows

@@ -1,39 +1,22 @@
--- The jobs that a turn hands over have the numbers after those that were given.
-use Rattle.std.proofs.Common.{List, [], ◌∷◌}
-use Rattle.lsp_frame.specs.declared.message.Message.TheVariants.{Request as RequestMessage, Notification as NotificationMessage, Response as ResponseMessage}
-use Rattle.session_port.specs.declared.event.TaskMsg.{TaskMsg}
-use Rattle.desk.specs.Desk.{Desk}
+-- What a turn orders may be ordered of a host that was given the jobs before.
+use Rattle.std.proofs.Common.{◌≡◌, refl, sym, ap, ◌∙◌}
+use Rattle.session_port.specs.Record.{AreRising, last_number, spawned}
 use Rattle.desk.specs.Meaning.{Meaning}
-use Rattle.desk.specs.Reactions.{message_row}
-use Rattle.desk_laws.specs.Numbers.{AreNumbered}
-use Rattle.desk_laws.proofs.Numbered.{cancel-numbered, message-numbered, numbered-append, request-numbered}
-use Rattle.session_model.specs.Notices.{notice_of}
-use Rattle.session_model.specs.Headline.{Place, notice_row, place_past, batch_row, row, scene_at, next_turn}
-use Rattle.session_model.specs.declared.notice.Notice.{Notice}
-use Rattle.session_model.specs.declared.notice.Notice.TheVariants.{Opened, Changed, Cancel, Malformed, Unhandled, Silent}
-use Rattle.session_model.specs.declared.input.Event.TheVariants.{Lsp, Task}
-use Rattle.session_model.specs.declared.input.Input.{Input}
-use Rattle.session_model.specs.declared.input.Input.TheVariants.{Start, Next}
+use Rattle.desk_laws.proofs.Numbered.{numbered-last, numbered-rising}
+use Rattle.session_model.specs.Headline.{Place}
+use Rattle.session_model.specs.Run.{Turn, Steps}
+use Rattle.session_model.specs.State.{State}
+use Rattle.session_laws.proofs.Rows.{steps-fit}
 
-notice-numbered : (notice : Notice) (desk : Desk) → AreNumbered desk.handed (notice_row notice desk).jobs
-notice-numbered (Cancel id) desk = cancel-numbered id desk
-notice-numbered (Opened document) desk = tt
-notice-numbered (Changed change) desk = tt
-notice-numbered Malformed desk = tt
-notice-numbered Unhandled desk = tt
-notice-numbered Silent desk = tt
+-- the numbers rise, and the last one says how many jobs were handed over then
+pub record Handing (old new : State) (turn : Turn) : Type 0 where
+  pub rising : AreRising old.desk.handed (spawned turn.commands)
+  pub last : last_number old.desk.handed (spawned turn.commands) ≡ new.desk.handed
 
-batch-numbered : (meaning : Meaning) (batch : List TaskMsg) (place : Place) → AreNumbered place.desk.handed (batch_row meaning batch place).jobs
-batch-numbered meaning [] place = tt
-batch-numbered meaning (m ∷ ms) place =
-    let done = message_row meaning (scene_at place) place.desk m in
-    numbered-append place.desk.handed done.jobs (batch_row meaning ms (place_past m done place)).jobs
-    (message-numbered meaning (scene_at place) place.desk m) (batch-numbered meaning ms (place_past m done place))
-
--- what a row hands over
-pub row-numbered : (meaning : Meaning) (input : Input) (place : Place) → AreNumbered place.desk.handed (row meaning input place).jobs
-row-numbered meaning Start place = tt
-row-numbered meaning (Next (Lsp (RequestMessage r))) place = request-numbered meaning (scene_at place) place.desk (next_turn place) r
-row-numbered meaning (Next (Lsp (NotificationMessage n))) place = notice-numbered (notice_of n) place.desk
-row-numbered meaning (Next (Lsp (ResponseMessage r))) place = tt
-row-numbered meaning (Next (Task batch)) place = batch-numbered meaning batch place
+pub steps-hand : (meaning : Meaning) (old : State) (turn : Turn) (new : State) → Steps meaning old turn new → Handing old new turn
+steps-hand meaning old turn new steps =
+    let fit = steps-fit meaning old turn new steps in
+    record {
+      rising = numbered-rising old.desk.handed old.desk.handed (spawned turn.commands) refl fit.numbered;
+      last = numbered-last old.desk.handed old.desk.handed (spawned turn.commands) refl fit.numbered ∙ sym (ap (λ (p : Place). p.desk.handed) fit.place);
+    }

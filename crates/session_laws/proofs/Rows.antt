@@ -64,7 +64,7 @@ use Rattle.session_model.specs.declared.notice.Notice.TheVariants.{Opened, Chang
 use Rattle.session_laws.specs.Beside.{Beside, Serves, turn_of}
 use Rattle.session_laws.specs.Invariant.{StepFits, place_of}
 use Rattle.session_laws.proofs.Beside.{beside-fits, beside-logged, beside-none, beside-revised}
-use Rattle.session_laws.proofs.Rising.{row-numbered}
+use Rattle.session_laws.proofs.Numbered.{row-numbered}
 use Rattle.session_laws.proofs.Same.{none-handed, same_desk, same_place}
 
 -- the turn is counted, and nothing else was done
