@@ -2,7 +2,7 @@
 use Rattle.std.proofs.Common.{◌≡◌, cond, ℕ, zero, suc, ◌+◌, ◌-◌, ◌<◌, ◌≤◌, false, not, List, [], ◌∷◌, ◌++◌, length, take, drop, map, get_or, Some, None, refl, ap, sym, ◌∙◌, arith, ⊎_elim, add-one}
 use Rattle.std.specs.Prelude.{◌↔◌, slice_range, is_some}
 use Rattle.std.specs.List.{before_first, concat, count_by, prefix_len, range_with_len}
-use Rattle.std.proofs.lemmas.Bool.{cases_Bool, cond-true, cond-false, false≢true}
+use Rattle.std.proofs.lemmas.Bool.{cases_Bool, cond-true, false≢true}
 use Rattle.std.proofs.lemmas.List.{append-nil, drop-drop, get_or-drop, length-drop, take-append-drop, take_more, take_rest}
 use Rattle.std.proofs.lemmas.List.Sums.{sum_by-append, sum_by-take-drop}
 use Rattle.std.proofs.Math.Seq.{take-add}

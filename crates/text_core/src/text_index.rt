@@ -69,13 +69,15 @@ impl TextIndex {
     }
 
     /// A draft of the text with room for so many bytes more, and with the line starts that are known.
-    pub(crate) fn draft(&self, alloc: Global, room: usize) -> Result<Draft, AllocError>
+    pub(crate) fn draft<'a>(&self, alloc: Global, room: usize) -> Result<Draft<'a>, AllocError>
         ensures new { IfOk result IsNewDraft }
         ensures text { IfOk result (λ draft. string_bytes draft.text ≡ self.now) }
         ensures within { IfOk result (λ draft. length (string_bytes draft.text) < 2 ^ 32) }
     {
         Ok(Draft {
             text: copy_with_room(alloc, self.text.as_str(), room)?,
+            splices: Vec::new(alloc),
+            size: self.text.len(),
             starts: self.starts.to_vec(alloc)?,
             least: None,
             skipped: false,
