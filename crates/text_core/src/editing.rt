@@ -78,15 +78,8 @@ fn take_change<'a, L: Ledger>(
     let Some(range) = change.range else {
         return Ok(());
     };
-    edit(
-        draft,
-        alloc,
-        encoding,
-        range,
-        change.text.as_str(),
-        limit,
-        steps,
-    )
+    let text = change.text.as_str();
+    edit(draft, alloc, encoding, range, text, limit, steps)
 }
 
 /// Makes changes none of which is the whole text.
