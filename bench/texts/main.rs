@@ -240,6 +240,34 @@ fn positions(name: &str, text: &str, count: u32) {
     println!("{name}: lines {lines}, columns {columns}");
 }
 
+/// Offsets of positions.
+fn offsets(name: &str, text: &str, places: &[(u32, u32)]) {
+    let index = Index::new(text);
+    let start = Instant::now();
+    let mut offsets = 0u64;
+    for (line, character) in places {
+        if let Some(offset) = index.offset(*line, *character) {
+            offsets += u64::from(offset);
+        }
+    }
+    let micros = start.elapsed().as_micros();
+    eprintln!("{name}: {micros} microseconds");
+    println!("{name}: offsets {offsets}");
+}
+
+/// A text's copy with its lines, so many times.
+fn build(name: &str, text: &str, count: u32) {
+    let start = Instant::now();
+    let mut lines = 0;
+    for _ in 0..count {
+        let copy = text.to_owned();
+        lines += Index::new(&copy).newlines.len() + 1;
+    }
+    let micros = start.elapsed().as_micros();
+    eprintln!("{name}: {micros} microseconds");
+    println!("{name}: lines {lines}");
+}
+
 fn main() {
     let full = std::env::args().any(|word| word == "full");
     let (edits, rows) = if full { (10_000u32, 2_236_963) } else { (50, 1000) };
@@ -266,6 +294,11 @@ fn main() {
     type_letters("letters one by one in one long line", long_line(len), &ones);
     positions("positions in lines", &lines(edits * 2, "\n"), edits);
     positions("positions in one long line", &long_line(len), edits / 10);
+    let ones: Vec<(u32, u32)> = (0..edits).map(|k| (k * 7919 % edits, 4)).collect();
+    offsets("offsets in lines", &lines(edits, "\n"), &ones);
+    let ones: Vec<(u32, u32)> = (0..edits / 10).map(|k| (0, k * 7919 % len)).collect();
+    offsets("offsets in one long line", &long_line(len), &ones);
+    build("indices built anew", &lines(edits * 2, "\n"), edits / 50);
     for (name, end) in [("lines that end with LF", "\n"), ("lines that end with CR LF", "\r\n")] {
         let text = lines(rows, end);
         let start = Instant::now();

@@ -204,6 +204,49 @@ fn positions(rt: &HostRuntime, name: &str, text: Text, count: u32) -> io::Result
     find_positions(rt, name, &index, count)
 }
 
+/// Offsets of positions.
+fn find_places(
+    rt: &HostRuntime,
+    name: &str,
+    index: &TextIndex,
+    all: &[Position],
+) -> io::Result<()> {
+    let mut offsets = 0u64;
+    let start = Instant::now(rt)?;
+    for position in all {
+        if let Ok(offset) = index.place_of(UTF16, *position) {
+            offsets = offsets.wrapping_add(u64::from(offset));
+        }
+    }
+    let micros = start.elapsed(rt)?.as_micros();
+    eprintln!(rt; "{name}: {micros} microseconds")?;
+    println!(rt; "{name}: offsets {offsets}")
+}
+
+/// Offsets of positions in a text.
+fn offsets(rt: &HostRuntime, name: &str, text: Text, all: Vec<Position>) -> io::Result<()> {
+    if text.len() > u32::MAX as usize {
+        return Ok(());
+    }
+    let index = TextIndex::from_text(rt.alloc(), text)?;
+    find_places(rt, name, &index, &all)
+}
+
+/// A text's copy with its lines, so many times.
+fn build(rt: &HostRuntime, name: &str, text: &str, count: u32) -> io::Result<()> {
+    if text.len() > u32::MAX as usize {
+        return Ok(());
+    }
+    let mut lines = 0u64;
+    let start = Instant::now(rt)?;
+    for _ in 0..count {
+        lines = lines.wrapping_add(TextIndex::new(rt.alloc(), text)?.lines());
+    }
+    let micros = start.elapsed(rt)?.as_micros();
+    eprintln!(rt; "{name}: {micros} microseconds")?;
+    println!(rt; "{name}: lines {lines}")
+}
+
 /// Whether the full sizes are asked for.
 fn is_full(rt: &HostRuntime) -> io::Result<bool> {
     for word in env::args(rt)?.skip(1) {
@@ -242,6 +285,12 @@ fn main(rt: HostRuntime) -> io::Result<()> {
     positions(&rt, "positions in lines", text, edits)?;
     let text = long_line(alloc, len)?;
     positions(&rt, "positions in one long line", text, edits / 10)?;
+    let all = places(alloc, edits, None)?;
+    offsets(&rt, "offsets in lines", lines(alloc, edits, "\n")?, all)?;
+    let all = places(alloc, edits / 10, Some(len))?;
+    offsets(&rt, "offsets in one long line", long_line(alloc, len)?, all)?;
+    let text = lines(alloc, edits * 2, "\n")?;
+    build(&rt, "indices built anew", text.as_str(), edits / 50)?;
     normalize(&rt, "lines that end with LF", lines(alloc, rows, "\n")?)?;
     normalize(
         &rt,

@@ -9,11 +9,11 @@ use Rattle.text_core.proofs.MovedLemmas.{between, parts, drop_front}
 drop_past : (k : ℕ) (xs ys : List ℕ) → drop (length xs + k) (xs ++ ys) ≡ drop k ys
 drop_past k xs ys = sym (drop-drop k (length xs) (xs ++ ys)) ∙ ap (drop k) (drop_front xs ys)
 
-length_edit : (text new : List ℕ) (from to : ℕ) → from ≤ to → to ≤ length text → length (replace_range text from to new) ≡ from + length new + (length text - to)
+pub length_edit : (text new : List ℕ) (from to : ℕ) → from ≤ to → to ≤ length text → length (replace_range text from to new) ≡ from + length new + (length text - to)
 length_edit text new from to rising within =
     length-append (take from text ++ new) (drop to text) ∙ omega (arith, length-append (take from text) new, length-take from text, length-drop to text)
 
-front_same : (text new : List ℕ) (from to n : ℕ) → n ≤ from → from ≤ length text → take n (replace_range text from to new) ≡ take n text
+pub front_same : (text new : List ℕ) (from to n : ℕ) → n ≤ from → from ≤ length text → take n (replace_range text from to new) ≡ take n text
 front_same text new from to n low within =
     let size : length (take from text) ≡ from = omega (arith, length-take from text) in
     take-append-le n (take from text ++ new) (drop to text) (omega (arith, length-append (take from text) new))

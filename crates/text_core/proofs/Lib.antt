@@ -11,6 +11,7 @@ pub mod LineTextLemmas
 pub mod MovedLemmas
 pub mod PlaceLemmas
 pub mod PositionLemmas
+pub mod SpliceLemmas
 pub mod StartLemmas
 pub mod TellLemmas
 pub mod UnitLemmas

@@ -9,6 +9,7 @@ pub mod Runs
 pub mod Changes
 pub mod Rebuilds
 pub mod Skips
+pub mod Splices
 pub mod Kept
 pub mod Whole
 pub mod LineEnds

@@ -1,23 +1,29 @@
 // A text that is edited, with the line starts that are kept over the edits.
 ghost use Rattle.std.specs.Prelude.{◌≡◌, ◌<◌, ◌≤◌, ◌^◌, ℕ, List, length, false, OnOk, IfOk, string_bytes};
 ghost use Rattle.text_core.specs.Changes.{edited};
+ghost use Rattle.text_core.specs.Positions.{range_of};
 ghost use Rattle.text_core.specs.Rebuilds.{is_past, refreshed, after_edit, with_edit};
-ghost use Rattle.text_core.specs.Kept.{IsKeptIn, IsNewDraft, progress};
+ghost use Rattle.text_core.specs.Kept.{IsKeptIn, IsNewDraft, progress, text_of};
 ghost use Rattle.text_core.specs.Ends.{ComesFrom};
+ghost use Rattle.text_core.specs.Splices.{IsPart, lowest};
 
 use crate::ends::{Ends, ends_after};
-use crate::offsets::range_of;
-use crate::position::{PositionEncoding, Range};
+use crate::offsets;
+use crate::position::{OffsetFault, PositionEncoding, Range};
+use crate::splices::{Splice, make};
 use crate::starts::find_starts;
 use crate::steps::Steps;
 use std::alloc::{AllocError, Global};
+use std::mem;
 use std::sync::ledger::Ledger;
 
-/// A text, the starts of its lines up to the least line at which an edit was made, that line, whether an edit was skipped,
-/// and how much of the first text no edit touched.
+/// A text, the edits of it that are put off, how many bytes the text has that they leave, the starts of its lines up to the
+/// least line at which an edit was made, that line, whether an edit was skipped, and how much of the first text no edit touched.
 #[derive(Drop)]
-pub(crate) struct Draft {
+pub(crate) struct Draft<'a> {
     pub(crate) text: String,
+    pub(crate) splices: Vec<Splice<'a>>,
+    pub(crate) size: usize,
     pub(crate) starts: Vec<u32>,
     pub(crate) least: Option<u32>,
     pub(crate) skipped: bool,
@@ -34,7 +40,7 @@ pub(crate) fn copy_with_room(alloc: Global, text: &str, room: usize) -> Result<S
 }
 
 /// A draft of a text.
-pub(crate) fn new_draft(alloc: Global, text: String) -> Result<Draft, AllocError>
+pub(crate) fn new_draft<'a>(alloc: Global, text: String) -> Result<Draft<'a>, AllocError>
     requires { length (string_bytes text) < 2 ^ 32 }
     ensures new { IfOk result IsNewDraft }
     ensures text { IfOk result (λ draft. string_bytes draft.text ≡ string_bytes text) }
@@ -42,7 +48,9 @@ pub(crate) fn new_draft(alloc: Global, text: String) -> Result<Draft, AllocError
     let mut starts = Vec::new(alloc);
     find_starts(&mut starts, text.as_bytes())?;
     Ok(Draft {
+        size: text.len(),
         text,
+        splices: Vec::new(alloc),
         starts,
         least: None,
         skipped: false,
@@ -60,55 +68,86 @@ fn is_past(range: Range, least: Option<u32>) -> bool
     }
 }
 
-/// Builds the index anew where a range reaches lines that it doesn't know.
+/// Builds the index anew where a range reaches lines that it doesn't know. What was put off is made before.
 fn refresh<L: Ledger>(
     draft: &mut Draft,
+    alloc: Global,
     range: Range,
-    limit: u32,
     steps: &mut Steps<L>,
 ) -> Result<(), AllocError>
-    requires { IsKeptIn limit draft.old }
-    ensures kept { OnOk result (IsKeptIn limit draft.new) }
+    requires kept { IsKeptIn draft.old }
+    requires fits { draft.old.size < 2 ^ 32 }
+    ensures kept { OnOk result (IsKeptIn draft.new) }
+    ensures size { OnOk result (draft.new.size ≡ draft.old.size) }
     ensures before { OnOk result (is_past range draft.new.least ≡ false) }
     ensures progress { let start = progress draft.old steps.old in
         OnOk result (progress draft.new steps.new ≡ refreshed range start) }
     ensures most { steps.new ≤ (refreshed range (progress draft.old steps.old)).rebuilds }
     ensures least { steps.old ≤ steps.new }
     ensures from { OnOk result ((before : List ℕ) →
-        ComesFrom before (string_bytes draft.old.text) draft.old.ends → ComesFrom before (string_bytes draft.new.text) draft.new.ends) }
+        ComesFrom before (text_of draft.old) draft.old.ends → ComesFrom before (text_of draft.new) draft.new.ends) }
 {
     if is_past(range, draft.least) {
         steps.tick();
+        let text = mem::replace(&mut draft.text, String::new(alloc));
+        let mut splices = mem::replace(&mut draft.splices, Vec::new(alloc));
+        draft.text = make(alloc, text, &mut splices)?;
         find_starts(&mut draft.starts, draft.text.as_bytes())?;
         draft.least = None;
     }
     Ok(())
 }
 
-/// Puts a text in the place of a range, where that can be done. Else it is noted as skipped.
-fn replace(
-    draft: &mut Draft,
+/// The places of a range whose lines the index knows. No edit that was put off reaches down to them.
+fn range_of(
+    draft: &Draft,
     encoding: PositionEncoding,
     range: Range,
-    new_text: &str,
+) -> Result<(usize, usize), OffsetFault>
+    requires kept { IsKeptIn draft.now }
+    requires before { is_past range draft.now.least ≡ false }
+    ensures value { result ≡ range_of encoding (text_of draft.now) range }
+    ensures value_before { result ≡ range_of encoding (string_bytes draft.now.text) range }
+    ensures below { let text = string_bytes draft.now.text in
+        IfOk result (λ places. IsPart text (lowest (length text) draft.now.splices.items) places.0 places.1) }
+    ensures rising { IfOk result (λ places. places.0 ≤ places.1) }
+    ensures within { IfOk result (λ places. places.1 ≤ draft.now.size) }
+{
+    offsets::range_of(encoding, draft.text.as_str(), &draft.starts, range)
+}
+
+/// Puts a text in the place of a range, where that can be done. Else it is noted as skipped.
+fn replace<'a>(
+    draft: &mut Draft<'a>,
+    encoding: PositionEncoding,
+    range: Range,
+    new_text: &'a str,
     limit: u32,
 ) -> Result<(), AllocError>
-    requires kept { IsKeptIn limit draft.old }
+    requires kept { IsKeptIn draft.old }
+    requires size { draft.old.size ≤ limit }
     requires before { is_past range draft.old.least ≡ false }
     requires fits { length new_text.now ≤ limit }
-    ensures kept { OnOk result (IsKeptIn limit draft.new) }
-    ensures progress { let next = edited encoding limit (string_bytes draft.old.text) range new_text.now in
+    ensures kept { OnOk result (IsKeptIn draft.new) }
+    ensures size { OnOk result (draft.new.size ≤ limit) }
+    ensures progress { let next = edited encoding limit (text_of draft.old) range new_text.now in
         OnOk result ((n : ℕ) → progress draft.new n ≡ after_edit range.start.line (progress draft.old n) next) }
     ensures from { OnOk result ((before : List ℕ) →
-        ComesFrom before (string_bytes draft.old.text) draft.old.ends → ComesFrom before (string_bytes draft.new.text) draft.new.ends) }
+        ComesFrom before (text_of draft.old) draft.old.ends → ComesFrom before (text_of draft.new) draft.new.ends) }
 {
-    let Ok((start, end)) = range_of(encoding, draft.text.as_str(), &draft.starts, range) else {
+    let Ok((start, end)) = range_of(&*draft, encoding, range) else {
         draft.skipped = true;
         return Ok(());
     };
-    if draft.text.len() - (end - start) + new_text.len() <= limit as usize {
-        draft.ends = Some(ends_after(draft.ends, start, draft.text.len() - end));
-        draft.text.replace_range(start..end, new_text)?;
+    let size = draft.size - (end - start) + new_text.len();
+    if size <= limit as usize {
+        draft.splices.push(Splice {
+            start,
+            end,
+            text: new_text,
+        })?;
+        draft.ends = Some(ends_after(draft.ends, start, draft.size - end));
+        draft.size = size;
         draft.least = Some(range.start.line);
     } else {
         draft.skipped = true;
@@ -117,26 +156,29 @@ fn replace(
 }
 
 /// Makes one edit, on an index that knows its lines.
-pub(crate) fn edit<L: Ledger>(
-    draft: &mut Draft,
+pub(crate) fn edit<'a, L: Ledger>(
+    draft: &mut Draft<'a>,
+    alloc: Global,
     encoding: PositionEncoding,
     range: Range,
-    new_text: &str,
+    new_text: &'a str,
     limit: u32,
     steps: &mut Steps<L>,
 ) -> Result<(), AllocError>
-    requires kept { IsKeptIn limit draft.old }
+    requires kept { IsKeptIn draft.old }
+    requires size { draft.old.size ≤ limit }
     requires fits { length new_text.now ≤ limit }
-    ensures kept { OnOk result (IsKeptIn limit draft.new) }
+    ensures kept { OnOk result (IsKeptIn draft.new) }
+    ensures size { OnOk result (draft.new.size ≤ limit) }
     ensures progress { let start = progress draft.old steps.old in
         OnOk result (progress draft.new steps.new ≡ with_edit encoding limit range new_text.now start) }
     ensures most { let start = progress draft.old steps.old in
         steps.new ≤ (with_edit encoding limit range new_text.now start).rebuilds }
     ensures least { steps.old ≤ steps.new }
     ensures from { OnOk result ((before : List ℕ) →
-        ComesFrom before (string_bytes draft.old.text) draft.old.ends → ComesFrom before (string_bytes draft.new.text) draft.new.ends) }
+        ComesFrom before (text_of draft.old) draft.old.ends → ComesFrom before (text_of draft.new) draft.new.ends) }
 {
-    refresh(draft, range, limit, steps)?;
+    refresh(draft, alloc, range, steps)?;
     replace(draft, encoding, range, new_text, limit)?;
     Ok(())
 }

@@ -5,12 +5,13 @@ ghost use Rattle.text_core.specs.Changes.{document, IsOther};
 ghost use Rattle.text_core.specs.Ends.{ComesFrom};
 ghost use Rattle.text_core.specs.Rebuilds.{begun, rebuilds};
 ghost use Rattle.text_core.specs.Skips.{skips};
-ghost use Rattle.text_core.specs.Kept.{IsKeptIn, IsNewDraft, IsMade, progress};
+ghost use Rattle.text_core.specs.Kept.{IsKeptIn, IsNewDraft, IsMade, progress, text_of};
 ghost use Rattle.text_core.specs.Whole.{is_whole, HaveRanges, IsLastWhole, Begins, taken};
 
 use crate::change::ContentChange;
 use crate::draft::{Draft, copy_with_room, edit, new_draft};
 use crate::position::PositionEncoding;
+use crate::splices::make;
 use crate::steps::Steps;
 use crate::text_index::TextIndex;
 use plain::{Items, Text};
@@ -50,63 +51,71 @@ fn last_whole(changes: &[ContentChange], limit: u32) -> Option<usize>
 }
 
 /// Makes one change, which isn't the whole text.
-fn take_change<L: Ledger>(
-    draft: &mut Draft,
+fn take_change<'a, L: Ledger>(
+    draft: &mut Draft<'a>,
+    alloc: Global,
     encoding: PositionEncoding,
-    change: &ContentChange,
+    change: &'a ContentChange,
     limit: u32,
     steps: &mut Steps<L>,
 ) -> Result<(), AllocError>
-    requires kept { IsKeptIn limit draft.old }
+    requires kept { IsKeptIn draft.old }
+    requires size { draft.old.size ≤ limit }
     requires ranged { is_whole limit change.now ≡ false }
-    ensures kept { OnOk result (IsKeptIn limit draft.new) }
+    ensures kept { OnOk result (IsKeptIn draft.new) }
+    ensures size { OnOk result (draft.new.size ≤ limit) }
     ensures progress { let start = progress draft.old steps.old in
         OnOk result (progress draft.new steps.new ≡ taken encoding limit start change.now) }
     ensures most { let start = progress draft.old steps.old in
         steps.new ≤ (taken encoding limit start change.now).rebuilds }
     ensures least { steps.old ≤ steps.new }
     ensures from { OnOk result ((before : List ℕ) →
-        ComesFrom before (string_bytes draft.old.text) draft.old.ends → ComesFrom before (string_bytes draft.new.text) draft.new.ends) }
+        ComesFrom before (text_of draft.old) draft.old.ends → ComesFrom before (text_of draft.new) draft.new.ends) }
 {
     if change.text.len() > limit as usize {
         return Ok(());
     }
-    match change.range {
-        Some(range) => edit(draft, encoding, range, change.text.as_str(), limit, steps),
-        None => Ok(()),
-    }
+    let Some(range) = change.range else {
+        return Ok(());
+    };
+    let text = change.text.as_str();
+    edit(draft, alloc, encoding, range, text, limit, steps)
 }
 
 /// Makes changes none of which is the whole text.
-fn take_changes<L: Ledger>(
-    draft: &mut Draft,
+fn take_changes<'a, L: Ledger>(
+    draft: &mut Draft<'a>,
+    alloc: Global,
     encoding: PositionEncoding,
-    changes: &[ContentChange],
+    changes: &'a [ContentChange],
     limit: u32,
     steps: &mut Steps<L>,
 ) -> Result<(), AllocError>
-    requires kept { IsKeptIn limit draft.old }
+    requires kept { IsKeptIn draft.old }
+    requires size { draft.old.size ≤ limit }
     requires ranged { HaveRanges limit changes.now }
-    ensures kept { OnOk result (IsKeptIn limit draft.new) }
+    ensures kept { OnOk result (IsKeptIn draft.new) }
+    ensures size { OnOk result (draft.new.size ≤ limit) }
     ensures progress { let start = progress draft.old steps.old in
         OnOk result (progress draft.new steps.new ≡ fold (taken encoding limit) start changes.now) }
     ensures most { let start = progress draft.old steps.old in
         steps.new ≤ (fold (taken encoding limit) start changes.now).rebuilds }
     ensures least { steps.old ≤ steps.new }
     ensures from { OnOk result ((before : List ℕ) →
-        ComesFrom before (string_bytes draft.old.text) draft.old.ends → ComesFrom before (string_bytes draft.new.text) draft.new.ends) }
+        ComesFrom before (text_of draft.old) draft.old.ends → ComesFrom before (text_of draft.new) draft.new.ends) }
 {
     for change in changes {
-        take_change(draft, encoding, change, limit, steps)?;
+        take_change(draft, alloc, encoding, change, limit, steps)?;
     }
     Ok(())
 }
 
 /// Makes changes none of which is the whole text on a new draft.
-fn edit_draft<L: Ledger>(
-    draft: &mut Draft,
+fn edit_draft<'a, L: Ledger>(
+    draft: &mut Draft<'a>,
+    alloc: Global,
     encoding: PositionEncoding,
-    changes: &[ContentChange],
+    changes: &'a [ContentChange],
     limit: u32,
     steps: &mut Steps<L>,
 ) -> Result<(), AllocError>
@@ -115,14 +124,14 @@ fn edit_draft<L: Ledger>(
     requires ranged { HaveRanges limit changes.now }
     ensures made { let end = fold (taken encoding limit) (begun (string_bytes draft.old.text)) changes.now in
         OnOk result (IsMade limit end draft.new) }
-    ensures from { OnOk result (ComesFrom (string_bytes draft.old.text) (string_bytes draft.new.text) draft.new.ends) }
+    ensures from { OnOk result (ComesFrom (string_bytes draft.old.text) (text_of draft.new) draft.new.ends) }
     ensures steps { let end = fold (taken encoding limit) (begun (string_bytes draft.old.text)) changes.now in
         OnOk result (steps.new ≡ steps.old + end.rebuilds) }
     ensures most { let end = fold (taken encoding limit) (begun (string_bytes draft.old.text)) changes.now in
         steps.new ≤ steps.old + end.rebuilds }
     ensures least { steps.old ≤ steps.new }
 {
-    take_changes(draft, encoding, changes, limit, steps)?;
+    take_changes(draft, alloc, encoding, changes, limit, steps)?;
     Ok(())
 }
 
@@ -146,8 +155,13 @@ fn edit_text<L: Ledger>(
     ensures least { steps.old ≤ steps.new }
 {
     let mut draft = new_draft(alloc, text)?;
-    edit_draft(&mut draft, encoding, changes, limit, steps)?;
-    Ok(Text::from_string(draft.text))
+    edit_draft(&mut draft, alloc, encoding, changes, limit, steps)?;
+    let Draft {
+        text,
+        mut splices,
+        ..
+    } = draft;
+    Ok(Text::from_string(make(alloc, text, &mut splices)?))
 }
 
 /// How many bytes changes insert.
@@ -286,14 +300,16 @@ fn edit_index<L: Ledger>(
         });
     }
     let mut draft = index.draft(alloc, inserted_len(changes))?;
-    edit_draft(&mut draft, encoding, changes, u32::MAX, steps)?;
+    edit_draft(&mut draft, alloc, encoding, changes, u32::MAX, steps)?;
     let Draft {
         text,
+        mut splices,
         skipped,
         ends,
         ..
     } = draft;
-    let changed = index.changed(alloc, text, ends)?;
+    let edited = make(alloc, text, &mut splices)?;
+    let changed = index.changed(alloc, edited, ends)?;
     Ok(EditedDocument { changed, skipped })
 }
 

@@ -15,6 +15,7 @@ mod laws;
 mod line_endings;
 mod offsets;
 mod position;
+mod splices;
 mod starts;
 mod steps;
 mod text_index;

@@ -3,6 +3,7 @@ ghost use Rattle.std.specs.Prelude.{◌≡◌, [], ◌∷◌};
 ghost use Rattle.text_core.specs.Rebuilds.{rebuilds};
 ghost use Rattle.text_core_tests.specs.Examples.{utf16, three_lines, at_line, with_reversed};
 
+use crate::documents::MIXES;
 use crate::support::{Corners, UTF16, apply, changes, edits, limited};
 use plain::Text;
 use std::alloc::Global;
@@ -138,6 +139,17 @@ fn one_text_after_another(rt: HostRuntime) -> Result<(), Fail> {
     Ok(())
 }
 
+#[test]
+fn mixed_edits(rt: HostRuntime) -> Result<(), Fail> {
+    for (text, list, after, _) in MIXES {
+        assert!(rt;
+            becomes(rt.alloc(), text, list, after)?,
+            "{text:?} {after:?}"
+        );
+    }
+    Ok(())
+}
+
 /// What the counts of rebuilds come to, which take no bytes at run time.
 fn rebuilds_by_example()
     ensures backward { rebuilds utf16 100 three_lines (at_line 2 ∷ at_line 1 ∷ at_line 0 ∷ []) ≡ 0 }
@@ -199,6 +211,64 @@ fn within_a_limit(rt: HostRuntime) -> Result<(), Fail> {
         assert!(rt;
             becomes_within_three(rt.alloc(), "ab", list, after)?,
             "{after:?}"
+        );
+    }
+    Ok(())
+}
+
+/// Whether a text becomes another by edits within a limit.
+fn becomes_within(
+    alloc: Global,
+    text: &str,
+    limit: u32,
+    list: &[(Corners, &str)],
+    after: &str,
+) -> Result<bool, Fail> {
+    let text = Text::from_str(alloc, text)?;
+    Ok(limited(alloc, UTF16, text, edits(alloc, list)?, limit)?.is(after))
+}
+
+const FALLING_WITHIN: [(&str, u32, &[(Corners, &str)], &str); 3] = [
+    (
+        "ab\ncd",
+        7,
+        &[
+            ((1, 2, 1, 2), "ef"),
+            ((0, 2, 0, 2), "x"),
+            ((0, 0, 0, 1), ""),
+            ((0, 1, 0, 1), "y"),
+        ],
+        "by\ncdef",
+    ),
+    (
+        "ab\ncd",
+        5,
+        &[
+            ((1, 0, 1, 2), ""),
+            ((0, 2, 0, 2), "xy"),
+            ((0, 0, 0, 0), "z"),
+        ],
+        "abxy\n",
+    ),
+    (
+        "a\nb\nc",
+        7,
+        &[
+            ((2, 1, 2, 1), "12"),
+            ((1, 1, 1, 1), "3"),
+            ((0, 0, 0, 1), ""),
+        ],
+        "\nb\nc12",
+    ),
+];
+
+/// Each edit is held against what those before it leave.
+#[test]
+fn falling_edits_within_a_limit(rt: HostRuntime) -> Result<(), Fail> {
+    for (text, limit, list, after) in FALLING_WITHIN {
+        assert!(rt;
+            becomes_within(rt.alloc(), text, limit, list, after)?,
+            "{text:?} {after:?}"
         );
     }
     Ok(())

@@ -103,7 +103,166 @@ fn edits_of_a_document(rt: HostRuntime) -> Result<(), Fail> {
     Ok(())
 }
 
-const WHOLE: [(&[(Option<Corners>, &str)], &str, bool); 3] = [
+/// A text, edits, the text that they leave, and whether one of them is skipped.
+pub(crate) type Mix = (
+    &'static str,
+    &'static [(Corners, &'static str)],
+    &'static str,
+    bool,
+);
+
+/// Edits on lines that fall, rise and stay, ranges that meet and overlap, and edits that are skipped. Columns count UTF-16.
+pub(crate) const MIXES: [Mix; 14] = [
+    (
+        "a\nb\nc\nd",
+        &[
+            ((3, 1, 3, 1), "4"),
+            ((2, 1, 2, 1), "3"),
+            ((1, 0, 1, 1), ""),
+            ((0, 0, 0, 0), "1"),
+        ],
+        "1a\n\nc3\nd4",
+        false,
+    ),
+    (
+        "a\nb\nc\nd",
+        &[((2, 0, 3, 0), ""), ((0, 1, 1, 0), "-")],
+        "a-b\nd",
+        false,
+    ),
+    (
+        "ab\ncd\nef",
+        &[
+            ((2, 0, 2, 2), "X"),
+            ((1, 0, 1, 9), "Y"),
+            ((0, 0, 0, 9), "Z"),
+        ],
+        "ZYX",
+        false,
+    ),
+    (
+        "ab",
+        &[
+            ((0, 2, 0, 2), "c"),
+            ((0, 1, 0, 1), "-"),
+            ((0, 0, 0, 0), "+"),
+        ],
+        "+a-bc",
+        false,
+    ),
+    (
+        "a\nb\nc",
+        &[
+            ((0, 1, 0, 1), "1\n"),
+            ((1, 0, 1, 0), "x"),
+            ((3, 1, 3, 1), "y"),
+        ],
+        "a1\nx\nb\ncy",
+        false,
+    ),
+    (
+        "abc\ndef\nghi",
+        &[((1, 1, 2, 1), "-"), ((0, 2, 1, 2), "+")],
+        "ab+hi",
+        false,
+    ),
+    (
+        "a\nb\nc",
+        &[
+            ((2, 0, 2, 0), "z"),
+            ((9, 0, 9, 0), "?"),
+            ((1, 0, 0, 0), "?"),
+            ((1, 0, 1, 0), "y"),
+            ((0, 0, 0, 0), "x"),
+        ],
+        "xa\nyb\nzc",
+        true,
+    ),
+    (
+        "a\nb\nc",
+        &[
+            ((1, 0, 1, 0), "y"),
+            ((0, 1, 0, 0), "?"),
+            ((0, 1, 0, 1), "x"),
+        ],
+        "ax\nyb\nc",
+        true,
+    ),
+    (
+        "a\r\nb\r\nc\r\n",
+        &[((2, 1, 2, 1), "3"), ((1, 1, 1, 2), ""), ((0, 2, 1, 0), "")],
+        "a\rb\nc3\r\n",
+        false,
+    ),
+    (
+        "é😀\nț😀b\n😀",
+        &[
+            ((2, 2, 2, 2), "é"),
+            ((1, 1, 1, 3), "ab"),
+            ((0, 1, 0, 1), "😀"),
+            ((0, 2, 0, 2), "?"),
+        ],
+        "é😀😀\nțabb\n😀é",
+        true,
+    ),
+    (
+        "a\nb",
+        &[((1, 0, 1, 0), "x\ny\n"), ((0, 1, 0, 1), "\n-")],
+        "a\n-\nx\ny\nb",
+        false,
+    ),
+    (
+        "a\nb\nc\nd",
+        &[
+            ((3, 0, 3, 0), "D\n"),
+            ((2, 0, 2, 0), "C\n"),
+            ((5, 1, 5, 1), "!"),
+            ((1, 0, 1, 0), "B\n"),
+            ((0, 0, 0, 1), ""),
+        ],
+        "\nB\nb\nC\nc\nD\nd!",
+        false,
+    ),
+    (
+        "ab\ncd",
+        &[((1, 0, 1, 2), ""), ((0, 0, 1, 0), "")],
+        "",
+        false,
+    ),
+    (
+        "a\nb\nc",
+        &[
+            ((2, 0, 2, 1), "d"),
+            ((1, 0, 1, 1), "e"),
+            ((1, 0, 2, 1), "b\nc"),
+        ],
+        "a\nb\nc",
+        false,
+    ),
+];
+
+#[test]
+fn mixed_edits_of_a_document(rt: HostRuntime) -> Result<(), Fail> {
+    for (text, list, after, skipped) in MIXES {
+        let changes = edits(rt.alloc(), list)?;
+        assert!(rt;
+            document_becomes(rt.alloc(), text, changes, after, skipped)?,
+            "{text:?} {after:?}"
+        );
+    }
+    Ok(())
+}
+
+const WHOLE: [(&[(Option<Corners>, &str)], &str, bool); 4] = [
+    (
+        &[
+            (None, "p\nq"),
+            (Some((1, 1, 1, 1)), "2"),
+            (Some((0, 1, 0, 1)), "1"),
+        ],
+        "p1\nq2",
+        false,
+    ),
     (&[(Some((7, 0, 7, 0)), "gone"), (None, "the")], "the", false),
     (
         &[

@@ -34,6 +34,38 @@ fn lines(rt: HostRuntime) -> Result<(), Fail> {
     Ok(())
 }
 
+/// Whether a line has this text, without its LF.
+fn has_text(index: &TextIndex, line: u32, text: Option<&str>) -> bool {
+    index.line_text(line) == text
+}
+
+const LINE_TEXTS: [(u32, Option<&str>); 7] = [
+    (0, Some("ab")),
+    (1, Some("")),
+    (2, Some("é\r")),
+    (3, Some("😀\rc")),
+    (4, Some("")),
+    (5, None),
+    (u32::MAX, None),
+];
+
+#[test]
+fn texts_of_lines(rt: HostRuntime) -> Result<(), Fail> {
+    let index = indexed(rt.alloc(), "ab\n\né\r\n😀\rc\n")?;
+    for (line, text) in LINE_TEXTS {
+        assert!(rt; has_text(&index, line, text), "line {line}");
+    }
+    Ok(())
+}
+
+#[test]
+fn text_of_the_last_line(rt: HostRuntime) -> Result<(), Fail> {
+    let index = indexed(rt.alloc(), "a\né")?;
+    assert!(rt; has_text(&index, 1, Some("é")));
+    assert!(rt; has_text(&index, 2, None));
+    Ok(())
+}
+
 /// The place of a line and a column.
 fn place(index: &LineIndex, line: u32, character: u32) -> Result<u32, OffsetFault> {
     offset(index, at(line, character))

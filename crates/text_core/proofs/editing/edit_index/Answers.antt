@@ -1,4 +1,4 @@
-use Rattle.std.proofs.Common.{ap, subst, ◌∙◌, arith, string_bytes}
+use Rattle.std.proofs.Common.{ap, sym, subst, ◌∙◌, arith, string_bytes}
 use Rattle.std.specs.List.{fold}
 use Rattle.text_core.specs.Changes.{IsOther}
 use Rattle.text_core.specs.Ends.{ComesFrom}
@@ -8,7 +8,8 @@ use Rattle.text_core.proofs.editing.edit_index.Goals as goal
 
 pub changed-requires-clause-from : goal.changed-requires-clause-from
 changed-requires-clause-from g c =
-    subst (λ t. ComesFrom t (string_bytes c.edit_draft.new.draft.text) c.edit_draft.new.draft.ends) c.in_ok-draft.ensures.text c.in_ok-edit_draft.ensures.from
+    subst (λ t. ComesFrom t (string_bytes c.in_ok-edited.edited) c.edit_draft.new.draft.ends) c.in_ok-draft.ensures.text
+    (subst (λ t. ComesFrom (string_bytes c.in_ok-draft.draft.text) t c.edit_draft.new.draft.ends) (sym c.in_ok-edited.ensures) c.in_ok-edit_draft.ensures.from)
 
 pub returns-in_err-edit_draft-clause-most : goal.returns-in_err-edit_draft-clause-most
 returns-in_err-edit_draft-clause-most g c =
@@ -22,7 +23,7 @@ returns-in_err-changed-clause-most g c =
 
 pub returns-clause-text : goal.returns-clause-text
 returns-clause-text g c =
-    subst (λ t. IsOther c.args.index.now t c.in_ok-changed.changed) (c.in_ok-edit_draft.ensures.made.text ∙ ap (λ t. (fold (taken c.args.encoding 4294967295) (begun t) c.args.changes.now).text) c.in_ok-draft.ensures.text)
+    subst (λ t. IsOther c.args.index.now t c.in_ok-changed.changed) (c.in_ok-edited.ensures ∙ c.in_ok-edit_draft.ensures.made.text ∙ ap (λ t. (fold (taken c.args.encoding 4294967295) (begun t) c.args.changes.now).text) c.in_ok-draft.ensures.text)
     c.in_ok-changed.ensures
 
 pub returns-clause-skipped : goal.returns-clause-skipped

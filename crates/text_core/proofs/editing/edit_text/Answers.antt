@@ -11,7 +11,7 @@ returns-in_err-edit_draft-clause-most g c =
 
 pub returns-clause-text : goal.returns-clause-text
 returns-clause-text g c =
-    c.from_string.ensures ∙ c.in_ok-edit_draft.ensures.made.text ∙ ap (λ t. (fold (taken c.args.encoding c.args.limit) (begun t) c.args.changes.now).text) c.in_ok-draft.ensures.text
+    c.from_string.ensures ∙ c.in_ok-make.ensures ∙ c.in_ok-edit_draft.ensures.made.text ∙ ap (λ t. (fold (taken c.args.encoding c.args.limit) (begun t) c.args.changes.now).text) c.in_ok-draft.ensures.text
 
 pub returns-clause-steps : goal.returns-clause-steps
 returns-clause-steps g c =

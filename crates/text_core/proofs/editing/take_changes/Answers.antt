@@ -13,6 +13,7 @@ returns-in_err-take_change-clause-most g c =
 pub loop-change-preserved : goal.loop-change-preserved
 loop-change-preserved g c = record {
   kept = c.in_ok-take_change.ensures.kept;
+  size = c.in_ok-take_change.ensures.size;
   so_far =
       fold_step c.args.encoding c.args.limit (progress c.loop-change.draft c.loop-change.steps) _ c.args.changes.now c.loop-change.change-index c.change-item.result c.loop-change-test.true
       (sym c.change-item.is) c.in_ok-take_change.ensures.progress
