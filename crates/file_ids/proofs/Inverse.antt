@@ -14,7 +14,7 @@ use Rattle.shared_map.proofs.EntryLemmas.{find_set, order_set}
 use Rattle.docs_vfs.specs.Paths.{path_cmp}
 use Rattle.docs_vfs.specs.declared.file_kinds.FileId.{FileId}
 use Rattle.docs_vfs.specs.declared.file_kinds.FileExcluded.{FileExcluded}
-use Rattle.file_ids.specs.Numbers.{file_of, number_in, number_of, AreInverse, without_number, with_number}
+use Rattle.file_ids.specs.Numbers.{IsFree, file_of, number_in, number_of, AreInverse, without_number, with_number}
 
 -- a test that says whether something is so
 abbrev Says : Bool → Type 0 → Type 0
@@ -76,10 +76,10 @@ at_one : (new old here : Bool) (found : Option (List ℕ)) (path q : List ℕ) (
     → (cond new (Some path) (cond old None found) ≡ Some q) ↔ (cond here got has ≡ Some n)
 at_one true old true found path q got had has n is _ at _ _ _ = (λ _. is, λ _. ap Some (sym at))
 at_one true old false found path q got had has n is _ apart _ _ free = (λ e. absurd (apart (sym (same_Some _ _ e))), λ e. absurd (apart (free is e)))
-at_one false true true found path q got had has n not _ at _ _ _ = (λ e. none-some q e, λ e. absurd (not e))
+at_one false true true found path q got had has n not _ at _ _ _ = (λ e. absurd (none-some q e), λ e. absurd (not e))
 at_one false false true found path q got had has n not gone at _ was _ = (λ e. absurd (gone (was.0 (e ∙ ap Some at))), λ e. absurd (not e))
 at_one false true false found path q got had has n not is apart same was _ =
-    (λ e. none-some q e, λ e. absurd (apart (same_Some _ _ (sym (same.1 e) ∙ was.1 is))))
+    (λ e. absurd (none-some q e), λ e. absurd (apart (same_Some _ _ (sym (same.1 e) ∙ was.1 is))))
 at_one false false false found path q got had has n _ _ _ same _ _ = same
 
 pub renumbered : (files : List (List ℕ × (FileId × FileExcluded))) (paths : List (ℕ × List ℕ)) (path : List ℕ) (entry : Option (FileId × FileExcluded))
@@ -100,3 +100,10 @@ renumbered files paths path entry before files_order paths_order free = record {
       (before.same q n) (before.same path n) (free q n) in
       (λ e. number ∙ core.0 (sym found ∙ e), λ e. found ∙ core.1 (sym number ∙ e));
 }
+
+-- no other path has the number of the entry
+pub free_number : (entry : Option (FileId × FileExcluded)) (path : List ℕ) (m : map.FinMap path_cmp (FileId × FileExcluded)) (files : List (List ℕ × (FileId × FileExcluded)))
+    → IsFree path (file_of entry) m → ((q : List ℕ) → map.get m q ≡ find path_cmp q files)
+    → (other : List ℕ) (n : ℕ) → number_of entry ≡ Some n → number_of (find path_cmp other files) ≡ Some n → other ≡ path
+free_number None path m files free seen other n e h = absurd (none-some n e)
+free_number (Some entry) path m files free seen other n e h = free other (ap number_of (seen other) ∙ h ∙ sym e)

@@ -114,19 +114,19 @@ impl FileIds {
     {
         let mut steps = Steps::<L>::new(blank);
         let _in_order = (self.files.len(), self.paths.len());
-        let old = number(self.files.get(&path));
-        let paths = renumber(&self.paths, &path, old, number(entry.as_ref()), &mut steps)?;
+        let old = number(self.get(&path));
+        let paths = renumber(&self.paths, &path, old, number(entry), &mut steps)?;
         let files = self.files.set(path, entry, &mut steps)?;
         Ok(FileIds { files, paths })
     }
 }
 
 /// The number in an entry.
-fn number(entry: Option<&(FileId, FileExcluded)>) -> Option<FileId>
-    ensures { result ≡ file_of (option_copied entry) }
+fn number(entry: Option<(FileId, FileExcluded)>) -> Option<FileId>
+    ensures { result ≡ file_of entry }
 {
     match entry {
-        Some((file, _)) => Some(*file),
+        Some((file, _)) => Some(file),
         None => None,
     }
 }
