@@ -35,7 +35,15 @@ pub fn start<R: Env + Input + Print + Eprint + AllocGlobal + Log, A: Analysis>(
 ) -> ExitCode {
     let mut output = StandardOutput::new(io::writer(rt));
     let status = match read_words(rt) {
-        Ok(words) => run(rt.alloc(), program, &words, rt.reader(), &mut output, rt, analysis),
+        Ok(words) => run(
+            rt.alloc(),
+            program,
+            &words,
+            rt.reader(),
+            &mut output,
+            rt,
+            analysis,
+        ),
         Err(_) => NO_MEMORY,
     };
     let text = status_text(status);

@@ -39,7 +39,15 @@ fn status(rt: &HostRuntime, words: &Words, input: Tape<'_>, output: &mut Paper) 
     };
     let mut output = StandardOutput::new(output);
     let analysis = SmallAnalysis::new(rt.alloc());
-    run(rt.alloc(), &program, words, input, &mut output, rt, &analysis)
+    run(
+        rt.alloc(),
+        &program,
+        words,
+        input,
+        &mut output,
+        rt,
+        &analysis,
+    )
 }
 
 /// A run of these words, over an input that ends or fails, and an output with so much room.
