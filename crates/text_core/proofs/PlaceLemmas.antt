@@ -3,6 +3,7 @@ use Rattle.std.proofs.Common.{◌≡◌, ℕ, zero, suc, ◌+◌, ◌-◌, ◌<�
 use Rattle.std.specs.Prelude.{IfSome, ◌⊎◌, nat_le, slice_range, slice_index}
 use Rattle.std.specs.Option.{option_map, unwrap_or}
 use Rattle.std.specs.Str.{IsUtf8, IsCharBoundary}
+use Rattle.std.specs.String.Boundary.{IsSplitPoint}
 use Rattle.std.proofs.lemmas.Bool.{cases_Bool, cases_lt, cond-true, cond-false}
 use Rattle.std.proofs.lemmas.Bool.Decides.{nat_tests}
 use Rattle.std.proofs.lemmas.List.{get_or-take, get_or-drop, length-take, length-drop}
@@ -94,7 +95,7 @@ line_end-bounds line text start h =
     (line_end-cases line text)
 
 -- a line ends between whole characters
-line_end-split : (line : ℕ) (text : List ℕ) → IsUtf8 text → IsCharBoundary text (line_end line text)
+pub line_end-split : (line : ℕ) (text : List ℕ) → IsUtf8 text → IsCharBoundary text (line_end line text)
 line_end-split line text utf8 =
     ⊎_elim
     (λ next.
@@ -103,6 +104,17 @@ line_end-split line text utf8 =
     subst (IsCharBoundary text) place (IsCharBoundary-after_ascii text lf.0 utf8 lf.2 (omega (arith, lf.3))))
     (λ last. subst (IsCharBoundary text) (sym last) (IsCharBoundary-end text))
     (line_end-cases line text)
+
+-- a line begins between whole characters
+pub line_start-split : (line : ℕ) (text : List ℕ) (start : ℕ) → IsUtf8 text → line_start line text ≡ Some start → IsSplitPoint text start
+line_start-split zero text start utf8 h =
+    let first : 0 ≡ start = some_inj _ _ h in
+    (omega arith, λ some _ _. absurd (omega arith))
+line_start-split (suc line) text start utf8 h =
+    let lf = line_start-after_lf line text start h in
+    let place : lf.0 + 1 ≡ start = omega (arith, lf.1) in
+    let whole = subst (IsCharBoundary text) place (IsCharBoundary-after_ascii text lf.0 utf8 lf.2 (omega (arith, lf.3))) in
+    (whole.0, λ _ low wide. whole.1 low wide)
 
 first_byte : (b : ℕ) → is_inside b ≡ false → 128 ≤ b → 192 ≤ b
 first_byte b h low = grind (arith, nat_tests)

@@ -27,12 +27,12 @@ use Rattle.text_core.proofs.PlaceLemmas.{line_end-bounds, line_end-cases, option
 use Rattle.text_core.proofs.StartLemmas.{further_some, line-past, line-within, line_start-next, line_start-within, none_some, some_inj, starts-know}
 use Rattle.text_core.proofs.UnitLemmas.{units_of_part}
 
-count_yes : (b : ℕ) (rest : List ℕ) → ends_line b ≡ true → count_by ends_line (b ∷ rest) ≡ suc (count_by ends_line rest)
+pub count_yes : (b : ℕ) (rest : List ℕ) → ends_line b ≡ true → count_by ends_line (b ∷ rest) ≡ suc (count_by ends_line rest)
 count_yes b rest t =
     let one : ◌≡◌ {A = ℕ} (cond (ends_line b) 1 0) 1 = cond-true _ _ _ t in
     omega (arith, sum_by-cons (λ x. cond (ends_line x) 1 0) b rest, one)
 
-count_no : (b : ℕ) (rest : List ℕ) → ends_line b ≡ false → count_by ends_line (b ∷ rest) ≡ count_by ends_line rest
+pub count_no : (b : ℕ) (rest : List ℕ) → ends_line b ≡ false → count_by ends_line (b ∷ rest) ≡ count_by ends_line rest
 count_no b rest f =
     let none : ◌≡◌ {A = ℕ} (cond (ends_line b) 1 0) 0 = cond-false _ _ _ f in
     omega (arith, sum_by-cons (λ x. cond (ends_line x) 1 0) b rest, none)

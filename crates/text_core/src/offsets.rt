@@ -1,9 +1,10 @@
 // Places of positions.
-ghost use Rattle.std.specs.Prelude.{◌≡◌, ◌+◌, ◌<◌, ◌≤◌, ◌^◌, length, max, slice_get, IfSome, IfOk, IsTrue, unwrap_or};
+ghost use Rattle.std.specs.Prelude.{◌≡◌, ◌+◌, ◌<◌, ◌≤◌, ◌^◌, length, max, slice_get, IfSome, IfOk, IsTrue, is_some, unwrap_or};
 ghost use Rattle.std.specs.String.Boundary.{IsSplitPoint};
 ghost use Rattle.text_core.specs.Positions.{is_inside, code_units, past_units, line_start, line_end, line_span, place_of, range_of};
 ghost use Rattle.text_core.specs.declared.position.PositionEncoding.TheVariants.{Utf8, Wide};
 ghost use Rattle.text_core.specs.declared.position.WideEncoding.TheVariants.{Utf16};
+ghost use Rattle.text_core.specs.Lines.{EndsText, line_text};
 ghost use Rattle.text_core.specs.Runs.{IsAsciiRun};
 ghost use Rattle.text_core.specs.Starts.{KnowsLines};
 
@@ -122,9 +123,34 @@ pub(crate) fn line_span(text: &str, starts: &[u32], line: u32) -> Option<(usize,
     ensures value { result ≡ line_span line text.now }
     ensures rising { IfSome result (λ span. span.0 ≤ span.1) }
     ensures within { IfSome result (λ span. span.1 ≤ length text.now) }
+    ensures start_split { IfSome result (λ span. IsSplitPoint text.now span.0) }
+    ensures end_split { IfSome result (λ span. IsSplitPoint text.now span.1) }
 {
     let start = start_of(starts, line as usize)?;
     Some((start, line_end(text, starts, line)))
+}
+
+/// Where a line ends, without its LF.
+fn text_end(text: &str, starts: &[u32], line: u32) -> usize
+    requires { slice_get starts.now (line + 1) ≡ line_start (line + 1) text.now }
+    ensures { EndsText text.now line result }
+{
+    match start_of(starts, line as usize + 1) {
+        Some(next) => next - 1,
+        None => text.len(),
+    }
+}
+
+/// A line without its LF.
+pub(crate) fn line_text<'a>(text: &'a str, starts: &[u32], line: u32) -> Option<&'a str>
+    requires { KnowsLines starts.now text.now (line + 1) }
+    ensures value { IfSome result (λ part. part.now ≡ line_text text.now line) }
+    ensures none { is_some result ≡ is_some (line_start line text.now) }
+{
+    match start_of(starts, line as usize) {
+        Some(start) => Some(&text[start..text_end(text, starts, line)]),
+        None => None,
+    }
 }
 
 /// The place of a position.

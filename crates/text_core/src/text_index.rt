@@ -5,6 +5,7 @@ ghost use Rattle.std.specs.String.Boundary.{IsSplitPoint};
 ghost use Rattle.text_core.specs.Changes.{IsOther};
 ghost use Rattle.text_core.specs.Ends.{HasEnds, ComesFrom};
 ghost use Rattle.text_core.specs.Kept.{IsNewDraft};
+ghost use Rattle.text_core.specs.Lines.{line_text};
 ghost use Rattle.text_core.specs.Places.{position_of};
 ghost use Rattle.text_core.specs.Positions.{ends_line, line_span, place_of, range_of};
 ghost use Rattle.text_core.specs.Starts.{line_starts};
@@ -155,11 +156,22 @@ impl TextIndex {
     pub fn line(&self, line: u32) -> Option<(u32, u32)>
         ensures value { result ≡ line_span line self.now }
         ensures none { IsNone result ↔ (count_by ends_line self.now < line) }
+        ensures start_split { IfSome result (λ span. IsSplitPoint self.now span.0) }
+        ensures end_split { IfSome result (λ span. IsSplitPoint self.now span.1) }
+        ensures rising { IfSome result (λ span. span.0 ≤ span.1) }
     {
         match offsets::line_span(self.text.as_str(), &self.starts, line) {
             Some((start, end)) => Some((start as u32, end as u32)),
             None => None,
         }
+    }
+
+    /// A line without its LF. None past the last line.
+    pub fn line_text(&self, line: u32) -> Option<&str>
+        ensures value { IfSome result (λ part. part.now ≡ line_text self.now line) }
+        ensures none { IsNone result ↔ (count_by ends_line self.now < line) }
+    {
+        offsets::line_text(self.text.as_str(), &self.starts, line)
     }
 
     /// How many bytes the text has.
