@@ -2,7 +2,7 @@
 use crate::streams::{Paper, Tape};
 use plain::{Items, Text};
 use program::{Program, Words, run};
-use small_analysis::SmallAnalysis;
+use session_peers::NullAnalysis;
 use std::alloc::Global;
 use std::test::Fail;
 use stdio::StandardOutput;
@@ -15,8 +15,7 @@ const HOVER: &str =
 
 const EXIT: &str = "Content-Length: 33\r\n\r\n{\"jsonrpc\":\"2.0\",\"method\":\"exit\"}";
 
-const REPLY: &str =
-    "Content-Length: 50\r\n\r\n{\"id\":1,\"jsonrpc\":\"2.0\",\"result\":{\"contents\":\"a\"}}";
+const REPLY: &str = "Content-Length: 38\r\n\r\n{\"id\":1,\"jsonrpc\":\"2.0\",\"result\":null}";
 
 const HELP: &str = "usage: a session\n";
 
@@ -38,7 +37,6 @@ fn status(rt: &HostRuntime, words: &Words, input: Tape<'_>, output: &mut Paper) 
         keeps_record: true,
     };
     let mut output = StandardOutput::new(output);
-    let analysis = SmallAnalysis::new(rt.alloc());
     run(
         rt.alloc(),
         &program,
@@ -46,7 +44,7 @@ fn status(rt: &HostRuntime, words: &Words, input: Tape<'_>, output: &mut Paper) 
         input,
         &mut output,
         rt,
-        &analysis,
+        &NullAnalysis,
     )
 }
 

@@ -7,9 +7,8 @@ use plain::{Bytes, Items, Text};
 use ra_config::Config;
 use server::{serve, status_of, status_text};
 use session::{Counter, SessionError, main_loop_from};
-use session_peers::{HostileHost, MemorySink};
+use session_peers::{HostileHost, MemorySink, NullAnalysis};
 use session_port::{HostError, HostEvent, Sink};
-use small_analysis::SmallAnalysis;
 use std::alloc::{AllocError, Global};
 use std::test::Fail;
 
@@ -78,8 +77,7 @@ fn served<S: Sink>(alloc: Global, sink: &mut S) -> Result<u8, AllocError>
 {
     let words = session(alloc)?;
     let mut host = HostileHost::new(alloc, exit(alloc)?);
-    let analysis = SmallAnalysis::new(alloc);
-    Ok(serve(alloc, words.as_slice(), &mut host, sink, &analysis))
+    Ok(serve(alloc, words.as_slice(), &mut host, sink, &NullAnalysis))
 }
 
 #[test]
@@ -96,8 +94,7 @@ fn continued(alloc: Global, place: u64) -> Result<u8, AllocError> {
     let reader = FrameReader::new_at(alloc, place);
     let mut host = HostileHost::new(alloc, exit(alloc)?);
     let mut sink = MemorySink::new(alloc, Items::new(alloc));
-    let analysis = SmallAnalysis::new(alloc);
-    let outcome = main_loop_from(alloc, config, reader, &mut host, &mut sink, &analysis);
+    let outcome = main_loop_from(alloc, config, reader, &mut host, &mut sink, &NullAnalysis);
     Ok(status_of(outcome))
 }
 
