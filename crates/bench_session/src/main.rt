@@ -1,4 +1,4 @@
-// Runs sessions with many pending requests, and times them on standard error.
+// Runs sessions with many pending requests, and with requests of many positions, and times them on standard error.
 #![tactic(auto)]
 
 ghost use Rattle.std.specs.Prelude.{◌≡◌, false};
@@ -18,6 +18,10 @@ use std::time::Instant;
 
 const EXIT: &str = "Content-Length: 33\r\n\r\n{\"jsonrpc\":\"2.0\",\"method\":\"exit\"}";
 
+fn frame(alloc: Global, body: &str) -> Result<String, AllocError> {
+    format!(in alloc; "Content-Length: {}\r\n\r\n{body}", body.len())
+}
+
 /// So many hover requests, one frame after another.
 fn hovers(alloc: Global, count: u32) -> Result<String, AllocError> {
     let mut stream = String::new(alloc);
@@ -25,8 +29,7 @@ fn hovers(alloc: Global, count: u32) -> Result<String, AllocError> {
         let body = format!(in alloc;
             "{{\"jsonrpc\":\"2.0\",\"id\":{id},\"method\":\"textDocument/hover\",\"params\":{{\"textDocument\":{{\"uri\":\"file:///w/a.rs\"}},\"position\":{{\"line\":0,\"character\":3}}}}}}"
         )?;
-        let frame = format!(in alloc; "Content-Length: {}\r\n\r\n{body}", body.len())?;
-        stream.push_str(frame.as_str())?;
+        stream.push_str(frame(alloc, body.as_str())?.as_str())?;
     }
     Ok(stream)
 }
@@ -55,6 +58,57 @@ fn events(alloc: Global, count: u32) -> Result<Items<HostEvent>, AllocError> {
     Ok(events)
 }
 
+/// A document of so many lines, twice as long: the first half open blocks that the second half close.
+fn nested(alloc: Global, half: u32) -> Result<String, AllocError> {
+    let mut text = String::new(alloc);
+    for _ in 0..half {
+        text.push_str("fn name(a: &[u8]) {\\n")?;
+    }
+    for _ in 0..half {
+        text.push_str("} // name(a: &[u8])\\n")?;
+    }
+    Ok(text)
+}
+
+fn open(alloc: Global, text: &str) -> Result<String, AllocError> {
+    let body = format!(in alloc;
+        "{{\"jsonrpc\":\"2.0\",\"method\":\"textDocument/didOpen\",\"params\":{{\"textDocument\":{{\"uri\":\"file:///w/a.rs\",\"languageId\":\"rust\",\"version\":1,\"text\":\"{text}\"}}}}}}"
+    )?;
+    frame(alloc, body.as_str())
+}
+
+/// The positions of the braces that end so many lines, each so many lines below the one before.
+fn braces(alloc: Global, count: u32, step: u32) -> Result<String, AllocError> {
+    let mut positions = String::new(alloc);
+    for k in 0..count {
+        let comma = if k == 0 { "" } else { "," };
+        let line = k.wrapping_mul(step);
+        let position = format!(in alloc; "{comma}{{\"line\":{line},\"character\":18}}")?;
+        positions.push_str(position.as_str())?;
+    }
+    Ok(positions)
+}
+
+/// A request for the partners of these brackets.
+fn matching(alloc: Global, positions: &str) -> Result<String, AllocError> {
+    let body = format!(in alloc;
+        "{{\"jsonrpc\":\"2.0\",\"id\":1,\"method\":\"experimental/matchingBrace\",\"params\":{{\"textDocument\":{{\"uri\":\"file:///w/a.rs\"}},\"positions\":[{positions}]}}}}"
+    )?;
+    frame(alloc, body.as_str())
+}
+
+/// A document whose halves have so many lines, and a request of so many positions in the first half.
+fn matches(alloc: Global, half: u32, count: u32) -> Result<Items<HostEvent>, AllocError> {
+    let step = half.checked_div(count).unwrap_or(0);
+    let text = nested(alloc, half)?;
+    let positions = braces(alloc, count, step)?;
+    let mut events = Items::new(alloc);
+    events.push(bytes(alloc, open(alloc, text.as_str())?.as_str())?)?;
+    events.push(bytes(alloc, matching(alloc, positions.as_str())?.as_str())?)?;
+    events.push(bytes(alloc, EXIT)?)?;
+    Ok(events)
+}
+
 // A session. This call claims nothing here.
 fn run<H: Host<A>, S: Sink, A: Analysis>(
     alloc: Global,
@@ -71,7 +125,7 @@ fn run<H: Host<A>, S: Sink, A: Analysis>(
     main_loop(alloc, config, host, sink, analysis)
 }
 
-/// How many bytes a session wrote whose requests all wait before the first result comes.
+/// How many bytes a session of these events wrote.
 fn written(alloc: Global, events: Items<HostEvent>) -> Result<u64, AllocError> {
     let analysis = SmallAnalysis::new(alloc);
     let Some(root) = VfsPath::new(alloc, "/w")? else {
@@ -88,18 +142,34 @@ fn written(alloc: Global, events: Items<HostEvent>) -> Result<u64, AllocError> {
     Ok(bytes)
 }
 
-fn timed(rt: &HostRuntime, count: u32) -> io::Result<()> {
-    let events = events(rt.alloc(), count)?;
+fn timed(rt: &HostRuntime, name: &str, events: Items<HostEvent>) -> io::Result<()> {
     let start = Instant::now(rt)?;
     let bytes = written(rt.alloc(), events)?;
-    let millis = start.elapsed(rt)?.as_millis();
-    eprintln!(rt; "{count} pending requests and their results: {millis} ms")?;
-    println!(rt; "{count} pending requests and their results: {bytes} bytes written")
+    let micros = start.elapsed(rt)?.as_micros();
+    eprintln!(rt; "{name}: {micros} µs")?;
+    println!(rt; "{name}: {bytes} bytes written")
+}
+
+fn time_pending(rt: &HostRuntime, count: u32) -> io::Result<()> {
+    let alloc = rt.alloc();
+    let name = format!(in alloc; "{count} pending requests and their results")?;
+    timed(rt, name.as_str(), events(alloc, count)?)
+}
+
+fn time_matches(rt: &HostRuntime, half: u32, count: u32) -> io::Result<()> {
+    let alloc = rt.alloc();
+    let lines = half.saturating_mul(2);
+    let name = format!(in alloc; "matches of {count} brackets in {lines} lines")?;
+    timed(rt, name.as_str(), matches(alloc, half, count)?)
 }
 
 fn main(rt: HostRuntime) -> io::Result<()> {
-    timed(&rt, 2_500)?;
-    timed(&rt, 5_000)?;
-    timed(&rt, 10_000)?;
-    timed(&rt, 20_000)
+    for count in [2_500, 5_000, 10_000, 20_000] {
+        time_pending(&rt, count)?;
+    }
+    for half in [2_500, 5_000, 10_000] {
+        time_matches(&rt, half, 0)?;
+        time_matches(&rt, half, 1_000)?;
+    }
+    time_matches(&rt, 10_000, 10_000)
 }

@@ -14,7 +14,8 @@ use Rattle.method_table.specs.declared.named.TheConstants.{HOVER}
 use Rattle.method_table.specs.declared.row_id.RowId.{RowId}
 use Rattle.requests.specs.Files.{in_text, malformed, refusal, text_of}
 use Rattle.requests.specs.Params.{position_of, uri_of}
-use Rattle.text_core.specs.Positions.{ends_line, range_of}
+use Rattle.text_core.specs.Lines.{line_text}
+use Rattle.text_core.specs.Positions.{range_of}
 use Rattle.text_core.specs.declared.position.OffsetFault.{OffsetFault}
 use Rattle.text_core.specs.declared.position.Position.{Position}
 
@@ -66,10 +67,6 @@ value_at line column = if has_equals line && is_on_key (name_of line) column the
 
 -- ---- hover
 
--- the line that begins at a place of a text
-abbrev pub line_at : List ℕ → ℕ → List ℕ
-line_at text start = before_first ends_line (drop start text)
-
 -- the front of the line of a position
 abbrev pub front_of : Position → Position
 front_of position = record { line = position.line; character = 0 }
@@ -79,14 +76,14 @@ abbrev pub contents : Option (List ℕ) → Data
 contents None = null
 contents (Some value) = object (member (codes "contents") (string value) no_members)
 
--- hover by where a line begins and where the position stands
+-- hover on a line, by where it begins and where the position stands
 abbrev pub hover_at : List ℕ → Result (ℕ × ℕ) OffsetFault → Finding
-hover_at text (Err fault) = refusal (codes "Invalid offset")
-hover_at text (Ok places) = answer (Json (contents (value_at (line_at text places.0) (places.1 - places.0))))
+hover_at line (Err fault) = refusal (codes "Invalid offset")
+hover_at line (Ok places) = answer (Json (contents (value_at line (places.1 - places.0))))
 
 -- hover at a position of a text
 abbrev pub hover_in : Position → List ℕ → Finding
-hover_in position text = hover_at text (range_of columns text (record { start = front_of position; end = position }))
+hover_in position text = hover_at (line_text text position.line) (range_of columns text (record { start = front_of position; end = position }))
 
 -- hover at a position of a URL
 abbrev pub hover_of : SnapshotData → Option (List ℕ) → Option Position → Finding

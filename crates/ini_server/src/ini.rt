@@ -1,8 +1,8 @@
 // Hovers on `.ini` files.
 ghost use Rattle.std.specs.Prelude.{◌≡◌, None, IfOk, option_copied};
-ghost use Rattle.std.specs.String.Boundary.{IsSplitPoint};
 ghost use Rattle.analysis_host.specs.Answers.{Answers, IsPlainOutcome};
-ghost use Rattle.ini_server.specs.Ini.{hover_in, ini_answer, ini_decodes, is_key, is_on_key, line_at, value_at};
+ghost use Rattle.ini_server.specs.Ini.{hover_in, ini_answer, ini_decodes, is_key, is_on_key, value_at};
+ghost use Rattle.text_core.specs.Lines.{line_text};
 
 use analysis_host::{Analysis, Answer, Ask, Cancel, GlobalStateSnapshot, Outcome, RowId, columns};
 use method_table::{HOVER, default_of};
@@ -39,32 +39,30 @@ fn value_at(line: &str, column: usize) -> Option<&str>
     }
 }
 
-/// The line that begins at a place.
-fn line_at(text: &str, start: usize) -> &str
-    requires { IsSplitPoint text.now start }
-    ensures { result.now ≡ line_at text.now start }
+/// A line of a text, empty past the last.
+fn line_of(index: &TextIndex, line: u32) -> &str
+    ensures { result.now ≡ line_text index.now line }
 {
-    let rest = &text[start..];
-    match rest.split_once('\n') {
-        Some((line, _)) => line,
-        None => rest,
-    }
+    index.line_text(line).unwrap_or("")
 }
 
 /// Hover at a position of a text.
 #[tactic(auto, unfolding(plain::specs::Plain::most_levels))]
-fn hover_in(alloc: Global, index: &TextIndex, end: Position) -> Result<Outcome, NoMemory>
-    ensures answers { IfOk result (Answers (hover_in end index.now) None) }
+fn hover_in(alloc: Global, index: &TextIndex, position: Position) -> Result<Outcome, NoMemory>
+    ensures answers { IfOk result (Answers (hover_in position index.now) None) }
     ensures plain { IfOk result IsPlainOutcome }
 {
-    let start = Position {
-        line: end.line,
-        character: 0,
+    let range = Range {
+        start: Position {
+            line: position.line,
+            character: 0,
+        },
+        end: position,
     };
-    let Ok((start, end)) = index.range_of(columns(), Range { start, end }) else {
+    let Ok((start, end)) = index.range_of(columns(), range) else {
         return Ok(refusal(Text::from_str(alloc, "Invalid offset")?));
     };
-    let line = line_at(index.text(), start as usize);
+    let line = line_of(index, position.line);
     let Some(value) = value_at(line, (end - start) as usize) else {
         return Ok(Outcome::Value(Answer::Json(Json::null())));
     };

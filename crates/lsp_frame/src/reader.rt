@@ -82,10 +82,17 @@ impl FrameReader {
     pub fn new(alloc: Global) -> Self
         ensures { result ≡ record { place = 0; held = []; failed = false } }
     {
+        FrameReader::new_at(alloc, 0)
+    }
+
+    /// A reader of what follows so many bytes of a stream, which another has read.
+    pub fn new_at(alloc: Global, place: u64) -> Self
+        ensures { result ≡ record { place = place; held = []; failed = false } }
+    {
         FrameReader {
             alloc,
             held: Buffered::new(alloc),
-            place: 0,
+            place,
             known: Known::NOTHING,
             failed: false,
         }

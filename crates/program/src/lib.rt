@@ -1,8 +1,11 @@
-//! What the program does with the words of its command line, over any reader and any writer.
+//! A program over a session, for any analysis: what it does with the words of its command line, over any reader and any
+//! writer, and a start that hands in those of the system.
 #![tactic(auto)]
 
 mod running;
+mod starting;
 mod words;
 
-pub use running::{NO_MEMORY, run};
-pub use words::{HELP, VERSION, Words};
+pub use running::{Program, run};
+pub use starting::start;
+pub use words::Words;

@@ -1,17 +1,18 @@
-// The program, over any reader and any writer.
+// A program, over any reader and any writer.
 ghost use Rattle.std.specs.Prelude.{◌≡◌, IfOk, OnErr};
 ghost use Rattle.program.specs.Serving.{Prints, Served, ServesStream};
 ghost use Rattle.program.specs.Words.{asked_by, texts_of};
 ghost use Rattle.program.specs.declared.words.Asked.TheVariants.{Help, Version, Serve, Unreadable};
 ghost use Rattle.server.specs.Status.{bad_words};
+ghost use Rattle.session_model.specs.Meaning.{meaning_of};
 
-use crate::words::{Asked, HELP, VERSION, Words, asked_by};
+use crate::words::{Asked, Words, asked_by};
+use analysis_host::Analysis;
 use log::Log;
 use plain::Text;
 use server::{BAD_WORDS, serve};
 use session_peers::InlineHost;
 use session_port::Sink;
-use small_analysis::SmallAnalysis;
 use std::alloc::Global;
 use std::io::{self, Read, Write};
 use stdio::{LoggingHost, StandardInput, StandardOutput};
@@ -20,7 +21,18 @@ use stdio::{LoggingHost, StandardInput, StandardOutput};
 const WRITE_FAULT: u8 = 7;
 
 /// The status where memory has run out.
-pub const NO_MEMORY: u8 = 9;
+pub(crate) const NO_MEMORY: u8 = 9;
+
+/// What a program says of itself, and what it keeps.
+#[derive(Clone, Copy)]
+pub struct Program<'a> {
+    /// What `--help` prints.
+    pub help: &'a str,
+    /// What `--version` prints.
+    pub version: &'a str,
+    /// Whether the host keeps a record of the session, which grows with it.
+    pub keeps_record: bool,
+}
 
 /// Prints a text, and answers the status.
 fn print<W: Write + Drop>(output: &mut StandardOutput<W>, text: &str) -> u8
@@ -34,47 +46,60 @@ fn print<W: Write + Drop>(output: &mut StandardOutput<W>, text: &str) -> u8
 }
 
 /// Serves the words on a host that reads this input, and answers the status. Lines for the log go to `log`.
-fn serve_stream<R: Read + Drop, W: Write + Drop, L: Log>(
+fn serve_stream<R: Read + Drop, W: Write + Drop, L: Log, A: Analysis>(
     alloc: Global,
+    keeps_record: bool,
     texts: &[Text],
     input: R,
     output: &mut StandardOutput<W>,
     log: &L,
+    analysis: &A,
 ) -> io::Result<u8>
     requires fresh { output.old.faults ≡ 0 }
-    ensures served { IfOk result (ServesStream texts.now output.old output.new) }
+    ensures served { IfOk result (ServesStream (meaning_of A.decodes A.answer) keeps_record texts.now output.old output.new) }
     ensures untouched { OnErr result (output.new ≡ output.old) }
 {
-    let analysis = SmallAnalysis::new(alloc);
     let input = StandardInput::new(alloc, input)?;
-    let mut host = LoggingHost::new(log, InlineHost::new(alloc, input, &analysis, true)?);
-    Ok(serve(alloc, texts, &mut host, output, &analysis))
+    let mut host = LoggingHost::new(log, InlineHost::new(alloc, input, analysis, keeps_record)?);
+    Ok(serve(alloc, texts, &mut host, output, analysis))
 }
 
 /// Does what the words of the command line ask for, and answers the status to end with: `--help` and `--version` print
-/// a text, and all other words are served over this input and output. Lines for the log go to `log`.
-pub fn run<R: Read + Drop, W: Write + Drop, L: Log>(
+/// the program's texts, and all other words are served over this input and output. Lines for the log go to `log`.
+pub fn run<R: Read + Drop, W: Write + Drop, L: Log, A: Analysis>(
     alloc: Global,
+    program: &Program<'_>,
     words: &Words,
     input: R,
     output: &mut StandardOutput<W>,
     log: &L,
+    analysis: &A,
 ) -> u8
     // Nothing was written in vain before.
     requires fresh { output.old.faults ≡ 0 }
 
-    ensures help { asked_by words.now ≡ Help → Prints HELP.now output.old output.new result }
-    ensures version { asked_by words.now ≡ Version → Prints VERSION.now output.old output.new result }
+    ensures help { asked_by words.now ≡ Help → Prints program.now.help.now output.old output.new result }
+    ensures version { asked_by words.now ≡ Version → Prints program.now.version.now output.old output.new result }
     ensures not_text { asked_by words.now ≡ Unreadable → (result ≡ bad_words) × (output.new ≡ output.old) }
-    ensures served { asked_by words.now ≡ Serve → Served (texts_of words.now) output.old output.new result }
+    ensures served { asked_by words.now ≡ Serve → Served (meaning_of A.decodes A.answer) program.now.keeps_record (texts_of words.now) output.old output.new result }
 {
     match asked_by(words) {
-        Asked::Help => print(output, HELP),
-        Asked::Version => print(output, VERSION),
+        Asked::Help => print(output, program.help),
+        Asked::Version => print(output, program.version),
         Asked::Unreadable => BAD_WORDS,
-        Asked::Serve => match serve_stream(alloc, words.texts(), input, output, log) {
-            Ok(status) => status,
-            Err(_) => NO_MEMORY,
-        },
+        Asked::Serve => {
+            match serve_stream(
+                alloc,
+                program.keeps_record,
+                words.texts(),
+                input,
+                output,
+                log,
+                analysis,
+            ) {
+                Ok(status) => status,
+                Err(_) => NO_MEMORY,
+            }
+        }
     }
 }

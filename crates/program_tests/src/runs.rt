@@ -1,7 +1,8 @@
 // Runs of the program.
 use crate::streams::{Paper, Tape};
 use plain::{Items, Text};
-use program::{HELP, VERSION, Words, run};
+use program::{Program, Words, run};
+use session_peers::NullAnalysis;
 use std::alloc::Global;
 use std::test::Fail;
 use stdio::StandardOutput;
@@ -14,8 +15,11 @@ const HOVER: &str =
 
 const EXIT: &str = "Content-Length: 33\r\n\r\n{\"jsonrpc\":\"2.0\",\"method\":\"exit\"}";
 
-const REPLY: &str =
-    "Content-Length: 50\r\n\r\n{\"id\":1,\"jsonrpc\":\"2.0\",\"result\":{\"contents\":\"a\"}}";
+const REPLY: &str = "Content-Length: 38\r\n\r\n{\"id\":1,\"jsonrpc\":\"2.0\",\"result\":null}";
+
+const HELP: &str = "usage: a session\n";
+
+const VERSION: &str = "version 1\n";
 
 /// How a run went: its status, what it wrote, and whether all of that was flushed.
 #[derive(Drop)]
@@ -27,8 +31,21 @@ struct Outcome {
 
 // This call claims nothing here.
 fn status(rt: &HostRuntime, words: &Words, input: Tape<'_>, output: &mut Paper) -> u8 {
+    let program = Program {
+        help: HELP,
+        version: VERSION,
+        keeps_record: true,
+    };
     let mut output = StandardOutput::new(output);
-    run(rt.alloc(), words, input, &mut output, rt)
+    run(
+        rt.alloc(),
+        &program,
+        words,
+        input,
+        &mut output,
+        rt,
+        &NullAnalysis,
+    )
 }
 
 /// A run of these words, over an input that ends or fails, and an output with so much room.
@@ -76,7 +93,8 @@ fn words_that_print(rt: HostRuntime) -> Result<(), Fail> {
     for (line, room, status, written) in [
         ("--help", 4096, 0, HELP),
         ("--version", 4096, 0, VERSION),
-        ("--version", 3, 7, "ra_"),
+        ("--version", 3, 7, "ver"),
+        ("--help", 5, 7, "usage"),
         ("--help --version", 4096, 2, ""),
         ("sessions", 4096, 2, ""),
         ("session session", 4096, 2, ""),

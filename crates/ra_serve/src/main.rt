@@ -1,39 +1,30 @@
 //! `ra_serve session`: a language server's session over standard input and output, with a small analysis.
 #![tactic(auto)]
 
-use plain::{Items, Text};
-use program::{NO_MEMORY, Words, run};
-use server::status_text;
-use std::alloc::AllocError;
-use std::env;
-use std::io::{self, ErrorKind};
+use program::{Program, start};
+use small_analysis::SmallAnalysis;
 use std::process::ExitCode;
-use stdio::StandardOutput;
 
-/// The words after the program's name.
-fn read_words(rt: &HostRuntime) -> Result<Words, AllocError> {
-    let args = match env::args(rt) {
-        Ok(args) => args,
-        Err(e) if e.kind() == ErrorKind::InvalidData => return Ok(Words::NotText),
-        Err(_) => return Err(AllocError),
-    };
-    let mut texts = Items::new(rt.alloc());
-    for word in args.skip(1) {
-        texts.push(Text::from_string(word))?;
-    }
-    Ok(Words::Texts(texts))
-}
+const PROGRAM: Program<'static> = Program {
+    help: "\
+ra_serve: a language server's session over standard input and output.
+
+usage: ra_serve session
+       ra_serve --help | --version
+
+`session` reads framed messages of the Language Server Protocol, as they come after the `initialize` handshake,
+and writes framed responses. The root of its workspace is /w.
+
+status: 0 the session ended by `exit`               5 bad message
+        2 bad words                                 6 the host failed
+        3 input ended without `exit`                7 the output failed
+        4 bad frame                                 8 counter exhausted
+                                                    9 out of memory
+",
+    version: "ra_serve 0.1.0\n",
+    keeps_record: true,
+};
 
 fn main(rt: HostRuntime) -> ExitCode {
-    let mut output = StandardOutput::new(io::writer(&rt));
-    let status = match read_words(&rt) {
-        Ok(words) => run(rt.alloc(), &words, rt.reader(), &mut output, &rt),
-        Err(_) => NO_MEMORY,
-    };
-    let text = status_text(status);
-    if !text.is_empty() {
-        // Where standard error is closed, nobody is left to tell.
-        let _ = eprintln!(rt; "{text}");
-    }
-    ExitCode::from(status)
+    start(&rt, &PROGRAM, &SmallAnalysis::new(rt.alloc()))
 }

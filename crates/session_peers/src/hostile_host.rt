@@ -97,7 +97,7 @@ impl<A: Analysis> Host<A> for HostileHost {
         ensures events { self.new.events ≡ self.old.events }
         ensures memory { IfErr result (λ e. e ≡ HostError.NoMemory) }
     {
-        self.jobs.take(commands.clone()?)?;
+        self.jobs.take(commands.as_slice())?;
         self.calls.push(RecordedCall::of_commands(commands))?;
         Ok(())
     }

@@ -163,12 +163,9 @@ impl<'a, S: Source, A: Analysis> Host<A> for InlineHost<'a, S, A> {
         ensures faults { self.new.faults ≡ self.old.faults }
         ensures memory { IfErr result (λ e. e ≡ HostError.NoMemory) }
     {
-        match &mut self.calls {
-            None => self.jobs.take(commands)?,
-            Some(calls) => {
-                self.jobs.take(commands.clone()?)?;
-                calls.push(RecordedCall::of_commands(commands))?;
-            }
+        self.jobs.take(commands.as_slice())?;
+        if let Some(calls) = &mut self.calls {
+            calls.push(RecordedCall::of_commands(commands))?;
         }
         Ok(())
     }

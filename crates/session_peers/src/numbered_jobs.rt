@@ -66,15 +66,15 @@ impl NumberedJobs {
         Ok(())
     }
 
-    /// Takes the jobs that commands hand over.
-    pub fn take(&mut self, commands: Items<Command>) -> Result<(), AllocError>
-        ensures out { OnOk result (self.new.out ≡ after_order commands self.old.out) }
+    /// Takes copies of the jobs that commands hand over, which share their params and snapshots.
+    pub fn take(&mut self, commands: &[Command]) -> Result<(), AllocError>
+        ensures out { OnOk result (self.new.out ≡ after_order commands.now self.old.out) }
         ensures handed { OnOk result (self.new.handed
-            ≡ last_number self.old.handed (spawned commands)) }
+            ≡ last_number self.old.handed (spawned commands.now)) }
     {
-        for command in commands.into_vec() {
+        for command in commands {
             match command {
-                Command::Spawn(job) => self.push(job)?,
+                Command::Spawn(job) => self.push(job.clone()?)?,
                 Command::Revise(_) | Command::Log(..) | Command::Stop => {}
             }
         }

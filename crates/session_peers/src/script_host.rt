@@ -130,7 +130,7 @@ impl<'a, A: Analysis> Host<A> for ScriptHost<'a, A> {
             self.plan.fail();
             return Err(HostError::Failed);
         }
-        self.jobs.take(commands.clone()?)?;
+        self.jobs.take(commands.as_slice())?;
         self.calls.push(RecordedCall::of_commands(commands))?;
         Ok(())
     }

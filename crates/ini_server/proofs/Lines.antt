@@ -1,0 +1,16 @@
+-- A line past the last is empty.
+use Rattle.std.proofs.Common.{◌≡◌, ℕ, ◌<◌, List, [], refl}
+use Rattle.std.specs.Option.{option_map}
+use Rattle.std.specs.Prelude.{Option, None, Some, false, is_some}
+use Rattle.std.specs.List.{before_first, count_by}
+use Rattle.text_core.specs.Lines.{bytes_in, line_text}
+use Rattle.text_core.specs.Positions.{ends_line, line_end, line_start}
+use Rattle.text_core.proofs.LineTextLemmas.{none_past}
+
+pub no_line : (text : List ℕ) (line : ℕ) (start : Option ℕ) → is_some start ≡ false
+    → before_first ends_line (bytes_in text (option_map (λ at. (at, line_end line text)) start)) ≡ []
+no_line text line None h = refl
+no_line text line (Some at) h = absurd cc
+
+pub past_is_empty : (text : List ℕ) (line : ℕ) → count_by ends_line text < line → line_text text line ≡ []
+past_is_empty text line past = no_line text line (line_start line text) ((none_past text line).1 past)
