@@ -4,7 +4,7 @@ ghost use Rattle.program.specs.Serving.{Prints, Served, ServesStream};
 ghost use Rattle.program.specs.Words.{asked_by, texts_of};
 ghost use Rattle.program.specs.declared.words.Asked.TheVariants.{Help, Version, Serve, Unreadable};
 ghost use Rattle.server.specs.Status.{bad_words};
-ghost use Rattle.session_model.specs.Meaning.{meaning_of};
+ghost use Rattle.desk.specs.Meaning.{meaning_of};
 
 use crate::words::{Asked, Words, asked_by};
 use analysis_host::Analysis;
