@@ -7,7 +7,6 @@ use Rattle.session_port.specs.declared.event.TaskBody.{TaskBody}
 use Rattle.session_port.specs.declared.event.TaskMsg.{TaskMsg}
 use Rattle.session_port.specs.declared.job.Job.{Job}
 
-
 -- a message that fits no job leaves the jobs out as they are
 pub after_message-none : (message : TaskMsg) (out : Jobs) → fitting_job message out ≡ None → after_message message out ≡ out
 after_message-none message out none = ap (λ o. without_fitting o message out) none

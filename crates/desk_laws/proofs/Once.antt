@@ -1,5 +1,5 @@
 -- What responses answer waits no more, and no request is answered twice by them.
-use Rattle.std.proofs.Common.{◌≡◌, ◌≢◌, ℕ, ◌+◌, ◌≤◌, List, [], ◌∷◌, ◌++◌, length, Bool, true, false, refl, sym, ap, ◌∙◌, subst, arith, inl, inr}
+use Rattle.std.proofs.Common.{◌≡◌, ℕ, ◌+◌, List, [], ◌∷◌, ◌++◌, length, Bool, true, false, refl, sym, ap, ◌∙◌, subst, arith, inl, inr}
 use Rattle.std.specs.Prelude.{◌⊎◌, Option, None, Some, is_some}
 use Rattle.std.specs.Option.{option_to_list}
 use Rattle.lsp_frame.specs.Pending.{Pending, id_of, is_pending, registered, completed, closed, closed_at, ticket_of}

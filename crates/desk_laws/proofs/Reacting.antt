@@ -1,6 +1,6 @@
 -- What a row does for a request that waits: it answers it, or hands over one job for it.
 use Rattle.std.proofs.Common.{◌≡◌, ℕ, Bool, true, false, refl, subst, inl, inr}
-use Rattle.std.specs.Prelude.{◌⊎◌, Option, None, Some, ◌&&◌, not, ltb, if◌then◌else◌}
+use Rattle.std.specs.Prelude.{Option, None, Some, ◌&&◌, not, ltb, if◌then◌else◌}
 use Rattle.serde_json.specs.Data.{Data, null}
 use Rattle.lsp_frame.specs.declared.message.Request.{Request}
 use Rattle.lsp_frame.specs.declared.message.RequestId.{RequestId}
@@ -22,7 +22,7 @@ use Rattle.session_port.specs.declared.job.JobKind.TheVariants.{Request as Reque
 use Rattle.session_port.specs.declared.job.JobResult.{JobResult}
 use Rattle.desk.specs.Desk.{Desk}
 use Rattle.desk.specs.Meaning.{Meaning, can_read}
-use Rattle.desk.specs.Reactions.{Reaction, says, if_read, state_row, planned_row, class_row, method_row, shutdown_row, new_row, stopped_row, result_row}
+use Rattle.desk.specs.Reactions.{Reaction, says, if_read, state_row, planned_row, class_row, method_row, new_row, stopped_row, result_row}
 use Rattle.desk.specs.Replies.{shut_already, unknown_request, invalid_params, stopped_reply, finding_reply, finished_reply}
 use Rattle.desk.specs.declared.scene.Scene.{Scene}
 use Rattle.desk_laws.specs.Reacting.{Reacts}

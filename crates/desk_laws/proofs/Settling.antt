@@ -1,11 +1,10 @@
 -- A step of the desk is its row of the reply table.
-use Rattle.std.proofs.Common.{◌≡◌, ℕ, ◌+◌, List, [], ◌∷◌, ◌++◌, length, Bool, true, false, refl, sym, ap, ◌∙◌, subst, arith, append-nil, append_assoc}
+use Rattle.std.proofs.Common.{◌≡◌, ℕ, List, ◌++◌, Bool, true, false, refl, sym, ap, ◌∙◌, subst, arith, append-nil, append_assoc}
 use Rattle.std.proofs.lemmas.List.{length-append}
-use Rattle.std.specs.List.{filter_map}
 use Rattle.std.specs.Prelude.{Ok, IfOk, Option, None, Some, option_and_then, ◌&&◌, not, ltb, if◌then◌else◌}
 use Rattle.std.specs.FinMap as map
 use Rattle.serde_json.specs.Data.{Data, null}
-use Rattle.lsp_frame.specs.Pending.{Pending, id_of, is_pending, registered}
+use Rattle.lsp_frame.specs.Pending.{Pending, id_of, is_pending}
 use Rattle.lsp_frame.specs.declared.message.Request.{Request}
 use Rattle.lsp_frame.specs.declared.message.RequestId.{RequestId}
 use Rattle.lsp_frame.specs.declared.message.Response.{Response}
@@ -24,7 +23,6 @@ use Rattle.state_params.specs.StateRequests.{request_of}
 use Rattle.state_params.specs.Unit.{is_unit}
 use Rattle.state_params.specs.declared.request.StateRequest.{StateRequest}
 use Rattle.dispatch.specs.Responses.{response_with}
-use Rattle.session_port.specs.Events.{revision_of}
 use Rattle.session_port.specs.Jobs.{Jobs, ticket_of, final_of, fitting_job, after_message}
 use Rattle.session_port.specs.Record.{spawned}
 use Rattle.session_port.specs.declared.command.LogCode.{LogCode}
@@ -40,7 +38,7 @@ use Rattle.turn_parts.specs.Working.{Working, logged, ordered, replied}
 use Rattle.turn_parts.specs.Written.{responses_in}
 use Rattle.turn_parts.specs.declared.fault.Counter.{Counter}
 use Rattle.desk.specs.Desk.{Desk, waiting_for}
-use Rattle.desk.specs.Folds.{asked_among, closed_by, closed_with, pending_after, shutdown_after}
+use Rattle.desk.specs.Folds.{closed_by, closed_with, shutdown_after}
 use Rattle.desk.specs.Meaning.{Meaning, can_read}
 use Rattle.desk.specs.Reactions.{Reaction, silent, says, joined, hands_over, if_read, state_row, planned_row, class_row, method_row, shutdown_row, new_row, request_row, cancel_row, stopped_row, result_row, ticket_row, final_row, fitting_row, message_row}
 use Rattle.desk.specs.Replies.{already_pending, invalid_params, unknown_request, shut_already, canceled_by_client, stopped_reply, finding_reply, finished_reply}
