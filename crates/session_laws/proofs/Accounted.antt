@@ -1,5 +1,5 @@
 -- Each job out for a request is for one that waits, or for one that was answered.
-use Rattle.std.proofs.Common.{◌≡◌, ℕ, ◌+◌, List, [], ◌∷◌, ◌++◌, Bool, true, false, refl, sym, ap, ◌∙◌, subst, append-nil, append_assoc, inl, inr}
+use Rattle.std.proofs.Common.{◌≡◌, ℕ, List, [], ◌∷◌, ◌++◌, Bool, true, false, refl, sym, ap, ◌∙◌, subst, append-nil, append_assoc, inl, inr}
 use Rattle.std.specs.Prelude.{◌⊎◌, Option, None, Some, Contains, if◌then◌else◌}
 use Rattle.std.specs.FinMap as map
 use Rattle.lsp_frame.specs.Pending.{Pending, id_of, is_pending, registered}

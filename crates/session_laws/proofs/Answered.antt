@@ -5,7 +5,7 @@ use Rattle.std.specs.FinMap as maps
 use Rattle.lsp_frame.specs.Reader.{Reader}
 use Rattle.ra_config.specs.Config.{ConfigData}
 use Rattle.session_port.specs.Jobs.{Jobs}
-use Rattle.session_port.specs.Record.{HostCall, gave, took, given_in, spawned, taken_in}
+use Rattle.session_port.specs.Record.{HostCall, took, given_in, spawned, taken_in}
 use Rattle.session_port.specs.declared.command.Command.{Command}
 use Rattle.session_port.specs.declared.command.Command.TheVariants.{Stop}
 use Rattle.session_port.specs.declared.event.HostEvent.{HostEvent}

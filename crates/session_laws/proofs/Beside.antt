@@ -17,12 +17,10 @@ use Rattle.desk.specs.Meaning.{Meaning}
 use Rattle.desk_laws.specs.Numbers.{AreNumbered}
 use Rattle.desk_laws.proofs.Appends.{responses-append, spawned-append, asked-append}
 use Rattle.desk_laws.proofs.Numbered.{numbered-append}
-use Rattle.session_model.specs.Headline.{desk_after, reaction_of, row}
 use Rattle.session_model.specs.Inputs.{request_in}
 use Rattle.session_model.specs.State.{State}
 use Rattle.session_model.specs.declared.input.Input.{Input}
-use Rattle.session_laws.specs.Beside.{Beside, Serves, turn_of}
-use Rattle.session_laws.specs.Invariant.{place_of}
+use Rattle.session_laws.specs.Beside.{Beside, Serves}
 use Rattle.session_laws.proofs.Same.{same_desk, none-handed}
 
 -- nothing happened

@@ -1,10 +1,9 @@
 -- A turn that the machine can't take needs one more of a counter than there are.
-use Rattle.std.proofs.Common.{◌≡◌, ℕ, ◌+◌, ◌-◌, ◌^◌, ◌≤◌, List, [], ◌∷◌, ◌++◌, length, Bool, true, false, refl, sym, ap, ◌∙◌, subst, arith}
+use Rattle.std.proofs.Common.{◌≡◌, ℕ, ◌+◌, ◌-◌, ◌^◌, ◌≤◌, List, [], ◌∷◌, ◌++◌, length, Bool, true, false, refl, sym, subst, arith}
 use Rattle.std.proofs.lemmas.Bool.{ltb-false}
 use Rattle.std.proofs.lemmas.List.{length-append}
 use Rattle.std.proofs.lemmas.Result.{IfErr-at_err, IfOk-at_ok}
-use Rattle.std.specs.Prelude.{Result, Ok, Err, IfErr, ℤ, Option, None, Some, is_some, if◌then◌else◌, ltb}
-use Rattle.std.specs.FinMap as map
+use Rattle.std.specs.Prelude.{Result, Ok, Err, IfErr, ℤ, Some, if◌then◌else◌, ltb}
 use Rattle.docs_vfs.specs.FileUrls.{path_of}
 use Rattle.docs_vfs.specs.declared.file_url.UrlFault.{UrlFault}
 use Rattle.lsp_frame.specs.declared.message.Request.{Request}
@@ -19,10 +18,10 @@ use Rattle.session_port.specs.declared.command.LogCode.TheVariants.{DuplicateOpe
 use Rattle.session_port.specs.declared.event.TaskMsg.{TaskMsg}
 use Rattle.turn_parts.specs.Working.{Working, and_then, logged, ordered, within}
 use Rattle.turn_parts.specs.declared.fault.Counter.{Counter}
-use Rattle.turn_parts.specs.declared.fault.Counter.TheVariants.{Turns, Jobs, Revisions}
+use Rattle.turn_parts.specs.declared.fault.Counter.TheVariants.{Turns, Revisions}
 use Rattle.desk.specs.Meaning.{Meaning}
 use Rattle.desk.specs.Reactions.{Reaction, message_row, request_row}
-use Rattle.desk.specs.Steps.{cancelled, requested, counted as counted_at_desk, kept as kept_at_desk, taken as taken_at_desk}
+use Rattle.desk.specs.Steps.{cancelled, requested, counted as counted_at_desk, taken as taken_at_desk}
 use Rattle.desk_laws.proofs.Refusing.{TooMany, counted-errs, err-and_then, err-weaker, message-errs, request-errs}
 use Rattle.desk_laws.proofs.Results.{IfErr-within}
 use Rattle.desk_laws.proofs.Settling.{message-turns, request-turns}

@@ -1,10 +1,9 @@
 -- Each job out for a request was handed over by the turn that read it, or a later one, on the documents of all inputs before that turn.
-use Rattle.std.proofs.Common.{◌≡◌, ℕ, ◌+◌, ◌≤◌, List, [], ◌∷◌, ◌++◌, Bool, true, false, refl, sym, ap, ◌∙◌, subst, arith, append_assoc, inl, inr}
+use Rattle.std.proofs.Common.{◌≡◌, ℕ, ◌≤◌, List, [], ◌∷◌, ◌++◌, Bool, true, false, refl, sym, ap, ◌∙◌, subst, arith, append_assoc, inl, inr}
 use Rattle.std.specs.Prelude.{Option, None, Some, Contains, ◌⊎◌, if◌then◌else◌}
 use Rattle.std.specs.FinMap as map
 use Rattle.std.proofs.lemmas.List.Elements.{Contains-append_left, Contains-append_right, Contains-push}
 use Rattle.lsp_frame.specs.Pending.{is_pending}
-use Rattle.lsp_frame.specs.declared.message.Request.{Request}
 use Rattle.lsp_frame.specs.declared.message.RequestId.{RequestId}
 use Rattle.lsp_frame.specs.declared.message.Message.TheVariants.{Request as RequestMessage, Notification as NotificationMessage, Response as ResponseMessage}
 use Rattle.ra_config.specs.Config.{ConfigData}
@@ -14,9 +13,8 @@ use Rattle.session_port.specs.declared.event.TaskMsg.{TaskMsg}
 use Rattle.session_port.specs.declared.job.Job.{Job}
 use Rattle.session_port.specs.declared.job.JobResult.{JobResult}
 use Rattle.desk.specs.Desk.{waiting_for}
-use Rattle.desk.specs.Folds.{is_asked}
 use Rattle.desk.specs.Meaning.{Meaning}
-use Rattle.desk.specs.Reactions.{Reaction, says, silent, new_row, request_row, cancel_row, ticket_row, final_row, fitting_row, message_row}
+use Rattle.desk.specs.Reactions.{Reaction, says, silent, new_row, ticket_row, final_row, fitting_row, message_row}
 use Rattle.desk.specs.Replies.{already_pending, canceled_by_client, finished_reply}
 use Rattle.desk_laws.specs.Reacting.{Reacts}
 use Rattle.desk_laws.proofs.Fitting.{after_message-some}

@@ -14,9 +14,9 @@ use Rattle.session_port.specs.declared.job.Job.{Job}
 use Rattle.session_port.specs.declared.job.JobKind.{JobKind}
 use Rattle.session_port.specs.declared.job.JobKind.TheVariants.{Request as RequestJob}
 use Rattle.turn_parts.specs.Written.{responses_in}
-use Rattle.desk.specs.Folds.{AreAnswers, AnswersOnce, asked_among, closed_by, desk_past, is_asked, pending_after}
+use Rattle.desk.specs.Folds.{AreAnswers, AnswersOnce, asked_among, closed_by, is_asked}
 use Rattle.desk.specs.Meaning.{Meaning}
-use Rattle.desk.specs.Reactions.{Reaction, silent, joined, message_row}
+use Rattle.desk.specs.Reactions.{Reaction, joined, message_row}
 use Rattle.desk_laws.specs.Numbers.{AreNumbered}
 use Rattle.desk_laws.proofs.Appends.{closed_by-append}
 use Rattle.desk_laws.proofs.Held.{Batching, Going, Keeps, SoundOf, answers-append, batching-begins, cancel-kept, idle-kept, message-going, request-kept, sound-beside, sound-later, sound-new, sound-stays, sound-whole}

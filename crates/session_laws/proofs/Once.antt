@@ -1,15 +1,12 @@
 -- No request is answered twice.
-use Rattle.std.proofs.Common.{◌≡◌, ℕ, ◌+◌, ◌<◌, ◌≤◌, List, [], ◌∷◌, ◌++◌, refl, sym, ap, ◌∙◌, arith, inl, inr}
-use Rattle.std.specs.Prelude.{◌⊎◌, Option, None, Some}
+use Rattle.std.proofs.Common.{◌≡◌, ℕ, ◌+◌, ◌<◌, ◌≤◌, List, [], ◌∷◌, ◌++◌, refl, sym, ◌∙◌, arith, inl, inr}
+use Rattle.std.specs.Prelude.{◌⊎◌, None, Some}
 use Rattle.lsp_frame.specs.Pending.{Pending, id_of, none_pending}
-use Rattle.lsp_frame.specs.declared.message.Request.{Request}
-use Rattle.lsp_frame.specs.declared.message.RequestId.{RequestId}
 use Rattle.lsp_frame.specs.declared.message.Message.TheVariants.{Request as RequestMessage, Notification as NotificationMessage, Response as ResponseMessage}
 use Rattle.lsp_frame.proofs.Above.{none_above}
 use Rattle.ra_config.specs.Config.{ConfigData}
 use Rattle.turn_parts.specs.Written.{responses_in}
-use Rattle.desk.specs.Folds.{pending_after}
-use Rattle.desk_laws.specs.Answering.{answered_at, AllDiffer, IsAmong, IsThere}
+use Rattle.desk_laws.specs.Answering.{AllDiffer, IsAmong, IsThere}
 use Rattle.desk_laws.proofs.Once.{IsNew, Turns, among-cases, differ-append, turn-closes}
 use Rattle.session_model.specs.Headline.{Place, beginning, next_turn, place_after}
 use Rattle.session_model.specs.Inputs.{request_in, turns_after}

@@ -2,7 +2,7 @@
 use Rattle.std.proofs.Common.{◌≡◌, ◌≢◌, ℕ, ◌+◌, ◌-◌, ◌^◌, ◌≤◌, List, [], ◌∷◌, ◌++◌, length, Bool, true, false, refl, sym, ap, ◌∙◌, subst, arith, eqb-true, append-nil, inl, inr}
 use Rattle.std.proofs.lemmas.Bool.{true≢false}
 use Rattle.docs_vfs.specs.Paths.{path_cmp}
-use Rattle.std.specs.Prelude.{◌⊎◌, Result, Ok, Err, IfOk, ℤ, Option, None, Some, ◌==◌, is_some, if◌then◌else◌, ltb}
+use Rattle.std.specs.Prelude.{◌⊎◌, Result, Ok, Err, IfOk, ℤ, None, Some, ◌==◌, is_some, if◌then◌else◌, ltb}
 use Rattle.std.specs.Cmp.Lexicographic.{bytes_decides}
 use Rattle.std.specs.FinMap as map
 use Rattle.std.specs.List.{filter_map}
@@ -23,17 +23,15 @@ use Rattle.analysis_host.specs.declared.host.WorldFault.TheVariants.{Exhausted}
 use Rattle.session_port.specs.Events.{revision_of}
 use Rattle.session_port.specs.Jobs.{Jobs, after_message, after_batch}
 use Rattle.session_port.specs.Record.{spawned, with_jobs}
-use Rattle.session_port.specs.declared.command.Command.{Command}
 use Rattle.session_port.specs.declared.command.Command.TheVariants.{Revise}
 use Rattle.session_port.specs.declared.command.LogCode.{LogCode}
 use Rattle.session_port.specs.declared.command.LogCode.TheVariants.{DuplicateOpen, UnexpectedChange, SkippedChange}
 use Rattle.session_port.specs.declared.event.TaskMsg.{TaskMsg}
 use Rattle.session_port.specs.declared.job.Job.{Job}
 use Rattle.turn_parts.specs.Working.{Working, and_then, logged, ordered, within}
-use Rattle.turn_parts.specs.Written.{Written, nothing_done, responses_in}
-use Rattle.turn_parts.specs.declared.fault.Counter.{Counter}
+use Rattle.turn_parts.specs.Written.{Written, nothing_done}
 use Rattle.desk.specs.Desk.{Desk}
-use Rattle.desk.specs.Folds.{asked_among, desk_past, pending_after, shutdown_after}
+use Rattle.desk.specs.Folds.{asked_among, pending_after, shutdown_after}
 use Rattle.desk.specs.Meaning.{Meaning}
 use Rattle.desk.specs.Reactions.{Reaction, silent, joined, cancel_row, message_row, request_row}
 use Rattle.desk.specs.Steps.{cancelled, requested, counted as counted_at_desk, kept as kept_at_desk, taken as taken_at_desk}
@@ -47,7 +45,7 @@ use Rattle.desk_laws.proofs.Settling.{cancel-settles, message-settles, message-t
 use Rattle.session_model.specs.Changing.{text_after, has_skipped}
 use Rattle.session_model.specs.Headline.{Documents, Place, Revises, reaction_of, row, notice_row, batch_row, desk_after, place_after, place_past, documents_after, last_of, revision_after, scene_at}
 use Rattle.session_model.specs.Inputs.{request_in, turns_after}
-use Rattle.session_model.specs.Machine.{Turning, at_desk, batched, changed_at, closed, closing_part, counted, desk_in, edited, edited_by, event_part, facts_of, happened, in_state, kept, later_parts, noticed, open_noted, opened_at, received, revised, skip_noted, state_in, step, taken, taken_in, text_set, turned, turning, version_set, with_desk, with_state, world_by, world_changed}
+use Rattle.session_model.specs.Machine.{Turning, at_desk, batched, changed_at, closed, closing_part, counted, desk_in, edited, edited_by, event_part, facts_of, happened, kept, later_parts, noticed, open_noted, opened_at, received, revised, skip_noted, state_in, step, taken, taken_in, text_set, turned, turning, version_set, with_desk, with_state, world_by, world_changed}
 use Rattle.session_model.specs.Entries.{entry_of, holds_text, text_put}
 use Rattle.session_model.specs.Notices.{notice_of}
 use Rattle.session_model.specs.Run.{Turn, Steps, begun, after_input, out_after}

@@ -1,5 +1,5 @@
 -- Places and desks that are alike in each part.
-use Rattle.std.proofs.Common.{◌≡◌, ◌+◌, refl, ap, arith}
+use Rattle.std.proofs.Common.{◌≡◌, ◌+◌, ap, arith}
 use Rattle.desk.specs.Desk.{Desk}
 use Rattle.session_model.specs.Headline.{Place}
 

@@ -2,16 +2,15 @@
 use Rattle.std.proofs.Common.{◌≡◌, ℕ, ◌+◌, List, [], ◌∷◌, ◌++◌, length, map, Bool, refl, sym, ap, ◌∙◌, subst, arith, append-nil, append_assoc, add-zero}
 use Rattle.std.specs.Prelude.{IsTrue, Option, None, Some}
 use Rattle.session_port.specs.Jobs.{Jobs}
-use Rattle.session_port.specs.Record.{HostCall, gave, took, given_in, taken_in, grown, after_order}
-use Rattle.session_port.specs.declared.command.Command.{Command}
+use Rattle.session_port.specs.Record.{HostCall, gave, took, given_in, grown, after_order}
 use Rattle.session_port.specs.declared.event.HostEvent.{HostEvent}
 use Rattle.session_port.specs.declared.event.HostEvent.TheVariants.{Bytes}
 use Rattle.session_model.specs.Course.{Course, takes, waits, bytes_in}
 use Rattle.desk.specs.Meaning.{Meaning}
-use Rattle.session_model.specs.Run.{Turn, Told, Runs, Steps, AllRead, AreHonest, AsksLast, HadTurns, IsHonestInput, MayAsk, Stretch, commands_of, giving, telling, taking, out_after, out_after_all, after_input, bytes_of}
+use Rattle.session_model.specs.Run.{Turn, Told, Runs, Steps, AllRead, AreHonest, IsHonestInput, MayAsk, Stretch, giving, telling, taking, out_after, out_after_all, after_input, bytes_of}
 use Rattle.session_model.specs.State.{State}
 use Rattle.turn_parts.specs.Written.{AreRead}
-use Rattle.session_laws.proofs.Asking.{asks-on, asks-turn, asks-events, given-append, given-turn, given-giving, taken-append, taken-turn, taken-giving, commands-append, taking-append}
+use Rattle.session_laws.proofs.Asking.{asks-on, asks-turn, asks-events, given-append, given-turn, taken-append, taken-turn, commands-append, taking-append}
 
 pub grown-nil : {X : Type 0} (r : Option (List X)) → grown r [] ≡ r
 grown-nil None = refl
