@@ -11,8 +11,8 @@ use Rattle.desk.specs.Desk.{Desk}
 use Rattle.desk.specs.Folds.{asked_among, pending_after, shutdown_after}
 use Rattle.desk.specs.Reactions.{Reaction}
 
--- between these two this was done, and this request, if any, was read by the turn of this number; these jobs of earlier turns are out. Nothing else was
--- written, ordered or changed but log lines
+-- between these two these responses were written and these jobs handed over, and this request, if any, was read by the turn that is counted. These jobs
+-- of earlier turns are out, no revision was told, and the turns stay
 pub record Settled (request : Option Request) (w v : Working Desk) (done : Reaction) (jobs : Jobs) : Type 0 where
   pub responses : responses_in v.out.messages ≡ responses_in w.out.messages ++ done.responses
   pub spawns : spawned v.out.commands ≡ spawned w.out.commands ++ done.jobs
