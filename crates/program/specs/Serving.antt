@@ -1,9 +1,10 @@
 -- What a program leaves on its output, and the status that it ends with.
-use Rattle.std.specs.Prelude.{◌≡◌, ◌⊎◌, ℕ, List, [], Bool, true, false, Option, None, Some}
+use Rattle.std.specs.Prelude.{◌≡◌, ◌⊎◌, ℕ, List, Bool, true, Option, None}
 use Rattle.std.specs.Io.KnownBytes.{Appends}
 use Rattle.server.specs.Serving.{Serves, is_session}
 use Rattle.desk.specs.Meaning.{Meaning}
 use Rattle.session_model.specs.Run.{told_of}
+use Rattle.session_peers.specs.Inline.{started}
 use Rattle.session_port.specs.Record.{HostCall, Rose}
 use Rattle.stdio.specs.Streams.{OutputData}
 
@@ -13,16 +14,11 @@ pub record Prints (text : List ℕ) (old new : OutputData) (status : ℕ) : Type
   pub whole : status ≡ 0 → Appends old.written new.written text
   pub failed : status ≡ 7 → Rose old.faults new.faults
 
--- the record of a host that was not called yet, if it keeps one
-abbrev pub new_record : Bool → Option (List HostCall)
-new_record true = Some []
-new_record false = None
-
--- the words were served on a new host
+-- the words were served on a new host, which keeps a record where it is to
 pub record ServesStream (meaning : Meaning) (keeps_record : Bool) (texts : List (List ℕ)) (old new : OutputData) (status : ℕ) : Type 0 where
   pub calls : Option (List HostCall)
   pub faults : ℕ
-  pub serves : Serves (is_session texts) meaning (told_of (new_record keeps_record) None) (told_of calls None) true (Rose 0 faults) (Rose old.faults new.faults) status
+  pub serves : Serves (is_session texts) meaning (told_of (started keeps_record) None) (told_of calls None) true (Rose 0 faults) (Rose old.faults new.faults) status
 
 -- or memory ran out before, and nothing was written
 abbrev pub Served : Meaning → Bool → List (List ℕ) → OutputData → OutputData → ℕ → Type 0
