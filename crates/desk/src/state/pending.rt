@@ -5,8 +5,8 @@ ghost use Rattle.lsp_frame.specs.Written.{AreWritable};
 ghost use Rattle.lsp_frame.specs.declared.message.Message.TheVariants.{Response as ResponseMessage};
 ghost use Rattle.desk.specs.Steps.{cancelled, responded};
 
-use crate::state::Desk;
 use crate::replies::canceled_by_client;
+use crate::state::Desk;
 use lsp_frame::{RequestId, Response};
 use plain::NoMemory;
 use turn_parts::TurnOut;

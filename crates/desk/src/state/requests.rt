@@ -16,11 +16,9 @@ ghost use Rattle.desk.specs.Meaning.{meaning_of, can_read};
 ghost use Rattle.desk.specs.Replies.{already_pending, shut_already, unknown_request, invalid_params, finding_reply};
 ghost use Rattle.desk.specs.Steps.{requested, responded, admitted, shut_down, asked, unknown, classed, planned, stated, echoed, queried, submitted, dispatched};
 
-use crate::state::{Desk, next_number};
-use crate::replies::{
-    already_pending, fault_reply, invalid_params, shut_already, unknown_request,
-};
+use crate::replies::{already_pending, fault_reply, invalid_params, shut_already, unknown_request};
 use crate::scene::Scene;
+use crate::state::{Desk, next_number};
 use analysis_host::{Analysis, Answer, Ask, GlobalStateSnapshot, Never, Outcome, RowId};
 use dispatch::response_with;
 use lsp_frame::{Registered, Request, RequestId, Response};
@@ -102,12 +100,7 @@ impl Desk {
 
     // Answers a request by a value.
     #[tactic(auto, unfolding(crate::specs::Steps::responded, crate::specs::Steps::answered_if, crate::specs::Steps::answered))]
-    fn answer_value(
-        &mut self,
-        ticket: u64,
-        value: Json,
-        out: &mut TurnOut,
-    ) -> Result<(), TurnError>
+    fn answer_value(&mut self, ticket: u64, value: Json, out: &mut TurnOut) -> Result<(), TurnError>
         requires { is_plain value ≡ true }
         ensures { Gives result (responded ticket (λ id. response_with id value) (record { state = self.old; out = out.old })) self.new out.new }
     {
@@ -306,12 +299,7 @@ impl Desk {
 // Requests that are read.
 impl Desk {
     #[tactic(auto, unfolding(crate::specs::Steps::unknown))]
-    fn on_unknown(
-        &mut self,
-        ticket: u64,
-        method: Text,
-        out: &mut TurnOut,
-    ) -> Result<(), TurnError>
+    fn on_unknown(&mut self, ticket: u64, method: Text, out: &mut TurnOut) -> Result<(), TurnError>
         ensures { Gives result (unknown ticket method (record { state = self.old; out = out.old })) self.new out.new }
     {
         self.refuse_unknown(ticket, out)?;

@@ -10,9 +10,9 @@ ghost use Rattle.desk.specs.Meaning.{meaning_of};
 ghost use Rattle.desk.specs.Replies.{stopped_reply};
 ghost use Rattle.desk.specs.Steps.{taken, delivered, stopped, responded};
 
-use crate::state::Desk;
 use crate::replies::{finished_reply, stopped_reply};
 use crate::scene::Scene;
+use crate::state::Desk;
 use analysis_host::{Analysis, RowId};
 use method_table::{class_of, retries};
 use plain::Text;
