@@ -1,87 +1,81 @@
-// Calls that claim nothing, so that a test carries no clauses. Each answers none also where memory runs out.
-use lsp_frame::{FrameReader, Message};
+// Calls that claim nothing, so that a test carries no clauses.
+use lsp_frame::{Cut, FrameFault, FrameReader, Message, RequestId, cut};
 use plain::{Json, Text};
 use std::alloc::Global;
+use std::test::Fail;
 
-pub(crate) fn text(alloc: Global, text: &str) -> Option<Text> {
-    Text::from_str(alloc, text).ok()
+pub(crate) fn text(alloc: Global, text: &str) -> Result<Text, Fail> {
+    Ok(Text::from_str(alloc, text)?)
 }
 
-pub(crate) fn json(alloc: Global, text: &str) -> Option<Json> {
-    Json::read(alloc, text.as_bytes()).ok()?
+pub(crate) fn json(alloc: Global, text: &str) -> Result<Json, Fail> {
+    Ok(Json::read(alloc, text.as_bytes())?.ok_or("no JSON")?)
 }
 
-pub(crate) fn push(out: &mut String, more: &str) -> Option<()> {
-    out.push_str(more).ok()
+pub(crate) fn cut_of(bytes: &[u8]) -> Cut {
+    cut(bytes)
 }
 
-/// What stands before the first mark in a text, and what stands behind it.
-pub(crate) fn cut_at<'a>(text: &'a str, mark: &str) -> (&'a str, &'a str) {
-    match text.split_once(mark) {
-        Some(parts) => parts,
-        None => (text, ""),
-    }
+pub(crate) fn id_of(json: Json) -> Option<RequestId> {
+    RequestId::from_json(json)
 }
 
-/// A text with a line end for each `|`.
-pub(crate) fn with_line_ends(alloc: Global, text: &str) -> Option<String> {
-    let mut out = String::new(alloc);
-    for (at, part) in text.split('|').enumerate() {
-        if at > 0 {
-            push(&mut out, "\r\n")?;
-        }
-        push(&mut out, part)?;
-    }
-    Some(out)
-}
-
-pub(crate) fn feed(reader: &mut FrameReader, bytes: &[u8]) -> Option<()> {
+pub(crate) fn feed(reader: &mut FrameReader, bytes: &[u8]) -> Result<(), Fail> {
     if u64::MAX - reader.taken() <= bytes.len() as u64 {
-        return None;
+        return Err(Fail::from("too many bytes"));
     }
-    reader.feed(bytes).ok()
+    Ok(reader.feed(bytes)?)
 }
 
-fn kind_of(message: &Message) -> &'static str {
-    match message {
-        Message::Request(_) => "request",
-        Message::Notification(_) => "notification",
-        Message::Response(_) => "response",
-    }
+/// What a reader gives next.
+#[derive(Drop)]
+pub(crate) enum Next {
+    Nothing,
+    Message(Message),
+    BadFrame(u64),
+    BadMessage(u64),
 }
 
-/// What a reader gives next: the kind of a message, nothing, or a fault.
-pub(crate) fn told_next(alloc: Global, reader: &mut FrameReader) -> Option<String> {
+pub(crate) fn take_next(reader: &mut FrameReader) -> Result<Next, Fail> {
     match reader.next() {
-        Ok(None) => String::from_str(alloc, "nothing").ok(),
-        Ok(Some(message)) => String::from_str(alloc, kind_of(&message)).ok(),
-        Err(fault) => fault.to_string(alloc).ok(),
+        Ok(None) => Ok(Next::Nothing),
+        Ok(Some(message)) => Ok(Next::Message(message)),
+        Err(FrameFault::BadFrame { at }) => Ok(Next::BadFrame(at)),
+        Err(FrameFault::BadMessage { at }) => Ok(Next::BadMessage(at)),
+        Err(FrameFault::NoMemory) => Err(Fail::from("out of memory")),
     }
 }
 
-/// Whether a reader gives this next.
-pub(crate) fn gives(alloc: Global, reader: &mut FrameReader, want: &str) -> Option<bool> {
-    Some(told_next(alloc, reader)?.as_str() == want)
-}
-
-fn feed_header(alloc: Global, reader: &mut FrameReader, len: usize) -> Option<()> {
-    let header = format!(in alloc; "Content-Length: {len}\r\n\r\n").ok()?;
-    feed(reader, header.as_bytes())
+pub(crate) fn is_mid_frame(reader: &FrameReader) -> bool {
+    reader.mid_frame()
 }
 
 /// A reader that holds the frame of a body.
-pub(crate) fn reader_of(alloc: Global, body: &[u8]) -> Option<FrameReader> {
+pub(crate) fn reader_of(alloc: Global, body: &[u8]) -> Result<FrameReader, Fail> {
     let mut reader = FrameReader::new(alloc);
-    feed_header(alloc, &mut reader, body.len())?;
+    let len = body.len();
+    let header = format!(in alloc; "Content-Length: {len}\r\n\r\n")?;
+    feed(&mut reader, header.as_bytes())?;
     feed(&mut reader, body)?;
-    Some(reader)
-}
-
-fn next_message(reader: &mut FrameReader) -> Option<Message> {
-    reader.next().ok()?
+    Ok(reader)
 }
 
 /// The message that a body is.
-pub(crate) fn message(alloc: Global, body: &str) -> Option<Message> {
-    next_message(&mut reader_of(alloc, body.as_bytes())?)
+pub(crate) fn message(alloc: Global, body: &[u8]) -> Result<Option<Message>, Fail> {
+    let mut reader = reader_of(alloc, body)?;
+    match take_next(&mut reader)? {
+        Next::Message(message) => Ok(Some(message)),
+        Next::BadMessage(_) => Ok(None),
+        Next::Nothing | Next::BadFrame(_) => Err(Fail::from("no frame")),
+    }
+}
+
+/// What kind of message a body is.
+pub(crate) fn kind(alloc: Global, body: &[u8]) -> Result<&'static str, Fail> {
+    Ok(match message(alloc, body)? {
+        None => "none",
+        Some(Message::Request(_)) => "request",
+        Some(Message::Notification(_)) => "notification",
+        Some(Message::Response(_)) => "response",
+    })
 }
