@@ -9,22 +9,15 @@ use Rattle.docs_vfs.specs.FileUrls.{path_of}
 use Rattle.docs_vfs.specs.declared.file_url.UrlFault.{UrlFault}
 use Rattle.text_core.specs.Positions.{place_of, range_of as places_of}
 use Rattle.text_core.specs.declared.position.Position.{Position}
-use Rattle.text_core.specs.declared.position.PositionEncoding.{PositionEncoding}
-use Rattle.text_core.specs.declared.position.PositionEncoding.TheVariants.{Wide}
-use Rattle.text_core.specs.declared.position.WideEncoding.TheVariants.{Utf16}
 use Rattle.text_core.specs.declared.position.OffsetFault.{OffsetFault}
 use Rattle.text_core.specs.declared.position.Range.{Range}
-use Rattle.analysis_host.specs.SnapshotData.{SnapshotData, text_at}
+use Rattle.analysis_host.specs.SnapshotData.{SnapshotData, encoding_of, text_at}
 use Rattle.analysis_host.specs.declared.file_places.FilePosition.{FilePosition}
 use Rattle.analysis_host.specs.declared.file_places.FileRange.{FileRange}
 use Rattle.analysis_host.specs.declared.file_places.ProtoFault.{ProtoFault}
 use Rattle.analysis_host.specs.declared.file_places.ProtoFault.TheVariants.{Url, NotFound, Offset, NoMemory}
 use Rattle.analysis_host.specs.declared.from_proto.AssistKind.{AssistKind}
 use Rattle.analysis_host.specs.declared.from_proto.AssistKind.TheVariants.{Generate, QuickFix, Refactor, RefactorExtract, RefactorInline, RefactorRewrite}
-
--- what a column counts: code units of UTF-16
-abbrev pub columns : PositionEncoding
-columns = Wide Utf16
 
 -- ---- what JSON is read as
 
@@ -75,7 +68,7 @@ in_url snapshot at find (Ok path) = in_file (at path) find (text_at snapshot.wor
 
 abbrev pub position_in : SnapshotData → Position → Result (List ℕ) UrlFault → Result FilePosition ProtoFault
 position_in snapshot position named =
-    in_url snapshot (λ path place. record { path = path; offset = place }) (λ text. place_of columns text position) named
+    in_url snapshot (λ path place. record { path = path; offset = place }) (λ text. place_of (encoding_of snapshot) text position) named
 
 -- the place of a position
 abbrev pub file_position : SnapshotData → List ℕ → Position → Result FilePosition ProtoFault
@@ -83,7 +76,7 @@ file_position snapshot url position = position_in snapshot position (path_of url
 
 abbrev pub range_in : SnapshotData → Range → Result (List ℕ) UrlFault → Result FileRange ProtoFault
 range_in snapshot range named =
-    in_url snapshot (λ path places. record { path = path; start = places.0; end = places.1 }) (λ text. places_of columns text range) named
+    in_url snapshot (λ path places. record { path = path; start = places.0; end = places.1 }) (λ text. places_of (encoding_of snapshot) text range) named
 
 -- the places of a range
 abbrev pub file_range : SnapshotData → List ℕ → Range → Result FileRange ProtoFault

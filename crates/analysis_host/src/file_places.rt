@@ -2,7 +2,6 @@
 ghost use Rattle.std.specs.Prelude.{Ok};
 ghost use Rattle.analysis_host.specs.FromProto.{position_in, file_position, range_in, file_range, Finds};
 
-use crate::from_proto::columns;
 use crate::snapshot::GlobalStateSnapshot;
 use docs_vfs::{UrlFault, VfsPath, path_of_url};
 use std::alloc::Global;
@@ -45,7 +44,7 @@ fn position_at(
     let Some(index) = snapshot.file_index(&path) else {
         return Err(ProtoFault::NotFound);
     };
-    match index.place_of(columns(), position) {
+    match index.place_of(snapshot.encoding(), position) {
         Ok(offset) => Ok(FilePosition { path, offset }),
         Err(fault) => Err(ProtoFault::Offset(fault)),
     }
@@ -79,7 +78,7 @@ fn range_at(
     let Some(index) = snapshot.file_index(&path) else {
         return Err(ProtoFault::NotFound);
     };
-    match index.range_of(columns(), range) {
+    match index.range_of(snapshot.encoding(), range) {
         Ok((start, end)) => Ok(FileRange { path, start, end }),
         Err(fault) => Err(ProtoFault::Offset(fault)),
     }

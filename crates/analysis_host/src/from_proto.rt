@@ -1,10 +1,10 @@
 // What is read of the protocol's JSON.
 ghost use Rattle.std.specs.Prelude.{◌≡◌};
 ghost use Rattle.serde_json.specs.View.{view};
-ghost use Rattle.analysis_host.specs.FromProto.{columns, number_at, position_of, position_at, range_of, assist_kind};
+ghost use Rattle.analysis_host.specs.FromProto.{number_at, position_of, position_at, range_of, assist_kind};
 
 use serde_json::Value;
-use text_core::{Position, PositionEncoding, Range, WideEncoding};
+use text_core::{Position, Range};
 
 /// Which assists a code action asks for.
 #[derive(Clone, Copy, Debug, PartialEq, Eq)]
@@ -15,13 +15,6 @@ pub enum AssistKind {
     RefactorExtract,
     RefactorInline,
     RefactorRewrite,
-}
-
-/// What a column counts.
-pub fn columns() -> PositionEncoding
-    ensures { result ≡ columns }
-{
-    PositionEncoding::Wide(WideEncoding::Utf16)
 }
 
 fn number_at(value: &Value, key: &str) -> Option<u32>

@@ -19,7 +19,7 @@ pub use analysis::Analysis;
 pub use ask::{Answer, Ask, Outcome};
 pub use cancel::{Cancel, Never};
 pub use file_places::{FilePosition, FileRange, ProtoFault, file_position, file_range};
-pub use from_proto::{AssistKind, assist_kind, columns, position_of, range_of};
+pub use from_proto::{AssistKind, assist_kind, position_of, range_of};
 pub use host::{AnalysisHost, Change, FileChange, WorldFault};
 pub use method_table::RowId;
 pub use path_map::{PathMap, TextTree};

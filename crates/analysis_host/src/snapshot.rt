@@ -2,7 +2,7 @@
 ghost use Rattle.std.specs.Prelude.{◌≡◌, None, IfOk, MatchOption, option_copied};
 ghost use Rattle.std.specs.Arc.{arc_value};
 ghost use Rattle.std.specs.FinMap as map;
-ghost use Rattle.analysis_host.specs.SnapshotData.{text_at, IsLineIndexAt};
+ghost use Rattle.analysis_host.specs.SnapshotData.{encoding_of, text_at, IsLineIndexAt};
 
 use crate::versions::Versions;
 use crate::world::World;
@@ -12,7 +12,7 @@ use ra_config::Config;
 use std::alloc::{AllocError, Global};
 use std::marker::Model;
 use std::sync::Arc;
-use text_core::{LineIndex, TextIndex};
+use text_core::{LineIndex, PositionEncoding, TextIndex};
 
 /// The parts of a snapshot.
 #[derive(Drop)]
@@ -61,6 +61,13 @@ impl GlobalStateSnapshot {
         &self.parts.config
     }
 
+    /// What a column counts.
+    pub fn encoding(&self) -> PositionEncoding
+        ensures { result ≡ encoding_of self.now }
+    {
+        self.config().encodings()
+    }
+
     /// The text of a path.
     pub fn file_text(&self, path: &VfsPath) -> Option<&str>
         ensures { option_copied result ≡ text_at self.now.world path.now }
@@ -85,7 +92,7 @@ impl GlobalStateSnapshot {
         Ok(Some(LineIndex {
             index: entry.text.share()?,
             endings: entry.endings,
-            encoding: self.config().encodings(),
+            encoding: self.encoding(),
         }))
     }
 

@@ -4,8 +4,7 @@ use Rattle.std.specs.Char.{is_ascii_whitespace}
 use Rattle.std.specs.List.{after_first, before_first, position_or_len, prefix_len, suffix_len}
 use Rattle.serde_json.specs.Data.{Data, null, string, object, member, no_members}
 use Rattle.analysis_host.specs.Answers.{Finding, answer}
-use Rattle.analysis_host.specs.FromProto.{columns}
-use Rattle.analysis_host.specs.SnapshotData.{SnapshotData}
+use Rattle.analysis_host.specs.SnapshotData.{SnapshotData, encoding_of}
 use Rattle.analysis_host.specs.declared.ask.Ask.{Ask}
 use Rattle.analysis_host.specs.declared.ask.Ask.TheVariants.{Request}
 use Rattle.analysis_host.specs.declared.ask.Answer.TheVariants.{Json}
@@ -18,6 +17,7 @@ use Rattle.text_core.specs.Lines.{line_text}
 use Rattle.text_core.specs.Positions.{range_of}
 use Rattle.text_core.specs.declared.position.OffsetFault.{OffsetFault}
 use Rattle.text_core.specs.declared.position.Position.{Position}
+use Rattle.text_core.specs.declared.position.PositionEncoding.{PositionEncoding}
 
 -- ---- a line: `key = value`
 
@@ -81,13 +81,14 @@ abbrev pub hover_at : List ℕ → Result (ℕ × ℕ) OffsetFault → Finding
 hover_at line (Err fault) = refusal (codes "Invalid offset")
 hover_at line (Ok places) = answer (Json (contents (value_at line (places.1 - places.0))))
 
--- hover at a position of a text
-abbrev pub hover_in : Position → List ℕ → Finding
-hover_in position text = hover_at (line_text text position.line) (range_of columns text (record { start = front_of position; end = position }))
+-- hover at a position of a text, by what a column counts
+abbrev pub hover_in : PositionEncoding → Position → List ℕ → Finding
+hover_in encoding position text =
+    hover_at (line_text text position.line) (range_of encoding text (record { start = front_of position; end = position }))
 
 -- hover at a position of a URL
 abbrev pub hover_of : SnapshotData → Option (List ℕ) → Option Position → Finding
-hover_of snapshot (Some uri) (Some position) = in_text (hover_in position) (text_of snapshot uri)
+hover_of snapshot (Some uri) (Some position) = in_text (hover_in (encoding_of snapshot) position) (text_of snapshot uri)
 hover_of snapshot (Some uri) None = malformed
 hover_of snapshot None position = malformed
 

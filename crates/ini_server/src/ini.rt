@@ -4,13 +4,13 @@ ghost use Rattle.analysis_host.specs.Answers.{Answers, IsPlainOutcome};
 ghost use Rattle.ini_server.specs.Ini.{hover_in, ini_answer, ini_decodes, is_key, is_on_key, value_at};
 ghost use Rattle.text_core.specs.Lines.{line_text};
 
-use analysis_host::{Analysis, Answer, Ask, Cancel, GlobalStateSnapshot, Outcome, RowId, columns};
+use analysis_host::{Analysis, Answer, Ask, Cancel, GlobalStateSnapshot, Outcome, RowId};
 use method_table::{HOVER, default_of};
 use plain::{Json, NoMemory, Text};
 use requests::{malformed, position_of, refusal, text_of, uri_of};
 use serde_json::json;
 use std::alloc::Global;
-use text_core::{Position, Range, TextIndex};
+use text_core::{Position, PositionEncoding, Range, TextIndex};
 
 /// Whether a name without white space around it is a key, and not the front of a section or a comment.
 fn is_key(name: &[u8]) -> bool
@@ -48,8 +48,13 @@ fn line_of(index: &TextIndex, line: u32) -> &str
 
 /// Hover at a position of a text.
 #[tactic(auto, unfolding(plain::specs::Plain::most_levels))]
-fn hover_in(alloc: Global, index: &TextIndex, position: Position) -> Result<Outcome, NoMemory>
-    ensures answers { IfOk result (Answers (hover_in position index.now) None) }
+fn hover_in(
+    alloc: Global,
+    encoding: PositionEncoding,
+    index: &TextIndex,
+    position: Position,
+) -> Result<Outcome, NoMemory>
+    ensures answers { IfOk result (Answers (hover_in encoding position index.now) None) }
     ensures plain { IfOk result IsPlainOutcome }
 {
     let range = Range {
@@ -59,7 +64,7 @@ fn hover_in(alloc: Global, index: &TextIndex, position: Position) -> Result<Outc
         },
         end: position,
     };
-    let Ok((start, end)) = index.range_of(columns(), range) else {
+    let Ok((start, end)) = index.range_of(encoding, range) else {
         return Ok(refusal(Text::from_str(alloc, "Invalid offset")?));
     };
     let line = line_of(index, position.line);
@@ -101,7 +106,7 @@ impl Analysis for Ini {
             return malformed(self.0);
         };
         match text_of(self.0, snapshot, uri)? {
-            Ok(index) => hover_in(self.0, index, position),
+            Ok(index) => hover_in(self.0, snapshot.encoding(), index, position),
             Err(message) => Ok(refusal(message)),
         }
     }

@@ -8,7 +8,6 @@ use Rattle.docs_vfs.specs.FileUrls.{path_of}
 use Rattle.docs_vfs.specs.declared.file_url.UrlFault.{UrlFault}
 use Rattle.lsp_frame.specs.declared.message.Request.{Request}
 use Rattle.lsp_frame.specs.declared.message.Message.TheVariants.{Request as RequestMessage, Notification as NotificationMessage, Response as ResponseMessage}
-use Rattle.analysis_host.specs.FromProto.{columns}
 use Rattle.analysis_host.specs.HostData.{HostData}
 use Rattle.analysis_host.specs.SnapshotData.{text_at}
 use Rattle.analysis_host.specs.declared.host.WorldFault.TheVariants.{Exhausted}
@@ -31,7 +30,7 @@ use Rattle.session_model.specs.Machine.{Turning, at_desk, batched, changed_at, c
 use Rattle.session_model.specs.Entries.{entry_of, holds_text}
 use Rattle.session_model.specs.Notices.{notice_of}
 use Rattle.session_model.specs.Run.{begun}
-use Rattle.session_model.specs.State.{State, scene_of}
+use Rattle.session_model.specs.State.{State, columns_of, scene_of}
 use Rattle.session_model.specs.declared.facts.Facts.{Facts}
 use Rattle.session_model.specs.declared.input.Event.{Event}
 use Rattle.session_model.specs.declared.input.Event.TheVariants.{Lsp, Task}
@@ -120,7 +119,9 @@ open-path-errs (Ok path) document w = noted-errs DuplicateOpen path document.ver
 is_open-errs : (path : List ℕ) (change : DidChange) (w : Working State) (b : Bool) → IfErr (if b then edited path change w else Ok (logged UnexpectedChange path w)) (AtLast w.state.host.revision)
 unfolding edited edited_by skip_noted
 is_open-errs path change w true =
-    let held = text_at w.state.host.world path in noted-errs SkippedChange path change.version (text_after columns change.changes held) w (has_skipped columns change.changes held)
+    let held = text_at w.state.host.world path in
+    let columns = columns_of w.state in
+    noted-errs SkippedChange path change.version (text_after columns change.changes held) w (has_skipped columns change.changes held)
 is_open-errs path change w false = tt
 
 change-path-errs : (o : Result (List ℕ) UrlFault) (change : DidChange) (w : Working State) → IfErr (changed_at o change w) (AtLast w.state.host.revision)

@@ -15,7 +15,6 @@ use Rattle.lsp_frame.specs.declared.message.Response.{Response}
 use Rattle.lsp_frame.specs.declared.message.Notification.{Notification}
 use Rattle.lsp_frame.specs.declared.message.Message.{Message}
 use Rattle.lsp_frame.specs.declared.message.Message.TheVariants.{Request as RequestMessage, Notification as NotificationMessage, Response as ResponseMessage}
-use Rattle.analysis_host.specs.FromProto.{columns}
 use Rattle.analysis_host.specs.HostData.{HostData}
 use Rattle.analysis_host.specs.SnapshotData.{text_at, text_of}
 use Rattle.analysis_host.specs.declared.text_entry.TextEntry.{TextEntry}
@@ -49,7 +48,7 @@ use Rattle.session_model.specs.Machine.{Turning, at_desk, batched, changed_at, c
 use Rattle.session_model.specs.Entries.{entry_of, holds_text, text_put}
 use Rattle.session_model.specs.Notices.{notice_of}
 use Rattle.session_model.specs.Run.{Turn, Steps, begun, after_input, out_after}
-use Rattle.session_model.specs.State.{State, scene_of}
+use Rattle.session_model.specs.State.{State, columns_of, scene_of}
 use Rattle.session_model.specs.declared.facts.Facts.{Facts}
 use Rattle.session_model.specs.declared.input.Event.{Event}
 use Rattle.session_model.specs.declared.input.Event.TheVariants.{Lsp, Task}
@@ -84,8 +83,8 @@ Raises old new = (new ≡ old) ⊎ ((new.world.texts ≢ old.world.texts) × (ne
 pub record Mid (meaning : Meaning) (s : State) (input : Input) (u : Working State) : Type 0 where
   pub serves : Serves meaning s input (after_input input s.desk.jobs) u
   pub settings : u.state.settings ≡ s.settings
-  pub texts : u.state.host.world.texts ≡ (documents_after input (place_of s).documents).texts
-  pub versions : u.state.versions ≡ (documents_after input (place_of s).documents).versions
+  pub texts : u.state.host.world.texts ≡ (documents_after (columns_of s) input (place_of s).documents).texts
+  pub versions : u.state.versions ≡ (documents_after (columns_of s) input (place_of s).documents).versions
   pub loading : u.state.loading ≡ s.loading
   pub unrevised : filter_map revision_of u.out.commands ≡ []
   pub later : s.host.revision ≤ u.state.host.revision
@@ -110,7 +109,7 @@ serves-desk meaning s input done v number is a = record {
 
 -- a turn that changed nothing but the desk
 desk-mid : (meaning : Meaning) (s : State) (input : Input) (done : Reaction) (v : Working Desk) → turns_after input s.desk.turns ≡ s.desk.turns + 1 → row meaning input (place_of s) ≡ done
-    → documents_after input (place_of s).documents ≡ (place_of s).documents → Settled (request_in input) (counted_desk s.desk) v done (after_input input s.desk.jobs) → Mid meaning s input (desk_now s v)
+    → documents_after (columns_of s) input (place_of s).documents ≡ (place_of s).documents → Settled (request_in input) (counted_desk s.desk) v done (after_input input s.desk.jobs) → Mid meaning s input (desk_now s v)
 desk-mid meaning s input done v number is same a = record {
   serves = serves-desk meaning s input done v number is a;
   settings = refl;
@@ -144,7 +143,7 @@ silent-serves : (meaning : Meaning) (s : State) (n : Notification) → notice_ro
 silent-serves meaning s n quiet = serves-desk meaning s (notification_input n) silent (counted_desk s.desk) refl quiet (nothing-settles (counted_desk s.desk))
 
 -- one that leaves the documents as they are
-still-mid : (meaning : Meaning) (s : State) (n : Notification) → notice_row (notice_of n) s.desk ≡ silent → documents_after (notification_input n) (place_of s).documents ≡ (place_of s).documents
+still-mid : (meaning : Meaning) (s : State) (n : Notification) → notice_row (notice_of n) s.desk ≡ silent → documents_after (columns_of s) (notification_input n) (place_of s).documents ≡ (place_of s).documents
     → Mid meaning s (notification_input n) (counted_turn s)
 still-mid meaning s n quiet same = desk-mid meaning s (notification_input n) silent (counted_desk s.desk) refl quiet same (nothing-settles (counted_desk s.desk))
 
@@ -170,8 +169,8 @@ record IsQuiet (s : State) (out : Written) : Type 0 where
 -- the notification sets the version and the text of a path
 record Sets (s : State) (n : Notification) (path : List ℕ) (version : ℤ) (text : List ℕ) : Type 0 where
   silent : notice_row (notice_of n) s.desk ≡ silent
-  texts : (documents_after (notification_input n) (place_of s).documents).texts ≡ text_put path text s.host.world.texts
-  versions : (documents_after (notification_input n) (place_of s).documents).versions ≡ map.insert s.versions path version
+  texts : (documents_after (columns_of s) (notification_input n) (place_of s).documents).texts ≡ text_put path text s.host.world.texts
+  versions : (documents_after (columns_of s) (notification_input n) (place_of s).documents).versions ≡ map.insert s.versions path version
 
 abbrev set_state : State → List ℕ → ℤ → State
 set_state s path version = record s { desk = record s.desk { turns = s.desk.turns + 1 }; versions = map.insert s.versions path version }
@@ -259,6 +258,7 @@ is_open-cases : (meaning : Meaning) (s : State) (n : Notification) (change : Did
 unfolding edited edited_by skip_noted
 is_open-cases meaning s n change path true told is stays =
     let held = text_at s.host.world path in
+    let columns = columns_of s in
     noted-cases meaning s n SkippedChange path change.version (text_after columns change.changes held) (has_skipped columns change.changes held)
     (record { silent = rw told refl; texts = rw (told, is, stays) refl; versions = rw (told, is, stays) refl })
 is_open-cases meaning s n change path false told is shut = logged-mid meaning s (notification_input n) _ _ (still-mid meaning s n (rw told refl) (rw (told, is, shut) refl))

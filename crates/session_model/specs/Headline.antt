@@ -9,7 +9,7 @@ use Rattle.docs_vfs.specs.declared.file_url.UrlFault.{UrlFault}
 use Rattle.lsp_frame.specs.Reader.{Reader}
 use Rattle.lsp_frame.specs.declared.message.Message.TheVariants.{Request as RequestMessage, Notification as NotificationMessage, Response as ResponseMessage}
 use Rattle.ra_config.specs.Config.{ConfigData}
-use Rattle.analysis_host.specs.FromProto.{columns}
+use Rattle.text_core.specs.declared.position.PositionEncoding.{PositionEncoding}
 use Rattle.analysis_host.specs.SnapshotData.{SnapshotData, text_of}
 use Rattle.analysis_host.specs.declared.text_entry.TextEntry.{TextEntry}
 use Rattle.session_port.specs.Events.{revision_of}
@@ -80,6 +80,10 @@ snapshot_at place = record {
   revision = place.revision;
 }
 
+-- what a column counts here
+abbrev pub columns_at : Place → PositionEncoding
+columns_at place = place.settings.capabilities.encodings
+
 -- what a request meets here; the crate graph counts as complete
 abbrev pub scene_at : Place → Scene
 scene_at place = record { snapshot = snapshot_at place; loading = place.loading; incomplete = false }
@@ -95,9 +99,9 @@ opened_at (Ok path) document documents = record {
 }
 
 -- a document is changed at a path, where it is open: its text is what the changes make of it, one after another
-abbrev pub changed_at : Result (List ℕ) UrlFault → DidChange → Documents → Documents
-changed_at (Err fault) change documents = documents
-changed_at (Ok path) change documents =
+abbrev pub changed_at : PositionEncoding → Result (List ℕ) UrlFault → DidChange → Documents → Documents
+changed_at columns (Err fault) change documents = documents
+changed_at columns (Ok path) change documents =
     if is_some (map.get documents.versions path)
     then record {
       texts = text_put path (text_after columns change.changes (text_of (map.get documents.texts path))) documents.texts;
@@ -105,17 +109,18 @@ changed_at (Ok path) change documents =
     }
     else documents
 
-abbrev pub documents_told : Option Notice → Documents → Documents
-documents_told None documents = documents
-documents_told (Some (Opened document)) documents = opened_at (path_of document.uri) document documents
-documents_told (Some (Changed change)) documents = changed_at (path_of change.uri) change documents
-documents_told (Some (Cancel id)) documents = documents
-documents_told (Some Malformed) documents = documents
-documents_told (Some Unhandled) documents = documents
-documents_told (Some Silent) documents = documents
+abbrev pub documents_told : PositionEncoding → Option Notice → Documents → Documents
+documents_told columns None documents = documents
+documents_told columns (Some (Opened document)) documents = opened_at (path_of document.uri) document documents
+documents_told columns (Some (Changed change)) documents = changed_at columns (path_of change.uri) change documents
+documents_told columns (Some (Cancel id)) documents = documents
+documents_told columns (Some Malformed) documents = documents
+documents_told columns (Some Unhandled) documents = documents
+documents_told columns (Some Silent) documents = documents
 
-abbrev pub documents_after : Input → Documents → Documents
-documents_after input documents = documents_told (notice_in input) documents
+-- by what a column counts
+abbrev pub documents_after : PositionEncoding → Input → Documents → Documents
+documents_after columns input documents = documents_told columns (notice_in input) documents
 
 -- the last of numbers, else the one before
 abbrev pub last_of : List ℕ → ℕ → ℕ
@@ -138,7 +143,7 @@ desk_after turn desk = record {
 abbrev pub place_after : Turn → Place → Place
 place_after turn place = record {
   settings = place.settings;
-  documents = documents_after turn.input place.documents;
+  documents = documents_after (columns_at place) turn.input place.documents;
   revision = revision_after turn.commands place.revision;
   desk = desk_after turn place.desk;
   loading = place.loading;

@@ -6,7 +6,6 @@ use Rattle.lsp_frame.specs.declared.message.Message.{Message}
 use Rattle.lsp_frame.specs.declared.message.Message.TheVariants.{Request as RequestMessage, Notification as NotificationMessage, Response as ResponseMessage}
 use Rattle.docs_vfs.specs.FileUrls.{path_of}
 use Rattle.docs_vfs.specs.declared.file_url.UrlFault.{UrlFault}
-use Rattle.analysis_host.specs.FromProto.{columns}
 use Rattle.analysis_host.specs.HostData.{HostData, changed as changed_world}
 use Rattle.analysis_host.specs.SnapshotData.{text_at}
 use Rattle.analysis_host.specs.declared.host.FileChange.{FileChange}
@@ -24,7 +23,7 @@ use Rattle.desk.specs.Steps.{requested, cancelled, counted as counted_at_desk, t
 use Rattle.session_model.specs.Changing.{text_after, has_skipped}
 use Rattle.session_model.specs.Entries.{entry_of, holds_text}
 use Rattle.session_model.specs.Notices.{notice_of}
-use Rattle.session_model.specs.State.{State, scene_of}
+use Rattle.session_model.specs.State.{State, columns_of, scene_of}
 use Rattle.session_model.specs.Texts.{id_text}
 use Rattle.session_model.specs.declared.facts.Facts.{Facts}
 use Rattle.session_model.specs.declared.input.Event.{Event}
@@ -84,6 +83,7 @@ skip_noted path skipped w = if skipped then logged SkippedChange path w else w
 
 unfoldable pub edited_by : List ℕ → Option (List ℕ) → DidChange → Working State → Result (Working State) Counter
 edited_by path held change w =
+    let columns = columns_of w.state in
     text_set path (text_after columns change.changes held) (version_set path change.version (skip_noted path (has_skipped columns change.changes held) w))
 
 -- the text that the changes leave, made on the one that the path has

@@ -2,6 +2,7 @@
 use Rattle.std.specs.Prelude.{ℤ, Bool, false}
 use Rattle.std.specs.FinMap as map
 use Rattle.docs_vfs.specs.Paths.{path_cmp}
+use Rattle.text_core.specs.declared.position.PositionEncoding.{PositionEncoding}
 use Rattle.ra_config.specs.Config.{ConfigData}
 use Rattle.analysis_host.specs.SnapshotData.{SnapshotData}
 use Rattle.analysis_host.specs.HostData.{HostData, new_host}
@@ -18,6 +19,10 @@ pub record State : Type 0 where
   pub desk : Desk
   -- files are loading
   pub loading : Bool
+
+-- what a column counts: what the client and the session have agreed upon
+abbrev pub columns_of : State → PositionEncoding
+columns_of state = state.settings.capabilities.encodings
 
 -- the snapshot of the present
 abbrev pub snapshot_of : State → SnapshotData

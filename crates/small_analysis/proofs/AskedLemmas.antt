@@ -10,6 +10,7 @@ use Rattle.small_analysis.specs.Brackets.{Brackets, bracket_near, brackets_befor
 use Rattle.small_analysis.specs.Positions.{place_in}
 use Rattle.small_analysis.specs.declared.brackets.Bracket.{Bracket}
 use Rattle.text_core.specs.declared.position.Position.{Position}
+use Rattle.text_core.specs.declared.position.PositionEncoding.{PositionEncoding}
 use Rattle.small_analysis.proofs.BracketLemmas.{brackets_more}
 
 abbrev Partners : Type 0
@@ -41,9 +42,9 @@ some_number : (a b : ℕ) → Some a ≡ Some b → a ≡ b
 some_number a b e = cc
 
 -- with the bracket near a position
-pub asks : (asked new : Places) (text : List ℕ) (position : Position) (place near : ℕ) → Some place ≡ place_in text position
-    → Some near ≡ bracket_near text place → new ≡ map.insert asked near tt → IsAsked text new position
-asks asked new text position place near at is put p p_at q q_is =
+pub asks : (encoding : PositionEncoding) (asked new : Places) (text : List ℕ) (position : Position) (place near : ℕ) → Some place ≡ place_in encoding text position
+    → Some near ≡ bracket_near text place → new ≡ map.insert asked near tt → IsAsked encoding text new position
+asks encoding asked new text position place near at is put p p_at q q_is =
     let here : place ≡ p = some_number place p (at ∙ p_at) in
     let its : near ≡ q = some_number near q (is ∙ ap (bracket_near text) here ∙ q_is) in
     ap (λ m. is_asked m q) put ∙ ap (λ n. is_asked (map.insert asked n tt) q) its ∙ asked_here asked q
@@ -51,9 +52,9 @@ asks asked new text position place near at is put p p_at q q_is =
 pub others_asked : (asked new : Places) (near : ℕ) → new ≡ map.insert asked near tt → (q : ℕ) → is_asked asked q ≡ true → is_asked new q ≡ true
 others_asked asked new near put q is = ap (λ m. is_asked m q) put ∙ asked_more asked near q is
 
-pub asked_still : (asked new : Places) (text : List ℕ) (position : Position) → ((q : ℕ) → is_asked asked q ≡ true → is_asked new q ≡ true)
-    → IsAsked text asked position → IsAsked text new position
-asked_still asked new text position more is place at near its = more near (is place at near its)
+pub asked_still : (encoding : PositionEncoding) (asked new : Places) (text : List ℕ) (position : Position) → ((q : ℕ) → is_asked asked q ≡ true → is_asked new q ≡ true)
+    → IsAsked encoding text asked position → IsAsked encoding text new position
+asked_still encoding asked new text position more is place at near its = more near (is place at near its)
 
 module _ (asked : Places) where
   -- a partner more among all, and among those that are kept

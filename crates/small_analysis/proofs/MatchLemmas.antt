@@ -14,6 +14,7 @@ use Rattle.small_analysis.specs.Positions.{position_in}
 use Rattle.small_analysis.specs.declared.brackets.Bracket.{Bracket}
 use Rattle.small_analysis.proofs.BracketLemmas.{is_matching, partner_within}
 use Rattle.text_core.specs.declared.position.Position.{Position}
+use Rattle.text_core.specs.declared.position.PositionEncoding.{PositionEncoding}
 
 opener_ascii : (opener b : ℕ) → closes opener b ≡ true → opener < 128
 opener_ascii opener b h = grind (arith, nat_tests)
@@ -32,7 +33,7 @@ partner_splits text place partner is =
     let here = ap (λ b. b.byte) match.there in
     (omega (arith, partner_within text (length text) place partner is), λ behind within above. absurd (omega (arith, above, here, ascii)))
 
-module _ (text : List ℕ) (asked : Places) (kept : map.FinMap nat_cmp Bracket) (position : Position) (place near : ℕ)
+module _ (encoding : PositionEncoding) (text : List ℕ) (asked : Places) (kept : map.FinMap nat_cmp Bracket) (position : Position) (place near : ℕ)
     (keeps : KeepsAsked asked (partners_of text) kept) (is_asked : IsAskedNear text asked place) (is : Some near ≡ bracket_near text place) where
   all_keep : map.get (partners_of text) near ≡ map.get kept near
   all_keep = sym (keeps near (is_asked near (sym is)))
@@ -41,9 +42,9 @@ module _ (text : List ℕ) (asked : Places) (kept : map.FinMap nat_cmp Bracket) 
   its = ap (option_and_then (map.get (partners_of text))) (sym is) ∙ all_keep
 
   abbrev found_by : Option Bracket → Position
-  found_by partner = unwrap_or (option_map (λ bracket. position_in text bracket.place) partner) position
+  found_by partner = unwrap_or (option_map (λ bracket. position_in encoding text bracket.place) partner) position
 
   pub a_match : (partner : Bracket) (found : Option Position) → Some partner ≡ map.get kept near → (IsSome found ↔ IsSplitPoint text partner.place)
-      → IfSome found (λ p. p ≡ position_in text partner.place) → unwrap_or found position ≡ matched text position place
+      → IfSome found (λ p. p ≡ position_in encoding text partner.place) → unwrap_or found position ≡ matched encoding text position place
   a_match partner None some splits value = absurd (false≢true (splits.1 (partner_splits text near partner (all_keep ∙ sym some))))
   a_match partner (Some p) some splits value = value ∙ sym (ap found_by (its ∙ sym some))

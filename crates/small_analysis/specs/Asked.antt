@@ -6,6 +6,7 @@ use Rattle.small_analysis.specs.Brackets.{Brackets, bracket_near, closes, is_ope
 use Rattle.small_analysis.specs.Positions.{place_in}
 use Rattle.small_analysis.specs.declared.brackets.Bracket.{Bracket}
 use Rattle.text_core.specs.declared.position.Position.{Position}
+use Rattle.text_core.specs.declared.position.PositionEncoding.{PositionEncoding}
 
 abbrev pub Places : Type 0
 Places = map.FinMap nat_cmp (Unit {0})
@@ -18,8 +19,8 @@ abbrev pub IsAskedNear : List ℕ → Places → ℕ → Type 0
 IsAskedNear text asked place = (near : ℕ) → bracket_near text place ≡ Some near → is_asked asked near ≡ true
 
 -- the bracket near a position is asked for
-abbrev pub IsAsked : List ℕ → Places → Position → Type 0
-IsAsked text asked position = (place : ℕ) → place_in text position ≡ Some place → IsAskedNear text asked place
+abbrev pub IsAsked : PositionEncoding → List ℕ → Places → Position → Type 0
+IsAsked encoding text asked position = (place : ℕ) → place_in encoding text position ≡ Some place → IsAskedNear text asked place
 
 -- each bracket that is asked for has the partner that it has among all
 abbrev pub KeepsAsked : Places → map.FinMap nat_cmp Bracket → map.FinMap nat_cmp Bracket → Type 0

@@ -3,7 +3,7 @@ use Rattle.std.specs.Prelude.{◌≡◌, ℕ, ◌==◌, ◌&&◌, Bool, true, is
 use Rattle.plain.specs.Plain.{is_plain}
 use Rattle.serde_json.specs.Data.{Data, null, string, object, member, no_members}
 use Rattle.analysis_host.specs.Answers.{Finding, answer}
-use Rattle.analysis_host.specs.SnapshotData.{SnapshotData}
+use Rattle.analysis_host.specs.SnapshotData.{SnapshotData, encoding_of}
 use Rattle.analysis_host.specs.declared.ask.Ask.{Ask}
 use Rattle.analysis_host.specs.declared.ask.Ask.TheVariants.{Request}
 use Rattle.analysis_host.specs.declared.ask.Answer.TheVariants.{Json}
@@ -21,6 +21,7 @@ use Rattle.small_analysis.specs.Names.{name_at}
 use Rattle.small_analysis.specs.Params.{HoverData, BraceData, hover_params, brace_params}
 use Rattle.small_analysis.specs.Positions.{place_in}
 use Rattle.text_core.specs.declared.position.Position.{Position}
+use Rattle.text_core.specs.declared.position.PositionEncoding.{PositionEncoding}
 
 -- the row of `textDocument/hover`
 abbrev pub is_hover : RowId → Bool
@@ -46,23 +47,23 @@ abbrev pub hover_at : List ℕ → Option ℕ → Finding
 hover_at text None = refusal (codes "Invalid offset")
 hover_at text (Some offset) = answer (Json (hover_value (name_at text offset)))
 
-abbrev pub hover_in : Position → List ℕ → Finding
-hover_in position text = hover_at text (place_in text position)
+abbrev pub hover_in : PositionEncoding → Position → List ℕ → Finding
+hover_in encoding position text = hover_at text (place_in encoding text position)
 
 abbrev pub hover_of : SnapshotData → Option HoverData → Finding
 hover_of snapshot None = malformed
-hover_of snapshot (Some hover) = in_text (hover_in hover.position) (text_of snapshot hover.uri)
+hover_of snapshot (Some hover) = in_text (hover_in (encoding_of snapshot) hover.position) (text_of snapshot hover.uri)
 
 abbrev pub braces_at : Option (List Position) → Finding
 braces_at None = refusal (codes "Invalid offset")
 braces_at (Some positions) = answer (Json (list_value position_value positions))
 
-abbrev pub braces_in : List Position → List ℕ → Finding
-braces_in positions text = braces_at (all_matched text positions)
+abbrev pub braces_in : PositionEncoding → List Position → List ℕ → Finding
+braces_in encoding positions text = braces_at (all_matched encoding text positions)
 
 abbrev pub braces_of : SnapshotData → Option BraceData → Finding
 braces_of snapshot None = malformed
-braces_of snapshot (Some braces) = in_text (braces_in braces.positions) (text_of snapshot braces.uri)
+braces_of snapshot (Some braces) = in_text (braces_in (encoding_of snapshot) braces.positions) (text_of snapshot braces.uri)
 
 -- what a row of a class is answered where nothing is known: an identity row its params; a row of the session's own turn and one of the
 -- formatting workers null; any other its default

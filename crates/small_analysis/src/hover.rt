@@ -2,6 +2,7 @@
 ghost use Rattle.std.specs.Prelude.{◌≡◌, true, None, IfOk, option_copied};
 ghost use Rattle.plain.specs.Plain.{is_plain};
 ghost use Rattle.analysis_host.specs.Answers.{Answers, IsPlainOutcome};
+ghost use Rattle.analysis_host.specs.SnapshotData.{encoding_of};
 ghost use Rattle.requests.specs.Files.{in_text, text_of};
 ghost use Rattle.small_analysis.specs.Params.{hover_params};
 ghost use Rattle.small_analysis.specs.Small.{hover_value, hover_in, hover_of};
@@ -12,7 +13,7 @@ use analysis_host::{Answer, GlobalStateSnapshot, Outcome};
 use plain::{Json, Members, Text};
 use requests::{malformed, position_of, refusal, text_of, uri_of};
 use std::alloc::{AllocError, Global};
-use text_core::{Position, TextIndex};
+use text_core::{Position, PositionEncoding, TextIndex};
 
 /// What a hover shows for a name.
 #[tactic(auto, unfolding(plain::specs::Plain::most_levels))]
@@ -33,11 +34,16 @@ fn hover_value(alloc: Global, name: Option<&str>) -> Result<Json, AllocError>
 }
 
 /// Hover at a position of a text.
-fn in_text(alloc: Global, index: &TextIndex, position: Position) -> Result<Outcome, AllocError>
-    ensures answers { IfOk result (Answers (hover_in position index.now) None) }
+fn in_text(
+    alloc: Global,
+    encoding: PositionEncoding,
+    index: &TextIndex,
+    position: Position,
+) -> Result<Outcome, AllocError>
+    ensures answers { IfOk result (Answers (hover_in encoding position index.now) None) }
     ensures plain { IfOk result IsPlainOutcome }
 {
-    match place_in(index, position) {
+    match place_in(encoding, index, position) {
         None => Ok(refusal(Text::from_str(alloc, "Invalid offset")?)),
         Some(offset) => {
             let value = hover_value(alloc, name_at(index.text(), offset))?;
@@ -53,11 +59,11 @@ fn at_url(
     uri: &str,
     position: Position,
 ) -> Result<Outcome, AllocError>
-    ensures answers { IfOk result (Answers (in_text (hover_in position) (text_of snapshot.now uri.now)) None) }
+    ensures answers { IfOk result (Answers (in_text (hover_in (encoding_of snapshot.now) position) (text_of snapshot.now uri.now)) None) }
     ensures plain { IfOk result IsPlainOutcome }
 {
     match text_of(alloc, snapshot, uri)? {
-        Ok(index) => in_text(alloc, index, position),
+        Ok(index) => in_text(alloc, snapshot.encoding(), index, position),
         Err(message) => Ok(refusal(message)),
     }
 }

@@ -8,7 +8,7 @@ use crate::brackets::{Bracket, bracket_near, partners_of};
 use crate::offsets::{place_in, position_in};
 use plain::{ByNumber, Items};
 use std::alloc::{AllocError, Global};
-use text_core::{Position, TextIndex};
+use text_core::{Position, PositionEncoding, TextIndex};
 
 /// The place of the bracket near a place.
 fn near(index: &TextIndex, place: usize) -> Option<usize>
@@ -18,11 +18,16 @@ fn near(index: &TextIndex, place: usize) -> Option<usize>
 }
 
 /// Asks for the bracket near a position, if there is one.
-fn ask(asked: &mut ByNumber<()>, index: &TextIndex, position: Position) -> Result<(), AllocError>
-    ensures here { OnOk result (IsAsked index.now asked.new position) }
+fn ask(
+    encoding: PositionEncoding,
+    asked: &mut ByNumber<()>,
+    index: &TextIndex,
+    position: Position,
+) -> Result<(), AllocError>
+    ensures here { OnOk result (IsAsked encoding index.now asked.new position) }
     ensures others { OnOk result ((place : ℕ) → is_asked asked.old place ≡ true → is_asked asked.new place ≡ true) }
 {
-    let Some(place) = place_in(index, position) else {
+    let Some(place) = place_in(encoding, index, position) else {
         return Ok(());
     };
     let Some(near) = near(index, place) else {
@@ -35,14 +40,15 @@ fn ask(asked: &mut ByNumber<()>, index: &TextIndex, position: Position) -> Resul
 /// The places of the brackets near the positions.
 fn asked_in(
     alloc: Global,
+    encoding: PositionEncoding,
     index: &TextIndex,
     positions: &[Position],
 ) -> Result<ByNumber<()>, AllocError>
-    ensures { IfOk result (λ asked. All (IsAsked index.now asked) positions.now) }
+    ensures { IfOk result (λ asked. All (IsAsked encoding index.now asked) positions.now) }
 {
     let mut asked = ByNumber::new(alloc);
     for position in positions {
-        ask(&mut asked, index, *position)?;
+        ask(encoding, &mut asked, index, *position)?;
     }
     Ok(asked)
 }
@@ -62,6 +68,7 @@ fn partners_in(
 
 /// Where the bracket stands that matches the one near a place, else the position itself.
 fn matched(
+    encoding: PositionEncoding,
     index: &TextIndex,
     asked: &ByNumber<()>,
     partners: &ByNumber<Bracket>,
@@ -70,7 +77,7 @@ fn matched(
 ) -> Position
     requires partners { KeepsAsked asked.now (partners_of index.now) partners.now }
     requires asked { IsAskedNear index.now asked.now place }
-    ensures { result ≡ matched index.now position place }
+    ensures { result ≡ matched encoding index.now position place }
 {
     let Some(near) = near(index, place) else {
         return position;
@@ -78,27 +85,28 @@ fn matched(
     let Some(partner) = partners.get(near as u64) else {
         return position;
     };
-    position_in(index, partner.place).unwrap_or(position)
+    position_in(encoding, index, partner.place).unwrap_or(position)
 }
 
 /// The same of each position, where all have a place.
 fn all_matched_by(
     alloc: Global,
+    encoding: PositionEncoding,
     index: &TextIndex,
     asked: &ByNumber<()>,
     partners: &ByNumber<Bracket>,
     positions: &[Position],
 ) -> Result<Option<Items<Position>>, AllocError>
     requires partners { KeepsAsked asked.now (partners_of index.now) partners.now }
-    requires asked { All (IsAsked index.now asked.now) positions.now }
-    ensures { IfOk result (λ found. found ≡ all_matched index.now positions.now) }
+    requires asked { All (IsAsked encoding index.now asked.now) positions.now }
+    ensures { IfOk result (λ found. found ≡ all_matched encoding index.now positions.now) }
 {
     let mut found = Items::new(alloc);
     for position in positions {
-        let Some(place) = place_in(index, *position) else {
+        let Some(place) = place_in(encoding, index, *position) else {
             return Ok(None);
         };
-        found.push(matched(index, asked, partners, *position, place))?;
+        found.push(matched(encoding, index, asked, partners, *position, place))?;
     }
     Ok(Some(found))
 }
@@ -106,12 +114,13 @@ fn all_matched_by(
 /// The match of each position.
 pub(crate) fn all_matched(
     alloc: Global,
+    encoding: PositionEncoding,
     index: &TextIndex,
     positions: &[Position],
 ) -> Result<Option<Items<Position>>, AllocError>
-    ensures { IfOk result (λ found. found ≡ all_matched index.now positions.now) }
+    ensures { IfOk result (λ found. found ≡ all_matched encoding index.now positions.now) }
 {
-    let asked = asked_in(alloc, index, positions)?;
+    let asked = asked_in(alloc, encoding, index, positions)?;
     let partners = partners_in(alloc, index, &asked)?;
-    all_matched_by(alloc, index, &asked, &partners, positions)
+    all_matched_by(alloc, encoding, index, &asked, &partners, positions)
 }

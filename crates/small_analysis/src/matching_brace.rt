@@ -1,6 +1,7 @@
 // What matchingBrace answers.
 ghost use Rattle.std.specs.Prelude.{None, IfOk};
 ghost use Rattle.analysis_host.specs.Answers.{Answers, IsPlainOutcome};
+ghost use Rattle.analysis_host.specs.SnapshotData.{encoding_of};
 ghost use Rattle.requests.specs.Files.{in_text, text_of};
 ghost use Rattle.small_analysis.specs.Params.{brace_params};
 ghost use Rattle.small_analysis.specs.Small.{braces_in, braces_of};
@@ -11,14 +12,19 @@ use plain::{Json, Text};
 use protocol_values::list_json;
 use requests::{malformed, positions_of, refusal, text_of, uri_of};
 use std::alloc::{AllocError, Global};
-use text_core::{Position, TextIndex};
+use text_core::{Position, PositionEncoding, TextIndex};
 
 /// The matches of positions in a text.
-fn in_text(alloc: Global, index: &TextIndex, positions: &[Position]) -> Result<Outcome, AllocError>
-    ensures answers { IfOk result (Answers (braces_in positions.now index.now) None) }
+fn in_text(
+    alloc: Global,
+    encoding: PositionEncoding,
+    index: &TextIndex,
+    positions: &[Position],
+) -> Result<Outcome, AllocError>
+    ensures answers { IfOk result (Answers (braces_in encoding positions.now index.now) None) }
     ensures plain { IfOk result IsPlainOutcome }
 {
-    match all_matched(alloc, index, positions)? {
+    match all_matched(alloc, encoding, index, positions)? {
         None => Ok(refusal(Text::from_str(alloc, "Invalid offset")?)),
         Some(found) => {
             let value = list_json(alloc, found.as_slice())?;
@@ -34,11 +40,11 @@ fn at_url(
     uri: &str,
     positions: &[Position],
 ) -> Result<Outcome, AllocError>
-    ensures answers { IfOk result (Answers (in_text (braces_in positions.now) (text_of snapshot.now uri.now)) None) }
+    ensures answers { IfOk result (Answers (in_text (braces_in (encoding_of snapshot.now) positions.now) (text_of snapshot.now uri.now)) None) }
     ensures plain { IfOk result IsPlainOutcome }
 {
     match text_of(alloc, snapshot, uri)? {
-        Ok(index) => in_text(alloc, index, positions),
+        Ok(index) => in_text(alloc, snapshot.encoding(), index, positions),
         Err(message) => Ok(refusal(message)),
     }
 }

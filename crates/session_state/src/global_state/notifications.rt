@@ -2,7 +2,6 @@
 ghost use Rattle.std.specs.Prelude.{◌≡◌, ◌<◌, ◌^◌, List, ℕ, [], ◌∷◌, length, None, Some, Ok, IfOk, OnOk, IfSome, is_some};
 ghost use Rattle.std.specs.FinMap as map;
 ghost use Rattle.session_model.specs.Changing.{text_after, has_skipped, IsNews};
-ghost use Rattle.analysis_host.specs.FromProto.{columns};
 ghost use Rattle.analysis_host.specs.SnapshotData.{text_at};
 ghost use Rattle.turn_parts.specs.Meets.{Meets, Gives};
 ghost use Rattle.turn_parts.specs.Working.{logged};
@@ -10,10 +9,11 @@ ghost use Rattle.desk.specs.Steps.{cancelled};
 ghost use Rattle.session_model.specs.Machine.{at_desk, noticed, opened_at, open_noted, changed_at, edited, edited_by, skip_noted, version_set, text_set, world_changed};
 ghost use Rattle.session_model.specs.Entries.{entry_of, holds_text};
 ghost use Rattle.session_model.specs.Notices.{notice_of, FitsWorld};
+ghost use Rattle.session_model.specs.State.{columns_of};
 ghost use Rattle.docs_vfs.specs.FileUrls.{path_of};
 
 use crate::global_state::GlobalState;
-use analysis_host::{Change, FileChange, SharedText, TextEntry, WorldFault, columns};
+use analysis_host::{Change, FileChange, SharedText, TextEntry, WorldFault};
 use docs_vfs::{UrlFault, VfsPath, path_of_url};
 use lsp_frame::{Notification, RequestId};
 use plain::{Items, Text};
@@ -21,7 +21,7 @@ use session_messages::notice_of;
 use session_model::{Counter, DidChange, DidOpen, Notice, TurnError};
 use session_port::LogCode;
 use std::alloc::{AllocError, Global};
-use text_core::{ContentChange, LineEndings, TextIndex, edit_document};
+use text_core::{ContentChange, LineEndings, PositionEncoding, TextIndex, edit_document};
 use turn_parts::TurnOut;
 
 // What edits make of a text.
@@ -47,13 +47,14 @@ fn share(alloc: Global, index: Option<TextIndex>) -> Result<Option<SharedText>, 
 #[tactic(auto, using(crate::proofs::News::news_of_other), unfolding(session_model::specs::Changing::text_after, session_model::specs::Changing::has_skipped))]
 fn edit_text(
     alloc: Global,
+    columns: PositionEncoding,
     index: &TextIndex,
     changes: Items<ContentChange>,
 ) -> Result<Edited, AllocError>
     ensures text { IfOk result (λ edited. IsNews (Some index.now) (text_after columns changes (Some index.now)) edited.news) }
     ensures skipped { IfOk result (λ edited. edited.skipped ≡ has_skipped columns changes (Some index.now)) }
 {
-    let edited = edit_document(alloc, columns(), index, changes)?;
+    let edited = edit_document(alloc, columns, index, changes)?;
     Ok(Edited {
         news: share(alloc, edited.changed)?,
         skipped: edited.skipped,
@@ -62,12 +63,16 @@ fn edit_text(
 
 // The same of a document that has no text.
 #[tactic(auto, using(crate::proofs::News::news_of_none), unfolding(session_model::specs::Changing::text_after, session_model::specs::Changing::has_skipped))]
-fn edit_nothing(alloc: Global, changes: Items<ContentChange>) -> Result<Edited, AllocError>
+fn edit_nothing(
+    alloc: Global,
+    columns: PositionEncoding,
+    changes: Items<ContentChange>,
+) -> Result<Edited, AllocError>
     ensures text { IfOk result (λ edited. IsNews None (text_after columns changes None) edited.news) }
     ensures skipped { IfOk result (λ edited. edited.skipped ≡ has_skipped columns changes None) }
 {
     let empty = TextIndex::from_text(alloc, Text::new(alloc))?;
-    let edited = edit_document(alloc, columns(), &empty, changes)?;
+    let edited = edit_document(alloc, columns, &empty, changes)?;
     let news = edited.changed.unwrap_or(empty);
     Ok(Edited {
         news: Some(SharedText::from_index(alloc, news)?),
@@ -226,12 +231,13 @@ impl GlobalState {
     // The text that the changes leave of a document's, where it is another one; a document that has none is empty.
     fn edit_held(&self, path: &VfsPath, changes: Items<ContentChange>) -> Result<Edited, AllocError>
         ensures text { let held = text_at self.now.host.world path.now in
-            IfOk result (λ edited. IsNews held (text_after columns changes held) edited.news) }
-        ensures skipped { IfOk result (λ edited. edited.skipped ≡ has_skipped columns changes (text_at self.now.host.world path.now)) }
+            IfOk result (λ edited. IsNews held (text_after (columns_of self.now) changes held) edited.news) }
+        ensures skipped { IfOk result (λ edited. edited.skipped ≡ has_skipped (columns_of self.now) changes (text_at self.now.host.world path.now)) }
     {
+        let columns = self.settings.encodings();
         match self.host.index(path) {
-            Some(index) => edit_text(self.alloc, index, changes),
-            None => edit_nothing(self.alloc, changes),
+            Some(index) => edit_text(self.alloc, columns, index, changes),
+            None => edit_nothing(self.alloc, columns, changes),
         }
     }
 
