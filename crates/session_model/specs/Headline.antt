@@ -21,7 +21,7 @@ use Rattle.session_port.specs.declared.event.TaskMsg.{TaskMsg}
 use Rattle.session_port.specs.declared.job.Job.{Job}
 use Rattle.turn_parts.specs.Written.{responses_in}
 use Rattle.turn_parts.specs.declared.fault.Counter.{Counter}
-use Rattle.turn_parts.specs.declared.fault.Counter.TheVariants.{Turns, Bytes, Jobs as JobsCounter, Revisions, Files}
+use Rattle.turn_parts.specs.declared.fault.Counter.TheVariants.{Turns, Bytes, Jobs as JobsCounter, Revisions, Outgoing, Files}
 use Rattle.desk.specs.Desk.{Desk, new_desk}
 use Rattle.desk.specs.Folds.{AreHeld, AnswersOnce, asked_among, desk_past, pending_after, shutdown_after}
 use Rattle.desk.specs.Meaning.{Meaning}
@@ -252,6 +252,7 @@ NeedsMore meaning place input Turns = 2 ^ 64 ≤ next_turn place
 NeedsMore meaning place input Bytes = ⊥
 NeedsMore meaning place input JobsCounter = 2 ^ 64 ≤ place.desk.handed + length (row meaning input place).jobs
 NeedsMore meaning place input Revisions = 2 ^ 64 - 1 ≤ place.revision
+NeedsMore meaning place input Outgoing = ⊥
 NeedsMore meaning place input Files = ⊥
 
 -- one more of a counter was needed than there are, by the turn of the next input, or for the bytes that were given

@@ -75,7 +75,7 @@ impl NumberedJobs {
         for command in commands {
             match command {
                 Command::Spawn(job) => self.push(job.clone()?)?,
-                Command::Revise(_) | Command::Log(..) | Command::Stop => {}
+                Command::Revise(_) | Command::Invalidate(_) | Command::Log(..) | Command::Stop => {}
             }
         }
         Ok(())

@@ -1,7 +1,7 @@
 -- What the session asks of an event and of a command, each by one question.
 use Rattle.std.specs.Prelude.{ℕ, List, [], Option, None, Some}
 use Rattle.session_port.specs.declared.command.Command.{Command}
-use Rattle.session_port.specs.declared.command.Command.TheVariants.{Spawn, Revise, Log, Stop}
+use Rattle.session_port.specs.declared.command.Command.TheVariants.{Spawn, Revise, Invalidate, Log, Stop}
 use Rattle.session_port.specs.declared.event.HostEvent.{HostEvent}
 use Rattle.session_port.specs.declared.event.HostEvent.TheVariants.{Bytes, Ended, Tasks}
 use Rattle.session_port.specs.declared.event.TaskMsg.{TaskMsg}
@@ -23,6 +23,7 @@ batch_in (Tasks batch) = batch
 abbrev pub job_of : Command → Option Job
 job_of (Spawn job) = Some job
 job_of (Revise revision) = None
+job_of (Invalidate path) = None
 job_of (Log code text) = None
 job_of Stop = None
 
@@ -30,5 +31,6 @@ job_of Stop = None
 abbrev pub revision_of : Command → Option ℕ
 revision_of (Spawn job) = None
 revision_of (Revise revision) = Some revision
+revision_of (Invalidate path) = None
 revision_of (Log code text) = None
 revision_of Stop = None

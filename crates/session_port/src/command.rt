@@ -1,5 +1,6 @@
 // What a session orders of its host.
 use crate::job::Job;
+use docs_vfs::VfsPath;
 use plain::{Copied, Items, Text};
 use std::alloc::AllocError;
 
@@ -18,12 +19,17 @@ pub enum LogCode {
     DuplicateOpen,
     /// A change of a document that is not open. The text is its path.
     UnexpectedChange,
+    /// A document that is closed and was not open. The text is its path.
+    OrphanClose,
     /// A change of which some edit has no place in the text, or would leave too long a one. The text is the path.
     SkippedChange,
     /// A URL that names no file. The text is the URL.
     BadPath,
     /// A message that fits no job out. The text is the job's number.
     StrangeResult,
+    /// The client did not answer with its settings. The text is the message of its error; `empty` where it has neither an error nor a
+    /// result; `not plain` for a value that isn't plain.
+    SettingsError,
 }
 
 /// What a session orders of its host.
@@ -33,6 +39,8 @@ pub enum Command {
     Spawn(Job),
     /// The present revision.
     Revise(u64),
+    /// What was read of this file is out of date: read it anew.
+    Invalidate(VfsPath),
     Log(LogCode, Text),
     /// The session has ended.
     Stop,
@@ -47,6 +55,7 @@ impl Clone for Command {
         match self {
             Command::Spawn(job) => Ok(Command::Spawn(job.clone()?)),
             Command::Revise(revision) => Ok(Command::Revise(*revision)),
+            Command::Invalidate(path) => Ok(Command::Invalidate(path.clone()?)),
             Command::Log(code, text) => Ok(Command::Log(*code, text.clone()?)),
             Command::Stop => Ok(Command::Stop),
         }

@@ -67,6 +67,7 @@ fn command_name(command: &Command) -> &'static str {
         Command::Spawn(job) => class_of(job),
         Command::Log(_, _) => "log",
         Command::Revise(_) => "revise",
+        Command::Invalidate(_) => "invalidate",
         Command::Stop => "stop",
     }
 }

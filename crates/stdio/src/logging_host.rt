@@ -29,9 +29,11 @@ fn words_of(code: LogCode) -> &'static str {
         LogCode::UnknownResponse => "response to no request",
         LogCode::DuplicateOpen => "document opened twice",
         LogCode::UnexpectedChange => "change of a document that is not open",
+        LogCode::OrphanClose => "document closed that is not open",
         LogCode::SkippedChange => "edit that has no place in its document",
         LogCode::BadPath => "URL of no file",
         LogCode::StrangeResult => "result that fits no job",
+        LogCode::SettingsError => "no settings from the client",
     }
 }
 

@@ -1,6 +1,7 @@
 -- How the parts of a turn are put together: each goes on from the state that those before it leave, and from what they have written.
 use Rattle.std.specs.Prelude.{ℕ, ◌+◌, ◌-◌, ◌^◌, List, [], ◌∷◌, ◌++◌, ltb, Result, Ok, Err, if◌then◌else◌}
 use Rattle.lsp_frame.specs.declared.message.Response.{Response}
+use Rattle.lsp_frame.specs.declared.message.Message.{Message}
 use Rattle.lsp_frame.specs.declared.message.Message.TheVariants.{Response as ResponseMessage}
 use Rattle.session_port.specs.declared.command.Command.{Command}
 use Rattle.session_port.specs.declared.command.Command.TheVariants.{Log}
@@ -20,6 +21,10 @@ and_then (Err e) f = Err e
 -- the next number, unless the greatest one of 64 bits was used
 abbrev pub next_number : ℕ → Counter → Result ℕ Counter
 next_number used counter = if ltb used (2 ^ 64 - 1) then Ok (used + 1) else Err counter
+
+-- a message is written
+unfoldable pub written : {S : Type 0} → Message → Working S → Working S
+written message w = record w { out = record w.out { messages = w.out.messages ++ message ∷ [] } }
 
 -- a response is written
 unfoldable pub replied : {S : Type 0} → Response → Working S → Working S

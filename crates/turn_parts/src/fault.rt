@@ -11,6 +11,8 @@ pub enum Counter {
     Bytes,
     Jobs,
     Revisions,
+    /// The numbers of the session's own requests.
+    Outgoing,
     /// The numbers of files. Nothing gives one yet.
     Files,
 }

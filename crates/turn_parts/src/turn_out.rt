@@ -43,14 +43,22 @@ impl TurnOut {
         }
     }
 
-    /// Writes a response more.
+    /// Writes a message more.
     #[tactic(auto, using(crate::proofs::Writable::writable_push))]
+    pub fn write(&mut self, message: Message) -> Result<(), AllocError>
+        requires { AreWritable message }
+        ensures { OnOk result (self.new ≡ record self.old { messages = self.old.messages ++ message ∷ [] }) }
+    {
+        self.messages.push(message)?;
+        Ok(())
+    }
+
+    /// Writes a response more.
     pub fn reply(&mut self, response: Response) -> Result<(), AllocError>
         requires { AreWritable (ResponseMessage response) }
         ensures { OnOk result (self.new ≡ record self.old { messages = self.old.messages ++ ResponseMessage response ∷ [] }) }
     {
-        self.messages.push(Message::Response(response))?;
-        Ok(())
+        self.write(Message::Response(response))
     }
 
     /// Orders a command more.
