@@ -26,14 +26,12 @@ use Rattle.desk_laws.proofs.Held.{has-ticket}
 use Rattle.desk_laws.proofs.Once.{Turns, closes}
 use Rattle.desk_laws.proofs.Reacting.{new-reacts, result-reacts}
 use Rattle.session_model.specs.Headline.{Place, reaction_of, row, notice_row, batch_row, place_past, beginning, next_turn, place_after, place_after_all, scene_at}
-use Rattle.session_model.specs.Inputs.{request_in}
-use Rattle.session_model.specs.Notices.{notice_of}
+use Rattle.session_model.specs.Inputs.{cancelled_by, request_in}
+use Rattle.session_model.specs.Hearing.{heard_of, told_by}
 use Rattle.session_model.specs.Run.{Turn, after_input}
 use Rattle.session_model.specs.declared.input.Event.TheVariants.{Lsp, Task}
 use Rattle.session_model.specs.declared.input.Input.{Input}
 use Rattle.session_model.specs.declared.input.Input.TheVariants.{Start, Next}
-use Rattle.session_model.specs.declared.notice.Notice.{Notice}
-use Rattle.session_model.specs.declared.notice.Notice.TheVariants.{Opened, Changed, Cancel, Malformed, Unhandled, Silent}
 use Rattle.session_laws.specs.Answering.{answered_by, answered_by_turn, AreAccountedFor}
 use Rattle.session_laws.proofs.Each.{Each, each-append, each-asked, each-one, each-weaker, no-ticket}
 use Rattle.session_laws.proofs.Handed.{input-out, jobs-out}
@@ -105,18 +103,14 @@ either-ready : (place : Place) (input : Input) (b : Bool) (response : Response) 
 either-ready place input true response = tt
 either-ready place input false response = tt
 
-notice-ready : (n : Notification) (notice : Notice) (place : Place) → RowReady place (Next (Lsp (NotificationMessage n))) (notice_row notice place.desk)
-notice-ready n (Cancel id) place = either-ready place (Next (Lsp (NotificationMessage n))) (is_pending id place.desk.pending) (canceled_by_client id)
-notice-ready n (Opened document) place = tt
-notice-ready n (Changed change) place = tt
-notice-ready n Malformed place = tt
-notice-ready n Unhandled place = tt
-notice-ready n Silent place = tt
+notice-ready : (n : Notification) (cancelled : Option RequestId) (place : Place) → RowReady place (Next (Lsp (NotificationMessage n))) (notice_row cancelled place.desk)
+notice-ready n (Some id) place = either-ready place (Next (Lsp (NotificationMessage n))) (is_pending id place.desk.pending) (canceled_by_client id)
+notice-ready n None place = tt
 
 row-ready : (meaning : Meaning) (input : Input) (place : Place) → RowReady place input (row meaning input place)
 row-ready meaning Start place = tt
 row-ready meaning (Next (Lsp (RequestMessage r))) place = request-ready meaning place r (is_pending r.id place.desk.pending) refl
-row-ready meaning (Next (Lsp (NotificationMessage n))) place = notice-ready n (notice_of n) place
+row-ready meaning (Next (Lsp (NotificationMessage n))) place = notice-ready n (cancelled_by (told_by (heard_of n))) place
 row-ready meaning (Next (Lsp (ResponseMessage r))) place = tt
 row-ready meaning (Next (Task batch)) place = each-weaker (IsAwaited place.desk.pending) _ _ (λ job h ticket its. inl (h ticket its)) (batch-awaited meaning batch place)
 

@@ -1,9 +1,10 @@
 -- A turn that the machine can't take needs one more of a counter than there are.
-use Rattle.std.proofs.Common.{◌≡◌, ℕ, ◌+◌, ◌-◌, ◌^◌, ◌≤◌, List, [], ◌∷◌, ◌++◌, length, Bool, true, false, refl, sym, subst, arith}
+use Rattle.std.proofs.Common.{◌≡◌, ℕ, ◌+◌, ◌-◌, ◌^◌, ◌≤◌, List, [], ◌∷◌, ◌++◌, length, Bool, true, false, refl, sym, subst, arith, eqb-true, inl, inr}
 use Rattle.std.proofs.lemmas.Bool.{ltb-false}
 use Rattle.std.proofs.lemmas.List.{length-append}
 use Rattle.std.proofs.lemmas.Result.{IfErr-at_err, IfOk-at_ok}
-use Rattle.std.specs.Prelude.{Result, Ok, Err, IfErr, ℤ, Some, if◌then◌else◌, ltb}
+use Rattle.std.specs.Prelude.{◌⊎◌, ◌==◌, Result, Ok, Err, IfErr, ℤ, Some, if◌then◌else◌, ltb}
+use Rattle.serde_json.specs.Data.{Data}
 use Rattle.docs_vfs.specs.FileUrls.{path_of}
 use Rattle.docs_vfs.specs.declared.file_url.UrlFault.{UrlFault}
 use Rattle.lsp_frame.specs.declared.message.Request.{Request}
@@ -15,9 +16,19 @@ use Rattle.session_port.specs.Jobs.{after_message}
 use Rattle.session_port.specs.declared.command.LogCode.{LogCode}
 use Rattle.session_port.specs.declared.command.LogCode.TheVariants.{DuplicateOpen, UnexpectedChange, SkippedChange}
 use Rattle.session_port.specs.declared.event.TaskMsg.{TaskMsg}
-use Rattle.turn_parts.specs.Working.{Working, and_then, logged, ordered, within}
+use Rattle.turn_parts.specs.Working.{Working, and_then, logged, ordered, within, written}
 use Rattle.turn_parts.specs.declared.fault.Counter.{Counter}
-use Rattle.turn_parts.specs.declared.fault.Counter.TheVariants.{Turns, Revisions}
+use Rattle.turn_parts.specs.declared.fault.Counter.TheVariants.{Turns, Outgoing, Revisions}
+use Rattle.outgoing.specs.Outgoing.{number_limit}
+use Rattle.client.specs.Client.{Client}
+use Rattle.client.specs.Folds.{after_asking}
+use Rattle.client.specs.Steps.{answered, asked_for, folders_changed, request_at}
+use Rattle.client.specs.declared.handler.ReqHandler.{ReqHandler}
+use Rattle.client.specs.declared.handler.ReqHandler.TheVariants.{Settings}
+use Rattle.notify.specs.declared.notice.DidChange.{DidChange}
+use Rattle.notify.specs.declared.notice.DidOpen.{DidOpen}
+use Rattle.notify.specs.declared.notice.Notice.{Notice}
+use Rattle.notify.specs.declared.notice.Notice.TheVariants as notices
 use Rattle.desk.specs.Meaning.{Meaning}
 use Rattle.desk.specs.Reactions.{Reaction, message_row, request_row}
 use Rattle.desk.specs.Steps.{cancelled, requested, counted as counted_at_desk, taken as taken_at_desk}
@@ -26,9 +37,9 @@ use Rattle.desk_laws.proofs.Results.{IfErr-within}
 use Rattle.desk_laws.proofs.Settling.{message-turns, request-turns}
 use Rattle.session_model.specs.Changing.{text_after, has_skipped}
 use Rattle.session_model.specs.Headline.{NeedsMore, row, batch_row, place_past, scene_at}
-use Rattle.session_model.specs.Machine.{Turning, at_desk, batched, changed_at, closed, closing_part, counted, desk_in, edited, edited_by, event_part, happened, is_open, kept, later_parts, noticed, open_noted, opened_at, received, skip_noted, state_in, step, taken, taken_in, text_set, turned, turning, version_set, with_desk, with_state, world_by, world_changed}
+use Rattle.session_model.specs.Machine.{Turning, asked_for_settings, at_client, at_desk, batched, changed_at, client_in, closed, closing_part, counted, desk_in, edited, edited_by, event_part, happened, is_open, kept, later_parts, noticed, open_noted, opened_at, received, skip_noted, state_in, step, taken, taken_in, text_set, told, turned, turning, version_set, with_client, with_desk, with_state, world_by, world_changed}
 use Rattle.session_model.specs.Entries.{entry_of, holds_text}
-use Rattle.session_model.specs.Notices.{notice_of}
+use Rattle.session_model.specs.Hearing.{heard_of}
 use Rattle.session_model.specs.Run.{begun}
 use Rattle.session_model.specs.State.{State, columns_of, scene_of}
 use Rattle.session_model.specs.declared.facts.Facts.{Facts}
@@ -36,10 +47,8 @@ use Rattle.session_model.specs.declared.input.Event.{Event}
 use Rattle.session_model.specs.declared.input.Event.TheVariants.{Lsp, Task}
 use Rattle.session_model.specs.declared.input.Input.{Input}
 use Rattle.session_model.specs.declared.input.Input.TheVariants.{Start, Next}
-use Rattle.session_model.specs.declared.notice.DidChange.{DidChange}
-use Rattle.session_model.specs.declared.notice.DidOpen.{DidOpen}
-use Rattle.session_model.specs.declared.notice.Notice.{Notice}
-use Rattle.session_model.specs.declared.notice.Notice.TheVariants.{Opened, Changed, Cancel, Malformed, Unhandled, Silent}
+use Rattle.session_model.specs.declared.heard.Heard.{Heard}
+use Rattle.session_model.specs.declared.heard.Heard.TheVariants.{Told, Malformed, Unhandled, Silent}
 use Rattle.session_laws.specs.Invariant.{place_of}
 use Rattle.session_laws.proofs.Rows.{DoesAtDesk, at, counted-is, counted_turn, place_at, settled-place, taken-settles}
 
@@ -129,17 +138,49 @@ unfolding changed_at
 change-path-errs (Err fault) change w = tt
 change-path-errs (Ok path) change w = is_open-errs path change w (is_open path w)
 
-notice-errs : (notice : Notice) (method : List ℕ) (w : Working State) → IfErr (noticed notice method w) (AtLast w.state.host.revision)
-unfolding noticed
-notice-errs (Opened document) method w = open-path-errs (path_of document.uri) document w
-notice-errs (Changed change) method w = change-path-errs (path_of change.uri) change w
-notice-errs (Cancel id) method w = IfErr-within desk_in with_desk (λ d. Ok (cancelled id d)) w (AtLast w.state.host.revision) tt
-notice-errs Malformed method w = tt
-notice-errs Unhandled method w = tt
-notice-errs Silent method w = tt
+-- the revision is the last one, or all numbers of requests were given
+abbrev AreUsed : State → Counter → Type 0
+AreUsed s counter = AtLast s.host.revision counter ⊎ ((counter ≡ Outgoing) × (number_limit ≤ s.client.asked.given))
 
-needs-revision : (meaning : Meaning) (s : State) (input : Input) (counter : Counter) → AtLast s.host.revision counter → Needs meaning s input counter
-needs-revision meaning s input counter h = subst (Needs meaning s input) (sym h.0) h.1
+asked-errs : (method : List ℕ) (params : Data) (then : ReqHandler) (c : Working Client) (b : Bool) → (c.state.asked.given == number_limit) ≡ b
+    → IfErr (if b then Err Outgoing else Ok (written (request_at c.state.asked.given method params) (record c { state = after_asking then c.state })))
+    (λ counter. (counter ≡ Outgoing) × (number_limit ≤ c.state.asked.given))
+asked-errs method params then c true all = (refl, subst (λ n. number_limit ≤ n) (sym (eqb-true _ _ all)) (omega arith))
+asked-errs method params then c false some = tt
+
+asking-errs : (w : Working State) → IfErr (at_client asked_for_settings w) (AreUsed w.state)
+unfolding asked_for
+asking-errs w =
+    IfErr-within client_in with_client asked_for_settings w (AreUsed w.state)
+    (err-weaker _ (λ counter. (counter ≡ Outgoing) × (number_limit ≤ w.state.client.asked.given)) (AreUsed w.state)
+    (asked-errs _ _ Settings (record { state = w.state.client; out = w.out }) (w.state.client.asked.given == number_limit) refl) (λ c h. inr h))
+
+told-errs : (notice : Notice) (w : Working State) → IfErr (told notice w) (AreUsed w.state)
+unfolding told
+told-errs (notices.CancelRequest id) w = IfErr-within desk_in with_desk (λ d. Ok (cancelled id d)) w (AreUsed w.state) tt
+told-errs (notices.CancelProgress token) w = tt
+told-errs (notices.DidOpen document) w = err-weaker _ (AtLast w.state.host.revision) _ (open-path-errs (path_of document.uri) document w) (λ c h. inl h)
+told-errs (notices.DidChange change) w = err-weaker _ (AtLast w.state.host.revision) _ (change-path-errs (path_of change.uri) change w) (λ c h. inl h)
+told-errs (notices.DidClose uri) w = tt
+told-errs (notices.DidSave uri) w = tt
+told-errs notices.DidChangeConfiguration w = asking-errs w
+told-errs (notices.DidChangeWorkspaceFolders added removed) w = IfErr-within client_in with_client (λ c. Ok (folders_changed added removed c)) w (AreUsed w.state) tt
+told-errs (notices.DidChangeWatchedFiles changes) w = tt
+told-errs notices.CancelFlycheck w = tt
+told-errs notices.ClearFlycheck w = tt
+told-errs (notices.RunFlycheck uri) w = tt
+told-errs notices.AbortRunTest w = tt
+
+heard-errs : (heard : Heard) (method : List ℕ) (w : Working State) → IfErr (noticed heard method w) (AreUsed w.state)
+unfolding noticed
+heard-errs (Told notice) method w = told-errs notice w
+heard-errs Malformed method w = tt
+heard-errs Unhandled method w = tt
+heard-errs Silent method w = tt
+
+needs-used : (meaning : Meaning) (s : State) (input : Input) (counter : Counter) → AreUsed s counter → Needs meaning s input counter
+needs-used meaning s input counter (inl h) = subst (Needs meaning s input) (sym h.0) h.1
+needs-used meaning s input counter (inr h) = subst (Needs meaning s input) (sym h.0) h.1
 
 -- ---- whole turns
 
@@ -147,8 +188,8 @@ event-errs : (meaning : Meaning) (s : State) (event : Event) → IfErr (happened
 unfolding happened received
 event-errs meaning s (Lsp (RequestMessage r)) = read-errs meaning s r
 event-errs meaning s (Lsp (NotificationMessage n)) =
-    err-weaker _ (AtLast s.host.revision) _ (notice-errs (notice_of n) n.method (counted_turn s)) (λ c h. needs-revision meaning s (Next (Lsp (NotificationMessage n))) c h)
-event-errs meaning s (Lsp (ResponseMessage r)) = tt
+    err-weaker _ (AreUsed s) _ (heard-errs (heard_of n) n.method (counted_turn s)) (λ c h. needs-used meaning s (Next (Lsp (NotificationMessage n))) c h)
+event-errs meaning s (Lsp (ResponseMessage r)) = IfErr-within client_in with_client (λ c. Ok (answered r c)) (counted_turn s) _ tt
 event-errs meaning s (Task batch) =
     let done = batch_row meaning batch (place_of s) in
     err-weaker _ (TooMany s.desk.handed done) _ (batch-errs meaning s.desk.turns batch (counted_turn s)) (λ c h. needs-jobs meaning s (Next (Task batch)) done c refl h)

@@ -22,12 +22,10 @@ use Rattle.desk_laws.proofs.Held.{has-ticket, still-out}
 use Rattle.desk_laws.proofs.Keyed.{by_key, get-insert_same, get-insert_other}
 use Rattle.desk_laws.proofs.Orders.{by_number_total, by_number_same}
 use Rattle.desk_laws.proofs.Reacting.{new-reacts, result-reacts}
-use Rattle.session_model.specs.Notices.{notice_of}
+use Rattle.session_model.specs.Hearing.{heard_of, told_by}
 use Rattle.session_model.specs.Headline.{Place, reaction_of, row, notice_row, batch_row, place_past, next_turn, scene_at, snapshot_at, beginning, place_after, place_after_all, WasHandedOver, AreHandedOver}
-use Rattle.session_model.specs.Inputs.{batch_of}
+use Rattle.session_model.specs.Inputs.{batch_of, cancelled_by}
 use Rattle.session_model.specs.Run.{Turn, after_input}
-use Rattle.session_model.specs.declared.notice.Notice.{Notice}
-use Rattle.session_model.specs.declared.notice.Notice.TheVariants.{Opened, Changed, Cancel, Malformed, Unhandled, Silent}
 use Rattle.session_model.specs.declared.input.Event.TheVariants.{Lsp, Task}
 use Rattle.session_model.specs.declared.input.Input.{Input}
 use Rattle.session_model.specs.declared.input.Input.TheVariants.{Start, Next}
@@ -114,13 +112,9 @@ either-due : (place : Place) (b : Bool) (x y : Reaction) → AreDue place x.jobs
 either-due place true x y p q = p
 either-due place false x y p q = q
 
-notice-due : (notice : Notice) (place : Place) → AreDue place (notice_row notice place.desk).jobs
-notice-due (Cancel id) place = either-due place (is_pending id place.desk.pending) (says (canceled_by_client id)) silent tt tt
-notice-due (Opened document) place = tt
-notice-due (Changed change) place = tt
-notice-due Malformed place = tt
-notice-due Unhandled place = tt
-notice-due Silent place = tt
+notice-due : (cancelled : Option RequestId) (place : Place) → AreDue place (notice_row cancelled place.desk).jobs
+notice-due (Some id) place = either-due place (is_pending id place.desk.pending) (says (canceled_by_client id)) silent tt tt
+notice-due None place = tt
 
 row-due : (meaning : Meaning) (input : Input) (place : Place) → SoundAt place → AreDue place (row meaning input place).jobs
 unfolding IsBelow
@@ -128,7 +122,7 @@ row-due meaning Start place s = tt
 row-due meaning (Next (Lsp (RequestMessage r))) place s =
     either-due place (is_pending r.id place.desk.pending) (says (already_pending r.id)) (new_row meaning (scene_at place) place.desk (next_turn place) r) tt
     (reacts-due place (next_turn place) r.id _ (omega arith) (new-reacts meaning (scene_at place) place.desk (next_turn place) r))
-row-due meaning (Next (Lsp (NotificationMessage n))) place s = notice-due (notice_of n) place
+row-due meaning (Next (Lsp (NotificationMessage n))) place s = notice-due (cancelled_by (told_by (heard_of n))) place
 row-due meaning (Next (Lsp (ResponseMessage r))) place s = tt
 row-due meaning (Next (Task batch)) place s = batch-due meaning batch place s.below
 

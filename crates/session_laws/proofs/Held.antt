@@ -4,6 +4,7 @@ use Rattle.std.specs.Prelude.{Option, None, Some, is_some}
 use Rattle.std.specs.FinMap as map
 use Rattle.std.proofs.lemmas.List.{length-append}
 use Rattle.lsp_frame.specs.Pending.{Pending}
+use Rattle.lsp_frame.specs.declared.message.RequestId.{RequestId}
 use Rattle.lsp_frame.specs.declared.message.Message.TheVariants.{Request as RequestMessage, Notification as NotificationMessage, Response as ResponseMessage}
 use Rattle.lsp_frame.specs.declared.message.Notification.{Notification}
 use Rattle.ra_config.specs.Config.{ConfigData}
@@ -21,11 +22,9 @@ use Rattle.desk_laws.specs.Numbers.{AreNumbered}
 use Rattle.desk_laws.proofs.Appends.{closed_by-append}
 use Rattle.desk_laws.proofs.Held.{Batching, Going, Keeps, SoundOf, answers-append, batching-begins, cancel-kept, idle-kept, message-going, request-kept, sound-beside, sound-later, sound-new, sound-stays, sound-whole}
 use Rattle.session_model.specs.Headline.{Place, reaction_of, row, notice_row, batch_row, place_past, beginning, place_after, next_turn, scene_at}
-use Rattle.session_model.specs.Inputs.{request_in, turns_after}
-use Rattle.session_model.specs.Notices.{notice_of}
+use Rattle.session_model.specs.Inputs.{cancelled_by, request_in, turns_after}
+use Rattle.session_model.specs.Hearing.{heard_of, told_by}
 use Rattle.session_model.specs.Run.{Turn, after_input}
-use Rattle.session_model.specs.declared.notice.Notice.{Notice}
-use Rattle.session_model.specs.declared.notice.Notice.TheVariants.{Opened, Changed, Cancel, Malformed, Unhandled, Silent}
 use Rattle.session_model.specs.declared.input.Event.TheVariants.{Lsp, Task}
 use Rattle.session_model.specs.declared.input.Input.{Input}
 use Rattle.session_model.specs.declared.input.Input.TheVariants.{Start, Next}
@@ -76,18 +75,14 @@ batch-kept meaning batch place s =
     let done = batch-sound meaning place.desk.handed batch place [] (batching-begins place.desk place.revision s) in
     record { sound = sound-later _ _ _ _ _ _ _ _ (omega arith) (omega arith) (omega arith) done.0; once = done.1 }
 
-notice-kept : (n : Notification) (notice : Notice) (place : Place) → SoundAt place → RowKeeps (Next (Lsp (NotificationMessage n))) place (notice_row notice place.desk)
-notice-kept n (Cancel id) place s = cancel-kept id place.desk place.revision s
-notice-kept n (Opened document) place s = idle-kept _ _ place.desk place.revision (omega arith) s
-notice-kept n (Changed change) place s = idle-kept _ _ place.desk place.revision (omega arith) s
-notice-kept n Malformed place s = idle-kept _ _ place.desk place.revision (omega arith) s
-notice-kept n Unhandled place s = idle-kept _ _ place.desk place.revision (omega arith) s
-notice-kept n Silent place s = idle-kept _ _ place.desk place.revision (omega arith) s
+notice-kept : (n : Notification) (cancelled : Option RequestId) (place : Place) → SoundAt place → RowKeeps (Next (Lsp (NotificationMessage n))) place (notice_row cancelled place.desk)
+notice-kept n (Some id) place s = cancel-kept id place.desk place.revision s
+notice-kept n None place s = idle-kept _ _ place.desk place.revision (omega arith) s
 
 row-kept : (meaning : Meaning) (input : Input) (place : Place) → SoundAt place → RowKeeps input place (row meaning input place)
 row-kept meaning Start place s = idle-kept _ _ place.desk place.revision (omega arith) s
 row-kept meaning (Next (Lsp (RequestMessage r))) place s = request-kept meaning (scene_at place) r place.desk s
-row-kept meaning (Next (Lsp (NotificationMessage n))) place s = notice-kept n (notice_of n) place s
+row-kept meaning (Next (Lsp (NotificationMessage n))) place s = notice-kept n (cancelled_by (told_by (heard_of n))) place s
 row-kept meaning (Next (Lsp (ResponseMessage r))) place s = idle-kept _ _ place.desk place.revision (omega arith) s
 row-kept meaning (Next (Task batch)) place s = batch-kept meaning batch place s
 

@@ -15,4 +15,5 @@ pub mod Once
 pub mod Rising
 pub mod Rows
 pub mod Same
+pub mod Telling
 pub mod Stretches

@@ -1,5 +1,7 @@
 -- The jobs that a row hands over have the numbers after those that were given.
 use Rattle.std.proofs.Common.{List, [], ◌∷◌}
+use Rattle.std.specs.Prelude.{Option, None, Some}
+use Rattle.lsp_frame.specs.declared.message.RequestId.{RequestId}
 use Rattle.lsp_frame.specs.declared.message.Message.TheVariants.{Request as RequestMessage, Notification as NotificationMessage, Response as ResponseMessage}
 use Rattle.session_port.specs.declared.event.TaskMsg.{TaskMsg}
 use Rattle.desk.specs.Desk.{Desk}
@@ -7,21 +9,16 @@ use Rattle.desk.specs.Meaning.{Meaning}
 use Rattle.desk.specs.Reactions.{message_row}
 use Rattle.desk_laws.specs.Numbers.{AreNumbered}
 use Rattle.desk_laws.proofs.Numbered.{cancel-numbered, message-numbered, numbered-append, request-numbered}
-use Rattle.session_model.specs.Notices.{notice_of}
+use Rattle.session_model.specs.Hearing.{heard_of, told_by}
 use Rattle.session_model.specs.Headline.{Place, notice_row, place_past, batch_row, row, scene_at, next_turn}
-use Rattle.session_model.specs.declared.notice.Notice.{Notice}
-use Rattle.session_model.specs.declared.notice.Notice.TheVariants.{Opened, Changed, Cancel, Malformed, Unhandled, Silent}
+use Rattle.session_model.specs.Inputs.{cancelled_by}
 use Rattle.session_model.specs.declared.input.Event.TheVariants.{Lsp, Task}
 use Rattle.session_model.specs.declared.input.Input.{Input}
 use Rattle.session_model.specs.declared.input.Input.TheVariants.{Start, Next}
 
-notice-numbered : (notice : Notice) (desk : Desk) → AreNumbered desk.handed (notice_row notice desk).jobs
-notice-numbered (Cancel id) desk = cancel-numbered id desk
-notice-numbered (Opened document) desk = tt
-notice-numbered (Changed change) desk = tt
-notice-numbered Malformed desk = tt
-notice-numbered Unhandled desk = tt
-notice-numbered Silent desk = tt
+notice-numbered : (cancelled : Option RequestId) (desk : Desk) → AreNumbered desk.handed (notice_row cancelled desk).jobs
+notice-numbered (Some id) desk = cancel-numbered id desk
+notice-numbered None desk = tt
 
 batch-numbered : (meaning : Meaning) (batch : List TaskMsg) (place : Place) → AreNumbered place.desk.handed (batch_row meaning batch place).jobs
 batch-numbered meaning [] place = tt
@@ -34,6 +31,6 @@ batch-numbered meaning (m ∷ ms) place =
 pub row-numbered : (meaning : Meaning) (input : Input) (place : Place) → AreNumbered place.desk.handed (row meaning input place).jobs
 row-numbered meaning Start place = tt
 row-numbered meaning (Next (Lsp (RequestMessage r))) place = request-numbered meaning (scene_at place) place.desk (next_turn place) r
-row-numbered meaning (Next (Lsp (NotificationMessage n))) place = notice-numbered (notice_of n) place.desk
+row-numbered meaning (Next (Lsp (NotificationMessage n))) place = notice-numbered (cancelled_by (told_by (heard_of n))) place.desk
 row-numbered meaning (Next (Lsp (ResponseMessage r))) place = tt
 row-numbered meaning (Next (Task batch)) place = batch-numbered meaning batch place

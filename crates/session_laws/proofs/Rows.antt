@@ -1,6 +1,7 @@
 -- The machine's turns are the rows of the reply table.
 use Rattle.std.proofs.Common.{◌≡◌, ◌≢◌, ℕ, ◌+◌, ◌-◌, ◌^◌, ◌≤◌, List, [], ◌∷◌, ◌++◌, length, Bool, true, false, refl, sym, ap, ◌∙◌, subst, arith, eqb-true, append-nil, inl, inr}
 use Rattle.std.proofs.lemmas.Bool.{true≢false}
+use Rattle.plain.specs.Texts.{text_cmp}
 use Rattle.docs_vfs.specs.Paths.{path_cmp}
 use Rattle.std.specs.Prelude.{◌⊎◌, Result, Ok, Err, IfOk, ℤ, None, Some, ◌==◌, is_some, if◌then◌else◌, ltb}
 use Rattle.std.specs.Cmp.Lexicographic.{bytes_decides}
@@ -22,13 +23,21 @@ use Rattle.analysis_host.specs.declared.host.WorldFault.TheVariants.{Exhausted}
 use Rattle.session_port.specs.Events.{revision_of}
 use Rattle.session_port.specs.Jobs.{Jobs, after_message, after_batch}
 use Rattle.session_port.specs.Record.{spawned, with_jobs}
-use Rattle.session_port.specs.declared.command.Command.TheVariants.{Revise}
+use Rattle.session_port.specs.declared.command.Command.TheVariants.{Invalidate, Revise}
 use Rattle.session_port.specs.declared.command.LogCode.{LogCode}
-use Rattle.session_port.specs.declared.command.LogCode.TheVariants.{DuplicateOpen, UnexpectedChange, SkippedChange}
+use Rattle.session_port.specs.declared.command.LogCode.TheVariants.{BadPath, DuplicateOpen, OrphanClose, UnexpectedChange, SkippedChange}
 use Rattle.session_port.specs.declared.event.TaskMsg.{TaskMsg}
 use Rattle.session_port.specs.declared.job.Job.{Job}
 use Rattle.turn_parts.specs.Working.{Working, and_then, logged, ordered, within}
 use Rattle.turn_parts.specs.Written.{Written, nothing_done}
+use Rattle.client.specs.Client.{Client}
+use Rattle.client.specs.Folds.{after_answer, after_asking, after_folders}
+use Rattle.client.specs.Steps.{answered, folders_changed}
+use Rattle.client.specs.declared.handler.ReqHandler.TheVariants.{Settings}
+use Rattle.notify.specs.declared.notice.DidChange.{DidChange}
+use Rattle.notify.specs.declared.notice.DidOpen.{DidOpen}
+use Rattle.notify.specs.declared.notice.Notice.{Notice}
+use Rattle.notify.specs.declared.notice.Notice.TheVariants as notices
 use Rattle.desk.specs.Desk.{Desk}
 use Rattle.desk.specs.Folds.{asked_among, pending_after, shutdown_after}
 use Rattle.desk.specs.Meaning.{Meaning}
@@ -42,11 +51,11 @@ use Rattle.desk_laws.proofs.Orders.{by_path_total, by_path_same}
 use Rattle.desk_laws.proofs.Results.{IfOk-and_then, IfOk-next, IfOk-weaker, IfOk-within}
 use Rattle.desk_laws.proofs.Settling.{cancel-settles, message-settles, message-turns, nothing-settles, request-settles, request-turns, settled-on}
 use Rattle.session_model.specs.Changing.{text_after, has_skipped}
-use Rattle.session_model.specs.Headline.{Documents, Place, Revises, reaction_of, row, notice_row, batch_row, desk_after, place_after, place_past, documents_after, last_of, revision_after, scene_at}
-use Rattle.session_model.specs.Inputs.{request_in, turns_after}
-use Rattle.session_model.specs.Machine.{Turning, at_desk, batched, changed_at, closed, closing_part, counted, desk_in, edited, edited_by, event_part, facts_of, happened, kept, later_parts, noticed, open_noted, opened_at, received, revised, skip_noted, state_in, step, taken, taken_in, text_set, turned, turning, version_set, with_desk, with_state, world_by, world_changed}
+use Rattle.session_model.specs.Headline.{Documents, Place, Revises, reaction_of, row, notice_row, batch_row, desk_after, place_after, place_past, client_after, documents_after, last_of, revision_after, scene_at}
+use Rattle.session_model.specs.Inputs.{cancelled_by, request_in, turns_after}
+use Rattle.session_model.specs.Machine.{Turning, asked_for_settings, at_client, at_desk, batched, changed_at, client_in, close_noted, closed, closed_at, closing_part, counted, desk_in, edited, edited_by, event_part, facts_of, file_changed, files_changed, happened, kept, later_parts, noticed, open_noted, opened_at, received, revised, skip_noted, state_in, step, taken, taken_in, text_set, told, turned, turning, version_removed, version_set, with_client, with_desk, with_state, world_by, world_changed}
 use Rattle.session_model.specs.Entries.{entry_of, holds_text, text_put}
-use Rattle.session_model.specs.Notices.{notice_of}
+use Rattle.session_model.specs.Hearing.{heard_of, told_by}
 use Rattle.session_model.specs.Run.{Turn, Steps, begun, after_input, out_after}
 use Rattle.session_model.specs.State.{State, columns_of, scene_of}
 use Rattle.session_model.specs.declared.facts.Facts.{Facts}
@@ -54,15 +63,14 @@ use Rattle.session_model.specs.declared.input.Event.{Event}
 use Rattle.session_model.specs.declared.input.Event.TheVariants.{Lsp, Task}
 use Rattle.session_model.specs.declared.input.Input.{Input}
 use Rattle.session_model.specs.declared.input.Input.TheVariants.{Start, Next}
-use Rattle.session_model.specs.declared.notice.DidChange.{DidChange}
-use Rattle.session_model.specs.declared.notice.DidOpen.{DidOpen}
-use Rattle.session_model.specs.declared.notice.Notice.{Notice}
-use Rattle.session_model.specs.declared.notice.Notice.TheVariants.{Opened, Changed, Cancel, Malformed, Unhandled, Silent}
-use Rattle.session_laws.specs.Beside.{Beside, Serves, turn_of}
+use Rattle.session_model.specs.declared.heard.Heard.{Heard}
+use Rattle.session_model.specs.declared.heard.Heard.TheVariants.{Told, Malformed, Unhandled, Silent}
+use Rattle.session_laws.specs.Beside.{Serves, Tells, turn_of}
 use Rattle.session_laws.specs.Invariant.{StepFits, place_of}
-use Rattle.session_laws.proofs.Beside.{beside-fits, beside-logged, beside-none, beside-revised}
+use Rattle.session_laws.proofs.Beside.{beside-fits, beside-revised}
 use Rattle.session_laws.proofs.Numbered.{row-numbered}
 use Rattle.session_laws.proofs.Same.{none-handed, same_desk, same_place}
+use Rattle.session_laws.proofs.Telling.{DoesForClient, answered-does, asked-does, beside-told, folders-do, tells-invalidated, tells-logged, tells-none, tells-on}
 
 -- the turn is counted, and nothing else was done
 abbrev pub counted_desk : Desk → Working Desk
@@ -82,7 +90,7 @@ Raises old new = (new ≡ old) ⊎ ((new.world.texts ≢ old.world.texts) × (ne
 -- a turn before it closes
 pub record Mid (meaning : Meaning) (s : State) (input : Input) (u : Working State) : Type 0 where
   pub serves : Serves meaning s input (after_input input s.desk.jobs) u
-  pub settings : u.state.settings ≡ s.settings
+  pub client : u.state.client ≡ client_after input s.client
   pub texts : u.state.host.world.texts ≡ (documents_after (columns_of s) input (place_of s).documents).texts
   pub versions : u.state.versions ≡ (documents_after (columns_of s) input (place_of s).documents).versions
   pub loading : u.state.loading ≡ s.loading
@@ -107,19 +115,74 @@ serves-desk meaning s input done v number is a = record {
     asked : asked_among (spawned v.out.commands) ≡ done.jobs
     asked = ap asked_among a.spawns ∙ a.asked
 
+-- the input says nothing of the client's settings and requests, and nothing of documents
+pub record IsStill (s : State) (input : Input) : Type 0 where
+  pub client : client_after input s.client ≡ s.client
+  pub documents : documents_after (columns_of s) input (place_of s).documents ≡ (place_of s).documents
+
 -- a turn that changed nothing but the desk
 desk-mid : (meaning : Meaning) (s : State) (input : Input) (done : Reaction) (v : Working Desk) → turns_after input s.desk.turns ≡ s.desk.turns + 1 → row meaning input (place_of s) ≡ done
-    → documents_after (columns_of s) input (place_of s).documents ≡ (place_of s).documents → Settled (request_in input) (counted_desk s.desk) v done (after_input input s.desk.jobs) → Mid meaning s input (desk_now s v)
-desk-mid meaning s input done v number is same a = record {
+    → IsStill s input → Settled (request_in input) (counted_desk s.desk) v done (after_input input s.desk.jobs) → Mid meaning s input (desk_now s v)
+desk-mid meaning s input done v number is still a = record {
   serves = serves-desk meaning s input done v number is a;
-  settings = refl;
-  texts = sym (ap (λ (d : Documents). d.texts) same);
-  versions = sym (ap (λ (d : Documents). d.versions) same);
+  client = sym still.client;
+  texts = sym (ap (λ (d : Documents). d.texts) still.documents);
+  versions = sym (ap (λ (d : Documents). d.versions) still.documents);
   loading = refl;
   unrevised = a.unrevised;
   later = omega arith;
   raised = inl refl;
 }
+
+-- a turn that leaves the desk as it is, once it is counted
+told-mid : (meaning : Meaning) (s : State) (input : Input) (u : Working State) → Serves meaning s input (after_input input s.desk.jobs) (counted_turn s) → Tells nothing_done u.out
+    → u.state.desk ≡ (counted_turn s).state.desk → u.state.client ≡ client_after input s.client
+    → u.state.host.world.texts ≡ (documents_after (columns_of s) input (place_of s).documents).texts → u.state.versions ≡ (documents_after (columns_of s) input (place_of s).documents).versions
+    → u.state.loading ≡ s.loading → s.host.revision ≤ u.state.host.revision → Raises s.host u.state.host → Mid meaning s input u
+told-mid meaning s input u serves tells desk client texts versions loading later raised = record {
+  serves = beside-fits meaning s input (after_input input s.desk.jobs) (counted_turn s) u (beside-told (counted_turn s) u tells desk) serves;
+  client = client;
+  texts = texts;
+  versions = versions;
+  loading = loading;
+  unrevised = ap (filter_map revision_of) tells.ordered ∙ tells.revises_none;
+  later = later;
+  raised = raised;
+}
+
+-- a turn that leaves all as it is
+still-mid : (meaning : Meaning) (s : State) (input : Input) (u : Working State) → Serves meaning s input (after_input input s.desk.jobs) (counted_turn s) → IsStill s input → Tells nothing_done u.out
+    → u.state ≡ (counted_turn s).state → Mid meaning s input u
+still-mid meaning s input u serves still tells same =
+    told-mid meaning s input u serves tells (ap (λ (t : State). t.desk) same) (ap (λ (t : State). t.client) same ∙ sym still.client)
+    (ap (λ (t : State). t.host.world.texts) same ∙ sym (ap (λ (d : Documents). d.texts) still.documents))
+    (ap (λ (t : State). t.versions) same ∙ sym (ap (λ (d : Documents). d.versions) still.documents))
+    (ap (λ (t : State). t.loading) same) (subst (λ n. s.host.revision ≤ n) (sym (ap (λ (t : State). t.host.revision) same)) (omega arith)) (inl (ap (λ (t : State). t.host) same))
+
+-- with a log line
+logged-mid : (meaning : Meaning) (s : State) (input : Input) (code : LogCode) (text : List ℕ) → Serves meaning s input (after_input input s.desk.jobs) (counted_turn s) → IsStill s input
+    → Mid meaning s input (logged code text (counted_turn s))
+logged-mid meaning s input code text serves still = still-mid meaning s input (logged code text (counted_turn s)) serves still (tells-logged code text (counted_turn s)) same
+  where
+    same : (logged code text (counted_turn s)).state ≡ (counted_turn s).state
+    unfolding logged ordered
+    same = refl
+
+-- what is agreed with the client, at the beginning of a turn
+abbrev client_turn : State → Working Client
+client_turn s = record { state = s.client; out = nothing_done }
+
+-- the session where it has come to this
+abbrev client_now : State → Working Client → Working State
+client_now s v = record { state = with_client v.state (counted_turn s).state; out = v.out }
+
+-- a turn that changes nothing else
+client-mid : (meaning : Meaning) (s : State) (input : Input) (v : Working Client) (client : Client) → Serves meaning s input (after_input input s.desk.jobs) (counted_turn s)
+    → client ≡ client_after input s.client → documents_after (columns_of s) input (place_of s).documents ≡ (place_of s).documents → DoesForClient (client_turn s) v client
+    → Mid meaning s input (client_now s v)
+client-mid meaning s input v client serves is same does =
+    told-mid meaning s input (client_now s v) serves does.tells refl (does.is ∙ is) (sym (ap (λ (d : Documents). d.texts) same)) (sym (ap (λ (d : Documents). d.versions) same))
+    refl (omega arith) (inl refl)
 
 -- ---- requests
 
@@ -131,7 +194,7 @@ requested-mid meaning s r =
     IfOk-within desk_in with_desk (requested meaning (scene_of s) r) (counted_turn s) (Mid meaning s (request_input r))
     (IfOk-weaker _ (λ v. Settled (Some r) (counted_desk s.desk) v (request_row meaning (scene_of s) (counted_desk s.desk).state (s.desk.turns + 1) r) s.desk.jobs) (λ v. Mid meaning s (request_input r) (desk_now s v))
     (request-settles meaning (scene_of s) r (counted_desk s.desk))
-    (λ v a. desk-mid meaning s (request_input r) (request_row meaning (scene_of s) (counted_desk s.desk).state (s.desk.turns + 1) r) v refl (sym (request-turns meaning (scene_of s) s.desk (s.desk.turns + 1) (s.desk.turns + 1) r)) refl a))
+    (λ v a. desk-mid meaning s (request_input r) (request_row meaning (scene_of s) (counted_desk s.desk).state (s.desk.turns + 1) r) v refl (sym (request-turns meaning (scene_of s) s.desk (s.desk.turns + 1) (s.desk.turns + 1) r)) (record { client = refl; documents = refl }) a))
 
 -- ---- notifications
 
@@ -139,36 +202,14 @@ abbrev notification_input : Notification → Input
 notification_input n = Next (Lsp (NotificationMessage n))
 
 -- a notification that the desk does nothing for
-silent-serves : (meaning : Meaning) (s : State) (n : Notification) → notice_row (notice_of n) s.desk ≡ silent → Serves meaning s (notification_input n) s.desk.jobs (counted_turn s)
+silent-serves : (meaning : Meaning) (s : State) (n : Notification) → notice_row (cancelled_by (told_by (heard_of n))) s.desk ≡ silent
+    → Serves meaning s (notification_input n) s.desk.jobs (counted_turn s)
 silent-serves meaning s n quiet = serves-desk meaning s (notification_input n) silent (counted_desk s.desk) refl quiet (nothing-settles (counted_desk s.desk))
-
--- one that leaves the documents as they are
-still-mid : (meaning : Meaning) (s : State) (n : Notification) → notice_row (notice_of n) s.desk ≡ silent → documents_after (columns_of s) (notification_input n) (place_of s).documents ≡ (place_of s).documents
-    → Mid meaning s (notification_input n) (counted_turn s)
-still-mid meaning s n quiet same = desk-mid meaning s (notification_input n) silent (counted_desk s.desk) refl quiet same (nothing-settles (counted_desk s.desk))
-
--- a log line alone
-logged-mid : (meaning : Meaning) (s : State) (input : Input) (code : LogCode) (text : List ℕ) → Mid meaning s input (counted_turn s) → Mid meaning s input (logged code text (counted_turn s))
-unfolding logged ordered
-logged-mid meaning s input code text mid = record {
-  serves = beside-fits meaning s input (after_input input s.desk.jobs) (counted_turn s) (logged code text (counted_turn s)) (beside-logged code text (counted_turn s)) mid.serves;
-  settings = refl;
-  texts = mid.texts;
-  versions = mid.versions;
-  loading = refl;
-  unrevised = refl;
-  later = omega arith;
-  raised = inl refl;
-}
-
--- what a document's turn has written before its text is set: nothing, or a log line
-record IsQuiet (s : State) (out : Written) : Type 0 where
-  beside : Beside (counted_turn s) (record { state = (counted_turn s).state; out = out })
-  unrevised : filter_map revision_of out.commands ≡ []
 
 -- the notification sets the version and the text of a path
 record Sets (s : State) (n : Notification) (path : List ℕ) (version : ℤ) (text : List ℕ) : Type 0 where
-  silent : notice_row (notice_of n) s.desk ≡ silent
+  silent : notice_row (cancelled_by (told_by (heard_of n))) s.desk ≡ silent
+  client : client_after (notification_input n) s.client ≡ s.client
   texts : (documents_after (columns_of s) (notification_input n) (place_of s).documents).texts ≡ text_put path text s.host.world.texts
   versions : (documents_after (columns_of s) (notification_input n) (place_of s).documents).versions ≡ map.insert s.versions path version
 
@@ -181,31 +222,11 @@ setting_turn s path version out = record { state = set_state s path version; out
 abbrev set_turn : State → List ℕ → ℤ → Written → HostData → Working State
 set_turn s path version out host = record { state = record (set_state s path version) { host = host }; out = out }
 
--- the desk is where it was
-set-beside : (s : State) (path : List ℕ) (version : ℤ) (out : Written) (host : HostData) → Beside (counted_turn s) (record { state = (counted_turn s).state; out = out }) → Beside (counted_turn s) (set_turn s path version out host)
-set-beside s path version out host b = record {
-  messages = b.messages;
-  commands = b.commands;
-  written = b.written;
-  ordered = b.ordered;
-  answers_none = b.answers_none;
-  asks_none = b.asks_none;
-  numbered = b.numbered;
-  desk = b.desk;
-}
-
-set-mid : (meaning : Meaning) (s : State) (n : Notification) (path : List ℕ) (version : ℤ) (text : List ℕ) (out : Written) (host : HostData) → IsQuiet s out → Sets s n path version text
+set-mid : (meaning : Meaning) (s : State) (n : Notification) (path : List ℕ) (version : ℤ) (text : List ℕ) (out : Written) (host : HostData) → Tells nothing_done out → Sets s n path version text
     → host.world.texts ≡ text_put path text s.host.world.texts → s.host.revision ≤ host.revision → Raises s.host host → Mid meaning s (notification_input n) (set_turn s path version out host)
-set-mid meaning s n path version text out host quiet sets texts later raised = record {
-  serves = beside-fits meaning s (notification_input n) s.desk.jobs (counted_turn s) (set_turn s path version out host) (set-beside s path version out host quiet.beside) (silent-serves meaning s n sets.silent);
-  settings = refl;
-  texts = texts ∙ sym sets.texts;
-  versions = sym sets.versions;
-  loading = refl;
-  unrevised = quiet.unrevised;
-  later = later;
-  raised = raised;
-}
+set-mid meaning s n path version text out host quiet sets texts later raised =
+    told-mid meaning s (notification_input n) (set_turn s path version out host) (silent-serves meaning s n sets.silent) quiet refl (sym sets.client) (texts ∙ sym sets.texts) (sym sets.versions)
+    refl later raised
 
 -- a text that the world doesn't have changes it
 other-texts : (texts : map.FinMap path_cmp TextEntry) (path text : List ℕ) → holds_text (text_of (map.get texts path)) text ≡ false → map.insert texts path (entry_of text) ≢ texts
@@ -218,14 +239,14 @@ other-texts texts path text other same =
 abbrev later_host : State → List ℕ → List ℕ → HostData
 later_host s path text = record { world = record { texts = map.insert s.host.world.texts path (entry_of text) }; revision = s.host.revision + 1 }
 
-room-cases : (meaning : Meaning) (s : State) (n : Notification) (path : List ℕ) (version : ℤ) (text : List ℕ) (out : Written) (b : Bool) → IsQuiet s out → Sets s n path version text → holds_text (text_at s.host.world path) text ≡ false
+room-cases : (meaning : Meaning) (s : State) (n : Notification) (path : List ℕ) (version : ℤ) (text : List ℕ) (out : Written) (b : Bool) → Tells nothing_done out → Sets s n path version text → holds_text (text_at s.host.world path) text ≡ false
     → IfOk (world_by (if b then Ok (later_host s path text) else Err Exhausted) (setting_turn s path version out)) (Mid meaning s (notification_input n))
 unfolding world_by
 room-cases meaning s n path version text out true quiet sets other =
     set-mid meaning s n path version text out (later_host s path text) quiet sets (rw other refl) (omega arith) (inr (other-texts s.host.world.texts path text other, refl))
 room-cases meaning s n path version text out false quiet sets other = tt
 
-text-cases : (meaning : Meaning) (s : State) (n : Notification) (path : List ℕ) (version : ℤ) (text : List ℕ) (out : Written) (b : Bool) → IsQuiet s out → Sets s n path version text
+text-cases : (meaning : Meaning) (s : State) (n : Notification) (path : List ℕ) (version : ℤ) (text : List ℕ) (out : Written) (b : Bool) → Tells nothing_done out → Sets s n path version text
     → holds_text (text_at s.host.world path) text ≡ b
     → IfOk (if b then Ok (setting_turn s path version out) else world_changed ((record { path = path; entry = Some (entry_of text) }) ∷ []) (setting_turn s path version out)) (Mid meaning s (notification_input n))
 unfolding world_changed
@@ -233,7 +254,7 @@ text-cases meaning s n path version text out true quiet sets held =
     set-mid meaning s n path version text out s.host quiet sets (rw held refl) (omega arith) (inl refl)
 text-cases meaning s n path version text out false quiet sets held = room-cases meaning s n path version text out (ltb s.host.revision (2 ^ 64 - 1)) quiet sets held
 
-text-mid : (meaning : Meaning) (s : State) (n : Notification) (path : List ℕ) (version : ℤ) (text : List ℕ) (out : Written) → IsQuiet s out → Sets s n path version text
+text-mid : (meaning : Meaning) (s : State) (n : Notification) (path : List ℕ) (version : ℤ) (text : List ℕ) (out : Written) → Tells nothing_done out → Sets s n path version text
     → IfOk (text_set path text (version_set path version (record { state = (counted_turn s).state; out = out }))) (Mid meaning s (notification_input n))
 unfolding text_set version_set
 text-mid meaning s n path version text out quiet sets = text-cases meaning s n path version text out (holds_text (text_at s.host.world path) text) quiet sets refl
@@ -242,46 +263,144 @@ text-mid meaning s n path version text out quiet sets = text-cases meaning s n p
 noted-cases : (meaning : Meaning) (s : State) (n : Notification) (code : LogCode) (path : List ℕ) (version : ℤ) (text : List ℕ) (b : Bool) → Sets s n path version text
     → IfOk (text_set path text (version_set path version (if b then logged code path (counted_turn s) else counted_turn s))) (Mid meaning s (notification_input n))
 unfolding logged ordered
-noted-cases meaning s n code path version text true sets = text-mid meaning s n path version text _ (record { beside = beside-logged code path (counted_turn s); unrevised = refl }) sets
-noted-cases meaning s n code path version text false sets = text-mid meaning s n path version text _ (record { beside = beside-none (counted_turn s); unrevised = refl }) sets
+noted-cases meaning s n code path version text true sets = text-mid meaning s n path version text _ (tells-logged code path (counted_turn s)) sets
+noted-cases meaning s n code path version text false sets = text-mid meaning s n path version text _ (tells-none nothing_done) sets
 
-opened-cases : (meaning : Meaning) (s : State) (n : Notification) (document : DidOpen) (o : Result (List ℕ) UrlFault) → notice_of n ≡ Opened document → path_of document.uri ≡ o
+opened-cases : (meaning : Meaning) (s : State) (n : Notification) (document : DidOpen) (o : Result (List ℕ) UrlFault) → heard_of n ≡ Told (notices.DidOpen document) → path_of document.uri ≡ o
     → IfOk (opened_at o document (counted_turn s)) (Mid meaning s (notification_input n))
 unfolding opened_at open_noted
-opened-cases meaning s n document (Err fault) told is = logged-mid meaning s (notification_input n) _ _ (still-mid meaning s n (rw told refl) (rw (told, is) refl))
-opened-cases meaning s n document (Ok path) told is =
+opened-cases meaning s n document (Err fault) heard is =
+    logged-mid meaning s (notification_input n) _ _ (silent-serves meaning s n (rw heard refl)) (record { client = rw heard refl; documents = rw (heard, is) refl })
+opened-cases meaning s n document (Ok path) heard is =
     noted-cases meaning s n DuplicateOpen path document.version document.text (is_some (map.get s.versions path))
-    (record { silent = rw told refl; texts = rw (told, is) refl; versions = rw (told, is) refl })
+    (record { silent = rw heard refl; client = rw heard refl; texts = rw (heard, is) refl; versions = rw (heard, is) refl })
 
-is_open-cases : (meaning : Meaning) (s : State) (n : Notification) (change : DidChange) (path : List ℕ) (b : Bool) → notice_of n ≡ Changed change → path_of change.uri ≡ Ok path → is_some (map.get s.versions path) ≡ b
+is_open-cases : (meaning : Meaning) (s : State) (n : Notification) (change : DidChange) (path : List ℕ) (b : Bool) → heard_of n ≡ Told (notices.DidChange change) → path_of change.uri ≡ Ok path → is_some (map.get s.versions path) ≡ b
     → IfOk (if b then edited path change (counted_turn s) else Ok (logged UnexpectedChange path (counted_turn s))) (Mid meaning s (notification_input n))
 unfolding edited edited_by skip_noted
-is_open-cases meaning s n change path true told is stays =
+is_open-cases meaning s n change path true heard is stays =
     let held = text_at s.host.world path in
     let columns = columns_of s in
     noted-cases meaning s n SkippedChange path change.version (text_after columns change.changes held) (has_skipped columns change.changes held)
-    (record { silent = rw told refl; texts = rw (told, is, stays) refl; versions = rw (told, is, stays) refl })
-is_open-cases meaning s n change path false told is shut = logged-mid meaning s (notification_input n) _ _ (still-mid meaning s n (rw told refl) (rw (told, is, shut) refl))
+    (record { silent = rw heard refl; client = rw heard refl; texts = rw (heard, is, stays) refl; versions = rw (heard, is, stays) refl })
+is_open-cases meaning s n change path false heard is shut =
+    logged-mid meaning s (notification_input n) _ _ (silent-serves meaning s n (rw heard refl)) (record { client = rw heard refl; documents = rw (heard, is, shut) refl })
 
-changed-cases : (meaning : Meaning) (s : State) (n : Notification) (change : DidChange) (o : Result (List ℕ) UrlFault) → notice_of n ≡ Changed change → path_of change.uri ≡ o
+changed-cases : (meaning : Meaning) (s : State) (n : Notification) (change : DidChange) (o : Result (List ℕ) UrlFault) → heard_of n ≡ Told (notices.DidChange change) → path_of change.uri ≡ o
     → IfOk (changed_at o change (counted_turn s)) (Mid meaning s (notification_input n))
 unfolding changed_at
-changed-cases meaning s n change (Err fault) told is = logged-mid meaning s (notification_input n) _ _ (still-mid meaning s n (rw told refl) (rw (told, is) refl))
-changed-cases meaning s n change (Ok path) told is = is_open-cases meaning s n change path (is_some (map.get s.versions path)) told is refl
+changed-cases meaning s n change (Err fault) heard is =
+    logged-mid meaning s (notification_input n) _ _ (silent-serves meaning s n (rw heard refl)) (record { client = rw heard refl; documents = rw (heard, is) refl })
+changed-cases meaning s n change (Ok path) heard is = is_open-cases meaning s n change path (is_some (map.get s.versions path)) heard is refl
 
-cancel-mid : (meaning : Meaning) (s : State) (n : Notification) (id : RequestId) → notice_of n ≡ Cancel id → IfOk (at_desk (λ d. Ok (cancelled id d)) (counted_turn s)) (Mid meaning s (notification_input n))
-cancel-mid meaning s n id told =
+-- a document is closed
+abbrev close_turn : State → List ℕ → Written → Working State
+close_turn s path out = record { state = record (counted_turn s).state { versions = map.remove s.versions path }; out = out }
+
+close-mid : (meaning : Meaning) (s : State) (n : Notification) (uri path : List ℕ) (out : Written) → heard_of n ≡ Told (notices.DidClose uri) → path_of uri ≡ Ok path → Tells nothing_done out
+    → Mid meaning s (notification_input n) (close_turn s path out)
+close-mid meaning s n uri path out heard is tells =
+    told-mid meaning s (notification_input n) (close_turn s path out) (silent-serves meaning s n (rw heard refl)) tells refl (sym (rw heard refl)) (sym (rw (heard, is) refl)) (sym (rw (heard, is) refl))
+    refl (omega arith) (inl refl)
+
+closed-noted : (meaning : Meaning) (s : State) (n : Notification) (uri path : List ℕ) (b : Bool) → heard_of n ≡ Told (notices.DidClose uri) → path_of uri ≡ Ok path
+    → Mid meaning s (notification_input n) (ordered (Invalidate path) (version_removed path (if b then counted_turn s else logged OrphanClose path (counted_turn s))))
+unfolding version_removed ordered logged
+closed-noted meaning s n uri path true heard is = close-mid meaning s n uri path _ heard is (tells-invalidated path (close_turn s path nothing_done))
+closed-noted meaning s n uri path false heard is =
+    close-mid meaning s n uri path _ heard is
+    (tells-on _ _ _ (tells-logged OrphanClose path (counted_turn s)) (tells-invalidated path (close_turn s path (logged OrphanClose path (counted_turn s)).out)))
+
+closed-cases : (meaning : Meaning) (s : State) (n : Notification) (uri : List ℕ) (o : Result (List ℕ) UrlFault) → heard_of n ≡ Told (notices.DidClose uri) → path_of uri ≡ o
+    → Mid meaning s (notification_input n) (closed_at o uri (counted_turn s))
+unfolding closed_at close_noted
+closed-cases meaning s n uri (Err fault) heard is =
+    logged-mid meaning s (notification_input n) _ _ (silent-serves meaning s n (rw heard refl)) (record { client = rw heard refl; documents = rw (heard, is) refl })
+closed-cases meaning s n uri (Ok path) heard is = closed-noted meaning s n uri path (is_some (map.get s.versions path)) heard is
+
+cancel-mid : (meaning : Meaning) (s : State) (n : Notification) (id : RequestId) → heard_of n ≡ Told (notices.CancelRequest id)
+    → IfOk (at_desk (λ d. Ok (cancelled id d)) (counted_turn s)) (Mid meaning s (notification_input n))
+cancel-mid meaning s n id heard =
     IfOk-within desk_in with_desk (λ d. Ok (cancelled id d)) (counted_turn s) (Mid meaning s (notification_input n))
-    (desk-mid meaning s (notification_input n) (cancel_row id s.desk) (cancelled id (counted_desk s.desk)) refl (rw told refl) (rw told refl) (cancel-settles id (counted_desk s.desk)))
+    (desk-mid meaning s (notification_input n) (cancel_row id s.desk) (cancelled id (counted_desk s.desk)) refl (rw heard refl)
+    (record { client = rw heard refl; documents = rw heard refl }) (cancel-settles id (counted_desk s.desk)))
 
-notice-cases : (meaning : Meaning) (s : State) (n : Notification) (notice : Notice) → notice_of n ≡ notice → IfOk (noticed notice n.method (counted_turn s)) (Mid meaning s (notification_input n))
+-- the client is asked for its settings
+asking-mid : (meaning : Meaning) (s : State) (n : Notification) → heard_of n ≡ Told notices.DidChangeConfiguration → IfOk (at_client asked_for_settings (counted_turn s)) (Mid meaning s (notification_input n))
+asking-mid meaning s n heard =
+    IfOk-within client_in with_client asked_for_settings (counted_turn s) (Mid meaning s (notification_input n))
+    (IfOk-weaker _ (λ v. DoesForClient (client_turn s) v (after_asking Settings s.client)) (λ v. Mid meaning s (notification_input n) (client_now s v)) (asked-does _ _ Settings (client_turn s))
+    (λ v does. client-mid meaning s (notification_input n) v (after_asking Settings s.client) (silent-serves meaning s n (rw heard refl)) (sym (rw heard refl)) (rw heard refl) does))
+
+-- the folders of its workspaces change
+folders-mid : (meaning : Meaning) (s : State) (n : Notification) (added removed : List (List ℕ)) → heard_of n ≡ Told (notices.DidChangeWorkspaceFolders added removed)
+    → IfOk (at_client (λ c. Ok (folders_changed added removed c)) (counted_turn s)) (Mid meaning s (notification_input n))
+folders-mid meaning s n added removed heard =
+    IfOk-within client_in with_client (λ c. Ok (folders_changed added removed c)) (counted_turn s) (Mid meaning s (notification_input n))
+    (client-mid meaning s (notification_input n) _ (after_folders added removed s.client) (silent-serves meaning s n (rw heard refl)) (sym (rw heard refl)) (rw heard refl)
+    (folders-do added removed (client_turn s)))
+
+-- files are to be read anew
+file-tells : (url : List ℕ) (o : Result (List ℕ) UrlFault) (w : Working State) → Tells w.out (file_changed url o w).out
+unfolding file_changed
+file-tells url (Err fault) w = tells-logged BadPath url w
+file-tells url (Ok path) w = tells-invalidated path w
+
+file-same : (url : List ℕ) (o : Result (List ℕ) UrlFault) (w : Working State) → (file_changed url o w).state ≡ w.state
+unfolding file_changed logged ordered
+file-same url (Err fault) w = refl
+file-same url (Ok path) w = refl
+
+files-tell : (seen : map.FinMap text_cmp (Unit {0})) (urls : List (List ℕ)) (w : Working State) → Tells w.out (files_changed seen urls w).out
+unfolding files_changed
+files-tell seen [] w = tells-none w.out
+files-tell seen (url ∷ urls) w = by_case (is_some (map.get seen url))
+  where
+    by_case : (b : Bool) → Tells w.out (if b then files_changed seen urls w else files_changed (map.insert seen url tt) urls (file_changed url (path_of url) w)).out
+    by_case true = files-tell seen urls w
+    by_case false = tells-on _ _ _ (file-tells url (path_of url) w) (files-tell (map.insert seen url tt) urls (file_changed url (path_of url) w))
+
+files-same : (seen : map.FinMap text_cmp (Unit {0})) (urls : List (List ℕ)) (w : Working State) → (files_changed seen urls w).state ≡ w.state
+unfolding files_changed
+files-same seen [] w = refl
+files-same seen (url ∷ urls) w = by_case (is_some (map.get seen url))
+  where
+    by_case : (b : Bool) → (if b then files_changed seen urls w else files_changed (map.insert seen url tt) urls (file_changed url (path_of url) w)).state ≡ w.state
+    by_case true = files-same seen urls w
+    by_case false = files-same (map.insert seen url tt) urls (file_changed url (path_of url) w) ∙ file-same url (path_of url) w
+
+files-mid : (meaning : Meaning) (s : State) (n : Notification) (changes : List (List ℕ)) → heard_of n ≡ Told (notices.DidChangeWatchedFiles changes)
+    → Mid meaning s (notification_input n) (files_changed map.empty changes (counted_turn s))
+files-mid meaning s n changes heard =
+    still-mid meaning s (notification_input n) _ (silent-serves meaning s n (rw heard refl)) (record { client = rw heard refl; documents = rw heard refl })
+    (files-tell map.empty changes (counted_turn s)) (files-same map.empty changes (counted_turn s))
+
+-- a notice that changes nothing
+pass-mid : (meaning : Meaning) (s : State) (n : Notification) → notice_row (cancelled_by (told_by (heard_of n))) s.desk ≡ silent → IsStill s (notification_input n) → Mid meaning s (notification_input n) (counted_turn s)
+pass-mid meaning s n quiet still = still-mid meaning s (notification_input n) (counted_turn s) (silent-serves meaning s n quiet) still (tells-none nothing_done) refl
+
+told-cases : (meaning : Meaning) (s : State) (n : Notification) (notice : Notice) → heard_of n ≡ Told notice → IfOk (told notice (counted_turn s)) (Mid meaning s (notification_input n))
+unfolding told
+told-cases meaning s n (notices.CancelRequest id) heard = cancel-mid meaning s n id heard
+told-cases meaning s n (notices.CancelProgress token) heard = pass-mid meaning s n (rw heard refl) (record { client = rw heard refl; documents = rw heard refl })
+told-cases meaning s n (notices.DidOpen document) heard = opened-cases meaning s n document (path_of document.uri) heard refl
+told-cases meaning s n (notices.DidChange change) heard = changed-cases meaning s n change (path_of change.uri) heard refl
+told-cases meaning s n (notices.DidClose uri) heard = closed-cases meaning s n uri (path_of uri) heard refl
+told-cases meaning s n (notices.DidSave uri) heard = pass-mid meaning s n (rw heard refl) (record { client = rw heard refl; documents = rw heard refl })
+told-cases meaning s n notices.DidChangeConfiguration heard = asking-mid meaning s n heard
+told-cases meaning s n (notices.DidChangeWorkspaceFolders added removed) heard = folders-mid meaning s n added removed heard
+told-cases meaning s n (notices.DidChangeWatchedFiles changes) heard = files-mid meaning s n changes heard
+told-cases meaning s n notices.CancelFlycheck heard = pass-mid meaning s n (rw heard refl) (record { client = rw heard refl; documents = rw heard refl })
+told-cases meaning s n notices.ClearFlycheck heard = pass-mid meaning s n (rw heard refl) (record { client = rw heard refl; documents = rw heard refl })
+told-cases meaning s n (notices.RunFlycheck uri) heard = pass-mid meaning s n (rw heard refl) (record { client = rw heard refl; documents = rw heard refl })
+told-cases meaning s n notices.AbortRunTest heard = pass-mid meaning s n (rw heard refl) (record { client = rw heard refl; documents = rw heard refl })
+
+heard-cases : (meaning : Meaning) (s : State) (n : Notification) (heard : Heard) → heard_of n ≡ heard → IfOk (noticed heard n.method (counted_turn s)) (Mid meaning s (notification_input n))
 unfolding noticed
-notice-cases meaning s n (Opened document) told = opened-cases meaning s n document (path_of document.uri) told refl
-notice-cases meaning s n (Changed change) told = changed-cases meaning s n change (path_of change.uri) told refl
-notice-cases meaning s n (Cancel id) told = cancel-mid meaning s n id told
-notice-cases meaning s n Malformed told = logged-mid meaning s (notification_input n) _ _ (still-mid meaning s n (rw told refl) (rw told refl))
-notice-cases meaning s n Unhandled told = logged-mid meaning s (notification_input n) _ _ (still-mid meaning s n (rw told refl) (rw told refl))
-notice-cases meaning s n Silent told = still-mid meaning s n (rw told refl) (rw told refl)
+heard-cases meaning s n (Told notice) is = told-cases meaning s n notice is
+heard-cases meaning s n Malformed is = logged-mid meaning s (notification_input n) _ _ (silent-serves meaning s n (rw is refl)) (record { client = rw is refl; documents = rw is refl })
+heard-cases meaning s n Unhandled is = logged-mid meaning s (notification_input n) _ _ (silent-serves meaning s n (rw is refl)) (record { client = rw is refl; documents = rw is refl })
+heard-cases meaning s n Silent is = pass-mid meaning s n (rw is refl) (record { client = rw is refl; documents = rw is refl })
 
 -- ---- batches
 
@@ -311,7 +430,7 @@ taken-settles meaning turns message w =
 -- what a message leaves is the next one's place
 pub settled-place : (turns : ℕ) (message : TaskMsg) (w v : Working State) (done : Reaction) → DoesAtDesk w v done (after_message message w.state.desk.jobs) → place_at turns v.state ≡ place_past message done (place_at turns w.state)
 settled-place turns message w v done a = same_place _ _
-    (ap (λ (s : State). s.settings) a.rest) (ap (λ (s : State). s.host.world.texts) a.rest) (ap (λ (s : State). s.versions) a.rest) (ap (λ (s : State). s.host.revision) a.rest)
+    (ap (λ (s : State). s.client) a.rest) (ap (λ (s : State). s.host.world.texts) a.rest) (ap (λ (s : State). s.versions) a.rest) (ap (λ (s : State). s.host.revision) a.rest)
     (same_desk _ _ refl a.desk.pending a.desk.out a.desk.handed a.desk.shutdown) (ap (λ (s : State). s.loading) a.rest)
 
 does-on : (w v u : Working State) (a b : Reaction) (js ks : Jobs) → DoesAtDesk w v a js → DoesAtDesk v u b ks → DoesAtDesk w u (joined a b) ks
@@ -342,21 +461,25 @@ batch-mid meaning s batch =
     let done = batch_row meaning batch (place_of s) in
     IfOk-weaker _ (λ u. DoesAtDesk (counted_turn s) u done (after_batch batch s.desk.jobs)) (Mid meaning s (Next (Task batch)))
     (batch-settles meaning s.desk.turns batch (counted_turn s))
-    (λ u a. subst (Mid meaning s (Next (Task batch))) (is-now u a.rest) (desk-mid meaning s (Next (Task batch)) done (at u) refl refl refl a.desk))
+    (λ u a. subst (Mid meaning s (Next (Task batch))) (is-now u a.rest) (desk-mid meaning s (Next (Task batch)) done (at u) refl refl (record { client = refl; documents = refl }) a.desk))
   where
     is-now : (u : Working State) → u.state ≡ record s { desk = u.state.desk } → desk_now s (at u) ≡ u
     is-now u rest = λ i. record { state = sym rest i; out = u.out }
 
 -- ---- whole turns
 
-response-mid : (meaning : Meaning) (s : State) (r : Response) → Mid meaning s (Next (Lsp (ResponseMessage r))) (counted_turn s)
-response-mid meaning s r = desk-mid meaning s (Next (Lsp (ResponseMessage r))) silent (counted_desk s.desk) refl refl refl (nothing-settles (counted_desk s.desk))
+response-mid : (meaning : Meaning) (s : State) (r : Response) → IfOk (at_client (λ c. Ok (answered r c)) (counted_turn s)) (Mid meaning s (Next (Lsp (ResponseMessage r))))
+response-mid meaning s r =
+    let input : Input = Next (Lsp (ResponseMessage r)) in
+    IfOk-within client_in with_client (λ c. Ok (answered r c)) (counted_turn s) (Mid meaning s input)
+    (client-mid meaning s input _ (after_answer r s.client) (serves-desk meaning s input silent (counted_desk s.desk) refl refl (nothing-settles (counted_desk s.desk))) refl refl
+    (answered-does r (client_turn s)))
 
 message-mid : (meaning : Meaning) (s : State) (message : Message) → IfOk (received meaning message (counted_turn s)) (Mid meaning s (Next (Lsp message)))
 unfolding received
 message-mid meaning s (RequestMessage r) = requested-mid meaning s r
-message-mid meaning s (NotificationMessage n) = notice-cases meaning s n (notice_of n) refl
-message-mid meaning s (ResponseMessage r) = logged-mid meaning s (Next (Lsp (ResponseMessage r))) _ _ (response-mid meaning s r)
+message-mid meaning s (NotificationMessage n) = heard-cases meaning s n (heard_of n) refl
+message-mid meaning s (ResponseMessage r) = response-mid meaning s r
 
 event-mid : (meaning : Meaning) (s : State) (event : Event) → IfOk (happened meaning event (counted_turn s)) (Mid meaning s (Next event))
 unfolding happened
@@ -376,7 +499,7 @@ mid-fits meaning s event =
 start-mid : (meaning : Meaning) (s : State) → Mid meaning s Start (begun s)
 start-mid meaning s = record {
   serves = record { does = refl; numbered = tt; desk = none-handed s.desk };
-  settings = refl;
+  client = refl;
   texts = refl;
   versions = refl;
   loading = refl;
@@ -413,7 +536,7 @@ close-cases meaning s input u true h mid =
     record {
       does = serves.does;
       numbered = serves.numbered;
-      place = same_place _ _ mid.settings mid.texts mid.versions same serves.desk mid.loading;
+      place = same_place _ _ mid.client mid.texts mid.versions same serves.desk mid.loading;
       later = mid.later;
       raised = mid.raised;
     }
@@ -427,7 +550,7 @@ close-cases meaning s input u false h mid =
     record {
       does = serves.does;
       numbered = serves.numbered;
-      place = same_place _ _ mid.settings mid.texts mid.versions (sym (ap (λ ns. last_of ns s.host.revision) numbers))
+      place = same_place _ _ mid.client mid.texts mid.versions (sym (ap (λ ns. last_of ns s.host.revision) numbers))
           (serves.desk ∙ ap (λ js. record (desk_after (turn_of input v) s.desk) { jobs = js }) jobs) mid.loading;
       later = mid.later;
       raised = mid.raised;

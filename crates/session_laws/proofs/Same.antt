@@ -6,9 +6,9 @@ use Rattle.session_model.specs.Headline.{Place}
 pub same_desk : (d e : Desk) → d.turns ≡ e.turns → d.pending ≡ e.pending → d.jobs ≡ e.jobs → d.handed ≡ e.handed → d.shutdown ≡ e.shutdown → d ≡ e
 same_desk d e turns pending jobs handed shutdown = λ i. record { turns = turns i; pending = pending i; jobs = jobs i; handed = handed i; shutdown = shutdown i }
 
-pub same_place : (p q : Place) → p.settings ≡ q.settings → p.documents.texts ≡ q.documents.texts → p.documents.versions ≡ q.documents.versions → p.revision ≡ q.revision → p.desk ≡ q.desk → p.loading ≡ q.loading → p ≡ q
-same_place p q settings texts versions revision desk loading = λ i. record {
-  settings = settings i;
+pub same_place : (p q : Place) → p.client ≡ q.client → p.documents.texts ≡ q.documents.texts → p.documents.versions ≡ q.documents.versions → p.revision ≡ q.revision → p.desk ≡ q.desk → p.loading ≡ q.loading → p ≡ q
+same_place p q client texts versions revision desk loading = λ i. record {
+  client = client i;
   documents = record { texts = texts i; versions = versions i };
   revision = revision i;
   desk = desk i;

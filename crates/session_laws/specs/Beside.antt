@@ -1,11 +1,13 @@
 -- The parts of a turn that answer nobody.
 use Rattle.std.specs.Prelude.{◌≡◌, ◌+◌, List, [], ◌++◌, length}
+use Rattle.std.specs.List.{filter_map}
 use Rattle.lsp_frame.specs.declared.message.Message.{Message}
+use Rattle.session_port.specs.Events.{revision_of}
 use Rattle.session_port.specs.Jobs.{Jobs}
 use Rattle.session_port.specs.Record.{spawned}
 use Rattle.session_port.specs.declared.command.Command.{Command}
 use Rattle.turn_parts.specs.Working.{Working}
-use Rattle.turn_parts.specs.Written.{responses_in}
+use Rattle.turn_parts.specs.Written.{Written, responses_in}
 use Rattle.desk.specs.Folds.{asked_among}
 use Rattle.desk.specs.Meaning.{Meaning}
 use Rattle.desk_laws.specs.Numbers.{AreNumbered}
@@ -26,6 +28,16 @@ pub record Beside (w v : Working State) : Type 0 where
   pub asks_none : asked_among (spawned commands) ≡ []
   pub numbered : AreNumbered w.state.desk.handed (spawned commands)
   pub desk : v.state.desk ≡ record w.state.desk { handed = w.state.desk.handed + length (spawned commands) }
+
+-- what was written and ordered only grew, by no response, no job and no revision
+pub record Tells (old new : Written) : Type 0 where
+  pub messages : List Message
+  pub commands : List Command
+  pub written : new.messages ≡ old.messages ++ messages
+  pub ordered : new.commands ≡ old.commands ++ commands
+  pub answers_none : responses_in messages ≡ []
+  pub spawns_none : spawned commands ≡ []
+  pub revises_none : filter_map revision_of commands ≡ []
 
 -- what a turn has done, as a turn of a run
 abbrev pub turn_of : Input → Working State → Turn

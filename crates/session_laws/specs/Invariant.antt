@@ -17,7 +17,7 @@ SoundAt place = Sound place.desk place.revision
 -- where the machine stands, as the lists say it
 abbrev pub place_of : State → Place
 place_of s = record {
-  settings = s.settings;
+  client = s.client;
   documents = record { texts = s.host.world.texts; versions = s.versions };
   revision = s.host.revision;
   desk = s.desk;

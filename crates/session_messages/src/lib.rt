@@ -1,10 +1,6 @@
-//! What a session reads of a client's notifications, and the texts of what it logs.
+//! What a session hears in a client's notifications.
 #![tactic(auto)]
 
-mod ids;
-mod names;
-mod notices;
+mod hearing;
 
-pub use ids::id_text;
-pub use names::is_name;
-pub use notices::notice_of;
+pub use hearing::heard_of;

@@ -8,6 +8,8 @@ use Rattle.docs_vfs.specs.FileUrls.{path_of}
 use Rattle.docs_vfs.specs.declared.file_url.UrlFault.{UrlFault}
 use Rattle.lsp_frame.specs.Reader.{Reader}
 use Rattle.lsp_frame.specs.declared.message.Message.TheVariants.{Request as RequestMessage, Notification as NotificationMessage, Response as ResponseMessage}
+use Rattle.lsp_frame.specs.declared.message.RequestId.{RequestId}
+use Rattle.lsp_frame.specs.declared.message.Response.{Response}
 use Rattle.ra_config.specs.Config.{ConfigData}
 use Rattle.text_core.specs.declared.position.PositionEncoding.{PositionEncoding}
 use Rattle.analysis_host.specs.SnapshotData.{SnapshotData, text_of}
@@ -22,6 +24,14 @@ use Rattle.session_port.specs.declared.job.Job.{Job}
 use Rattle.turn_parts.specs.Written.{responses_in}
 use Rattle.turn_parts.specs.declared.fault.Counter.{Counter}
 use Rattle.turn_parts.specs.declared.fault.Counter.TheVariants.{Turns, Bytes, Jobs as JobsCounter, Revisions, Outgoing, Files}
+use Rattle.outgoing.specs.Outgoing.{number_limit}
+use Rattle.client.specs.Client.{Client, new_client}
+use Rattle.client.specs.Folds.{after_answer, after_asking, after_folders}
+use Rattle.client.specs.declared.handler.ReqHandler.TheVariants.{Settings}
+use Rattle.notify.specs.declared.notice.DidChange.{DidChange}
+use Rattle.notify.specs.declared.notice.DidOpen.{DidOpen}
+use Rattle.notify.specs.declared.notice.Notice.{Notice}
+use Rattle.notify.specs.declared.notice.Notice.TheVariants as notices
 use Rattle.desk.specs.Desk.{Desk, new_desk}
 use Rattle.desk.specs.Folds.{AreHeld, AnswersOnce, asked_among, desk_past, pending_after, shutdown_after}
 use Rattle.desk.specs.Meaning.{Meaning}
@@ -31,18 +41,14 @@ use Rattle.session_model.specs.Course.{Course, Stop as CourseStop, takes, stops,
 use Rattle.session_model.specs.Course.{session_course, bytes_in}
 use Rattle.session_model.specs.Changing.{text_after}
 use Rattle.session_model.specs.Entries.{text_put}
-use Rattle.session_model.specs.Inputs.{notice_in, request_in, turns_after}
-use Rattle.session_model.specs.Notices.{notice_of}
+use Rattle.session_model.specs.Inputs.{cancelled_by, notice_in, request_in, response_in, turns_after}
+use Rattle.session_model.specs.Hearing.{heard_of, told_by}
 use Rattle.session_model.specs.Run.{Turn, Told, AllRead, AsksLast, IsHonestInput, commands_of, fed_bytes, out_after, taking, telling}
 use Rattle.session_model.specs.declared.fault.SessionError.{SessionError}
 use Rattle.session_model.specs.declared.fault.SessionError.TheVariants.{ClientExited, BadFrame, BadMessage, HostFault, WriteFault, Exhausted, NoMemory}
 use Rattle.session_model.specs.declared.input.Event.TheVariants.{Lsp, Task}
 use Rattle.session_model.specs.declared.input.Input.{Input}
 use Rattle.session_model.specs.declared.input.Input.TheVariants.{Start, Next}
-use Rattle.session_model.specs.declared.notice.DidChange.{DidChange}
-use Rattle.session_model.specs.declared.notice.DidOpen.{DidOpen}
-use Rattle.session_model.specs.declared.notice.Notice.{Notice}
-use Rattle.session_model.specs.declared.notice.Notice.TheVariants.{Opened, Changed, Cancel, Malformed, Unhandled, Silent}
 
 -- ---- what the lists say before a turn
 
@@ -52,7 +58,8 @@ pub record Documents : Type 0 where
   pub versions : map.FinMap path_cmp ℤ
 
 pub record Place : Type 0 where
-  pub settings : ConfigData
+  -- the settings, and what the client was asked
+  pub client : Client
   pub documents : Documents
   -- the number of the last `Revise`
   pub revision : ℕ
@@ -65,7 +72,7 @@ abbrev pub no_documents : Documents
 no_documents = record { texts = map.empty; versions = map.empty }
 
 abbrev pub beginning : ConfigData → Place
-beginning settings = record { settings = settings; documents = no_documents; revision = 0; desk = new_desk; loading = false }
+beginning settings = record { client = new_client settings; documents = no_documents; revision = 0; desk = new_desk; loading = false }
 
 -- the number of the next turn, from 1; the start has none
 abbrev pub next_turn : Place → ℕ
@@ -76,13 +83,13 @@ abbrev pub snapshot_at : Place → SnapshotData
 snapshot_at place = record {
   world = record { texts = place.documents.texts };
   versions = place.documents.versions;
-  config = place.settings;
+  config = place.client.settings;
   revision = place.revision;
 }
 
 -- what a column counts here
 abbrev pub columns_at : Place → PositionEncoding
-columns_at place = place.settings.capabilities.encodings
+columns_at place = place.client.settings.capabilities.encodings
 
 -- what a request meets here; the crate graph counts as complete
 abbrev pub scene_at : Place → Scene
@@ -109,18 +116,36 @@ changed_at columns (Ok path) change documents =
     }
     else documents
 
+-- a document is closed at a path: its text stays
+abbrev pub closed_at : Result (List ℕ) UrlFault → Documents → Documents
+closed_at (Err fault) documents = documents
+closed_at (Ok path) documents = record documents { versions = map.remove documents.versions path }
+
 abbrev pub documents_told : PositionEncoding → Option Notice → Documents → Documents
 documents_told columns None documents = documents
-documents_told columns (Some (Opened document)) documents = opened_at (path_of document.uri) document documents
-documents_told columns (Some (Changed change)) documents = changed_at columns (path_of change.uri) change documents
-documents_told columns (Some (Cancel id)) documents = documents
-documents_told columns (Some Malformed) documents = documents
-documents_told columns (Some Unhandled) documents = documents
-documents_told columns (Some Silent) documents = documents
+documents_told columns (Some (notices.DidOpen document)) documents = opened_at (path_of document.uri) document documents
+documents_told columns (Some (notices.DidChange change)) documents = changed_at columns (path_of change.uri) change documents
+documents_told columns (Some (notices.DidClose uri)) documents = closed_at (path_of uri) documents
+documents_told columns (Some other) documents = documents
 
 -- by what a column counts
 abbrev pub documents_after : PositionEncoding → Input → Documents → Documents
 documents_after columns input documents = documents_told columns (notice_in input) documents
+
+-- the client is asked for its settings, or tells which folders its workspaces have
+abbrev pub client_told : Option Notice → Client → Client
+client_told None client = client
+client_told (Some notices.DidChangeConfiguration) client = after_asking Settings client
+client_told (Some (notices.DidChangeWorkspaceFolders added removed)) client = after_folders added removed client
+client_told (Some other) client = client
+
+-- or it answers what it was asked
+abbrev pub client_answered : Option Response → Client → Client
+client_answered None client = client
+client_answered (Some response) client = after_answer response client
+
+abbrev pub client_after : Input → Client → Client
+client_after input client = client_answered (response_in input) (client_told (notice_in input) client)
 
 -- the last of numbers, else the one before
 abbrev pub last_of : List ℕ → ℕ → ℕ
@@ -142,7 +167,7 @@ desk_after turn desk = record {
 
 abbrev pub place_after : Turn → Place → Place
 place_after turn place = record {
-  settings = place.settings;
+  client = client_after turn.input place.client;
   documents = documents_after (columns_at place) turn.input place.documents;
   revision = revision_after turn.commands place.revision;
   desk = desk_after turn place.desk;
@@ -160,13 +185,9 @@ abbrev pub reaction_of : Turn → Reaction
 reaction_of turn = record { responses = responses_in turn.messages; jobs = asked_among (spawned turn.commands) }
 
 -- a notification: one that cancels a pending request answers it
-abbrev pub notice_row : Notice → Desk → Reaction
-notice_row (Cancel id) desk = cancel_row id desk
-notice_row (Opened document) desk = silent
-notice_row (Changed change) desk = silent
-notice_row Malformed desk = silent
-notice_row Unhandled desk = silent
-notice_row Silent desk = silent
+abbrev pub notice_row : Option RequestId → Desk → Reaction
+notice_row None desk = silent
+notice_row (Some id) desk = cancel_row id desk
 
 -- what a message of a batch leaves for the next one
 abbrev pub place_past : TaskMsg → Reaction → Place → Place
@@ -183,7 +204,7 @@ batch_row meaning (message ∷ messages) place =
 abbrev pub row : Meaning → Input → Place → Reaction
 row meaning Start place = silent
 row meaning (Next (Lsp (RequestMessage r))) place = request_row meaning (scene_at place) place.desk (next_turn place) r
-row meaning (Next (Lsp (NotificationMessage n))) place = notice_row (notice_of n) place.desk
+row meaning (Next (Lsp (NotificationMessage n))) place = notice_row (cancelled_by (told_by (heard_of n))) place.desk
 row meaning (Next (Lsp (ResponseMessage r))) place = silent
 row meaning (Next (Task batch)) place = batch_row meaning batch place
 
@@ -246,13 +267,14 @@ pub record NextInput (left : Course) (P : Input → Type 0) : Type 0 where
   pub is : left ≡ takes input later
   pub needs : P input
 
--- a turn needs one more of a counter than there are: its number is past the last one, it hands over more jobs, or it changes a text at the last revision
+-- a turn needs one more of a counter than there are: its number is past the last one, it hands over more jobs, it asks the client where all numbers of requests
+-- were given, or it changes a text at the last revision
 abbrev pub NeedsMore : Meaning → Place → Input → Counter → Type 0
 NeedsMore meaning place input Turns = 2 ^ 64 ≤ next_turn place
 NeedsMore meaning place input Bytes = ⊥
 NeedsMore meaning place input JobsCounter = 2 ^ 64 ≤ place.desk.handed + length (row meaning input place).jobs
 NeedsMore meaning place input Revisions = 2 ^ 64 - 1 ≤ place.revision
-NeedsMore meaning place input Outgoing = ⊥
+NeedsMore meaning place input Outgoing = number_limit ≤ place.client.asked.given
 NeedsMore meaning place input Files = ⊥
 
 -- one more of a counter was needed than there are, by the turn of the next input, or for the bytes that were given

@@ -1,15 +1,18 @@
 -- What is asked of an input, each by one question.
 use Rattle.std.specs.Prelude.{ℕ, ◌+◌, List, [], Option, None, Some}
 use Rattle.lsp_frame.specs.declared.message.Request.{Request}
+use Rattle.lsp_frame.specs.declared.message.Response.{Response}
 use Rattle.lsp_frame.specs.declared.message.Message.{Message}
 use Rattle.lsp_frame.specs.declared.message.Message.TheVariants.{Request as RequestMessage, Notification as NotificationMessage, Response as ResponseMessage}
 use Rattle.session_port.specs.declared.event.TaskMsg.{TaskMsg}
-use Rattle.session_model.specs.Notices.{notice_of}
+use Rattle.lsp_frame.specs.declared.message.RequestId.{RequestId}
+use Rattle.notify.specs.declared.notice.Notice.{Notice}
+use Rattle.notify.specs.declared.notice.Notice.TheVariants.{CancelRequest}
+use Rattle.session_model.specs.Hearing.{heard_of, told_by}
 use Rattle.session_model.specs.declared.input.Event.{Event}
 use Rattle.session_model.specs.declared.input.Event.TheVariants.{Lsp, Task}
 use Rattle.session_model.specs.declared.input.Input.{Input}
 use Rattle.session_model.specs.declared.input.Input.TheVariants.{Start, Next}
-use Rattle.session_model.specs.declared.notice.Notice.{Notice}
 
 -- the request that an input is, if it is one
 abbrev pub request_in : Input → Option Request
@@ -19,13 +22,27 @@ request_in (Next (Lsp (NotificationMessage n))) = None
 request_in (Next (Lsp (ResponseMessage r))) = None
 request_in (Next (Task batch)) = None
 
--- what an input tells, if it is a notification
+-- what an input tells, if it is a notification that tells something
 abbrev pub notice_in : Input → Option Notice
 notice_in Start = None
 notice_in (Next (Lsp (RequestMessage r))) = None
-notice_in (Next (Lsp (NotificationMessage n))) = Some (notice_of n)
+notice_in (Next (Lsp (NotificationMessage n))) = told_by (heard_of n)
 notice_in (Next (Lsp (ResponseMessage r))) = None
 notice_in (Next (Task batch)) = None
+
+-- the request that a notice cancels, if it cancels one
+abbrev pub cancelled_by : Option Notice → Option RequestId
+cancelled_by None = None
+cancelled_by (Some (CancelRequest id)) = Some id
+cancelled_by (Some other) = None
+
+-- the response that an input is, if it is one
+abbrev pub response_in : Input → Option Response
+response_in Start = None
+response_in (Next (Lsp (RequestMessage r))) = None
+response_in (Next (Lsp (NotificationMessage n))) = None
+response_in (Next (Lsp (ResponseMessage r))) = Some r
+response_in (Next (Task batch)) = None
 
 -- the messages of jobs that an input brings
 abbrev pub batch_of : Input → List TaskMsg

@@ -1,13 +1,11 @@
-pub mod Cancelling
 pub mod Changing
 pub mod Codes
 pub mod Course
 pub mod Entries
 pub mod Headline
+pub mod Hearing
 pub mod Inputs
 pub mod Machine
-pub mod Notices
-pub mod Opening
 pub mod Run
 pub mod State
 pub mod Texts

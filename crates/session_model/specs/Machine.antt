@@ -4,36 +4,43 @@ use Rattle.std.specs.FinMap as map
 use Rattle.lsp_frame.specs.declared.message.RequestId.{RequestId}
 use Rattle.lsp_frame.specs.declared.message.Message.{Message}
 use Rattle.lsp_frame.specs.declared.message.Message.TheVariants.{Request as RequestMessage, Notification as NotificationMessage, Response as ResponseMessage}
+use Rattle.plain.specs.Texts.{text_cmp}
 use Rattle.docs_vfs.specs.FileUrls.{path_of}
 use Rattle.docs_vfs.specs.declared.file_url.UrlFault.{UrlFault}
 use Rattle.analysis_host.specs.HostData.{HostData, changed as changed_world}
 use Rattle.analysis_host.specs.SnapshotData.{text_at}
 use Rattle.analysis_host.specs.declared.host.FileChange.{FileChange}
 use Rattle.analysis_host.specs.declared.host.WorldFault.{WorldFault}
-use Rattle.session_port.specs.declared.command.Command.TheVariants.{Revise}
-use Rattle.session_port.specs.declared.command.LogCode.TheVariants.{MalformedNotification, UnhandledNotification, UnknownResponse}
-use Rattle.session_port.specs.declared.command.LogCode.TheVariants.{DuplicateOpen, UnexpectedChange, SkippedChange, BadPath}
+use Rattle.session_port.specs.declared.command.Command.TheVariants.{Revise, Invalidate}
+use Rattle.session_port.specs.declared.command.LogCode.TheVariants.{MalformedNotification, UnhandledNotification}
+use Rattle.session_port.specs.declared.command.LogCode.TheVariants.{DuplicateOpen, OrphanClose, UnexpectedChange, SkippedChange, BadPath}
 use Rattle.session_port.specs.declared.event.TaskMsg.{TaskMsg}
 use Rattle.turn_parts.specs.Working.{Working, and_then, ordered, logged, put_back, within}
 use Rattle.turn_parts.specs.declared.fault.Counter.{Counter}
 use Rattle.turn_parts.specs.declared.fault.Counter.TheVariants.{Revisions}
+use Rattle.client.specs.Client.{Client}
+use Rattle.client.specs.Steps.{asked_for, answered, folders_changed}
+use Rattle.client.specs.declared.handler.ReqHandler.TheVariants.{Settings}
+use Rattle.notify.specs.Bodies.{outgo_body}
+use Rattle.notify.specs.declared.outgo.Outgo.TheVariants.{Configuration}
+use Rattle.notify.specs.declared.notice.DidChange.{DidChange}
+use Rattle.notify.specs.declared.notice.DidOpen.{DidOpen}
+use Rattle.notify.specs.declared.notice.Notice.{Notice}
+use Rattle.notify.specs.declared.notice.Notice.TheVariants as notices
 use Rattle.desk.specs.Desk.{Desk}
 use Rattle.desk.specs.Meaning.{Meaning}
 use Rattle.desk.specs.Steps.{requested, cancelled, counted as counted_at_desk, taken as taken_at_desk, kept as kept_at_desk}
 use Rattle.session_model.specs.Changing.{text_after, has_skipped}
 use Rattle.session_model.specs.Entries.{entry_of, holds_text}
-use Rattle.session_model.specs.Notices.{notice_of}
+use Rattle.session_model.specs.Hearing.{heard_of}
 use Rattle.session_model.specs.State.{State, columns_of, scene_of}
-use Rattle.session_model.specs.Texts.{id_text}
 use Rattle.session_model.specs.declared.facts.Facts.{Facts}
 use Rattle.session_model.specs.declared.input.Event.{Event}
 use Rattle.session_model.specs.declared.input.Event.TheVariants.{Lsp, Task}
 use Rattle.session_model.specs.declared.input.Input.{Input}
 use Rattle.session_model.specs.declared.input.Input.TheVariants.{Start, Next}
-use Rattle.session_model.specs.declared.notice.DidChange.{DidChange}
-use Rattle.session_model.specs.declared.notice.DidOpen.{DidOpen}
-use Rattle.session_model.specs.declared.notice.Notice.{Notice}
-use Rattle.session_model.specs.declared.notice.Notice.TheVariants.{Opened, Changed, Cancel, Malformed, Unhandled, Silent}
+use Rattle.session_model.specs.declared.heard.Heard.{Heard}
+use Rattle.session_model.specs.declared.heard.Heard.TheVariants.{Told, Malformed, Unhandled, Silent}
 
 -- ---- the desk within the session
 
@@ -46,6 +53,22 @@ with_desk desk state = record state { desk = desk }
 -- a step of the desk
 abbrev pub at_desk : (Working Desk → Result (Working Desk) Counter) → Working State → Result (Working State) Counter
 at_desk step w = within desk_in with_desk step w
+
+-- ---- what is agreed with the client, within the session
+
+abbrev pub client_in : State → Client
+client_in state = state.client
+
+abbrev pub with_client : Client → State → State
+with_client client state = record state { client = client }
+
+-- the client is asked for its settings
+abbrev pub asked_for_settings : Working Client → Result (Working Client) Counter
+asked_for_settings w = asked_for (outgo_body Configuration).0 (outgo_body Configuration).1 Settings w
+
+-- a step of it
+abbrev pub at_client : (Working Client → Result (Working Client) Counter) → Working State → Result (Working State) Counter
+at_client step w = within client_in with_client step w
 
 -- ---- notifications
 
@@ -95,19 +118,52 @@ unfoldable pub changed_at : Result (List ℕ) UrlFault → DidChange → Working
 changed_at (Err fault) change w = Ok (logged BadPath change.uri w)
 changed_at (Ok path) change w = if is_open path w then edited path change w else Ok (logged UnexpectedChange path w)
 
--- what a notification of this method tells
-unfoldable pub noticed : Notice → List ℕ → Working State → Result (Working State) Counter
-noticed (Opened document) method w = opened_at (path_of document.uri) document w
-noticed (Changed change) method w = changed_at (path_of change.uri) change w
-noticed (Cancel id) method w = at_desk (λ d. Ok (cancelled id d)) w
+-- a document that isn't open is logged, and the rest is done all the same
+unfoldable pub close_noted : List ℕ → Working State → Working State
+close_noted path w = if is_open path w then w else logged OrphanClose path w
+
+unfoldable pub version_removed : List ℕ → Working State → Working State
+version_removed path w = record w { state = record w.state { versions = map.remove w.state.versions path } }
+
+-- a document is closed: its text stays, until the file is read anew
+unfoldable pub closed_at : Result (List ℕ) UrlFault → List ℕ → Working State → Working State
+closed_at (Err fault) uri w = logged BadPath uri w
+closed_at (Ok path) uri w = ordered (Invalidate path) (version_removed path (close_noted path w))
+
+-- the file of a URL is to be read anew
+unfoldable pub file_changed : List ℕ → Result (List ℕ) UrlFault → Working State → Working State
+file_changed url (Err fault) w = logged BadPath url w
+file_changed url (Ok path) w = ordered (Invalidate path) w
+
+-- the files of URLs, each URL once; some were seen before
+unfoldable pub files_changed : map.FinMap text_cmp (Unit {0}) → List (List ℕ) → Working State → Working State
+files_changed seen [] w = w
+files_changed seen (url ∷ urls) w =
+    if is_some (map.get seen url) then files_changed seen urls w
+    else files_changed (map.insert seen url tt) urls (file_changed url (path_of url) w)
+
+-- what a notification tells; what it doesn't change yet stays as it is
+unfoldable pub told : Notice → Working State → Result (Working State) Counter
+told (notices.CancelRequest id) w = at_desk (λ d. Ok (cancelled id d)) w
+told (notices.DidOpen document) w = opened_at (path_of document.uri) document w
+told (notices.DidChange change) w = changed_at (path_of change.uri) change w
+told (notices.DidClose uri) w = Ok (closed_at (path_of uri) uri w)
+told notices.DidChangeConfiguration w = at_client asked_for_settings w
+told (notices.DidChangeWorkspaceFolders added removed) w = at_client (λ c. Ok (folders_changed added removed c)) w
+told (notices.DidChangeWatchedFiles changes) w = Ok (files_changed map.empty changes w)
+told other w = Ok w
+
+-- what is heard in a notification of this method
+unfoldable pub noticed : Heard → List ℕ → Working State → Result (Working State) Counter
+noticed (Told notice) method w = told notice w
 noticed Malformed method w = Ok (logged MalformedNotification method w)
 noticed Unhandled method w = Ok (logged UnhandledNotification method w)
 noticed Silent method w = Ok w
 
 unfoldable pub received : Meaning → Message → Working State → Result (Working State) Counter
 received meaning (RequestMessage r) w = at_desk (requested meaning (scene_of w.state) r) w
-received meaning (NotificationMessage n) w = noticed (notice_of n) n.method w
-received meaning (ResponseMessage r) w = Ok (logged UnknownResponse (id_text r.id) w)
+received meaning (NotificationMessage n) w = noticed (heard_of n) n.method w
+received meaning (ResponseMessage r) w = at_client (λ c. Ok (answered r c)) w
 
 -- ---- results
 

@@ -4,13 +4,15 @@ use Rattle.std.specs.FinMap as map
 use Rattle.docs_vfs.specs.Paths.{path_cmp}
 use Rattle.text_core.specs.declared.position.PositionEncoding.{PositionEncoding}
 use Rattle.ra_config.specs.Config.{ConfigData}
+use Rattle.client.specs.Client.{Client, new_client}
 use Rattle.analysis_host.specs.SnapshotData.{SnapshotData}
 use Rattle.analysis_host.specs.HostData.{HostData, new_host}
 use Rattle.desk.specs.Desk.{Desk, new_desk}
 use Rattle.desk.specs.declared.scene.Scene.{Scene}
 
 pub record State : Type 0 where
-  pub settings : ConfigData
+  -- the settings, and what the client was asked
+  pub client : Client
   -- the world and its revision
   pub host : HostData
   -- the versions of the open documents
@@ -22,11 +24,11 @@ pub record State : Type 0 where
 
 -- what a column counts: what the client and the session have agreed upon
 abbrev pub columns_of : State → PositionEncoding
-columns_of state = state.settings.capabilities.encodings
+columns_of state = state.client.settings.capabilities.encodings
 
 -- the snapshot of the present
 abbrev pub snapshot_of : State → SnapshotData
-snapshot_of state = record { world = state.host.world; versions = state.versions; config = state.settings; revision = state.host.revision }
+snapshot_of state = record { world = state.host.world; versions = state.versions; config = state.client.settings; revision = state.host.revision }
 
 -- what a request meets; the crate graph counts as complete
 abbrev pub scene_of : State → Scene
@@ -34,4 +36,4 @@ scene_of state = record { snapshot = snapshot_of state; loading = state.loading;
 
 -- the state before any turn
 abbrev pub fresh : ConfigData → State
-fresh settings = record { settings = settings; host = new_host; versions = map.empty; desk = new_desk; loading = false }
+fresh settings = record { client = new_client settings; host = new_host; versions = map.empty; desk = new_desk; loading = false }

@@ -4,11 +4,11 @@
 
 mod facts;
 mod fault;
+mod heard;
 mod input;
-mod notice;
 
 pub use facts::Facts;
 pub use fault::SessionError;
+pub use heard::Heard;
 pub use input::{Event, Input};
-pub use notice::{DidChange, DidOpen, Notice};
 pub use turn_parts::{Counter, TurnError};

@@ -1,2 +1,3 @@
+pub mod AtClient
 pub mod AtDesk
 pub mod News

@@ -10,12 +10,12 @@ use Rattle.session_model.specs.Entries.{holds_text}
 use Rattle.session_model.specs.Machine.{noticed}
 use Rattle.turn_parts.specs.Meets.{Meets}
 use Rattle.turn_parts.specs.Working.{Working}
-use Rattle.session_model.specs.Notices.{notice_of}
+use Rattle.session_model.specs.Hearing.{heard_of}
 use Rattle.session_model.specs.State.{State}
 use Rattle.session_model.specs.Texts.{same_text}
 use Rattle.turn_parts.specs.Written.{Written}
 use Rattle.turn_parts.specs.declared.fault.TurnError.{TurnError}
-use Rattle.session_model.specs.declared.notice.Notice.{Notice}
+use Rattle.session_model.specs.declared.heard.Heard.{Heard}
 
 some-same : (a b : List ℕ) → Some a ≡ Some b → a ≡ b
 some-same a b e = cc
@@ -42,7 +42,7 @@ pub held_not : (held : Option (List ℕ)) (text : List ℕ) → held ≢ Some te
 held_not None text other = refl
 held_not (Some held) text other = either (same_text held text) held text refl other
 
--- what is told by a notice that a notification is
-pub noticed_as : {T : Type 0} (notice : Notice) (n : Notification) (result : Result T TurnError) (w : Working State) (state : State) (out : Written) → notice ≡ notice_of n
-    → Meets result (noticed notice n.method w) state out → Meets result (noticed (notice_of n) n.method w) state out
-noticed_as notice n result w state out is meets = subst (λ (x : Notice). Meets result (noticed x n.method w) state out) is meets
+-- what is done for what is heard in a notification
+pub noticed_as : {T : Type 0} (heard : Heard) (n : Notification) (result : Result T TurnError) (w : Working State) (state : State) (out : Written) → heard ≡ heard_of n
+    → Meets result (noticed heard n.method w) state out → Meets result (noticed (heard_of n) n.method w) state out
+noticed_as heard n result w state out is meets = subst (λ (x : Heard). Meets result (noticed x n.method w) state out) is meets

@@ -11,10 +11,13 @@ ghost use Rattle.session_model.specs.Machine.{at_desk, closed, counted, facts_of
 ghost use Rattle.session_model.specs.State.{scene_of, snapshot_of, fresh};
 ghost use Rattle.session_model.specs.declared.input.Input.TheVariants.{Start, Next};
 
+mod client;
 mod messages;
 mod notifications;
+mod watching;
 
 use analysis_host::{Analysis, AnalysisHost, GlobalStateSnapshot, SnapshotParts, Versions};
+use client::Client;
 use desk::{Desk, Scene};
 use lsp_frame::{RequestId, Response};
 use plain::{NoMemory, Text};
@@ -30,7 +33,7 @@ use turn_parts::TurnOut;
 #[derive(Drop)]
 pub struct GlobalState {
     alloc: Global,
-    settings: Arc<Config, Global>,
+    client: Client,
     host: AnalysisHost,
     versions: Versions,
     desk: Desk,
@@ -38,16 +41,16 @@ pub struct GlobalState {
 }
 
 impl Model for GlobalState {
-    ghost use Rattle.std.specs.Arc.{arc_value};
+    ghost use Rattle.client.specs.contracts.handler.ReqHandler as handler;
     ghost use Rattle.session_port.specs.contracts.job.Job as job;
     ghost use Rattle.session_model.specs.Codes.{state_code};
     ghost use Rattle.session_model.specs.State.{State};
 
     ghost Value = { State };
 
-    ghost coded = { state_code job.the_row.coded };
+    ghost coded = { state_code handler.the_row.coded job.the_row.coded };
 
-    ghost view = { λ g. record { settings = arc_value g.settings; host = g.host; versions = g.versions; desk = g.desk; loading = g.loading } };
+    ghost view = { λ g. record { client = g.client; host = g.host; versions = g.versions; desk = g.desk; loading = g.loading } };
 }
 
 impl GlobalState {
@@ -57,7 +60,7 @@ impl GlobalState {
     {
         Ok(GlobalState {
             alloc,
-            settings: Arc::new(alloc, settings)?,
+            client: Client::new(alloc, settings)?,
             host: AnalysisHost::new(alloc)?,
             versions: Versions::new(alloc)?,
             desk: Desk::new(alloc),
@@ -79,7 +82,7 @@ impl GlobalState {
         Ok(GlobalStateSnapshot::new(SnapshotParts {
             world: self.host.world()?,
             versions: self.versions.clone()?,
-            config: Arc::try_clone(&self.settings)?,
+            config: Arc::try_clone(self.client.settings())?,
             revision: self.host.revision(),
         }))
     }

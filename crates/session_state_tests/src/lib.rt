@@ -9,4 +9,6 @@ mod methods;
 #[cfg(test)]
 mod results;
 #[cfg(test)]
+mod told;
+#[cfg(test)]
 mod words;

@@ -1,5 +1,5 @@
 // Events from words, and what a turn did in words.
-use lsp_frame::{Message, Notification, Request, RequestId};
+use lsp_frame::{Message, Notification, Request, RequestId, Response};
 use method_table::PoolClass;
 use plain::{Items, Json, Text};
 use session_model::Event;
@@ -23,14 +23,30 @@ pub fn request(alloc: Global, id: i32, method: &str, params: &str) -> Result<Eve
     })))
 }
 
+/// A notification of a client.
+pub fn notification(alloc: Global, method: &str, params: &str) -> Result<Event, Fail> {
+    let params = json(alloc, params)?;
+    let method = Text::from_str(alloc, method)?;
+    Ok(Event::Lsp(Message::Notification(Notification { method, params })))
+}
+
+/// A client's response to the session's request 0.
+pub fn response(alloc: Global, result: &str) -> Result<Event, Fail> {
+    let result = json(alloc, result)?;
+    Ok(Event::Lsp(Message::Response(Response {
+        id: Some(RequestId::Number(0)),
+        result: Some(result),
+        error: None,
+    })))
+}
+
 /// A notification that opens `/w/a.rs`.
 fn open(alloc: Global) -> Result<Event, Fail> {
-    let params = json(
+    notification(
         alloc,
+        "textDocument/didOpen",
         "{\"textDocument\":{\"uri\":\"file:///w/a.rs\",\"version\":1,\"text\":\"a\"}}",
-    )?;
-    let method = Text::from_str(alloc, "textDocument/didOpen")?;
-    Ok(Event::Lsp(Message::Notification(Notification { method, params })))
+    )
 }
 
 /// The final result of the first job.

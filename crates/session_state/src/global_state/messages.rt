@@ -11,9 +11,8 @@ use crate::global_state::GlobalState;
 use analysis_host::Analysis;
 use lsp_frame::{Message, Request};
 use plain::Items;
-use session_messages::id_text;
 use session_model::TurnError;
-use session_port::{LogCode, TaskMsg};
+use session_port::TaskMsg;
 use turn_parts::TurnOut;
 
 impl GlobalState {
@@ -43,10 +42,7 @@ impl GlobalState {
         match message {
             Message::Request(request) => self.on_request(request, analysis, out),
             Message::Notification(notification) => self.on_notification(notification, out),
-            Message::Response(response) => {
-                let text = id_text(self.alloc, response.id)?;
-                self.log(LogCode::UnknownResponse, text, out)
-            }
+            Message::Response(response) => self.on_response(response, out),
         }
     }
 

@@ -6,9 +6,10 @@ ghost use Rattle.analysis_host.specs.SnapshotData.{text_at};
 ghost use Rattle.turn_parts.specs.Meets.{Meets, Gives};
 ghost use Rattle.turn_parts.specs.Working.{logged};
 ghost use Rattle.desk.specs.Steps.{cancelled};
-ghost use Rattle.session_model.specs.Machine.{at_desk, noticed, opened_at, open_noted, changed_at, edited, edited_by, skip_noted, version_set, text_set, world_changed};
+ghost use Rattle.notify.specs.Reading.{FitsWorld as NoticeFitsWorld};
+ghost use Rattle.session_model.specs.Machine.{at_desk, noticed, told, opened_at, open_noted, close_noted, closed_at, version_removed, changed_at, edited, edited_by, skip_noted, version_set, text_set, world_changed};
 ghost use Rattle.session_model.specs.Entries.{entry_of, holds_text};
-ghost use Rattle.session_model.specs.Notices.{notice_of, FitsWorld};
+ghost use Rattle.session_model.specs.Hearing.{heard_of, FitsWorld};
 ghost use Rattle.session_model.specs.State.{columns_of};
 ghost use Rattle.docs_vfs.specs.FileUrls.{path_of};
 
@@ -16,10 +17,11 @@ use crate::global_state::GlobalState;
 use analysis_host::{Change, FileChange, SharedText, TextEntry, WorldFault};
 use docs_vfs::{UrlFault, VfsPath, path_of_url};
 use lsp_frame::{Notification, RequestId};
+use notify::{DidChange, DidOpen, Notice};
 use plain::{Items, Text};
-use session_messages::notice_of;
-use session_model::{Counter, DidChange, DidOpen, Notice, TurnError};
-use session_port::LogCode;
+use session_messages::heard_of;
+use session_model::{Counter, Heard, TurnError};
+use session_port::{Command, LogCode};
 use std::alloc::{AllocError, Global};
 use text_core::{ContentChange, LineEndings, PositionEncoding, TextIndex, edit_document};
 use turn_parts::TurnOut;
@@ -234,7 +236,7 @@ impl GlobalState {
             IfOk result (λ edited. IsNews held (text_after (columns_of self.now) changes held) edited.news) }
         ensures skipped { IfOk result (λ edited. edited.skipped ≡ has_skipped (columns_of self.now) changes (text_at self.now.host.world path.now)) }
     {
-        let columns = self.settings.encodings();
+        let columns = self.client.settings().encodings();
         match self.host.index(path) {
             Some(index) => edit_text(self.alloc, columns, index, changes),
             None => edit_nothing(self.alloc, columns, changes),
@@ -317,24 +319,84 @@ impl GlobalState {
         Ok(())
     }
 
-    // What a notification of this method tells.
-    #[tactic(auto, unfolding(session_model::specs::Machine::noticed))]
-    fn on_notice(
-        &mut self,
-        notice: Notice,
-        method: Text,
-        out: &mut TurnOut,
-    ) -> Result<(), TurnError>
-        requires { FitsWorld notice }
-        ensures { Meets result (noticed notice method (record { state = self.old; out = out.old })) self.new out.new }
+    // A document that isn't open is logged.
+    #[tactic(auto, unfolding(session_model::specs::Machine::close_noted))]
+    fn note_close(&mut self, path: &VfsPath, out: &mut TurnOut) -> Result<(), TurnError>
+        ensures { Gives result (close_noted path.now (record { state = self.old; out = out.old })) self.new out.new }
+    {
+        if self.is_open(path) {
+            return Ok(());
+        }
+        self.log_path(LogCode::OrphanClose, path, out)
+    }
+
+    #[tactic(auto, unfolding(session_model::specs::Machine::version_removed))]
+    fn remove_version(&mut self, path: VfsPath, out: &mut TurnOut) -> Result<(), TurnError>
+        ensures { Gives result (version_removed path (record { state = self.old; out = out.old })) self.new out.new }
+    {
+        self.versions = self.versions.set(self.alloc, path, None)?;
+        Ok(())
+    }
+
+    #[tactic(auto, unfolding(session_model::specs::Machine::closed_at))]
+    fn close_at(&mut self, path: VfsPath, out: &mut TurnOut) -> Result<(), TurnError>
+        ensures { (uri : List ℕ) → Gives result (closed_at (Ok path) uri (record { state = self.old; out = out.old })) self.new out.new }
+    {
+        self.note_close(&path, out)?;
+        self.remove_version(path.clone()?, out)?;
+        self.order(Command::Invalidate(path), out)
+    }
+
+    // A document is closed at the path of its URL.
+    #[tactic(auto, unfolding(session_model::specs::Machine::closed_at))]
+    fn on_close(&mut self, uri: Text, out: &mut TurnOut) -> Result<(), TurnError>
+        ensures { Gives result (closed_at (path_of uri) uri (record { state = self.old; out = out.old })) self.new out.new }
+    {
+        match path_of_url(self.alloc, uri.as_str()) {
+            Ok(path) => self.close_at(path, out),
+            Err(UrlFault::NoMemory) => Err(TurnError::NoMemory),
+            Err(UrlFault::NotFile | UrlFault::HasHost | UrlFault::NotText) => {
+                self.log(LogCode::BadPath, uri, out)
+            }
+        }
+    }
+
+    // What a notification tells.
+    #[tactic(auto, unfolding(session_model::specs::Machine::told))]
+    fn on_notice(&mut self, notice: Notice, out: &mut TurnOut) -> Result<(), TurnError>
+        requires { NoticeFitsWorld notice }
+        ensures { Meets result (told notice (record { state = self.old; out = out.old })) self.new out.new }
     {
         match notice {
-            Notice::Opened(document) => self.on_open(document, out),
-            Notice::Changed(change) => self.on_change(change, out),
-            Notice::Cancel(id) => self.on_cancel(id, out),
-            Notice::Malformed => self.log(LogCode::MalformedNotification, method, out),
-            Notice::Unhandled => self.log(LogCode::UnhandledNotification, method, out),
-            Notice::Silent => Ok(()),
+            Notice::CancelRequest(id) => self.on_cancel(id, out),
+            Notice::DidOpen(document) => self.on_open(document, out),
+            Notice::DidChange(change) => self.on_change(change, out),
+            Notice::DidClose { uri } => self.on_close(uri, out),
+            Notice::DidChangeConfiguration => self.ask_for_settings(out),
+            Notice::DidChangeWorkspaceFolders { added, removed } => {
+                self.change_folders(added, removed, out)
+            }
+            Notice::DidChangeWatchedFiles { changes } => self.change_files(changes, out),
+            Notice::CancelProgress(_)
+            | Notice::DidSave { .. }
+            | Notice::CancelFlycheck
+            | Notice::ClearFlycheck
+            | Notice::RunFlycheck { .. }
+            | Notice::AbortRunTest => Ok(()),
+        }
+    }
+
+    // What is heard in a notification of this method.
+    #[tactic(auto, unfolding(session_model::specs::Machine::noticed))]
+    fn on_heard(&mut self, heard: Heard, method: Text, out: &mut TurnOut) -> Result<(), TurnError>
+        requires { FitsWorld heard }
+        ensures { Meets result (noticed heard method (record { state = self.old; out = out.old })) self.new out.new }
+    {
+        match heard {
+            Heard::Told(notice) => self.on_notice(notice, out),
+            Heard::Malformed => self.log(LogCode::MalformedNotification, method, out),
+            Heard::Unhandled => self.log(LogCode::UnhandledNotification, method, out),
+            Heard::Silent => Ok(()),
         }
     }
 
@@ -344,10 +406,10 @@ impl GlobalState {
         notification: Notification,
         out: &mut TurnOut,
     ) -> Result<(), TurnError>
-        ensures { Meets result (noticed (notice_of notification) notification.method (record { state = self.old; out = out.old })) self.new out.new }
+        ensures { Meets result (noticed (heard_of notification) notification.method (record { state = self.old; out = out.old })) self.new out.new }
     {
         let Notification { method, params } = notification;
-        let notice = notice_of(self.alloc, &method, params)?;
-        self.on_notice(notice, method, out)
+        let heard = heard_of(self.alloc, &method, params)?;
+        self.on_heard(heard, method, out)
     }
 }

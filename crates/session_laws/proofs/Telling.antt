@@ -1,0 +1,174 @@
+-- What tells the client or the host something, and answers nobody.
+use Rattle.std.proofs.Common.{◌≡◌, ◌+◌, ℕ, List, [], ◌∷◌, ◌++◌, length, Bool, true, false, refl, sym, ap, ◌∙◌, subst, append-nil, append_assoc}
+use Rattle.std.specs.Prelude.{Option, None, Some, Ok, Err, IfOk, ◌==◌, is_some, if◌then◌else◌}
+use Rattle.std.specs.Result.{result_ok}
+use Rattle.serde_json.specs.Data.{Data}
+use Rattle.docs_vfs.specs.FileUrls.{path_of}
+use Rattle.lsp_frame.specs.declared.message.Notification.{Notification}
+use Rattle.lsp_frame.specs.declared.message.Request.{Request}
+use Rattle.lsp_frame.specs.declared.message.Response.{Response}
+use Rattle.lsp_frame.specs.declared.message.Message.TheVariants.{Request as RequestMessage, Notification as NotificationMessage}
+use Rattle.session_port.specs.declared.command.Command.TheVariants.{Invalidate}
+use Rattle.session_port.specs.declared.command.LogCode.{LogCode}
+use Rattle.session_port.specs.declared.command.LogCode.TheVariants.{BadPath, SettingsError, UnknownResponse}
+use Rattle.session_port.specs.declared.job.Job.{Job}
+use Rattle.turn_parts.specs.Working.{Working, logged, ordered, written}
+use Rattle.turn_parts.specs.Written.{Written}
+use Rattle.turn_parts.specs.declared.fault.Counter.TheVariants.{Outgoing}
+use Rattle.client.specs.Answers.{chooses, fault_in}
+use Rattle.client.specs.Client.{Client}
+use Rattle.client.specs.Folds.{after_answer, after_asking, after_folders, follows}
+use Rattle.client.specs.Steps.{answered, asked_for, folders_changed, followed, logged_if, misses_logged, open_logs, request_at}
+use Rattle.client.specs.Texts.{id_text}
+use Rattle.client.specs.declared.handler.ReqHandler.{ReqHandler}
+use Rattle.client.specs.declared.handler.ReqHandler.TheVariants.{Ignore, Settings, OpenLogs}
+use Rattle.outgoing.specs.Outgoing.{number_limit}
+use Rattle.desk.specs.Desk.{Desk}
+use Rattle.desk.specs.Folds.{asked_among}
+use Rattle.desk_laws.specs.Numbers.{AreNumbered}
+use Rattle.desk_laws.proofs.Appends.{responses-append, revisions-append, spawned-append}
+use Rattle.session_laws.specs.Beside.{Beside, Tells}
+use Rattle.session_laws.proofs.Same.{none-handed}
+use Rattle.session_model.specs.State.{State}
+
+pub tells-none : (out : Written) → Tells out out
+tells-none out = record {
+  messages = [];
+  commands = [];
+  written = sym (append-nil _);
+  ordered = sym (append-nil _);
+  answers_none = refl;
+  spawns_none = refl;
+  revises_none = refl;
+}
+
+-- one thing and then another
+pub tells-on : (a b c : Written) → Tells a b → Tells b c → Tells a c
+tells-on a b c p q = record {
+  messages = p.messages ++ q.messages;
+  commands = p.commands ++ q.commands;
+  written = q.written ∙ ap (λ ms. ms ++ q.messages) p.written ∙ append_assoc a.messages p.messages q.messages;
+  ordered = q.ordered ∙ ap (λ cs. cs ++ q.commands) p.ordered ∙ append_assoc a.commands p.commands q.commands;
+  answers_none = responses-append p.messages q.messages ∙ (λ i. p.answers_none i ++ q.answers_none i);
+  spawns_none = spawned-append p.commands q.commands ∙ (λ i. p.spawns_none i ++ q.spawns_none i);
+  revises_none = revisions-append p.commands q.commands ∙ (λ i. p.revises_none i ++ q.revises_none i);
+}
+
+-- a log line
+pub tells-logged : {S : Type 0} (code : LogCode) (text : List ℕ) (w : Working S) → Tells w.out (logged code text w).out
+unfolding logged ordered
+tells-logged code text w = record {
+  messages = [];
+  commands = _;
+  written = sym (append-nil _);
+  ordered = refl;
+  answers_none = refl;
+  spawns_none = refl;
+  revises_none = refl;
+}
+
+-- a file is to be read anew
+pub tells-invalidated : {S : Type 0} (path : List ℕ) (w : Working S) → Tells w.out (ordered (Invalidate path) w).out
+unfolding ordered
+tells-invalidated path w = record {
+  messages = [];
+  commands = Invalidate path ∷ [];
+  written = sym (append-nil _);
+  ordered = refl;
+  answers_none = refl;
+  spawns_none = refl;
+  revises_none = refl;
+}
+
+-- a request of the session's own
+tells-request : {S : Type 0} (r : Request) (w : Working S) → Tells w.out (written (RequestMessage r) w).out
+unfolding written
+tells-request r w = record {
+  messages = RequestMessage r ∷ [];
+  commands = [];
+  written = refl;
+  ordered = sym (append-nil _);
+  answers_none = refl;
+  spawns_none = refl;
+  revises_none = refl;
+}
+
+tells-notification : {S : Type 0} (n : Notification) (w : Working S) → Tells w.out (written (NotificationMessage n) w).out
+unfolding written
+tells-notification n w = record {
+  messages = NotificationMessage n ∷ [];
+  commands = [];
+  written = refl;
+  ordered = sym (append-nil _);
+  answers_none = refl;
+  spawns_none = refl;
+  revises_none = refl;
+}
+
+-- nobody is answered
+pub beside-told : (w v : Working State) → Tells w.out v.out → v.state.desk ≡ w.state.desk → Beside w v
+beside-told w v t desk = record {
+  messages = t.messages;
+  commands = t.commands;
+  written = t.written;
+  ordered = t.ordered;
+  answers_none = t.answers_none;
+  asks_none = ap asked_among t.spawns_none;
+  numbered = subst (AreNumbered w.state.desk.handed) (sym t.spawns_none) tt;
+  desk = desk ∙ none-handed w.state.desk ∙ ap (λ (js : List Job). record w.state.desk { handed = w.state.desk.handed + length js }) (sym t.spawns_none);
+}
+
+-- ---- what is agreed with the client
+
+-- it has come to this, and nobody was answered
+pub record DoesForClient (w v : Working Client) (client : Client) : Type 0 where
+  pub is : v.state ≡ client
+  pub tells : Tells w.out v.out
+
+asked-cases : (method : List ℕ) (params : Data) (then : ReqHandler) (w : Working Client) (b : Bool)
+    → IfOk (if b then Err Outgoing else Ok (written (request_at w.state.asked.given method params) (record w { state = after_asking then w.state })))
+    (λ v. DoesForClient w v (after_asking then w.state))
+asked-cases method params then w true = tt
+asked-cases method params then w false = record { is = is-there; tells = tells-request _ (record w { state = after_asking then w.state }) }
+  where
+    is-there : (written (request_at w.state.asked.given method params) (record w { state = after_asking then w.state })).state ≡ after_asking then w.state
+    unfolding written
+    is-there = refl
+
+pub asked-does : (method : List ℕ) (params : Data) (then : ReqHandler) (w : Working Client) → IfOk (asked_for method params then w) (λ v. DoesForClient w v (after_asking then w.state))
+unfolding asked_for
+asked-does method params then w = asked-cases method params then w (w.state.asked.given == number_limit)
+
+faults-tell : (fault : Option (List ℕ)) (w : Working Client) → Tells w.out (logged_if SettingsError fault w).out
+faults-tell None w = tells-none w.out
+faults-tell (Some text) w = tells-logged SettingsError text w
+
+logs-tell : (b : Bool) (w : Working Client) → Tells w.out (if b then written open_logs w else w).out
+logs-tell true w = tells-notification _ w
+logs-tell false w = tells-none w.out
+
+followed-tells : (then : Option ReqHandler) (response : Response) (w : Working Client) → Tells w.out (followed then response w).out
+unfolding followed
+followed-tells None response w = tells-logged UnknownResponse (id_text response.id) w
+followed-tells (Some Ignore) response w = tells-none w.out
+followed-tells (Some Settings) response w = faults-tell (fault_in response) w
+followed-tells (Some OpenLogs) response w = logs-tell (chooses response) w
+
+pub answered-does : (response : Response) (w : Working Client) → DoesForClient w (answered response w) (after_answer response w.state)
+unfolding answered
+answered-does response w = record { is = refl; tells = followed-tells (follows response.id w.state.asked) response w }
+
+miss-tells : (url : List ℕ) (w : Working Client) (b : Bool) → Tells w.out (if b then w else logged BadPath url w).out
+miss-tells url w true = tells-none w.out
+miss-tells url w false = tells-logged BadPath url w
+
+misses-tell : (urls : List (List ℕ)) (w : Working Client) → Tells w.out (misses_logged urls w).out
+unfolding misses_logged
+misses-tell [] w = tells-none w.out
+misses-tell (url ∷ urls) w =
+    let b = is_some (result_ok (path_of url)) in
+    tells-on _ _ _ (miss-tells url w b) (misses-tell urls (if b then w else logged BadPath url w))
+
+pub folders-do : (added removed : List (List ℕ)) (w : Working Client) → DoesForClient w (folders_changed added removed w) (after_folders added removed w.state)
+unfolding folders_changed
+folders-do added removed w = record { is = refl; tells = tells-on _ _ _ (misses-tell removed w) (misses-tell added (misses_logged removed w)) }

@@ -1,0 +1,20 @@
+-- A call of what is agreed with the client, as a step of the session.
+use Rattle.std.proofs.Common.{◌≡◌, sym, subst}
+use Rattle.std.specs.Prelude.{Result}
+use Rattle.turn_parts.proofs.Parts.{within_meets}
+use Rattle.turn_parts.specs.Meets.{Meets}
+use Rattle.turn_parts.specs.Working.{Working}
+use Rattle.turn_parts.specs.Written.{Written}
+use Rattle.turn_parts.specs.declared.fault.Counter.{Counter}
+use Rattle.turn_parts.specs.declared.fault.TurnError.{TurnError}
+use Rattle.client.specs.Client.{Client}
+use Rattle.session_model.specs.Machine.{at_client, client_in, with_client}
+use Rattle.session_model.specs.State.{State}
+
+pub client_meets : {T : Type 0} (step : Working Client → Result (Working Client) Counter) (result : Result T TurnError) (before after : State) (client client_now : Client) (out out_now : Written)
+    → before.client ≡ client → after ≡ record before { client = client_now } → Meets result (step (record { state = client; out = out })) client_now out_now
+    → Meets result (at_client step (record { state = before; out = out })) after out_now
+client_meets step result before after client client_now out out_now was is h =
+    subst (λ (s : State). Meets result (at_client step (record { state = before; out = out })) s out_now) (sym is)
+    (within_meets client_in with_client step result (record { state = before; out = out }) client_now out_now
+    (subst (λ (d : Client). Meets result (step (record { state = d; out = out })) client_now out_now) (sym was) h))
