@@ -1,12 +1,13 @@
 -- What is done with a request of the session's own, with an answer to one, and with folders that the client adds and removes.
-use Rattle.std.specs.Prelude.{ℕ, ◌==◌, pos, List, [], ◌∷◌, ◌++◌, filter, codes, is_some, not, if◌then◌else◌, Option, None, Some, Result, Ok, Err}
-use Rattle.std.specs.Result.{result_ok}
+use Rattle.std.specs.Prelude.{ℕ, ◌==◌, pos, Bool, List, ◌++◌, map, filter, codes, if◌then◌else◌, Option, None, Some, Result, Ok, Err, is_err}
 use Rattle.serde_json.specs.Data.{Data, null}
 use Rattle.docs_vfs.specs.FileUrls.{path_of}
 use Rattle.lsp_frame.specs.declared.message.RequestId.TheVariants.{Number}
 use Rattle.lsp_frame.specs.declared.message.Message.{Message}
 use Rattle.lsp_frame.specs.declared.message.Message.TheVariants.{Request as RequestMessage, Notification as NotificationMessage}
 use Rattle.lsp_frame.specs.declared.message.Response.{Response}
+use Rattle.session_port.specs.declared.command.Command.{Command}
+use Rattle.session_port.specs.declared.command.Command.TheVariants.{Log}
 use Rattle.session_port.specs.declared.command.LogCode.{LogCode}
 use Rattle.session_port.specs.declared.command.LogCode.TheVariants.{UnknownResponse, SettingsError, BadPath}
 use Rattle.turn_parts.specs.Working.{Working, written, logged}
@@ -54,10 +55,16 @@ answered response w = record (followed (follows response.id w.state.asked) respo
 
 -- ---- folders
 
--- each of these that names no path is logged
-unfoldable pub misses_logged : {S : Type 0} → List (List ℕ) → Working S → Working S
-misses_logged [] w = w
-misses_logged (url ∷ urls) w = misses_logged urls (if is_some (result_ok (path_of url)) then w else logged BadPath url w)
+abbrev pub names_none : List ℕ → Bool
+names_none url = is_err (path_of url)
 
+-- a log line for each URL that names no path
+abbrev pub misses : List (List ℕ) → List Command
+misses urls = map (Log BadPath) (filter names_none urls)
+
+-- the removed ones are logged first
 unfoldable pub folders_changed : List (List ℕ) → List (List ℕ) → Working Client → Working Client
-folders_changed added removed w = record (misses_logged added (misses_logged removed w)) { state = after_folders added removed w.state }
+folders_changed added removed w = record {
+  state = after_folders added removed w.state;
+  out = record w.out { commands = w.out.commands ++ misses removed ++ misses added };
+}
