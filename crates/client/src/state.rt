@@ -1,10 +1,10 @@
 // What is agreed with the client, and the requests of the session's own.
-ghost use Rattle.std.specs.Prelude.{◌≡◌, ◌≤◌, ◌<◌, pos, IfOk, MatchResult, Err};
+ghost use Rattle.std.specs.Prelude.{◌≡◌, ◌≢◌, ◌≤◌, ◌⊎◌, pos, IfOk, IfErr, OnOk};
 ghost use Rattle.std.specs.Arc.{arc_value};
 ghost use Rattle.lsp_frame.specs.Written.{IsWritable};
-ghost use Rattle.outgoing.specs.Outgoing.{number_limit, registered};
+ghost use Rattle.outgoing.specs.Outgoing.{number_limit};
 ghost use Rattle.turn_parts.specs.Meets.{Meets};
-ghost use Rattle.turn_parts.specs.declared.fault.TurnError.TheVariants.{Exhausted};
+ghost use Rattle.turn_parts.specs.declared.fault.TurnError.TheVariants.{Exhausted, NoMemory as OutOfMemory};
 ghost use Rattle.turn_parts.specs.declared.fault.Counter.TheVariants.{Outgoing as OutgoingNumbers};
 ghost use Rattle.client.specs.Client.{new_client, new_client_at};
 ghost use Rattle.client.specs.Folds.{after_asking};
@@ -73,9 +73,9 @@ impl Client {
 
     // Gives the next number to a request that is to wait.
     fn register(&mut self, then: ReqHandler) -> Result<i32, TurnError>
-        ensures { MatchResult result
-          (λ number. (number ≡ pos self.old.asked.given) × (self.old.asked.given < number_limit) × (self.new ≡ after_asking then self.old))
-          (λ e. e ≡ Exhausted OutgoingNumbers → self.old.asked.given ≡ number_limit) }
+        ensures number { IfOk result (λ number. (number ≡ pos self.old.asked.given) × (self.old.asked.given ≢ number_limit)) }
+        ensures after { OnOk result (self.new ≡ after_asking then self.old) }
+        ensures err { IfErr result (λ e. (e ≡ OutOfMemory) ⊎ ((e ≡ Exhausted OutgoingNumbers) × (self.old.asked.given ≡ number_limit))) }
     {
         match self.asked.register(then) {
             Ok(number) => Ok(number),

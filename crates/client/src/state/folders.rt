@@ -46,7 +46,7 @@ fn read_paths(
 }
 
 // Takes these out of the workspaces, one after another.
-fn remove_each(settings: &mut Config, paths: &Items<VfsPath>)
+fn remove_each(settings: &mut Config, paths: &[VfsPath])
     ensures { settings.new ≡ record settings.old { workspace_roots = without_each paths.now settings.old.workspace_roots } }
 {
     for path in paths {
@@ -59,7 +59,7 @@ impl Client {
     fn put_workspaces(
         &mut self,
         added: Items<VfsPath>,
-        removed: &Items<VfsPath>,
+        removed: &[VfsPath],
     ) -> Result<(), AllocError>
         ensures { OnOk result (self.new ≡ record self.old { settings = record self.old.settings {
           workspace_roots = without_each removed.now self.old.settings.workspace_roots ++ added;
@@ -85,7 +85,7 @@ impl Client {
     {
         let removed = read_paths(self.alloc, removed, out)?;
         let added = read_paths(self.alloc, added, out)?;
-        self.put_workspaces(added, &removed)?;
+        self.put_workspaces(added, removed.as_slice())?;
         Ok(())
     }
 }
