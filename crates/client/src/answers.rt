@@ -26,10 +26,7 @@ fn first_in(answer: Json) -> Option<Json>
 }
 
 /// What an answer to a request for the settings says.
-pub(crate) fn read_settings(
-    alloc: Global,
-    response: Response,
-) -> Result<SettingsAnswer, AllocError>
+pub(crate) fn read_settings(alloc: Global, response: Response) -> Result<SettingsAnswer, AllocError>
     ensures settings { IfOk result (λ answer. answer.settings ≡ settings_in response) }
     ensures fault { IfOk result (λ answer. answer.fault ≡ fault_in response) }
 {
@@ -49,7 +46,11 @@ pub(crate) fn read_settings(
 fn is_action(answer: &Json) -> bool
     ensures { result ≡ is_action answer.now }
 {
-    answer.as_value().get("title").and_then(Value::as_str).is_some()
+    answer
+        .as_value()
+        .get("title")
+        .and_then(Value::as_str)
+        .is_some()
 }
 
 /// Whether the client's answer chooses an action.

@@ -7,22 +7,51 @@ use std::alloc::Global;
 use std::test::Fail;
 use turn_parts::TurnOut;
 
-
 const CLIPPY: &str = r#"[{"check":{"command":"clippy"}}]"#;
+
 const TITLED: &str = r#"{"title":"Open server logs"}"#;
+
 const LOGS: &str =
     "Content-Length: 56\r\n\r\n{\"jsonrpc\":\"2.0\",\"method\":\"experimental/openServerLogs\"}";
 
 // What follows, the answer to request 0 or to none, what is done for it, and the setting `check.command` from then on.
 static ANSWERS: [(ReqHandler, i32, &str, &str, &str, &str); 13] = [
     (ReqHandler::Settings, 0, "", CLIPPY, "", "clippy"),
-    (ReqHandler::Settings, 0, "no", CLIPPY, "SettingsError no, ", "check"),
-    (ReqHandler::Settings, 0, "", "", "SettingsError empty, ", "check"),
-    (ReqHandler::Settings, 0, "", "[1.5]", "SettingsError not plain, ", "check"),
+    (
+        ReqHandler::Settings,
+        0,
+        "no",
+        CLIPPY,
+        "SettingsError no, ",
+        "check",
+    ),
+    (
+        ReqHandler::Settings,
+        0,
+        "",
+        "",
+        "SettingsError empty, ",
+        "check",
+    ),
+    (
+        ReqHandler::Settings,
+        0,
+        "",
+        "[1.5]",
+        "SettingsError not plain, ",
+        "check",
+    ),
     (ReqHandler::Settings, 0, "", "[]", "", "check"),
     (ReqHandler::Settings, 0, "", "{}", "", "check"),
     (ReqHandler::Settings, 0, "", "null", "", "check"),
-    (ReqHandler::Settings, 1, "", CLIPPY, "UnknownResponse 1, ", "check"),
+    (
+        ReqHandler::Settings,
+        1,
+        "",
+        CLIPPY,
+        "UnknownResponse 1, ",
+        "check",
+    ),
     (ReqHandler::Ignore, 0, "no", "", "", "check"),
     (ReqHandler::Ignore, 0, "", CLIPPY, "", "check"),
     (ReqHandler::OpenLogs, 0, "", TITLED, LOGS, "check"),

@@ -10,7 +10,11 @@ static FOLDERS: [(&[&str], &[&str], &str); 4] = [
     (&["file:///a", "file:///b"], &[], " /w /a /b"),
     (&["file:///w"], &["file:///w"], " /w"),
     (&["file:///w", "file:///a"], &["file:///x"], " /w /w /a"),
-    (&["x", "file:///a"], &["y", "file:///w"], "BadPath y, BadPath x,  /a"),
+    (
+        &["x", "file:///a"],
+        &["y", "file:///w"],
+        "BadPath y, BadPath x,  /a",
+    ),
 ];
 
 fn texts(alloc: Global, urls: &[&str]) -> Result<Items<Text>, Fail> {

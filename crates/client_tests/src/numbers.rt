@@ -18,7 +18,10 @@ fn asked_twice(alloc: Global, client: &mut Client) -> Result<String, Fail> {
 fn requests_have_numbers_of_their_own(rt: HostRuntime) -> Result<(), Fail> {
     let alloc = rt.alloc();
     let text = asked_twice(alloc, &mut new_client(alloc)?)?;
-    assert_eq!(rt; text.as_str(), "Content-Length: 39\r\n\r\n{\"id\":0,\"jsonrpc\":\"2.0\",\"method\":\"a/b\"}Content-Length: 39\r\n\r\n{\"id\":1,\"jsonrpc\":\"2.0\",\"method\":\"a/b\"}");
+    assert_eq!(rt;
+        text.as_str(),
+        "Content-Length: 39\r\n\r\n{\"id\":0,\"jsonrpc\":\"2.0\",\"method\":\"a/b\"}Content-Length: 39\r\n\r\n{\"id\":1,\"jsonrpc\":\"2.0\",\"method\":\"a/b\"}"
+    );
     Ok(())
 }
 
@@ -27,10 +30,11 @@ fn has_none(alloc: Global, client: &mut Client) -> Result<bool, Fail> {
     let method = Text::from_str(alloc, "a/b")?;
     let mut out = TurnOut::new(alloc);
     let done = client.ask(method, Json::null(), ReqHandler::Ignore, &mut out);
-    Ok(done
-        == Err(TurnError::Exhausted {
+    Ok(
+        done == Err(TurnError::Exhausted {
             counter: Counter::Outgoing,
-        }))
+        }),
+    )
 }
 
 #[test]

@@ -62,8 +62,8 @@ impl Client {
     #[tactic(auto, unfolding(turn_parts::specs::Working::logged, turn_parts::specs::Working::ordered))]
     fn take_settings(&mut self, response: Response, out: &mut TurnOut) -> Result<(), AllocError>
         ensures { OnOk result (logged_if SettingsError (fault_in response)
-          (record { state = record self.old { settings = with_client (settings_in response) self.old.settings }; out = out.old })
-          ≡ record { state = self.new; out = out.new }) }
+            (record { state = record self.old { settings = with_client (settings_in response) self.old.settings }; out = out.old })
+            ≡ record { state = self.new; out = out.new }) }
     {
         let answer = read_settings(self.alloc, response)?;
         if let Some(fault) = answer.fault {

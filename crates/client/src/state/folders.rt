@@ -61,9 +61,11 @@ impl Client {
         added: Items<VfsPath>,
         removed: &[VfsPath],
     ) -> Result<(), AllocError>
-        ensures { OnOk result (self.new ≡ record self.old { settings = record self.old.settings {
-          workspace_roots = without_each removed.now self.old.settings.workspace_roots ++ added;
-        } }) }
+        ensures { OnOk result (self.new ≡ record self.old {
+          settings = record self.old.settings {
+            workspace_roots = without_each removed.now self.old.settings.workspace_roots ++ added;
+          };
+        }) }
     {
         let before: &Config = &self.settings;
         let mut settings = before.clone()?;
