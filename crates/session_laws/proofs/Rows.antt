@@ -162,11 +162,8 @@ still-mid meaning s input u serves still tells same =
 -- with a log line
 logged-mid : (meaning : Meaning) (s : State) (input : Input) (code : LogCode) (text : List ℕ) → Serves meaning s input (after_input input s.desk.jobs) (counted_turn s) → IsStill s input
     → Mid meaning s input (logged code text (counted_turn s))
-logged-mid meaning s input code text serves still = still-mid meaning s input (logged code text (counted_turn s)) serves still (tells-logged code text (counted_turn s)) same
-  where
-    same : (logged code text (counted_turn s)).state ≡ (counted_turn s).state
-    unfolding logged ordered
-    same = refl
+unfolding logged ordered
+logged-mid meaning s input code text serves still = still-mid meaning s input (logged code text (counted_turn s)) serves still (tells-logged code text (counted_turn s)) refl
 
 -- what is agreed with the client, at the beginning of a turn
 abbrev client_turn : State → Working Client

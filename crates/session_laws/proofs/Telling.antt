@@ -1,14 +1,15 @@
 -- What tells the client or the host something, and answers nobody.
 use Rattle.std.proofs.Common.{◌≡◌, ◌+◌, ℕ, List, [], ◌∷◌, ◌++◌, length, Bool, true, false, refl, sym, ap, ◌∙◌, subst, append-nil, append_assoc}
-use Rattle.std.specs.Prelude.{Option, None, Some, Ok, Err, IfOk, ◌==◌, is_some, if◌then◌else◌}
-use Rattle.std.specs.Result.{result_ok}
+use Rattle.std.specs.Prelude.{Option, None, Some, Ok, Err, IfOk, ◌==◌, filter, map, if◌then◌else◌}
+use Rattle.std.specs.List.{filter_map}
 use Rattle.serde_json.specs.Data.{Data}
-use Rattle.docs_vfs.specs.FileUrls.{path_of}
 use Rattle.lsp_frame.specs.declared.message.Notification.{Notification}
 use Rattle.lsp_frame.specs.declared.message.Request.{Request}
 use Rattle.lsp_frame.specs.declared.message.Response.{Response}
 use Rattle.lsp_frame.specs.declared.message.Message.TheVariants.{Request as RequestMessage, Notification as NotificationMessage}
-use Rattle.session_port.specs.declared.command.Command.TheVariants.{Invalidate}
+use Rattle.session_port.specs.Events.{revision_of}
+use Rattle.session_port.specs.Record.{spawned}
+use Rattle.session_port.specs.declared.command.Command.TheVariants.{Invalidate, Log}
 use Rattle.session_port.specs.declared.command.LogCode.{LogCode}
 use Rattle.session_port.specs.declared.command.LogCode.TheVariants.{BadPath, SettingsError, UnknownResponse}
 use Rattle.session_port.specs.declared.job.Job.{Job}
@@ -18,7 +19,7 @@ use Rattle.turn_parts.specs.declared.fault.Counter.TheVariants.{Outgoing}
 use Rattle.client.specs.Answers.{chooses, fault_in}
 use Rattle.client.specs.Client.{Client}
 use Rattle.client.specs.Folds.{after_answer, after_asking, after_folders, follows}
-use Rattle.client.specs.Steps.{answered, asked_for, folders_changed, followed, logged_if, misses_logged, open_logs, request_at}
+use Rattle.client.specs.Steps.{answered, asked_for, folders_changed, followed, logged_if, misses, names_none, open_logs, request_at}
 use Rattle.client.specs.Texts.{id_text}
 use Rattle.client.specs.declared.handler.ReqHandler.{ReqHandler}
 use Rattle.client.specs.declared.handler.ReqHandler.TheVariants.{Ignore, Settings, OpenLogs}
@@ -128,12 +129,9 @@ pub record DoesForClient (w v : Working Client) (client : Client) : Type 0 where
 asked-cases : (method : List ℕ) (params : Data) (then : ReqHandler) (w : Working Client) (b : Bool)
     → IfOk (if b then Err Outgoing else Ok (written (request_at w.state.asked.given method params) (record w { state = after_asking then w.state })))
     (λ v. DoesForClient w v (after_asking then w.state))
+unfolding written
 asked-cases method params then w true = tt
-asked-cases method params then w false = record { is = is-there; tells = tells-request _ (record w { state = after_asking then w.state }) }
-  where
-    is-there : (written (request_at w.state.asked.given method params) (record w { state = after_asking then w.state })).state ≡ after_asking then w.state
-    unfolding written
-    is-there = refl
+asked-cases method params then w false = record { is = refl; tells = tells-request _ (record w { state = after_asking then w.state }) }
 
 pub asked-does : (method : List ℕ) (params : Data) (then : ReqHandler) (w : Working Client) → IfOk (asked_for method params then w) (λ v. DoesForClient w v (after_asking then w.state))
 unfolding asked_for
@@ -158,17 +156,26 @@ pub answered-does : (response : Response) (w : Working Client) → DoesForClient
 unfolding answered
 answered-does response w = record { is = refl; tells = followed-tells (follows response.id w.state.asked) response w }
 
-miss-tells : (url : List ℕ) (w : Working Client) (b : Bool) → Tells w.out (if b then w else logged BadPath url w).out
-miss-tells url w true = tells-none w.out
-miss-tells url w false = tells-logged BadPath url w
+-- log lines hand over no job, and tell of no revision
+logs-spawn-none : (code : LogCode) (texts : List (List ℕ)) → spawned (map (Log code) texts) ≡ []
+logs-spawn-none code [] = refl
+logs-spawn-none code (text ∷ texts) = logs-spawn-none code texts
 
-misses-tell : (urls : List (List ℕ)) (w : Working Client) → Tells w.out (misses_logged urls w).out
-unfolding misses_logged
-misses-tell [] w = tells-none w.out
-misses-tell (url ∷ urls) w =
-    let b = is_some (result_ok (path_of url)) in
-    tells-on _ _ _ (miss-tells url w b) (misses-tell urls (if b then w else logged BadPath url w))
+logs-revise-none : (code : LogCode) (texts : List (List ℕ)) → filter_map revision_of (map (Log code) texts) ≡ []
+logs-revise-none code [] = refl
+logs-revise-none code (text ∷ texts) = logs-revise-none code texts
 
 pub folders-do : (added removed : List (List ℕ)) (w : Working Client) → DoesForClient w (folders_changed added removed w) (after_folders added removed w.state)
 unfolding folders_changed
-folders-do added removed w = record { is = refl; tells = tells-on _ _ _ (misses-tell removed w) (misses-tell added (misses_logged removed w)) }
+folders-do added removed w = record {
+  is = refl;
+  tells = record {
+    messages = [];
+    commands = misses removed ++ misses added;
+    written = sym (append-nil _);
+    ordered = refl;
+    answers_none = refl;
+    spawns_none = spawned-append (misses removed) (misses added) ∙ (λ i. logs-spawn-none BadPath (filter names_none removed) i ++ logs-spawn-none BadPath (filter names_none added) i);
+    revises_none = revisions-append (misses removed) (misses added) ∙ (λ i. logs-revise-none BadPath (filter names_none removed) i ++ logs-revise-none BadPath (filter names_none added) i);
+  };
+}

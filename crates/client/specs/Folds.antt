@@ -1,0 +1,73 @@
+-- What comes of the settings and of the session's own requests.
+use Rattle.std.specs.Prelude.{ℕ, List, [], ◌∷◌, ◌++◌, filter_map, Option, None, Some}
+use Rattle.std.specs.Result.{result_ok}
+use Rattle.serde_json.specs.Data.{Data}
+use Rattle.docs_vfs.specs.FileUrls.{path_of}
+use Rattle.lsp_frame.specs.declared.message.RequestId.{RequestId}
+use Rattle.lsp_frame.specs.declared.message.Response.{Response}
+use Rattle.layered_settings.specs.Change.{after}
+use Rattle.layered_settings.specs.declared.change.ConfigChange.{ConfigChange}
+use Rattle.ra_config.specs.Config.{ConfigData}
+use Rattle.ra_config.specs.Projects.{without}
+use Rattle.outgoing.specs.Outgoing.{Outgoing, registered, waiting_at, completed}
+use Rattle.client.specs.Answers.{settings_in}
+use Rattle.client.specs.Client.{Client}
+use Rattle.client.specs.declared.handler.ReqHandler.{ReqHandler}
+use Rattle.client.specs.declared.handler.ReqHandler.TheVariants.{Ignore, Settings, OpenLogs}
+
+-- ---- the session's own requests
+
+-- one request more waits
+abbrev pub after_asking : ReqHandler → Client → Client
+after_asking then client = record client { asked = registered then client.asked }
+
+-- what is to follow an answer of this id: nothing where no request of the id waits
+abbrev pub follows : Option RequestId → Outgoing ReqHandler → Option ReqHandler
+follows None asked = None
+follows (Some id) asked = waiting_at id asked
+
+-- the request of this id waits no more
+abbrev pub asked_after : Option RequestId → Outgoing ReqHandler → Outgoing ReqHandler
+asked_after None asked = asked
+asked_after (Some id) asked = completed id asked
+
+-- ---- the client's settings
+
+-- the client sets this, and all else stays
+abbrev pub client_change : Data → ConfigChange
+client_change value = record { client = Some value; user = None; workspace_toml = []; crate_toml = []; parents = None }
+
+abbrev pub with_client : Option Data → ConfigData → ConfigData
+with_client None settings = settings
+with_client (Some value) settings = record settings { settings = after settings.root_path (client_change value) settings.settings }
+
+-- an answer to a request for the settings brings those that it says
+abbrev pub settings_after : Option ReqHandler → Response → ConfigData → ConfigData
+settings_after None response settings = settings
+settings_after (Some Ignore) response settings = settings
+settings_after (Some OpenLogs) response settings = settings
+settings_after (Some Settings) response settings = with_client (settings_in response) settings
+
+-- the request of the answer's id waits no more; where it asked for the settings, they are from now on what the answer says
+abbrev pub after_answer : Response → Client → Client
+after_answer response client = record {
+  settings = settings_after (follows response.id client.asked) response client.settings;
+  asked = asked_after response.id client.asked;
+}
+
+-- ---- the workspaces
+
+-- the paths that URLs name; a URL that names none is left out
+abbrev pub paths_of : List (List ℕ) → List (List ℕ)
+paths_of urls = filter_map (λ url. result_ok (path_of url)) urls
+
+-- without each of these, in their order: of equal roots the first leaves
+abbrev pub without_each : List (List ℕ) → List (List ℕ) → List (List ℕ)
+without_each [] roots = roots
+without_each (path ∷ paths) roots = without_each paths (without path roots)
+
+-- the removed folders leave, and then the added ones come last
+abbrev pub after_folders : List (List ℕ) → List (List ℕ) → Client → Client
+after_folders added removed client = record client {
+  settings = record client.settings { workspace_roots = without_each (paths_of removed) client.settings.workspace_roots ++ paths_of added };
+}

@@ -1,0 +1,70 @@
+-- What is done with a request of the session's own, with an answer to one, and with folders that the client adds and removes.
+use Rattle.std.specs.Prelude.{ℕ, ◌==◌, pos, Bool, List, ◌++◌, map, filter, codes, if◌then◌else◌, Option, None, Some, Result, Ok, Err, is_err}
+use Rattle.serde_json.specs.Data.{Data, null}
+use Rattle.docs_vfs.specs.FileUrls.{path_of}
+use Rattle.lsp_frame.specs.declared.message.RequestId.TheVariants.{Number}
+use Rattle.lsp_frame.specs.declared.message.Message.{Message}
+use Rattle.lsp_frame.specs.declared.message.Message.TheVariants.{Request as RequestMessage, Notification as NotificationMessage}
+use Rattle.lsp_frame.specs.declared.message.Response.{Response}
+use Rattle.session_port.specs.declared.command.Command.{Command}
+use Rattle.session_port.specs.declared.command.Command.TheVariants.{Log}
+use Rattle.session_port.specs.declared.command.LogCode.{LogCode}
+use Rattle.session_port.specs.declared.command.LogCode.TheVariants.{UnknownResponse, SettingsError, BadPath}
+use Rattle.turn_parts.specs.Working.{Working, written, logged}
+use Rattle.turn_parts.specs.declared.fault.Counter.{Counter}
+use Rattle.turn_parts.specs.declared.fault.Counter.TheVariants.{Outgoing as OutgoingNumbers}
+use Rattle.outgoing.specs.Outgoing.{number_limit}
+use Rattle.client.specs.Answers.{fault_in, chooses}
+use Rattle.client.specs.Client.{Client}
+use Rattle.client.specs.Folds.{after_asking, after_answer, after_folders, follows}
+use Rattle.client.specs.Texts.{id_text}
+use Rattle.client.specs.declared.handler.ReqHandler.{ReqHandler}
+use Rattle.client.specs.declared.handler.ReqHandler.TheVariants.{Ignore, Settings, OpenLogs}
+
+-- ---- requests of the session's own
+
+-- a request with this number
+abbrev pub request_at : ℕ → List ℕ → Data → Message
+request_at number method params = RequestMessage (record { id = Number (pos number); method = method; params = params })
+
+-- a request is written with the next number, and waits, unless all numbers were given
+unfoldable pub asked_for : List ℕ → Data → ReqHandler → Working Client → Result (Working Client) Counter
+asked_for method params then w =
+    if w.state.asked.given == number_limit then Err OutgoingNumbers
+    else Ok (written (request_at w.state.asked.given method params) (record w { state = after_asking then w.state }))
+
+-- ---- answers
+
+-- the client is to open the logs
+abbrev pub open_logs : Message
+open_logs = NotificationMessage (record { method = codes "experimental/openServerLogs"; params = null })
+
+abbrev pub logged_if : {S : Type 0} → LogCode → Option (List ℕ) → Working S → Working S
+logged_if code None w = w
+logged_if code (Some text) w = logged code text w
+
+-- what is written and logged for an answer, by what is to follow it
+unfoldable pub followed : Option ReqHandler → Response → Working Client → Working Client
+followed None response w = logged UnknownResponse (id_text response.id) w
+followed (Some Ignore) response w = w
+followed (Some Settings) response w = logged_if SettingsError (fault_in response) w
+followed (Some OpenLogs) response w = if chooses response then written open_logs w else w
+
+unfoldable pub answered : Response → Working Client → Working Client
+answered response w = record (followed (follows response.id w.state.asked) response w) { state = after_answer response w.state }
+
+-- ---- folders
+
+abbrev pub names_none : List ℕ → Bool
+names_none url = is_err (path_of url)
+
+-- a log line for each URL that names no path
+abbrev pub misses : List (List ℕ) → List Command
+misses urls = map (Log BadPath) (filter names_none urls)
+
+-- the removed ones are logged first
+unfoldable pub folders_changed : List (List ℕ) → List (List ℕ) → Working Client → Working Client
+folders_changed added removed w = record {
+  state = after_folders added removed w.state;
+  out = record w.out { commands = w.out.commands ++ misses removed ++ misses added };
+}

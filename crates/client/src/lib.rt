@@ -1,0 +1,11 @@
+//! What a session has agreed upon with its client, and the requests of its own that wait for the client's answer.
+#![tactic(auto)]
+
+mod answers;
+mod handler;
+mod ids;
+mod state;
+
+pub use handler::ReqHandler;
+pub use ids::id_text;
+pub use state::Client;

@@ -1,0 +1,109 @@
+// What is agreed with the client, and the requests of the session's own.
+ghost use Rattle.std.specs.Prelude.{◌≡◌, ◌≢◌, ◌≤◌, ◌⊎◌, pos, IfOk, IfErr, OnOk};
+ghost use Rattle.std.specs.Arc.{arc_value};
+ghost use Rattle.lsp_frame.specs.Written.{IsWritable};
+ghost use Rattle.outgoing.specs.Outgoing.{number_limit};
+ghost use Rattle.turn_parts.specs.Meets.{Meets};
+ghost use Rattle.turn_parts.specs.declared.fault.TurnError.TheVariants.{Exhausted, NoMemory as OutOfMemory};
+ghost use Rattle.turn_parts.specs.declared.fault.Counter.TheVariants.{Outgoing as OutgoingNumbers};
+ghost use Rattle.client.specs.Client.{new_client, new_client_at};
+ghost use Rattle.client.specs.Folds.{after_asking};
+ghost use Rattle.client.specs.Steps.{asked_for};
+
+mod answering;
+mod folders;
+
+use crate::handler::ReqHandler;
+use lsp_frame::{Message, Request, RequestId};
+use outgoing::{Outgoing, OutgoingFault};
+use plain::{Json, Text};
+use ra_config::Config;
+use std::alloc::{AllocError, Global};
+use std::marker::Model;
+use std::sync::Arc;
+use turn_parts::{Counter, TurnError, TurnOut};
+
+/// What is agreed with the client, and the session's own requests that wait for its answer. Snapshots share the settings.
+#[derive(Drop)]
+pub struct Client {
+    alloc: Global,
+    settings: Arc<Config, Global>,
+    asked: Outgoing<ReqHandler>,
+}
+
+impl Model for Client {
+    ghost use Rattle.std.specs.Arc.{arc_value};
+    ghost use Rattle.client.specs.contracts.handler.ReqHandler as handler;
+    ghost use Rattle.client.specs.Codes.{client_code};
+    ghost use Rattle.client.specs.Client.{Client};
+
+    ghost Value = { Client };
+
+    ghost coded = { client_code handler.the_row.coded };
+
+    ghost view = { λ c. record { settings = arc_value c.settings; asked = c.asked } };
+}
+
+impl Client {
+    /// These settings, where nothing was asked.
+    pub fn new(alloc: Global, settings: Config) -> Result<Self, AllocError>
+        ensures { IfOk result (λ client. client ≡ new_client settings) }
+    {
+        Client::new_at(alloc, 0, settings)
+    }
+
+    /// These settings, where so many numbers of requests were given and none waits.
+    pub fn new_at(alloc: Global, given: u32, settings: Config) -> Result<Self, AllocError>
+        requires { given ≤ number_limit }
+        ensures { IfOk result (λ client. client ≡ new_client_at given settings) }
+    {
+        Ok(Client {
+            alloc,
+            settings: Arc::new(alloc, settings)?,
+            asked: Outgoing::new_at(alloc, given),
+        })
+    }
+
+    /// The settings, to be shared.
+    pub fn settings(&self) -> &Arc<Config, Global>
+        ensures { arc_value result.now ≡ self.now.settings }
+    {
+        &self.settings
+    }
+
+    // Gives the next number to a request that is to wait.
+    fn register(&mut self, then: ReqHandler) -> Result<i32, TurnError>
+        ensures number { IfOk result (λ number. (number ≡ pos self.old.asked.given) × (self.old.asked.given ≢ number_limit)) }
+        ensures after { OnOk result (self.new ≡ after_asking then self.old) }
+        ensures err { IfErr result (λ e. (e ≡ OutOfMemory) ⊎ ((e ≡ Exhausted OutgoingNumbers) × (self.old.asked.given ≡ number_limit))) }
+    {
+        match self.asked.register(then) {
+            Ok(number) => Ok(number),
+            Err(OutgoingFault::Exhausted) => Err(TurnError::Exhausted {
+                counter: Counter::Outgoing,
+            }),
+            Err(OutgoingFault::NoMemory) => Err(TurnError::NoMemory),
+        }
+    }
+
+    /// Sends a request of the session's own. After an `Err` the client is spent.
+    #[tactic(auto, unfolding(crate::specs::Steps::asked_for, turn_parts::specs::Working::written))]
+    pub fn ask(
+        &mut self,
+        method: Text,
+        params: Json,
+        then: ReqHandler,
+        out: &mut TurnOut,
+    ) -> Result<(), TurnError>
+        requires { IsWritable params }
+        ensures { Meets result (asked_for method params then (record { state = self.old; out = out.old })) self.new out.new }
+    {
+        let number = self.register(then)?;
+        out.write(Message::Request(Request {
+            id: RequestId::Number(number),
+            method,
+            params,
+        }))?;
+        Ok(())
+    }
+}

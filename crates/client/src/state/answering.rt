@@ -1,0 +1,103 @@
+// Answers to the session's own requests.
+ghost use Rattle.std.specs.Prelude.{◌≡◌, OnOk};
+ghost use Rattle.client.specs.Answers.{fault_in, settings_in};
+ghost use Rattle.client.specs.Folds.{follows, asked_after, with_client, client_change};
+ghost use Rattle.client.specs.Steps.{answered, logged_if, open_logs};
+ghost use Rattle.layered_settings.specs.Change.{after};
+ghost use Rattle.session_port.specs.declared.command.LogCode.TheVariants.{SettingsError};
+ghost use Rattle.turn_parts.specs.Meets.{Gives};
+ghost use Rattle.turn_parts.specs.Working.{logged, written};
+
+use crate::answers::{chooses, read_settings};
+use crate::handler::ReqHandler;
+use crate::ids::id_text;
+use crate::state::Client;
+use lsp_frame::{Message, Notification, RequestId, Response};
+use plain::{Items, Json, Text};
+use ra_config::ConfigChange;
+use session_port::{Command, LogCode};
+use std::alloc::{AllocError, Global};
+use std::sync::Arc;
+use turn_parts::{TurnError, TurnOut};
+
+// A change of the client's settings alone.
+fn client_change(alloc: Global, value: Json) -> ConfigChange
+    ensures { result ≡ client_change value }
+{
+    ConfigChange {
+        client: Some(value),
+        user: None,
+        workspace_toml: Items::new(alloc),
+        crate_toml: Items::new(alloc),
+        parents: None,
+    }
+}
+
+impl Client {
+    // Takes out what is to follow the answer to the request of this id.
+    fn take_following(&mut self, id: &Option<RequestId>) -> Option<ReqHandler>
+        ensures value { result ≡ follows id.now self.old.asked }
+        ensures after { self.new ≡ record self.old { asked = asked_after id.now self.old.asked } }
+    {
+        match id {
+            Some(id) => self.asked.complete(id),
+            None => None,
+        }
+    }
+
+    // The client sets this from now on, where it is there.
+    fn set_client(&mut self, value: Option<Json>) -> Result<(), AllocError>
+        ensures { OnOk result (self.new ≡ record self.old { settings = with_client value self.old.settings }) }
+    {
+        let Some(value) = value else {
+            return Ok(());
+        };
+        let change = client_change(self.alloc, value);
+        let applied = self.settings.apply_change(self.alloc, change)?;
+        self.settings = Arc::new(self.alloc, applied.config)?;
+        Ok(())
+    }
+
+    // The answer to a request for the settings.
+    #[tactic(auto, unfolding(turn_parts::specs::Working::logged, turn_parts::specs::Working::ordered))]
+    fn take_settings(&mut self, response: Response, out: &mut TurnOut) -> Result<(), AllocError>
+        ensures { OnOk result (logged_if SettingsError (fault_in response)
+            (record { state = record self.old { settings = with_client (settings_in response) self.old.settings }; out = out.old })
+            ≡ record { state = self.new; out = out.new }) }
+    {
+        let answer = read_settings(self.alloc, response)?;
+        if let Some(fault) = answer.fault {
+            out.order(Command::Log(LogCode::SettingsError, fault))?;
+        }
+        self.set_client(answer.settings)
+    }
+
+    // The client is to open the logs.
+    fn open_logs(&self, out: &mut TurnOut) -> Result<(), AllocError>
+        ensures { OnOk result (written open_logs (record { state = self.now; out = out.old }) ≡ record { state = self.now; out = out.new }) }
+    {
+        let method = Text::from_str(self.alloc, "experimental/openServerLogs")?;
+        out.write(Message::Notification(Notification {
+            method,
+            params: Json::null(),
+        }))
+    }
+
+    /// An answer to a request of the session's own. After an `Err` the client is spent.
+    #[tactic(auto, unfolding(crate::specs::Steps::answered, crate::specs::Steps::followed, turn_parts::specs::Working::logged, turn_parts::specs::Working::ordered, turn_parts::specs::Working::written))]
+    pub fn complete(&mut self, response: Response, out: &mut TurnOut) -> Result<(), TurnError>
+        ensures { Gives result (answered response (record { state = self.old; out = out.old })) self.new out.new }
+    {
+        match self.take_following(&response.id) {
+            None => {
+                let id = id_text(self.alloc, response.id)?;
+                out.order(Command::Log(LogCode::UnknownResponse, id))?;
+            }
+            Some(ReqHandler::Ignore) => {}
+            Some(ReqHandler::Settings) => self.take_settings(response, out)?,
+            Some(ReqHandler::OpenLogs) if chooses(&response) => self.open_logs(out)?,
+            Some(ReqHandler::OpenLogs) => {}
+        }
+        Ok(())
+    }
+}
