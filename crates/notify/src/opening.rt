@@ -1,0 +1,52 @@
+// Documents as params name them, and those that are opened.
+ghost use Rattle.std.specs.Prelude.{◌≡◌};
+ghost use Rattle.notify.specs.Documents.{document_members, uri_of, uri_in};
+ghost use Rattle.notify.specs.Opening.{opened_in, text_within};
+
+use crate::notice::DidOpen;
+use plain::{Json, Members, Text};
+
+/// The most bytes that a text of a world has.
+const TEXT_LIMIT: usize = 4_294_967_295;
+
+/// The members of the document that params name.
+pub(crate) fn document_members(params: Json) -> Option<Members>
+    ensures { result ≡ document_members params }
+{
+    params.into_members()?.take("textDocument")?.into_members()
+}
+
+/// The URL that a value has.
+pub(crate) fn uri_of(value: Json) -> Option<Text>
+    ensures { result ≡ uri_of value }
+{
+    value.into_members()?.take("uri")?.into_text()
+}
+
+/// The URL of the document that params name.
+pub(crate) fn uri_in(params: Json) -> Option<Text>
+    ensures { result ≡ uri_in params }
+{
+    document_members(params)?.take("uri")?.into_text()
+}
+
+fn text_within(text: Text) -> Option<Text>
+    ensures { result ≡ text_within text }
+{
+    if text.len() <= TEXT_LIMIT {
+        Some(text)
+    } else {
+        None
+    }
+}
+
+/// The document that the params open, or none where they are malformed.
+pub(crate) fn opened_in(params: Json) -> Option<DidOpen>
+    ensures { result ≡ opened_in params }
+{
+    let mut members = document_members(params)?;
+    let uri = members.take("uri")?.into_text()?;
+    let version = members.take("version")?.as_i32()?;
+    let text = text_within(members.take("text")?.into_text()?)?;
+    Some(DidOpen { uri, version, text })
+}

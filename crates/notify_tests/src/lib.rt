@@ -1,0 +1,7 @@
+//! Tests of `notify`, by its public calls alone.
+#![tactic(auto)]
+
+#[cfg(test)]
+mod reading;
+#[cfg(test)]
+mod words;
