@@ -19,7 +19,7 @@ use Rattle.client.specs.declared.handler.ReqHandler.TheVariants.{Ignore, Setting
 
 -- one request more waits
 abbrev pub after_asking : ReqHandler → Client → Client
-after_asking then client = record client { asked = registered then client.asked }
+after_asking handler client = record client { asked = registered handler client.asked }
 
 -- what is to follow an answer of this id: nothing where no request of the id waits
 abbrev pub follows : Option RequestId → Outgoing ReqHandler → Option ReqHandler

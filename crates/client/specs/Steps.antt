@@ -29,9 +29,9 @@ request_at number method params = RequestMessage (record { id = Number (pos numb
 
 -- a request is written with the next number, and waits, unless all numbers were given
 unfoldable pub asked_for : List ℕ → Data → ReqHandler → Working Client → Result (Working Client) Counter
-asked_for method params then w =
+asked_for method params handler w =
     if w.state.asked.given == number_limit then Err OutgoingNumbers
-    else Ok (written (request_at w.state.asked.given method params) (record w { state = after_asking then w.state }))
+    else Ok (written (request_at w.state.asked.given method params) (record w { state = after_asking handler w.state }))
 
 -- ---- answers
 

@@ -8,7 +8,7 @@ ghost use Rattle.session_port.specs.declared.command.LogCode.TheVariants.{Settin
 ghost use Rattle.turn_parts.specs.Meets.{Gives};
 ghost use Rattle.turn_parts.specs.Working.{logged, written};
 
-use crate::answers::{chooses, read_settings};
+use crate::answers::{SettingsAnswer, chooses, read_settings};
 use crate::handler::ReqHandler;
 use crate::ids::id_text;
 use crate::state::Client;
@@ -65,14 +65,15 @@ impl Client {
             (record { state = record self.old { settings = with_client (settings_in response) self.old.settings }; out = out.old })
             ≡ record { state = self.new; out = out.new }) }
     {
-        let answer = read_settings(self.alloc, response)?;
-        if let Some(fault) = answer.fault {
+        let SettingsAnswer { settings, fault } = read_settings(self.alloc, response)?;
+        if let Some(fault) = fault {
             out.order(Command::Log(LogCode::SettingsError, fault))?;
         }
-        self.set_client(answer.settings)
+        self.set_client(settings)
     }
 
     // The client is to open the logs.
+    #[tactic(auto, unfolding(turn_parts::specs::Working::written))]
     fn open_logs(&self, out: &mut TurnOut) -> Result<(), AllocError>
         ensures { OnOk result (written open_logs (record { state = self.now; out = out.old }) ≡ record { state = self.now; out = out.new }) }
     {
