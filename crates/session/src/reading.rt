@@ -4,7 +4,7 @@ ghost use Rattle.session.specs.Reading.{IsNext};
 ghost use Rattle.session_model.specs.Course.{is_exit};
 
 use lsp_frame::{FrameFault, FrameReader, Message};
-use session_state::is_name;
+use notify::notification_is;
 use std::alloc::AllocError;
 
 /// What the bytes held give next.
@@ -22,7 +22,7 @@ fn is_exit(message: &Message) -> bool
     ensures { result ≡ is_exit message.now }
 {
     match message {
-        Message::Notification(notification) => is_name(&notification.method, "exit"),
+        Message::Notification(notification) => notification_is(notification, "exit"),
         _ => false,
     }
 }

@@ -142,11 +142,11 @@ change-path-errs (Ok path) change w = is_open-errs path change w (is_open path w
 abbrev AreUsed : State → Counter → Type 0
 AreUsed s counter = AtLast s.host.revision counter ⊎ ((counter ≡ Outgoing) × (number_limit ≤ s.client.asked.given))
 
-asked-errs : (method : List ℕ) (params : Data) (then : ReqHandler) (c : Working Client) (b : Bool) → (c.state.asked.given == number_limit) ≡ b
-    → IfErr (if b then Err Outgoing else Ok (written (request_at c.state.asked.given method params) (record c { state = after_asking then c.state })))
+asked-errs : (method : List ℕ) (params : Data) (handler : ReqHandler) (c : Working Client) (b : Bool) → (c.state.asked.given == number_limit) ≡ b
+    → IfErr (if b then Err Outgoing else Ok (written (request_at c.state.asked.given method params) (record c { state = after_asking handler c.state })))
     (λ counter. (counter ≡ Outgoing) × (number_limit ≤ c.state.asked.given))
-asked-errs method params then c true all = (refl, subst (λ n. number_limit ≤ n) (sym (eqb-true _ _ all)) (omega arith))
-asked-errs method params then c false some = tt
+asked-errs method params handler c true all = (refl, subst (λ n. number_limit ≤ n) (sym (eqb-true _ _ all)) (omega arith))
+asked-errs method params handler c false some = tt
 
 asking-errs : (w : Working State) → IfErr (at_client asked_for_settings w) (AreUsed w.state)
 unfolding asked_for

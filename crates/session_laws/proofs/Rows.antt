@@ -348,23 +348,31 @@ unfolding file_changed logged ordered
 file-same url (Err fault) w = refl
 file-same url (Ok path) w = refl
 
+tells-if : (b : Bool) (w u v : Working State) → Tells w.out u.out → Tells w.out v.out → Tells w.out (if b then u else v).out
+tells-if true w u v p q = p
+tells-if false w u v p q = q
+
 files-tell : (seen : map.FinMap text_cmp (Unit {0})) (urls : List (List ℕ)) (w : Working State) → Tells w.out (files_changed seen urls w).out
 unfolding files_changed
 files-tell seen [] w = tells-none w.out
-files-tell seen (url ∷ urls) w = by_case (is_some (map.get seen url))
-  where
-    by_case : (b : Bool) → Tells w.out (if b then files_changed seen urls w else files_changed (map.insert seen url tt) urls (file_changed url (path_of url) w)).out
-    by_case true = files-tell seen urls w
-    by_case false = tells-on _ _ _ (file-tells url (path_of url) w) (files-tell (map.insert seen url tt) urls (file_changed url (path_of url) w))
+files-tell seen (url ∷ urls) w =
+    let done = file_changed url (path_of url) w in
+    let others = map.insert seen url tt in
+    tells-if (is_some (map.get seen url)) w (files_changed seen urls w) (files_changed others urls done) (files-tell seen urls w)
+    (tells-on _ _ _ (file-tells url (path_of url) w) (files-tell others urls done))
+
+same-if : (b : Bool) (s : State) (u v : Working State) → u.state ≡ s → v.state ≡ s → (if b then u else v).state ≡ s
+same-if true s u v p q = p
+same-if false s u v p q = q
 
 files-same : (seen : map.FinMap text_cmp (Unit {0})) (urls : List (List ℕ)) (w : Working State) → (files_changed seen urls w).state ≡ w.state
 unfolding files_changed
 files-same seen [] w = refl
-files-same seen (url ∷ urls) w = by_case (is_some (map.get seen url))
-  where
-    by_case : (b : Bool) → (if b then files_changed seen urls w else files_changed (map.insert seen url tt) urls (file_changed url (path_of url) w)).state ≡ w.state
-    by_case true = files-same seen urls w
-    by_case false = files-same (map.insert seen url tt) urls (file_changed url (path_of url) w) ∙ file-same url (path_of url) w
+files-same seen (url ∷ urls) w =
+    let done = file_changed url (path_of url) w in
+    let others = map.insert seen url tt in
+    same-if (is_some (map.get seen url)) w.state (files_changed seen urls w) (files_changed others urls done) (files-same seen urls w)
+    (files-same others urls done ∙ file-same url (path_of url) w)
 
 files-mid : (meaning : Meaning) (s : State) (n : Notification) (changes : List (List ℕ)) → heard_of n ≡ Told (notices.DidChangeWatchedFiles changes)
     → Mid meaning s (notification_input n) (files_changed map.empty changes (counted_turn s))

@@ -126,16 +126,16 @@ pub record DoesForClient (w v : Working Client) (client : Client) : Type 0 where
   pub is : v.state ≡ client
   pub tells : Tells w.out v.out
 
-asked-cases : (method : List ℕ) (params : Data) (then : ReqHandler) (w : Working Client) (b : Bool)
-    → IfOk (if b then Err Outgoing else Ok (written (request_at w.state.asked.given method params) (record w { state = after_asking then w.state })))
-    (λ v. DoesForClient w v (after_asking then w.state))
+asked-cases : (method : List ℕ) (params : Data) (handler : ReqHandler) (w : Working Client) (b : Bool)
+    → IfOk (if b then Err Outgoing else Ok (written (request_at w.state.asked.given method params) (record w { state = after_asking handler w.state })))
+    (λ v. DoesForClient w v (after_asking handler w.state))
 unfolding written
-asked-cases method params then w true = tt
-asked-cases method params then w false = record { is = refl; tells = tells-request _ (record w { state = after_asking then w.state }) }
+asked-cases method params handler w true = tt
+asked-cases method params handler w false = record { is = refl; tells = tells-request _ (record w { state = after_asking handler w.state }) }
 
-pub asked-does : (method : List ℕ) (params : Data) (then : ReqHandler) (w : Working Client) → IfOk (asked_for method params then w) (λ v. DoesForClient w v (after_asking then w.state))
+pub asked-does : (method : List ℕ) (params : Data) (handler : ReqHandler) (w : Working Client) → IfOk (asked_for method params handler w) (λ v. DoesForClient w v (after_asking handler w.state))
 unfolding asked_for
-asked-does method params then w = asked-cases method params then w (w.state.asked.given == number_limit)
+asked-does method params handler w = asked-cases method params handler w (w.state.asked.given == number_limit)
 
 faults-tell : (fault : Option (List ℕ)) (w : Working Client) → Tells w.out (logged_if SettingsError fault w).out
 faults-tell None w = tells-none w.out
@@ -145,7 +145,7 @@ logs-tell : (b : Bool) (w : Working Client) → Tells w.out (if b then written o
 logs-tell true w = tells-notification _ w
 logs-tell false w = tells-none w.out
 
-followed-tells : (then : Option ReqHandler) (response : Response) (w : Working Client) → Tells w.out (followed then response w).out
+followed-tells : (handler : Option ReqHandler) (response : Response) (w : Working Client) → Tells w.out (followed handler response w).out
 unfolding followed
 followed-tells None response w = tells-logged UnknownResponse (id_text response.id) w
 followed-tells (Some Ignore) response w = tells-none w.out
@@ -173,7 +173,7 @@ folders-do added removed w = record {
     messages = [];
     commands = misses removed ++ misses added;
     written = sym (append-nil _);
-    ordered = refl;
+    ordered = append_assoc w.out.commands (misses removed) (misses added);
     answers_none = refl;
     spawns_none = spawned-append (misses removed) (misses added) ∙ (λ i. logs-spawn-none BadPath (filter names_none removed) i ++ logs-spawn-none BadPath (filter names_none added) i);
     revises_none = revisions-append (misses removed) (misses added) ∙ (λ i. logs-revise-none BadPath (filter names_none removed) i ++ logs-revise-none BadPath (filter names_none added) i);

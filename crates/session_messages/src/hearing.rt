@@ -3,9 +3,9 @@ ghost use Rattle.std.specs.Prelude.{◌≡◌, IfOk};
 ghost use Rattle.session_model.specs.Hearing.{heard_of, unknown, FitsWorld};
 
 use notify::{NoticeFault, read_notice};
-use plain::{Json, NoMemory, Text};
+use plain::{Json, Text};
 use session_model::Heard;
-use std::alloc::Global;
+use std::alloc::{AllocError, Global};
 
 // What is heard where the method isn't known.
 fn unknown(method: &Text) -> Heard
@@ -20,7 +20,7 @@ fn unknown(method: &Text) -> Heard
 
 /// What a session hears in a notification of this method and these params.
 #[tactic(auto, unfolding(session_model::specs::Hearing::heard_of))]
-pub fn heard_of(alloc: Global, method: &Text, params: Json) -> Result<Heard, NoMemory>
+pub fn heard_of(alloc: Global, method: &Text, params: Json) -> Result<Heard, AllocError>
     ensures value { IfOk result (λ heard. heard ≡ heard_of (record { method = method.now; params = params })) }
     ensures fits { IfOk result FitsWorld }
 {
@@ -28,6 +28,6 @@ pub fn heard_of(alloc: Global, method: &Text, params: Json) -> Result<Heard, NoM
         Ok(Some(notice)) => Ok(Heard::Told(notice)),
         Ok(None) => Ok(unknown(method)),
         Err(NoticeFault::Malformed) => Ok(Heard::Malformed),
-        Err(NoticeFault::NoMemory) => Err(NoMemory),
+        Err(NoticeFault::NoMemory) => Err(AllocError),
     }
 }

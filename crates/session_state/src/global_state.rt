@@ -11,7 +11,7 @@ ghost use Rattle.session_model.specs.Machine.{at_desk, closed, counted, facts_of
 ghost use Rattle.session_model.specs.State.{scene_of, snapshot_of, fresh};
 ghost use Rattle.session_model.specs.declared.input.Input.TheVariants.{Start, Next};
 
-mod client;
+mod asking;
 mod messages;
 mod notifications;
 mod watching;

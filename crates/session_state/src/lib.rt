@@ -4,5 +4,4 @@
 mod global_state;
 
 pub use global_state::GlobalState;
-pub use session_messages::is_name;
 pub use turn_parts::TurnOut;
