@@ -5,3 +5,9 @@ pub mod Cancelling
 pub mod Uris
 pub mod Flychecks
 pub mod Reading
+pub mod Objects
+pub mod Registering
+pub mod Progressing
+pub mod Showing
+pub mod Testing
+pub mod Writing

@@ -1,4 +1,4 @@
-//! What a client's notifications tell.
+//! What a client's notifications tell, and what the server's own messages say.
 #![tactic(auto)]
 
 mod cancelling;
@@ -7,11 +7,21 @@ mod fault;
 mod flychecks;
 mod named;
 mod notice;
+mod objects;
 mod opening;
+mod outgo;
+mod progressing;
 mod reading;
+mod registering;
+mod showing;
+mod testing;
 mod uris;
+mod writing;
 
 pub use fault::NoticeFault;
 pub use named::notification_is;
 pub use notice::{DidChange, DidOpen, Notice};
+pub use outgo::{MessageKind, Outgo, ProgressValue, TestReport, Watcher};
+pub use plain::NoMemory;
 pub use reading::read_notice;
+pub use writing::{is_request, outgo_body};

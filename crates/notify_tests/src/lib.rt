@@ -5,3 +5,7 @@
 mod reading;
 #[cfg(test)]
 mod words;
+#[cfg(test)]
+mod writing;
+#[cfg(test)]
+mod written;
