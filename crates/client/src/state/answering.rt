@@ -3,10 +3,9 @@ ghost use Rattle.std.specs.Prelude.{◌≡◌, OnOk};
 ghost use Rattle.client.specs.Answers.{fault_in, settings_in};
 ghost use Rattle.client.specs.Folds.{follows, asked_after, with_client, client_change};
 ghost use Rattle.client.specs.Steps.{answered, logged_if, open_logs};
-ghost use Rattle.layered_settings.specs.Change.{after};
 ghost use Rattle.session_port.specs.declared.command.LogCode.TheVariants.{SettingsError};
 ghost use Rattle.turn_parts.specs.Meets.{Gives};
-ghost use Rattle.turn_parts.specs.Working.{logged, written};
+ghost use Rattle.turn_parts.specs.Working.{written};
 
 use crate::answers::{SettingsAnswer, chooses, read_settings};
 use crate::handler::ReqHandler;

@@ -1,5 +1,5 @@
 // Folders that the client adds and removes.
-ghost use Rattle.std.specs.Prelude.{◌≡◌, ◌++◌, IfOk, OnOk, option_to_list};
+ghost use Rattle.std.specs.Prelude.{◌≡◌, ◌++◌, IfOk, OnOk};
 ghost use Rattle.std.specs.Result.{result_ok};
 ghost use Rattle.docs_vfs.specs.FileUrls.{path_of};
 ghost use Rattle.client.specs.Folds.{paths_of, without_each};
