@@ -1,5 +1,5 @@
 -- The session machine: one turn, as a chain of its parts.
-use Rattle.std.specs.Prelude.{ℕ, ◌==◌, ℤ, Bool, false, List, [], ◌∷◌, codes, length, Option, None, Some, is_some, Result, Ok, Err, if◌then◌else◌}
+use Rattle.std.specs.Prelude.{ℕ, ◌==◌, ℤ, Bool, false, List, [], ◌∷◌, length, Option, None, Some, is_some, Result, Ok, Err, if◌then◌else◌}
 use Rattle.std.specs.FinMap as map
 use Rattle.lsp_frame.specs.declared.message.RequestId.{RequestId}
 use Rattle.lsp_frame.specs.declared.message.Message.{Message}
@@ -21,7 +21,8 @@ use Rattle.turn_parts.specs.declared.fault.Counter.TheVariants.{Revisions}
 use Rattle.client.specs.Client.{Client}
 use Rattle.client.specs.Steps.{asked_for, answered, folders_changed}
 use Rattle.client.specs.declared.handler.ReqHandler.TheVariants.{Settings}
-use Rattle.serde_json.specs.Data.{null}
+use Rattle.notify.specs.Writing.{outgo_body}
+use Rattle.notify.specs.declared.outgo.Outgo.TheVariants.{Configuration}
 use Rattle.notify.specs.declared.notice.DidChange.{DidChange}
 use Rattle.notify.specs.declared.notice.DidOpen.{DidOpen}
 use Rattle.notify.specs.declared.notice.Notice.{Notice}
@@ -63,7 +64,7 @@ with_client client state = record state { client = client }
 
 -- the client is asked for its settings
 abbrev pub asked_for_settings : Working Client → Result (Working Client) Counter
-asked_for_settings w = asked_for (codes "workspace/configuration") null Settings w
+asked_for_settings w = asked_for (outgo_body Configuration).0 (outgo_body Configuration).1 Settings w
 
 -- a step of it
 abbrev pub at_client : (Working Client → Result (Working Client) Counter) → Working State → Result (Working State) Counter

@@ -7,7 +7,8 @@ ghost use Rattle.session_model.specs.Machine.{asked_for_settings, at_client};
 use crate::global_state::GlobalState;
 use client::ReqHandler;
 use lsp_frame::Response;
-use plain::{Items, Json, Text};
+use notify::{Outgo, outgo_body};
+use plain::{Items, Text};
 use session_model::TurnError;
 use turn_parts::TurnOut;
 
@@ -16,9 +17,8 @@ impl GlobalState {
     pub(super) fn ask_for_settings(&mut self, out: &mut TurnOut) -> Result<(), TurnError>
         ensures { Meets result (at_client asked_for_settings (record { state = self.old; out = out.old })) self.new out.new }
     {
-        let method = Text::from_str(self.alloc, "workspace/configuration")?;
-        self.client
-            .ask(method, Json::null(), ReqHandler::Settings, out)
+        let (method, params) = outgo_body(self.alloc, Outgo::Configuration)?;
+        self.client.ask(method, params, ReqHandler::Settings, out)
     }
 
     // The client answers what it was asked.
