@@ -33,11 +33,11 @@ static TOLD: [(&str, &str); 16] = [
     ("textDocument/didSave 5", "log"),
     (
         "workspace/didChangeConfiguration null",
-        "Content-Length: 104\r\n\r\n{\"id\":0,\"jsonrpc\":\"2.0\",\"method\":\"workspace/configuration\",\"params\":{\"items\":[{\"section\":\"rust-analyzer\"}]}}",
+        "Content-Length: 108\r\n\r\n{\"id\":0,\"jsonrpc\":\"2.0\",\"method\":\"workspace/configuration\",\"params\":{\"items\":[{\"section\":\"rust-analyzer\"}]}}",
     ),
     (
         "workspace/didChangeConfiguration {}\nworkspace/didChangeConfiguration {}",
-        "Content-Length: 104\r\n\r\n{\"id\":1,\"jsonrpc\":\"2.0\",\"method\":\"workspace/configuration\",\"params\":{\"items\":[{\"section\":\"rust-analyzer\"}]}}",
+        "Content-Length: 108\r\n\r\n{\"id\":1,\"jsonrpc\":\"2.0\",\"method\":\"workspace/configuration\",\"params\":{\"items\":[{\"section\":\"rust-analyzer\"}]}}",
     ),
     (
         "workspace/didChangeConfiguration {}\n[{\"checkOnSave\":false}]",
@@ -73,39 +73,42 @@ fn last_of(alloc: Global, state: &mut GlobalState, lines: &str) -> Result<String
     Ok(last)
 }
 
+fn does(alloc: Global, lines: &str, done: &str) -> Result<bool, Fail> {
+    let mut state = state_at(alloc, READY)?;
+    Ok(last_of(alloc, &mut state, lines)?.as_str() == done)
+}
+
 #[test]
-fn each_notification_does_its_row(alloc: Global) -> Result<(), Fail> {
+fn each_notification_does_its_row(rt: HostRuntime) -> Result<(), Fail> {
     for (lines, done) in TOLD {
-        let mut state = state_at(alloc, READY)?;
-        let last = last_of(alloc, &mut state, lines)?;
-        assert_eq!(last.as_str(), done);
+        assert!(rt; does(rt.alloc(), lines, done)?, "{lines}");
     }
     Ok(())
 }
 
-fn checks_on_save(state: &GlobalState) -> Option<bool> {
-    Some(state.snapshot().ok()?.config().check_on_save(None))
-}
-
-fn roots(state: &GlobalState) -> Option<usize> {
-    Some(state.snapshot().ok()?.config().workspace_roots().len())
+// Whether checks run when a file is saved, and how many folders there are, after some messages.
+fn settings_after(alloc: Global, lines: &str) -> Result<(bool, usize), Fail> {
+    let mut state = state_at(alloc, READY)?;
+    last_of(alloc, &mut state, lines)?;
+    let snapshot = state.snapshot()?;
+    let config = snapshot.config();
+    Ok((config.check_on_save(None), config.workspace_roots().len()))
 }
 
 #[test]
-fn settings_change_within_a_run(alloc: Global) -> Result<(), Fail> {
-    let mut state = state_at(alloc, READY)?;
-    assert_eq!(checks_on_save(&state), Some(true));
-    last_of(
-        alloc,
-        &mut state,
-        "workspace/didChangeConfiguration {}\n[{\"checkOnSave\":false}]",
-    )?;
-    assert_eq!(checks_on_save(&state), Some(false));
-    last_of(
-        alloc,
-        &mut state,
-        "workspace/didChangeWorkspaceFolders {\"event\":{\"added\":[{\"uri\":\"file:///x\"}],\"removed\":[]}}",
-    )?;
-    assert_eq!(roots(&state), Some(2));
+fn settings_change_within_a_run(rt: HostRuntime) -> Result<(), Fail> {
+    for (lines, settings) in [
+        ("", (true, 1)),
+        (
+            "workspace/didChangeConfiguration {}\n[{\"checkOnSave\":false}]",
+            (false, 1),
+        ),
+        (
+            "workspace/didChangeWorkspaceFolders {\"event\":{\"added\":[{\"uri\":\"file:///x\"}],\"removed\":[]}}",
+            (true, 2),
+        ),
+    ] {
+        assert!(rt; settings_after(rt.alloc(), lines)? == settings, "{lines}");
+    }
     Ok(())
 }

@@ -31,11 +31,11 @@ pub fn notification(alloc: Global, method: &str, params: &str) -> Result<Event, 
 }
 
 /// A client's response to the session's request 0.
-pub fn response(alloc: Global, result: &str) -> Result<Event, Fail> {
-    let result = json(alloc, result)?;
+pub fn response(alloc: Global, text: &str) -> Result<Event, Fail> {
+    let value = json(alloc, text)?;
     Ok(Event::Lsp(Message::Response(Response {
         id: Some(RequestId::Number(0)),
-        result: Some(result),
+        result: Some(value),
         error: None,
     })))
 }
