@@ -1,4 +1,4 @@
-//! `ini_server session`: a language server for `.ini` files, over standard input and output.
+//! `ini_server`: a language server for `.ini` files, over standard input and output.
 #![tactic(auto)]
 
 mod ini;
@@ -11,10 +11,11 @@ const PROGRAM: Program<'static> = Program {
     help: "\
 ini_server: a language server for .ini files, over standard input and output.
 
-usage: ini_server session
+usage: ini_server lsp
+       ini_server session
        ini_server --help | --version
 
-A hover on a key answers its value.
+`lsp` is what an editor starts; `session` begins behind the `initialize` handshake. A hover on a key answers its value.
 ",
     version: "ini_server 0.1.0\n",
     keeps_record: false,

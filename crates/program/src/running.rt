@@ -1,6 +1,6 @@
 // A program, over any reader and any writer.
 ghost use Rattle.std.specs.Prelude.{◌≡◌, IfOk, OnErr};
-ghost use Rattle.program.specs.Serving.{Prints, Served, ServesStream};
+ghost use Rattle.program.specs.Serving.{Prints, Served, ServesStream, keeps_of};
 ghost use Rattle.program.specs.Words.{asked_by, texts_of};
 ghost use Rattle.program.specs.declared.words.Asked.TheVariants.{Help, Version, Serve, Unreadable};
 ghost use Rattle.server.specs.Status.{bad_words};
@@ -10,7 +10,7 @@ use crate::words::{Asked, Words, asked_by};
 use analysis_host::Analysis;
 use log::Log;
 use plain::Text;
-use server::{BAD_WORDS, serve};
+use server::{Asked as Word, BAD_WORDS, serve};
 use session_peers::InlineHost;
 use session_port::Sink;
 use std::alloc::Global;
@@ -30,7 +30,7 @@ pub struct Program<'a> {
     pub help: &'a str,
     /// What `--version` prints.
     pub version: &'a str,
-    /// Whether the host keeps a record of the session, which grows with it.
+    /// Whether the host keeps a record of a session, which grows with it. None is kept of `lsp`.
     pub keeps_record: bool,
 }
 
@@ -42,6 +42,16 @@ fn print<W: Write + Drop>(output: &mut StandardOutput<W>, text: &str) -> u8
     match output.put_turn(text.as_bytes()) {
         Ok(()) => 0,
         Err(_) => WRITE_FAULT,
+    }
+}
+
+/// Whether the host keeps a record of what the words ask for.
+fn keeps_of(keeps_record: bool, word: Word) -> bool
+    ensures { result ≡ keeps_of keeps_record word }
+{
+    match word {
+        Word::Session => keeps_record,
+        Word::Lsp | Word::Unknown => false,
     }
 }
 
@@ -60,7 +70,8 @@ fn serve_stream<R: Read + Drop, W: Write + Drop, L: Log, A: Analysis>(
     ensures untouched { OnErr result (output.new ≡ output.old) }
 {
     let input = StandardInput::new(alloc, input)?;
-    let mut host = LoggingHost::new(log, InlineHost::new(alloc, input, analysis, keeps_record)?);
+    let keeps = keeps_of(keeps_record, server::asked_by(texts));
+    let mut host = LoggingHost::new(log, InlineHost::new(alloc, input, analysis, keeps)?);
     Ok(serve(alloc, texts, &mut host, output, analysis))
 }
 

@@ -2,6 +2,8 @@
 #![tactic(auto)]
 
 #[cfg(test)]
+mod editors;
+#[cfg(test)]
 mod runs;
 #[cfg(test)]
 mod statuses;

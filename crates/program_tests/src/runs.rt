@@ -23,10 +23,10 @@ const VERSION: &str = "version 1\n";
 
 /// How a run went: its status, what it wrote, and whether all of that was flushed.
 #[derive(Drop)]
-struct Outcome {
-    status: u8,
-    written: String,
-    flushed: bool,
+pub(crate) struct Outcome {
+    pub(crate) status: u8,
+    pub(crate) written: String,
+    pub(crate) flushed: bool,
 }
 
 // This call claims nothing here.
@@ -49,7 +49,7 @@ fn status(rt: &HostRuntime, words: &Words, input: Tape<'_>, output: &mut Paper) 
 }
 
 /// A run of these words, over an input that ends or fails, and an output with so much room.
-fn outcome_of(
+pub(crate) fn outcome_of(
     rt: &HostRuntime,
     words: &Words,
     input: &str,
@@ -80,7 +80,7 @@ fn outcome_of(
 }
 
 /// Words that are parted by blanks.
-fn words(alloc: Global, line: &str) -> Result<Words, Fail> {
+pub(crate) fn words(alloc: Global, line: &str) -> Result<Words, Fail> {
     let mut texts = Items::new(alloc);
     for word in line.split(' ') {
         texts.push(Text::from_str(alloc, word)?)?;

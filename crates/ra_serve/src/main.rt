@@ -1,4 +1,4 @@
-//! `ra_serve session`: a language server's session over standard input and output, with a small analysis.
+//! `ra_serve`: a language server over standard input and output, with a small analysis. An editor starts `ra_serve lsp`.
 #![tactic(auto)]
 
 use program::{Program, start};
@@ -7,13 +7,14 @@ use std::process::ExitCode;
 
 const PROGRAM: Program<'static> = Program {
     help: "\
-ra_serve: a language server's session over standard input and output.
+ra_serve: a language server over standard input and output.
 
-usage: ra_serve session
+usage: ra_serve lsp
+       ra_serve session
        ra_serve --help | --version
 
-`session` reads framed messages of the Language Server Protocol, as they come after the `initialize` handshake,
-and writes framed responses. The root of its workspace is /w.
+`lsp` is what an editor starts: it reads framed messages of the Language Server Protocol, from `initialize` on, and
+writes framed responses. `session` begins behind that handshake; the root of its workspace is /w.
 
 status: 0 the session ended by `exit`               5 bad message
         2 bad words                                 6 the host failed

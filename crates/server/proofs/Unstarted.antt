@@ -11,7 +11,7 @@ use Rattle.session.proofs.Advancing.{run-none}
 use Rattle.server.specs.Serving.{RanSession, session_config}
 use Rattle.server.specs.Status.{status_of}
 
-pub unstarted : (meaning : Meaning) (told : Told) (honest : Bool) (HostFailed SinkFailed : Type 0) → RanSession meaning told told honest HostFailed SinkFailed (status_of (Err NoMemory))
+pub unstarted : (meaning : Meaning) (told : Told) (honest : Bool) (HostFailed SinkFailed : Type 0) → RanSession meaning session_config empty_reader told told honest HostFailed SinkFailed (status_of (Err NoMemory))
 unstarted meaning told honest HostFailed SinkFailed =
     let run : IsRun {T = ⊤} meaning session_config empty_reader told told honest (Err NoMemory) = run-none meaning session_config empty_reader told honest ⊤ in
     let headline : IsAnswered {T = ⊤} meaning session_config empty_reader told told honest (Err NoMemory) = run-answered ⊤ meaning session_config empty_reader told told honest (Err NoMemory) run in

@@ -1,39 +1,67 @@
 -- What a program does with its words.
-use Rattle.std.specs.Prelude.{◌≡◌, ℕ, List, [], ◌∷◌, Bool, true, false, codes, ⊤, Result}
+use Rattle.std.specs.Prelude.{◌≡◌, ℕ, List, [], ◌∷◌, Bool, codes, ⊤, Result, Ok, Err, if◌then◌else◌}
+use Rattle.lsp_frame.specs.Reader.{Reader}
 use Rattle.ra_config.specs.Config.{ConfigData, config_at}
 use Rattle.session_model.specs.Headline.{IsAnswered, EndsByCause, IsComplete}
 use Rattle.desk.specs.Meaning.{Meaning}
 use Rattle.session_model.specs.Run.{Told, IsRun, empty_reader}
 use Rattle.session_model.specs.Texts.{same_text}
 use Rattle.session_model.specs.declared.fault.SessionError.{SessionError}
+use Rattle.initialization.specs.Opening.{Opens}
+use Rattle.initialization.specs.declared.opening.Opening.{Opening}
+use Rattle.initialization.specs.declared.opening.Opening.TheVariants.{Begun, Left}
 use Rattle.server.specs.Status.{bad_words, status_of}
+use Rattle.server.specs.declared.words.Asked.{Asked}
+use Rattle.server.specs.declared.words.Asked.TheVariants.{Session, Lsp, Unknown}
 
--- the one word that is known
-abbrev pub is_session : List (List ℕ) → Bool
-is_session [] = false
-is_session (word ∷ []) = same_text word (codes "session")
-is_session (word ∷ other ∷ words) = false
+-- what one word asks for
+abbrev pub asked_by_word : List ℕ → Asked
+asked_by_word word = if same_text word (codes "session") then Session else if same_text word (codes "lsp") then Lsp else Unknown
 
--- the settings of a session of this program
+-- what words ask for: a word alone is known or not
+abbrev pub asked_by : List (List ℕ) → Asked
+asked_by [] = Unknown
+asked_by (word ∷ []) = asked_by_word word
+asked_by (word ∷ other ∷ words) = Unknown
+
+-- how many threads the program's sessions may use
+abbrev pub thread_count : ℕ
+thread_count = 4
+
+-- the settings of a session that begins without a handshake
 abbrev pub session_config : ConfigData
-session_config = config_at (codes "/w") 4
+session_config = config_at (codes "/w") thread_count
 
--- a session was run: its turns are the machine's; the status is its end, which has its cause in the events; over a good input it is a good one,
+-- a session was run behind what a reader holds: its turns are the machine's; its end has its cause in the events; over a good input it is a good one,
 -- where neither the host nor the sink has failed; and the record is as it should be
-pub record RanSession (meaning : Meaning) (old new : Told) (honest : Bool) (HostFailed SinkFailed : Type 0) (status : ℕ) : Type 0 where
+pub record RanSession (meaning : Meaning) (config : ConfigData) (reader : Reader) (old new : Told) (honest : Bool) (HostFailed SinkFailed : Type 0) (status : ℕ) : Type 0 where
   pub outcome : Result ⊤ SessionError
   pub status_is : status ≡ status_of outcome
-  pub run : IsRun meaning session_config empty_reader old new honest outcome
-  pub end : EndsByCause empty_reader old.calls new.calls outcome
-  pub complete : IsComplete meaning session_config empty_reader old.calls new.calls HostFailed SinkFailed outcome
-  pub headline : IsAnswered meaning session_config empty_reader old new honest outcome
+  pub run : IsRun meaning config reader old new honest outcome
+  pub end : EndsByCause reader old.calls new.calls outcome
+  pub complete : IsComplete meaning config reader old.calls new.calls HostFailed SinkFailed outcome
+  pub headline : IsAnswered meaning config reader old new honest outcome
+
+-- what follows a handshake: the session that it began, or nothing
+abbrev pub Follows : Meaning → Told → Told → Bool → Type 0 → Type 0 → Result Opening SessionError → ℕ → Type 0
+Follows meaning old new honest HostFailed SinkFailed (Ok (Begun config reader)) status = RanSession meaning config reader old new honest HostFailed SinkFailed status
+Follows meaning old new honest HostFailed SinkFailed (Ok Left) status = (new ≡ old) × (status ≡ 0)
+Follows meaning old new honest HostFailed SinkFailed (Err error) status = (new ≡ old) × (status ≡ status_of (Err error))
+
+-- a handshake was made, and then a session was run with its settings, behind what it has read
+pub record Welcomed (meaning : Meaning) (old new : Told) (honest : Bool) (HostFailed SinkFailed : Type 0) (status : ℕ) : Type 0 where
+  pub opening : Result Opening SessionError
+  pub middle : Told
+  pub opens : Opens thread_count old middle opening
+  pub follows : Follows meaning middle new honest HostFailed SinkFailed opening status
 
 -- or the words are none that the program knows, and nothing was read or written
 pub record KnewNoWord (old new : Told) (status : ℕ) : Type 0 where
   pub status_is : status ≡ bad_words
   pub untouched : new ≡ old
 
--- by whether the words are known
-abbrev pub Serves : Bool → Meaning → Told → Told → Bool → Type 0 → Type 0 → ℕ → Type 0
-Serves true meaning old new honest HostFailed SinkFailed status = RanSession meaning old new honest HostFailed SinkFailed status
-Serves false meaning old new honest HostFailed SinkFailed status = KnewNoWord old new status
+-- by what the words ask for
+abbrev pub Serves : Asked → Meaning → Told → Told → Bool → Type 0 → Type 0 → ℕ → Type 0
+Serves Session meaning old new honest HostFailed SinkFailed status = RanSession meaning session_config empty_reader old new honest HostFailed SinkFailed status
+Serves Lsp meaning old new honest HostFailed SinkFailed status = Welcomed meaning old new honest HostFailed SinkFailed status
+Serves Unknown meaning old new honest HostFailed SinkFailed status = KnewNoWord old new status

@@ -1,34 +1,27 @@
 // The top call.
-ghost use Rattle.std.specs.Prelude.{◌≡◌, IfOk, true, false, ◌↔◌};
+ghost use Rattle.std.specs.Prelude.{◌≡◌, IfOk, false, ◌↔◌};
 ghost use Rattle.std.specs.FinMap as map;
 ghost use Rattle.session_port.specs.Record.{Rose};
 ghost use Rattle.desk.specs.Meaning.{meaning_of};
-ghost use Rattle.session_model.specs.Run.{told_of};
-ghost use Rattle.server.specs.Serving.{is_session, session_config, Serves, RanSession};
+ghost use Rattle.session_model.specs.Run.{empty_reader, told_of};
+ghost use Rattle.server.specs.Serving.{asked_by, session_config, Serves, RanSession, Welcomed};
 ghost use Rattle.server.specs.Status.{status_of, bad_words};
 
 use crate::status::{BAD_WORDS, status_of};
+use crate::words::{Asked, asked_by};
 use analysis_host::Analysis;
 use docs_vfs::VfsPath;
+use initialization::{Opening, initialize};
 use plain::Text;
 use ra_config::Config;
-use session::{SessionError, main_loop};
+use session::{SessionError, main_loop, main_loop_from};
 use session_port::{Host, Sink};
 use std::alloc::{AllocError, Global};
 
 /// How many threads the program's sessions may use.
 const THREADS: u32 = 4;
 
-fn is_session(words: &[Text]) -> bool
-    ensures { result ≡ is_session words.now }
-{
-    match words {
-        [word] => word.as_str() == "session",
-        _ => false,
-    }
-}
-
-// The settings of a session of this program.
+// The settings of a session that begins without a handshake.
 fn session_config(alloc: Global) -> Result<Config, AllocError>
     ensures { IfOk result (λ config. config ≡ session_config) }
 {
@@ -49,7 +42,7 @@ fn run_session<H: Host<A>, S: Sink, A: Analysis>(
     requires unused { H.handed host.old ≡ 0 }
     requires host_fresh { H.spent host.old ≡ false }
     requires sink_fresh { S.spent sink.old ≡ false }
-    ensures run { RanSession (meaning_of A.decodes A.answer) (told_of (H.calls host.old) (S.turns sink.old)) (told_of (H.calls host.new) (S.turns sink.new)) (H.honest host.old) (Rose (H.faults host.old) (H.faults host.new)) (Rose (S.faults sink.old) (S.faults sink.new)) (status_of result) }
+    ensures run { RanSession (meaning_of A.decodes A.answer) session_config empty_reader (told_of (H.calls host.old) (S.turns sink.old)) (told_of (H.calls host.new) (S.turns sink.new)) (H.honest host.old) (Rose (H.faults host.old) (H.faults host.new)) (Rose (S.faults sink.old) (S.faults sink.new)) (status_of result) }
     ensures host_fault { result ≡ Err SessionError.HostFault → Rose (H.faults host.old) (H.faults host.new) }
     ensures write_fault { result ≡ Err SessionError.WriteFault → Rose (S.faults sink.old) (S.faults sink.new) }
 {
@@ -57,8 +50,33 @@ fn run_session<H: Host<A>, S: Sink, A: Analysis>(
     main_loop(alloc, config, host, sink, analysis)
 }
 
-/// Does what the words say, and answers the status to end with: `session` runs one session, to its end, on the
-/// host and the sink that are handed in, with `/w` as the root. All other words give the status 2.
+// A handshake, and the session that it begins.
+fn run_lsp<H: Host<A>, S: Sink, A: Analysis>(
+    alloc: Global,
+    host: &mut H,
+    sink: &mut S,
+    analysis: &A,
+) -> Result<(), SessionError>
+    requires idle { H.out host.old ≡ map.empty }
+    requires unused { H.handed host.old ≡ 0 }
+    requires host_fresh { H.spent host.old ≡ false }
+    requires sink_fresh { S.spent sink.old ≡ false }
+    ensures run { Welcomed (meaning_of A.decodes A.answer) (told_of (H.calls host.old) (S.turns sink.old)) (told_of (H.calls host.new) (S.turns sink.new)) (H.honest host.old) (Rose (H.faults host.old) (H.faults host.new)) (Rose (S.faults sink.old) (S.faults sink.new)) (status_of result) }
+    ensures host_fault { result ≡ Err SessionError.HostFault → Rose (H.faults host.old) (H.faults host.new) }
+    ensures write_fault { result ≡ Err SessionError.WriteFault → Rose (S.faults sink.old) (S.faults sink.new) }
+{
+    match initialize(alloc, THREADS, host, sink) {
+        Ok(Opening::Begun { config, reader }) => {
+            main_loop_from(alloc, config, reader, host, sink, analysis)
+        }
+        Ok(Opening::Left) => Ok(()),
+        Err(error) => Err(error),
+    }
+}
+
+/// Does what the words say, and answers the status to end with, on the host and the sink that are handed in: `session`
+/// runs one session, to its end, with `/w` as the root; `lsp` makes the handshake with the client, and then runs the
+/// session that it begins. All other words give the status 2.
 pub fn serve<H: Host<A>, S: Sink, A: Analysis>(
     alloc: Global,
     words: &[Text],
@@ -72,17 +90,19 @@ pub fn serve<H: Host<A>, S: Sink, A: Analysis>(
     requires host_fresh { H.spent host.old ≡ false }
     requires sink_fresh { S.spent sink.old ≡ false }
 
-    // One session, with all that is promised of a session; or the words are none that are known, and nothing is read or written.
-    ensures serves { Serves (is_session words.now) (meaning_of A.decodes A.answer) (told_of (H.calls host.old) (S.turns sink.old)) (told_of (H.calls host.new) (S.turns sink.new)) (H.honest host.old) (Rose (H.faults host.old) (H.faults host.new)) (Rose (S.faults sink.old) (S.faults sink.new)) result }
+    // One session, with all that is promised of a session, behind a handshake where it is asked for; or the words are none that
+    // are known, and nothing is read or written.
+    ensures serves { Serves (asked_by words.now) (meaning_of A.decodes A.answer) (told_of (H.calls host.old) (S.turns sink.old)) (told_of (H.calls host.new) (S.turns sink.new)) (H.honest host.old) (Rose (H.faults host.old) (H.faults host.new)) (Rose (S.faults sink.old) (S.faults sink.new)) result }
 
     // The status 2 comes exactly where the words are none that are known.
-    ensures words { (result ≡ bad_words) ↔ (is_session words.now ≡ false) }
+    ensures words { (result ≡ bad_words) ↔ (asked_by words.now ≡ Asked.Unknown) }
 
     ensures host_fault { result ≡ 6 → Rose (H.faults host.old) (H.faults host.new) }
     ensures write_fault { result ≡ 7 → Rose (S.faults sink.old) (S.faults sink.new) }
 {
-    if !is_session(words) {
-        return BAD_WORDS;
+    match asked_by(words) {
+        Asked::Session => status_of(run_session(alloc, host, sink, analysis)),
+        Asked::Lsp => status_of(run_lsp(alloc, host, sink, analysis)),
+        Asked::Unknown => BAD_WORDS,
     }
-    status_of(run_session(alloc, host, sink, analysis))
 }

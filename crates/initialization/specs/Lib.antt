@@ -1,0 +1,4 @@
+pub mod Replies
+pub mod Stages
+pub mod Opening
+pub mod Talking

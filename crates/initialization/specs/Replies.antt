@@ -1,0 +1,42 @@
+-- What a client is answered while it begins (LSP 3.17, "Initialize Request").
+use Rattle.std.specs.Prelude.{ℕ, negsuc, true, List, codes}
+use Rattle.serde_json.specs.Data.{Data, boolean, number, string, object, put, no_members, unsigned}
+use Rattle.text_core.specs.declared.position.PositionEncoding.{PositionEncoding}
+use Rattle.text_core.specs.declared.position.PositionEncoding.TheVariants.{Utf8, Wide}
+use Rattle.text_core.specs.declared.position.WideEncoding.TheVariants.{Utf16}
+use Rattle.lsp_frame.specs.declared.message.RequestId.{RequestId}
+use Rattle.lsp_frame.specs.declared.message.Response.{Response}
+use Rattle.dispatch.specs.Responses.{refusal, response_with}
+use Rattle.ra_config.specs.Config.{ConfigData}
+
+-- the name of what a column counts
+abbrev pub encoding_name : PositionEncoding → List ℕ
+encoding_name Utf8 = codes "utf-8"
+encoding_name (Wide Utf16) = codes "utf-16"
+
+-- documents are told whole when they are opened, and by their changes then: `{"change":2,"openClose":true,"save":{}}`
+abbrev pub synchronization : Data
+synchronization =
+    object (put (codes "save") (object no_members) (put (codes "openClose") (boolean true) (put (codes "change") (number (unsigned 2)) no_members)))
+
+-- `{"hoverProvider":true,"positionEncoding":.., "textDocumentSync":..}`
+abbrev pub server_capabilities : PositionEncoding → Data
+server_capabilities encoding =
+    object (put (codes "textDocumentSync") synchronization
+    (put (codes "positionEncoding") (string (encoding_name encoding)) (put (codes "hoverProvider") (boolean true) no_members)))
+
+-- `{"name":"ra_serve","version":"1"}`
+abbrev pub server_info : Data
+server_info = object (put (codes "version") (string (codes "1")) (put (codes "name") (string (codes "ra_serve")) no_members))
+
+-- `{"capabilities":..,"serverInfo":..}`
+abbrev pub initialize_result : PositionEncoding → Data
+initialize_result encoding = object (put (codes "serverInfo") server_info (put (codes "capabilities") (server_capabilities encoding) no_members))
+
+-- the answer to an `initialize` that these settings come of
+abbrev pub welcome : RequestId → ConfigData → Response
+welcome id config = response_with id (initialize_result config.capabilities.encodings)
+
+-- the answer to one that names no workspace: -32602
+abbrev pub no_workspace : RequestId → Response
+no_workspace id = refusal id (negsuc 32601) (codes "no workspace root")
