@@ -1,20 +1,77 @@
 -- A session behind a handshake.
-use Rattle.std.proofs.Common.{◌≡◌, ◌≤◌, ℕ, List, Bool, arith}
-use Rattle.std.specs.Prelude.{⊤, Option, Result}
+use Rattle.std.proofs.Common.{◌≡◌, ◌≤◌, ℕ, List, Bool, refl, ap, subst, arith}
+use Rattle.std.specs.Prelude.{⊤, Option, Result, Ok, Err}
 use Rattle.lsp_frame.specs.Reader.{Reader}
 use Rattle.ra_config.specs.Config.{ConfigData}
 use Rattle.session_port.specs.Record.{HostCall, Rose}
-use Rattle.session_model.specs.Headline.{IsComplete}
+use Rattle.session_model.specs.Course.{end_of}
+use Rattle.session_model.specs.Headline.{EndsByCause, IsAnswered, IsComplete}
+use Rattle.session_model.specs.Run.{Told, IsRun}
 use Rattle.desk.specs.Meaning.{Meaning}
 use Rattle.session_model.specs.declared.fault.SessionError.{SessionError}
+use Rattle.session_model.specs.declared.fault.SessionError.TheVariants.{HostFault, WriteFault}
+use Rattle.initialization.specs.Opening.{Opens}
+use Rattle.initialization.specs.declared.opening.Opening.TheVariants.{Begun, Left}
+use Rattle.server.specs.Serving.{RanSession, Welcomed, thread_count}
+use Rattle.server.proofs.Whole.{completes, left-ends, whole-begun, whole-opened}
 
 -- a count that has risen since a later moment has risen
 pub rose-later : (before middle now : ℕ) → before ≤ middle → Rose middle now → Rose before now
 rose-later before middle now le rose = omega (arith, le, rose)
 
 -- what fails later has failed
-pub complete-later : (meaning : Meaning) (config : ConfigData) (reader : Reader) (old new : Option (List HostCall)) (HostFailed SinkFailed HostFails SinkFails : Type 0)
-    (result : Result ⊤ SessionError) → (HostFails → HostFailed) → (SinkFails → SinkFailed)
-    → IsComplete meaning config reader old new HostFails SinkFails result → IsComplete meaning config reader old new HostFailed SinkFailed result
-complete-later meaning config reader old new HostFailed SinkFailed HostFails SinkFails result host sink complete =
+complete-later : (meaning : Meaning) (config : ConfigData) (reader : Reader) (old new : Option (List HostCall)) (HostFailed SinkFailed HostFails SinkFails : Type 0)
+    (outcome : Result ⊤ SessionError) → (HostFails → HostFailed) → (SinkFails → SinkFailed)
+    → IsComplete meaning config reader old new HostFails SinkFails outcome → IsComplete meaning config reader old new HostFailed SinkFailed outcome
+complete-later meaning config reader old new HostFailed SinkFailed HostFails SinkFails outcome host sink complete =
     λ before calls was is good calm dry. complete before calls was is good (λ h. calm (host h)) (λ h. dry (sink h))
+
+module _ (meaning : Meaning) (old middle new : Told) (honest : Bool) (HostFailed SinkFailed : Type 0) where
+  pub welcomed-begun : (honest_now : Bool) (HostFails SinkFails : Type 0) (config : ConfigData) (reader : Reader) (outcome : Result ⊤ SessionError)
+      → Opens thread_count old middle (Ok (Begun config reader)) → honest_now ≡ honest
+      → IsRun meaning config reader middle new honest_now outcome → EndsByCause reader middle.calls new.calls outcome
+      → IsComplete meaning config reader middle.calls new.calls HostFails SinkFails outcome → IsAnswered meaning config reader middle new honest_now outcome
+      → (HostFails → HostFailed) → (SinkFails → SinkFailed) → (outcome ≡ Err HostFault → HostFails) → (outcome ≡ Err WriteFault → SinkFails)
+      → Welcomed meaning old new honest HostFailed SinkFailed outcome
+  welcomed-begun honest_now HostFails SinkFails config reader outcome opens same run end complete headline host sink host_fault write_fault =
+      let answered : IsAnswered meaning config reader middle new honest outcome = subst (λ (h : Bool). IsAnswered meaning config reader middle new h outcome) same headline in
+      let whole = whole-begun thread_count old middle new meaning config reader honest outcome opens answered end in
+      record {
+        opening = Ok (Begun config reader);
+        middle = middle;
+        opens = opens;
+        follows = record {
+          run = subst (λ (h : Bool). IsRun meaning config reader middle new h outcome) same run;
+          end = end;
+          complete = complete-later meaning config reader middle.calls new.calls HostFailed SinkFailed HostFails SinkFails outcome host sink complete;
+          headline = answered;
+        };
+        end = whole;
+        complete = completes old.calls new.calls HostFailed SinkFailed outcome whole (λ e. host (host_fault e)) (λ e. sink (write_fault e));
+      }
+
+module _ (meaning : Meaning) (old new : Told) (honest : Bool) (HostFailed SinkFailed : Type 0) where
+  pub welcomed-left : (x : ⊤) → Opens thread_count old new (Ok Left) → Welcomed meaning old new honest HostFailed SinkFailed (Ok x)
+  welcomed-left x opens =
+      let whole = whole-opened thread_count old new new (Ok Left) (Ok x) opens refl (ap end_of opens.ends.1) in
+      record {
+        opening = Ok Left;
+        middle = new;
+        opens = opens;
+        follows = (refl, refl);
+        end = whole;
+        complete = completes old.calls new.calls HostFailed SinkFailed (Ok x) whole (λ e. absurd cc) (λ e. absurd cc);
+      }
+
+  pub welcomed-broken : (error : SessionError) → Opens thread_count old new (Err error) → (error ≡ HostFault → HostFailed) → (error ≡ WriteFault → SinkFailed)
+      → Welcomed meaning old new honest HostFailed SinkFailed (Err error)
+  welcomed-broken error opens host sink =
+      let whole = whole-opened thread_count old new new (Err error) (Err error) opens refl (left-ends _ _ _ _ opens.left error opens.ends.1) in
+      record {
+        opening = Err error;
+        middle = new;
+        opens = opens;
+        follows = (refl, refl);
+        end = whole;
+        complete = completes old.calls new.calls HostFailed SinkFailed (Err error) whole (λ e. host cc) (λ e. sink cc);
+      }

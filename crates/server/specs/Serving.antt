@@ -1,12 +1,15 @@
 -- What a program does with its words.
-use Rattle.std.specs.Prelude.{◌≡◌, ℕ, List, [], ◌∷◌, Bool, codes, ⊤, Result, Ok, Err, if◌then◌else◌}
+use Rattle.std.specs.Prelude.{◌≡◌, ℕ, List, [], ◌∷◌, ◌++◌, Bool, codes, ⊤, Option, Some, Result, Ok, Err, if◌then◌else◌}
 use Rattle.lsp_frame.specs.Reader.{Reader}
 use Rattle.ra_config.specs.Config.{ConfigData, config_at}
+use Rattle.session_port.specs.Record.{HostCall, given_in}
+use Rattle.session_model.specs.Course.{course_of, end_of, exit}
 use Rattle.session_model.specs.Headline.{IsAnswered, EndsByCause, IsComplete}
 use Rattle.desk.specs.Meaning.{Meaning}
 use Rattle.session_model.specs.Run.{Told, IsRun, empty_reader}
 use Rattle.session_model.specs.Texts.{same_text}
 use Rattle.session_model.specs.declared.fault.SessionError.{SessionError}
+use Rattle.session_model.specs.declared.fault.SessionError.TheVariants.{ClientExited, BadFrame, BadMessage, HostFault, WriteFault, Exhausted, NoMemory}
 use Rattle.initialization.specs.Opening.{Opens}
 use Rattle.initialization.specs.declared.opening.Opening.{Opening}
 use Rattle.initialization.specs.declared.opening.Opening.TheVariants.{Begun, Left}
@@ -34,26 +37,54 @@ session_config = config_at (codes "/w") thread_count
 
 -- a session was run behind what a reader holds: its turns are the machine's; its end has its cause in the events; over a good input it is a good one,
 -- where neither the host nor the sink has failed; and the record is as it should be
-pub record RanSession (meaning : Meaning) (config : ConfigData) (reader : Reader) (old new : Told) (honest : Bool) (HostFailed SinkFailed : Type 0) (status : ℕ) : Type 0 where
-  pub outcome : Result ⊤ SessionError
-  pub status_is : status ≡ status_of outcome
+pub record RanSession (meaning : Meaning) (config : ConfigData) (reader : Reader) (old new : Told) (honest : Bool) (HostFailed SinkFailed : Type 0)
+    (outcome : Result ⊤ SessionError) : Type 0 where
   pub run : IsRun meaning config reader old new honest outcome
   pub end : EndsByCause reader old.calls new.calls outcome
   pub complete : IsComplete meaning config reader old.calls new.calls HostFailed SinkFailed outcome
   pub headline : IsAnswered meaning config reader old new honest outcome
 
 -- what follows a handshake: the session that it began, or nothing
-abbrev pub Follows : Meaning → Told → Told → Bool → Type 0 → Type 0 → Result Opening SessionError → ℕ → Type 0
-Follows meaning old new honest HostFailed SinkFailed (Ok (Begun config reader)) status = RanSession meaning config reader old new honest HostFailed SinkFailed status
-Follows meaning old new honest HostFailed SinkFailed (Ok Left) status = (new ≡ old) × (status ≡ 0)
-Follows meaning old new honest HostFailed SinkFailed (Err error) status = (new ≡ old) × (status ≡ status_of (Err error))
+abbrev pub Follows : Meaning → Told → Told → Bool → Type 0 → Type 0 → Result Opening SessionError → Result ⊤ SessionError → Type 0
+Follows meaning old new honest HostFailed SinkFailed (Ok (Begun config reader)) outcome =
+    RanSession meaning config reader old new honest HostFailed SinkFailed outcome
+Follows meaning old new honest HostFailed SinkFailed (Ok Left) outcome = (new ≡ old) × (status_of outcome ≡ 0)
+Follows meaning old new honest HostFailed SinkFailed (Err error) outcome = (new ≡ old) × (outcome ≡ Err error)
 
--- a handshake was made, and then a session was run with its settings, behind what it has read
-pub record Welcomed (meaning : Meaning) (old new : Told) (honest : Bool) (HostFailed SinkFailed : Type 0) (status : ℕ) : Type 0 where
+-- an end that a good input allows: `exit`, or that memory or the numbers of a counter ran out
+abbrev pub IsGoodEnd : Result ⊤ SessionError → Type 0
+IsGoodEnd (Ok x) = Unit {0}
+IsGoodEnd (Err ClientExited) = ⊥
+IsGoodEnd (Err (BadFrame at)) = ⊥
+IsGoodEnd (Err (BadMessage at)) = ⊥
+IsGoodEnd (Err HostFault) = ⊥
+IsGoodEnd (Err WriteFault) = ⊥
+IsGoodEnd (Err (Exhausted counter)) = Unit {0}
+IsGoodEnd (Err NoMemory) = Unit {0}
+
+-- for a host that tells its calls: where the events hold an `exit` before all else that stops a session, and neither the host nor the sink has
+-- failed, it ends well
+abbrev pub Completes : Option (List HostCall) → Option (List HostCall) → Type 0 → Type 0 → Result ⊤ SessionError → Type 0
+Completes old new HostFailed SinkFailed outcome =
+    (before calls : List HostCall) → old ≡ Some before → new ≡ Some (before ++ calls)
+    → end_of (course_of 0 [] (given_in calls)) ≡ Some exit
+    → (HostFailed → ⊥) → (SinkFailed → ⊥) → IsGoodEnd outcome
+
+-- a handshake was made, and then a session was run with its settings, behind what it has read; what ended it is what ends the course of all its events, of
+-- the handshake and of the session
+pub record Welcomed (meaning : Meaning) (old new : Told) (honest : Bool) (HostFailed SinkFailed : Type 0) (outcome : Result ⊤ SessionError) : Type 0 where
   pub opening : Result Opening SessionError
   pub middle : Told
   pub opens : Opens thread_count old middle opening
-  pub follows : Follows meaning middle new honest HostFailed SinkFailed opening status
+  pub follows : Follows meaning middle new honest HostFailed SinkFailed opening outcome
+  pub end : EndsByCause empty_reader old.calls new.calls outcome
+  pub complete : Completes old.calls new.calls HostFailed SinkFailed outcome
+
+-- the status is that of an end, of which this is true
+pub record EndsWith (P : Result ⊤ SessionError → Type 0) (status : ℕ) : Type 0 where
+  pub outcome : Result ⊤ SessionError
+  pub status_is : status ≡ status_of outcome
+  pub did : P outcome
 
 -- or the words are none that the program knows, and nothing was read or written
 pub record KnewNoWord (old new : Told) (status : ℕ) : Type 0 where
@@ -62,6 +93,7 @@ pub record KnewNoWord (old new : Told) (status : ℕ) : Type 0 where
 
 -- by what the words ask for
 abbrev pub Serves : Asked → Meaning → Told → Told → Bool → Type 0 → Type 0 → ℕ → Type 0
-Serves Session meaning old new honest HostFailed SinkFailed status = RanSession meaning session_config empty_reader old new honest HostFailed SinkFailed status
-Serves Lsp meaning old new honest HostFailed SinkFailed status = Welcomed meaning old new honest HostFailed SinkFailed status
+Serves Session meaning old new honest HostFailed SinkFailed status =
+    EndsWith (RanSession meaning session_config empty_reader old new honest HostFailed SinkFailed) status
+Serves Lsp meaning old new honest HostFailed SinkFailed status = EndsWith (Welcomed meaning old new honest HostFailed SinkFailed) status
 Serves Unknown meaning old new honest HostFailed SinkFailed status = KnewNoWord old new status

@@ -4,7 +4,7 @@ ghost use Rattle.std.specs.FinMap as map;
 ghost use Rattle.session_port.specs.Record.{Rose};
 ghost use Rattle.desk.specs.Meaning.{meaning_of};
 ghost use Rattle.session_model.specs.Run.{empty_reader, told_of};
-ghost use Rattle.server.specs.Serving.{asked_by, session_config, Serves, RanSession, Welcomed};
+ghost use Rattle.server.specs.Serving.{asked_by, session_config, EndsWith, Serves, RanSession, Welcomed};
 ghost use Rattle.server.specs.Status.{status_of, bad_words};
 
 use crate::status::{BAD_WORDS, status_of};
@@ -42,7 +42,7 @@ fn run_session<H: Host<A>, S: Sink, A: Analysis>(
     requires unused { H.handed host.old ≡ 0 }
     requires host_fresh { H.spent host.old ≡ false }
     requires sink_fresh { S.spent sink.old ≡ false }
-    ensures run { RanSession (meaning_of A.decodes A.answer) session_config empty_reader (told_of (H.calls host.old) (S.turns sink.old)) (told_of (H.calls host.new) (S.turns sink.new)) (H.honest host.old) (Rose (H.faults host.old) (H.faults host.new)) (Rose (S.faults sink.old) (S.faults sink.new)) (status_of result) }
+    ensures run { EndsWith (RanSession (meaning_of A.decodes A.answer) session_config empty_reader (told_of (H.calls host.old) (S.turns sink.old)) (told_of (H.calls host.new) (S.turns sink.new)) (H.honest host.old) (Rose (H.faults host.old) (H.faults host.new)) (Rose (S.faults sink.old) (S.faults sink.new))) (status_of result) }
     ensures host_fault { result ≡ Err SessionError.HostFault → Rose (H.faults host.old) (H.faults host.new) }
     ensures write_fault { result ≡ Err SessionError.WriteFault → Rose (S.faults sink.old) (S.faults sink.new) }
 {
@@ -61,7 +61,7 @@ fn run_lsp<H: Host<A>, S: Sink, A: Analysis>(
     requires unused { H.handed host.old ≡ 0 }
     requires host_fresh { H.spent host.old ≡ false }
     requires sink_fresh { S.spent sink.old ≡ false }
-    ensures run { Welcomed (meaning_of A.decodes A.answer) (told_of (H.calls host.old) (S.turns sink.old)) (told_of (H.calls host.new) (S.turns sink.new)) (H.honest host.old) (Rose (H.faults host.old) (H.faults host.new)) (Rose (S.faults sink.old) (S.faults sink.new)) (status_of result) }
+    ensures run { EndsWith (Welcomed (meaning_of A.decodes A.answer) (told_of (H.calls host.old) (S.turns sink.old)) (told_of (H.calls host.new) (S.turns sink.new)) (H.honest host.old) (Rose (H.faults host.old) (H.faults host.new)) (Rose (S.faults sink.old) (S.faults sink.new))) (status_of result) }
     ensures host_fault { result ≡ Err SessionError.HostFault → Rose (H.faults host.old) (H.faults host.new) }
     ensures write_fault { result ≡ Err SessionError.WriteFault → Rose (S.faults sink.old) (S.faults sink.new) }
 {

@@ -1,0 +1,84 @@
+-- A handshake and the session behind it as a whole.
+use Rattle.std.proofs.Common.{◌≡◌, List, [], ◌∷◌, ◌++◌, Bool, refl, sym, ap, ◌∙◌, subst, append_assoc}
+use Rattle.std.specs.Prelude.{⊤, ℕ, Option, Some, Result, Ok, Err}
+use Rattle.lsp_frame.specs.Reader.{Reader}
+use Rattle.ra_config.specs.Config.{ConfigData}
+use Rattle.session_port.specs.Record.{HostCall, given_in, grown}
+use Rattle.session_port.specs.declared.event.HostEvent.{HostEvent}
+use Rattle.session_model.specs.Course.{Course, Stop, course_of, session_course, end_of}
+use Rattle.session_model.specs.Headline.{EndsByCause, IsAnswered, IsEnd}
+use Rattle.session_model.specs.Run.{Told, empty_reader, giving}
+use Rattle.session_model.specs.declared.fault.SessionError.{SessionError}
+use Rattle.session_model.specs.declared.fault.SessionError.TheVariants.{ClientExited, BadFrame, BadMessage, HostFault, WriteFault, Exhausted, NoMemory}
+use Rattle.session_model.specs.declared.input.Input.{Input}
+use Rattle.desk.specs.Meaning.{Meaning}
+use Rattle.session_laws.proofs.Asking.{given-append, given-giving}
+use Rattle.initialization.specs.Opening.{Opens, LeftBy, taking}
+use Rattle.initialization.specs.Stages.{Stage}
+use Rattle.initialization.specs.declared.opening.Opening.{Opening}
+use Rattle.initialization.specs.declared.opening.Opening.TheVariants.{Begun, Left}
+use Rattle.server.specs.Serving.{Completes}
+
+same-tail : (x y : HostCall) (xs ys : List HostCall) → x ∷ xs ≡ y ∷ ys → xs ≡ ys
+same-tail x y xs ys e = cc
+
+same-rest : (xs ys zs : List HostCall) → xs ++ ys ≡ xs ++ zs → ys ≡ zs
+same-rest [] ys zs e = e
+same-rest (x ∷ xs) ys zs e = same-rest xs ys zs (same-tail x x (xs ++ ys) (xs ++ zs) e)
+
+some-same : (xs ys : List HostCall) → Some xs ≡ Some ys → xs ≡ ys
+some-same xs ys e = cc
+
+end-taking : (inputs : List Input) (later : Course) → end_of (taking inputs later) ≡ end_of later
+end-taking [] later = refl
+end-taking (input ∷ inputs) later = end-taking inputs later
+
+module _ (threads : ℕ) (old middle new : Told) where
+  -- nothing followed the handshake
+  pub whole-opened : (result : Result Opening SessionError) (outcome : Result ⊤ SessionError) (o : Opens threads old middle result) → new ≡ middle → IsEnd outcome (end_of o.left)
+      → EndsByCause empty_reader old.calls new.calls outcome
+  whole-opened result outcome o same ends = λ before calls was is.
+      let grew : new.calls ≡ Some (before ++ giving o.events) =
+      ap (λ (t : Told). t.calls) (same ∙ o.told) ∙ ap (λ (cs : Option (List HostCall)). grown cs (giving o.events)) was in
+      let mine : calls ≡ giving o.events = same-rest before calls (giving o.events) (some-same (before ++ calls) (before ++ giving o.events) (sym is ∙ grew)) in
+      let end : end_of (session_course 0 [] (given_in calls)) ≡ end_of o.left =
+      ap (λ (es : List HostEvent). end_of (course_of 0 [] es)) (ap given_in mine ∙ given-giving o.events) ∙ ap end_of o.course ∙ end-taking o.inputs o.left in
+      subst (IsEnd outcome) (sym end) ends
+
+  -- a session followed it
+  pub whole-begun : (meaning : Meaning) (config : ConfigData) (reader : Reader) (honest : Bool) (outcome : Result ⊤ SessionError) → Opens threads old middle (Ok (Begun config reader))
+      → IsAnswered meaning config reader middle new honest outcome → EndsByCause reader middle.calls new.calls outcome → EndsByCause empty_reader old.calls new.calls outcome
+  whole-begun meaning config reader honest outcome o a ends = λ before calls was is.
+      let first : middle.calls ≡ Some (before ++ giving o.events) =
+      ap (λ (t : Told). t.calls) o.told ∙ ap (λ (cs : Option (List HostCall)). grown cs (giving o.events)) was in
+      let both : new.calls ≡ Some ((before ++ giving o.events) ++ a.calls) =
+      ap (λ (t : Told). t.calls) a.told ∙ ap (λ (cs : Option (List HostCall)). grown cs a.calls) first in
+      let mine : calls ≡ giving o.events ++ a.calls = same-rest before calls (giving o.events ++ a.calls)
+      (some-same (before ++ calls) (before ++ (giving o.events ++ a.calls)) (sym is ∙ both ∙ ap Some (append_assoc before (giving o.events) a.calls))) in
+      let given : given_in calls ≡ o.events ++ given_in a.calls =
+      ap given_in mine ∙ given-append (giving o.events) a.calls ∙ ap (λ (es : List HostEvent). es ++ given_in a.calls) (given-giving o.events) in
+      let end : end_of (session_course 0 [] (given_in calls)) ≡ end_of (session_course reader.place reader.held (given_in a.calls)) =
+      ap (λ (es : List HostEvent). end_of (course_of 0 [] es)) given ∙ ap end_of (o.ends.course (given_in a.calls)) ∙ end-taking o.inputs (course_of reader.place reader.held (given_in a.calls)) in
+      subst (IsEnd outcome) (sym end) (ends (before ++ giving o.events) a.calls first both)
+
+-- what is left after a handshake that broke off is what ended it
+pub left-ends : (threads events bytes : ℕ) (stage : Stage) (left : Course) (error : SessionError) → LeftBy threads events bytes stage left error → IsEnd {T = ⊤} (Err error) (end_of left)
+left-ends threads events bytes stage left ClientExited h = ap end_of h
+left-ends threads events bytes stage left (BadFrame at) h = ap end_of h
+left-ends threads events bytes stage left (BadMessage at) h = ap end_of h
+left-ends threads events bytes stage left HostFault h = tt
+left-ends threads events bytes stage left WriteFault h = tt
+left-ends threads events bytes stage left (Exhausted counter) h = tt
+left-ends threads events bytes stage left NoMemory h = tt
+
+-- over a good input it ends well
+pub completes : (old new : Option (List HostCall)) (HostFailed SinkFailed : Type 0) (outcome : Result ⊤ SessionError) → EndsByCause empty_reader old new outcome
+    → (outcome ≡ Err HostFault → HostFailed) → (outcome ≡ Err WriteFault → SinkFailed) → Completes old new HostFailed SinkFailed outcome
+completes old new HostFailed SinkFailed (Ok x) ends host sink = λ before calls was is good calm dry. tt
+completes old new HostFailed SinkFailed (Err ClientExited) ends host sink = λ before calls was is good calm dry. let e = ends before calls was is in absurd cc
+completes old new HostFailed SinkFailed (Err (BadFrame at)) ends host sink = λ before calls was is good calm dry. let e = ends before calls was is in absurd cc
+completes old new HostFailed SinkFailed (Err (BadMessage at)) ends host sink = λ before calls was is good calm dry. let e = ends before calls was is in absurd cc
+completes old new HostFailed SinkFailed (Err HostFault) ends host sink = λ before calls was is good calm dry. calm (host refl)
+completes old new HostFailed SinkFailed (Err WriteFault) ends host sink = λ before calls was is good calm dry. dry (sink refl)
+completes old new HostFailed SinkFailed (Err (Exhausted counter)) ends host sink = λ before calls was is good calm dry. tt
+completes old new HostFailed SinkFailed (Err NoMemory) ends host sink = λ before calls was is good calm dry. tt
