@@ -23,6 +23,9 @@ fn framed(alloc: Global, bodies: &str) -> Result<String, Fail> {
 /// A stream in events of so many bytes each.
 fn events(alloc: Global, stream: &[u8], size: usize) -> Result<Items<HostEvent>, AllocError> {
     let mut events = Items::new(alloc);
+    if size == 0 {
+        return Ok(events);
+    }
     for piece in stream.chunks(size) {
         events.push(HostEvent::Bytes(Bytes::from_slice(alloc, piece)?))?;
     }
