@@ -1,94 +1,135 @@
-use crate::made::{text_of, workspace};
+// What is told of fetches and builds that failed.
+use crate::made::{cut, is_told, text_of, workspace};
 use plain::{Items, Text};
 use project_model::{BuildScripts, ProjectWorkspace, WorkspaceKind};
 use reload::{fetch_build_data_error, fetch_workspace_error};
 use std::alloc::Global;
-use std::test::Fail;
 
-/// A fetch of a workspace and of two errors, or of none.
-fn fetched(
-    alloc: Global,
-    workspaces: u32,
-    errors: u32,
-) -> Result<Vec<Result<ProjectWorkspace, Text>>, Fail> {
-    let mut list = Vec::new(alloc);
-    for _ in 0..workspaces {
-        list.push(Ok(workspace(alloc, WorkspaceKind::Json, "/w")?))?;
-    }
-    for number in 0..errors {
-        let error = format!(in alloc; "error {number}")?;
-        list.push(Err(text_of(alloc, error.as_str())?))?;
-    }
-    Ok(list)
+type Fetched = Result<ProjectWorkspace, Text>;
+
+type Run = Result<BuildScripts, Text>;
+
+fn push_workspace(alloc: Global, list: &mut Vec<Fetched>, root: &str) -> Option<()> {
+    list.push(Ok(workspace(alloc, WorkspaceKind::Json, root)?))
+        .ok()
 }
 
-/// What is told of a fetch; `none` where nothing is.
-fn told_of_fetch(
-    alloc: Global,
-    workspaces: u32,
-    errors: u32,
-    discover: bool,
-) -> Result<Text, Fail> {
-    let list = fetched(alloc, workspaces, errors)?;
-    match fetch_workspace_error(alloc, Some(list.as_slice()), discover)? {
-        Some(error) => Ok(error),
-        None => text_of(alloc, "none"),
+fn push_error(alloc: Global, list: &mut Vec<Fetched>, error: &str) -> Option<()> {
+    list.push(Err(text_of(alloc, error)?)).ok()
+}
+
+/// Adds what was fetched, by words: a workspace with this root, or an error.
+fn push_fetched(alloc: Global, list: &mut Vec<Fetched>, words: &str) -> Option<()> {
+    for word in words.split_whitespace() {
+        if word.starts_with('/') {
+            push_workspace(alloc, list, word)?;
+        } else {
+            push_error(alloc, list, word)?;
+        }
     }
+    Some(())
+}
+
+fn fetched(alloc: Global, words: &str) -> Option<Vec<Fetched>> {
+    let mut list = Vec::new(alloc);
+    push_fetched(alloc, &mut list, words)?;
+    Some(list)
+}
+
+fn error_of_fetch(alloc: Global, last: Option<&[Fetched]>, discover: bool) -> Option<Option<Text>> {
+    fetch_workspace_error(alloc, last, discover).ok()
+}
+
+fn told_of_fetch(alloc: Global, words: &str, discover: bool) -> Option<Option<Text>> {
+    let list = fetched(alloc, words)?;
+    error_of_fetch(alloc, Some(list.as_slice()), discover)
+}
+
+/// Whether projects are discovered, what was fetched, and what is told of it, with a line end for each `|`.
+const FETCHES: &str = "no >  > rust-analyzer failed to fetch workspace
+yes >  > none
+no > /w > none
+yes > /w one two > rust-analyzer failed to load workspace: one|rust-analyzer failed to load workspace: two|";
+
+fn agrees(alloc: Global, line: &str) -> Option<bool> {
+    let (discover, rest) = cut(line, " > ");
+    let (words, want) = cut(rest, " > ");
+    is_told(
+        alloc,
+        &told_of_fetch(alloc, words, discover == "yes")?,
+        want,
+    )
+}
+
+fn is_nothing_told_without_a_fetch(alloc: Global) -> Option<bool> {
+    Some(error_of_fetch(alloc, None, false)?.is_none())
 }
 
 #[test]
-fn fetches_tell_their_errors(rt: HostRuntime) -> Result<(), Fail> {
-    let cases = [
-        (0, 0, false, "rust-analyzer failed to fetch workspace"),
-        (0, 0, true, "none"),
-        (1, 0, false, "none"),
-        (
-            1,
-            2,
-            true,
-            "rust-analyzer failed to load workspace: error 0\nrust-analyzer failed to load workspace: error 1\n",
-        ),
-    ];
-    for (workspaces, errors, discover, wanted) in cases {
-        let text = told_of_fetch(rt.alloc(), workspaces, errors, discover)?;
-        assert_eq!(rt; text.as_str(), wanted);
+fn fetches_tell_their_errors(rt: HostRuntime) {
+    for line in FETCHES.lines() {
+        assert!(rt; agrees(rt.alloc(), line) == Some(true), "at {line}");
     }
-    assert!(rt; fetch_workspace_error(rt.alloc(), None, false)?.is_none());
-    Ok(())
+    assert!(rt; is_nothing_told_without_a_fetch(rt.alloc()) == Some(true));
 }
 
-fn run_with(alloc: Global, error: Option<Text>) -> Result<BuildScripts, Fail> {
-    Ok(BuildScripts {
+fn scripts(alloc: Global, error: Option<Text>) -> BuildScripts {
+    BuildScripts {
         error,
         macro_paths: Items::new(alloc),
+    }
+}
+
+/// A run by a word: `-` without an error, an error behind `!` where it failed, else an error beside what was built.
+fn run(alloc: Global, word: &str) -> Option<Run> {
+    Some(if word == "-" {
+        Ok(scripts(alloc, None))
+    } else if word.starts_with('!') {
+        Err(text_of(alloc, cut(word, "!").1)?)
+    } else {
+        Ok(scripts(alloc, Some(text_of(alloc, word)?)))
     })
 }
 
-/// A run without error, one with an error, and one that failed.
-fn three_runs(alloc: Global) -> Result<Vec<Result<BuildScripts, Text>>, Fail> {
+fn runs(alloc: Global, words: &str) -> Option<Vec<Run>> {
     let mut list = Vec::new(alloc);
-    list.push(Ok(run_with(alloc, None)?))?;
-    list.push(Ok(run_with(alloc, Some(text_of(alloc, "one")?))?))?;
-    list.push(Err(text_of(alloc, "two")?))?;
-    Ok(list)
+    for word in words.split_whitespace() {
+        list.push(run(alloc, word)?).ok()?;
+    }
+    Some(list)
 }
 
-/// What is told of the first of these runs; `none` where nothing is.
-fn told_of_builds(alloc: Global, count: usize) -> Result<Text, Fail> {
-    let mut list = three_runs(alloc)?;
-    list.truncate(count);
-    match fetch_build_data_error(alloc, Some(list.as_slice()))? {
-        Some(error) => Ok(error),
-        None => text_of(alloc, "none"),
-    }
+fn error_of_build(alloc: Global, last: Option<&[Run]>) -> Option<Option<Text>> {
+    fetch_build_data_error(alloc, last).ok()
+}
+
+fn told_of_build(alloc: Global, words: &str) -> Option<Option<Text>> {
+    let list = runs(alloc, words)?;
+    error_of_build(alloc, Some(list.as_slice()))
+}
+
+/// Runs of build scripts, and what is told of them, with a line end for each `|`.
+const BUILDS: &str = " > none
+- > none
+- one > one|
+- one !two > one|two|";
+
+fn agrees_of_build(alloc: Global, line: &str) -> Option<bool> {
+    let (words, want) = cut(line, " > ");
+    is_told(alloc, &told_of_build(alloc, words)?, want)
+}
+
+fn is_nothing_told_without_a_build(alloc: Global) -> Option<bool> {
+    Some(error_of_build(alloc, None)?.is_none())
 }
 
 #[test]
-fn builds_tell_their_errors(rt: HostRuntime) -> Result<(), Fail> {
-    for (count, wanted) in [(0, "none"), (1, "none"), (2, "one\n"), (3, "one\ntwo\n")] {
-        let text = told_of_builds(rt.alloc(), count)?;
-        assert_eq!(rt; text.as_str(), wanted);
+fn builds_tell_their_errors(rt: HostRuntime) {
+    for line in BUILDS.lines() {
+        assert!(rt;
+            agrees_of_build(rt.alloc(), line) == Some(true),
+            "at {line}"
+        );
     }
-    assert!(rt; fetch_build_data_error(rt.alloc(), None)?.is_none());
-    Ok(())
+    assert!(rt; is_nothing_told_without_a_build(rt.alloc()) == Some(true));
 }

@@ -1,208 +1,204 @@
-use crate::made::{entry, path_at, text_of, workspace};
+// The crate graph of workspaces.
+use crate::made::{cut, path_at, push, push_crates, text_of, workspace};
 use docs_vfs::{FileId, VfsPath};
-use plain::{Items, NoMemory};
-use project_model::{BuildScripts, CrateData, MacroPath, ProjectWorkspace, WorkspaceKind};
+use plain::Items;
+use project_model::{
+    BuildScripts, CrateData, CrateInfo, MacroPath, ProjectWorkspace, WorkspaceKind,
+};
 use reload::{crate_roots, ws_to_crate_graph};
 use std::alloc::Global;
-use std::test::Fail;
+use std::fmt::Write;
 
-/// A workspace of two crates, of which the second depends on the first.
-fn pair(alloc: Global, first: &str, second: &str) -> Result<ProjectWorkspace, Fail> {
-    let mut made = workspace(alloc, WorkspaceKind::Json, "/w")?;
-    made.crates.push(entry(alloc, first, &[], false)?)?;
-    made.crates.push(entry(alloc, second, &[0], false)?)?;
-    Ok(made)
+fn built(alloc: Global, name: &str) -> Option<MacroPath> {
+    let name = text_of(alloc, name)?;
+    Some(MacroPath::Built {
+        name,
+        library: path_at(alloc, "/lib")?,
+    })
 }
 
-/// Two workspaces with two crates each.
-fn two_pairs(alloc: Global) -> Result<Vec<ProjectWorkspace>, Fail> {
-    let mut workspaces = Vec::new(alloc);
-    workspaces.push(pair(alloc, "/a", "/b")?)?;
-    workspaces.push(pair(alloc, "/c", "/d")?)?;
-    Ok(workspaces)
+/// Adds what was built of a crate, by a word: the crate's place, and its name.
+fn push_built(alloc: Global, paths: &mut Items<(u32, MacroPath)>, word: &str) -> Option<()> {
+    let (place, name) = cut(word, "=");
+    let place = place.parse().ok()?;
+    paths.push((place, built(alloc, name)?)).ok()
 }
 
-/// The graph where a root is loaded as the file with the number of its second byte, but for this one.
+fn paths_built(alloc: Global, words: &str) -> Option<Items<(u32, MacroPath)>> {
+    let mut paths = Items::new(alloc);
+    for word in words.split_whitespace() {
+        push_built(alloc, &mut paths, word)?;
+    }
+    Some(paths)
+}
+
+fn scripts(alloc: Global, words: &str) -> Option<BuildScripts> {
+    Some(BuildScripts {
+        error: None,
+        macro_paths: paths_built(alloc, words)?,
+    })
+}
+
+fn with_crates(alloc: Global, text: &str) -> Option<ProjectWorkspace> {
+    let mut made = workspace(alloc, WorkspaceKind::Cargo, "/w")?;
+    push_crates(alloc, &mut made.crates, text)?;
+    Some(made)
+}
+
+fn push_workspace(alloc: Global, list: &mut Vec<ProjectWorkspace>, text: &str) -> Option<()> {
+    let (crates, words) = cut(text, " + ");
+    let mut made = with_crates(alloc, crates)?;
+    if !words.is_empty() {
+        made.build = Some(scripts(alloc, words)?);
+    }
+    list.push(made).ok()
+}
+
+/// Workspaces, parted by semicolons: the crates of each, and behind a plus what was built of them.
+fn workspaces(alloc: Global, text: &str) -> Option<Vec<ProjectWorkspace>> {
+    let mut list = Vec::new(alloc);
+    for part in text.split("; ") {
+        push_workspace(alloc, &mut list, part)?;
+    }
+    Some(list)
+}
+
+/// The number of a file: the second byte of its path.
+fn file_of(root: &VfsPath) -> Option<FileId> {
+    let letter = root.as_str().as_bytes().get(1)?;
+    Some(FileId(u32::from(*letter)))
+}
+
+type Graph = (CrateData, Items<Items<(u32, MacroPath)>>);
+
+/// The graph where each root is loaded, but for this one.
 fn graph_without(
     alloc: Global,
     workspaces: &[ProjectWorkspace],
     left_out: &VfsPath,
-) -> Result<(CrateData, Items<Items<(u32, MacroPath)>>), NoMemory> {
+) -> Option<Graph> {
     ws_to_crate_graph(alloc, workspaces, &[], |root| {
         if root == left_out {
             None
         } else {
-            match root.as_str().as_bytes().get(1) {
-                None => None,
-                Some(letter) => Some(FileId(*letter as u32)),
-            }
+            file_of(root)
         }
     })
+    .ok()
 }
 
-fn data_without(
-    alloc: Global,
-    workspaces: &[ProjectWorkspace],
-    left_out: &str,
-) -> Result<CrateData, Fail> {
-    let left_out = path_at(alloc, left_out)?;
-    let (data, _paths) = graph_without(alloc, workspaces, &left_out)?;
-    Ok(data)
+fn graph_at(alloc: Global, list: &[ProjectWorkspace], left_out: &str) -> Option<Graph> {
+    graph_without(alloc, list, &path_at(alloc, left_out)?)
 }
 
-fn built_without(
-    alloc: Global,
-    workspaces: &[ProjectWorkspace],
-    left_out: &str,
-) -> Result<Items<Items<(u32, MacroPath)>>, Fail> {
-    let left_out = path_at(alloc, left_out)?;
-    let (_data, paths) = graph_without(alloc, workspaces, &left_out)?;
-    Ok(paths)
+fn graph(alloc: Global, text: &str, left_out: &str) -> Option<Graph> {
+    graph_at(alloc, workspaces(alloc, text)?.as_slice(), left_out)
 }
 
-/// The crates of a graph: of each its file's letter and its dependencies.
-fn told(alloc: Global, data: &CrateData) -> Result<String, Fail> {
-    let mut text = String::new(alloc);
+fn push_number(out: &mut String, number: u32, mark: &str) -> Option<()> {
+    write!(out, "{number}{mark}").ok()
+}
+
+/// Adds a crate's file and its dependencies.
+fn push_info(out: &mut String, info: &CrateInfo) -> Option<()> {
+    push_number(out, info.root.0, ":")?;
+    for dep in &info.deps {
+        push_number(out, *dep, ",")?;
+    }
+    push(out, " ")
+}
+
+fn push_data(out: &mut String, data: &CrateData) -> Option<()> {
     for info in &data.crates {
-        text.push_str(format!(in alloc; "{}:", info.root.0)?.as_str())?;
-        for dep in &info.deps {
-            text.push_str(format!(in alloc; "{dep},")?.as_str())?;
-        }
-        text.push_str(" ")?;
+        push_info(out, info)?;
     }
-    Ok(text)
+    Some(())
 }
 
-/// The graph of two pairs of crates without a crate, told.
-fn told_without(alloc: Global, left_out: &str) -> Result<String, Fail> {
-    let workspaces = two_pairs(alloc)?;
-    let data = data_without(alloc, workspaces.as_slice(), left_out)?;
-    told(alloc, &data)
-}
-
-#[test]
-fn crates_are_numbered_over_all_workspaces(rt: HostRuntime) -> Result<(), Fail> {
-    let cases = [
-        ("/x", "97: 98:0, 99: 100:2, "),
-        ("/c", "97: 98:0, 100: "),
-        ("/a", "98: 99: 100:1, "),
-        ("/d", "97: 98:0, 99: "),
-    ];
-    for (left_out, wanted) in cases {
-        let text = told_without(rt.alloc(), left_out)?;
-        assert_eq!(rt; text.as_str(), wanted);
+fn what(path: &MacroPath) -> &str {
+    match path {
+        MacroPath::Built { name, .. } => name.as_str(),
+        MacroPath::Failed(error) => error.as_str(),
     }
-    Ok(())
 }
 
-/// A proc macro crate that was built at some index.
-fn built(alloc: Global, index: u32, name: &str) -> Result<(u32, MacroPath), Fail> {
-    Ok((
-        index,
-        MacroPath::Built {
-            name: text_of(alloc, name)?,
-            library: path_at(alloc, "/lib")?,
-        },
-    ))
+fn push_path(out: &mut String, number: u32, path: &MacroPath) -> Option<()> {
+    push_number(out, number, "=")?;
+    push(out, what(path))?;
+    push(out, " ")
 }
 
-/// A workspace of three crates, of which the last two are proc macros.
-fn with_macros(alloc: Global) -> Result<ProjectWorkspace, Fail> {
-    let mut made = workspace(alloc, WorkspaceKind::Cargo, "/w")?;
-    made.crates.push(entry(alloc, "/a", &[2, 1, 7], false)?)?;
-    made.crates.push(entry(alloc, "/b", &[], true)?)?;
-    made.crates.push(entry(alloc, "/c", &[], true)?)?;
-    Ok(made)
+/// Adds what was built of the crates of each workspace.
+fn push_paths(out: &mut String, paths: &[(u32, MacroPath)]) -> Option<()> {
+    for (number, path) in paths {
+        push_path(out, *number, path)?;
+    }
+    push(out, ";")
 }
 
-/// The same with build data: two entries for the last crate, and one for the first.
-fn with_build(alloc: Global) -> Result<ProjectWorkspace, Fail> {
-    let mut made = with_macros(alloc)?;
-    let mut macro_paths = Items::new(alloc);
-    macro_paths.push(built(alloc, 2, "first")?)?;
-    macro_paths.push(built(alloc, 0, "none")?)?;
-    macro_paths.push(built(alloc, 2, "second")?)?;
-    made.build = Some(BuildScripts {
-        error: None,
-        macro_paths,
-    });
-    Ok(made)
-}
-
-/// What was built of the crates of each workspace.
-fn told_paths(alloc: Global, all: &[Items<(u32, MacroPath)>]) -> Result<String, Fail> {
-    let mut text = String::new(alloc);
+fn push_all_paths(out: &mut String, all: &[Items<(u32, MacroPath)>]) -> Option<()> {
     for paths in all {
-        for (number, path) in paths {
-            let what = match path {
-                MacroPath::Built { name, .. } => name.as_str(),
-                MacroPath::Failed(error) => error.as_str(),
-            };
-            text.push_str(format!(in alloc; "{number}={what} ")?.as_str())?;
-        }
-        text.push_str(";")?;
+        push_paths(out, paths.as_slice())?;
     }
-    Ok(text)
+    Some(())
 }
 
-fn two_with_macros(alloc: Global) -> Result<Vec<ProjectWorkspace>, Fail> {
-    let mut workspaces = Vec::new(alloc);
-    workspaces.push(with_macros(alloc)?)?;
-    workspaces.push(with_build(alloc)?)?;
-    Ok(workspaces)
+fn is_data(alloc: Global, data: &CrateData, want: &str) -> Option<bool> {
+    let mut out = String::new(alloc);
+    push_data(&mut out, data)?;
+    Some(out.as_str().trim_ascii() == want)
 }
 
-/// What was built of the crates of two workspaces, of which the second was built.
-fn paths_without(alloc: Global, left_out: &str) -> Result<String, Fail> {
-    let workspaces = two_with_macros(alloc)?;
-    let paths = built_without(alloc, workspaces.as_slice(), left_out)?;
-    told_paths(alloc, paths.as_slice())
+fn are_paths(alloc: Global, all: &[Items<(u32, MacroPath)>], want: &str) -> Option<bool> {
+    let mut out = String::new(alloc);
+    push_all_paths(&mut out, all)?;
+    Some(out.as_str() == want)
+}
+
+fn is_graph(alloc: Global, graph: &Graph, data: &str, paths: &str) -> Option<bool> {
+    Some(is_data(alloc, &graph.0, data)? && are_paths(alloc, graph.1.as_slice(), paths)?)
+}
+
+/// Workspaces, a root that is not loaded, and the graph: of each crate its file and its dependencies. Then what was
+/// built of the crates of each workspace.
+const GRAPHS: &str = "/a /b:0; /c /d:0 > /x > 97: 98:0, 99: 100:2, > ;;
+/a /b:0; /c /d:0 > /c > 97: 98:0, 100: > ;;
+/a /b:0; /c /d:0 > /a > 98: 99: 100:1, > ;;
+/a /b:0; /c /d:0 > /d > 97: 98:0, 99: > ;;
+/a:2,1,7 /b! /c! > /b > 97:1, 99: > 1=crate has not yet been built ;
+/a! /b! /c!; /a /b! /c! + 2=first 0=none 2=second > /a > 98: 99: 98: 99: > 0=crate has not yet been built 1=crate has not yet been built ;2=crate has not yet been built 3=first ;
+/a /b! /c!; /a /b! /c! + 2=first 0=none 2=second > /x > 97: 98: 99: 97: 98: 99: > 1=crate has not yet been built 2=crate has not yet been built ;4=crate has not yet been built 5=first ;
+/a /b! /c!; /a /b! /c! + 2=first 0=none 2=second > /b > 97: 99: 97: 99: > 1=crate has not yet been built ;3=first ;";
+
+fn agrees(alloc: Global, line: &str) -> Option<bool> {
+    let (text, rest) = cut(line, " > ");
+    let (left_out, rest) = cut(rest, " > ");
+    let (data, paths) = cut(rest, " > ");
+    is_graph(alloc, &graph(alloc, text, left_out)?, data, paths)
 }
 
 #[test]
-fn macro_paths_are_those_of_kept_crates(rt: HostRuntime) -> Result<(), Fail> {
-    let cases = [
-        (
-            "/x",
-            "1=crate has not yet been built 2=crate has not yet been built ;4=crate has not yet been built 5=first ;",
-        ),
-        ("/b", "1=crate has not yet been built ;3=first ;"),
-    ];
-    for (left_out, wanted) in cases {
-        let text = paths_without(rt.alloc(), left_out)?;
-        assert_eq!(rt; text.as_str(), wanted);
+fn graphs_of_workspaces(rt: HostRuntime) {
+    for line in GRAPHS.lines() {
+        assert!(rt; agrees(rt.alloc(), line) == Some(true), "at {line}");
     }
-    Ok(())
 }
 
-/// The graph of one workspace with proc macros, told.
-fn told_one(alloc: Global, left_out: &str) -> Result<String, Fail> {
-    let workspaces = [with_macros(alloc)?];
-    let data = data_without(alloc, &workspaces, left_out)?;
-    told(alloc, &data)
+fn push_roots(alloc: Global, out: &mut String, list: &[ProjectWorkspace]) -> Option<()> {
+    for root in &crate_roots(alloc, list).ok()? {
+        push(out, root.as_str())?;
+    }
+    Some(())
+}
+
+/// Whether these are the roots of the crates of workspaces.
+fn are_roots(alloc: Global, text: &str, want: &str) -> Option<bool> {
+    let mut out = String::new(alloc);
+    push_roots(alloc, &mut out, workspaces(alloc, text)?.as_slice())?;
+    Some(out.as_str() == want)
 }
 
 #[test]
-fn dependencies_that_are_no_crates_are_dropped(rt: HostRuntime) -> Result<(), Fail> {
-    let text = told_one(rt.alloc(), "/b")?;
-    assert_eq!(rt; text.as_str(), "97:1, 99: ");
-    Ok(())
-}
-
-/// The roots of the crates of two pairs.
-fn joined_roots(alloc: Global) -> Result<String, Fail> {
-    let workspaces = two_pairs(alloc)?;
-    let roots = crate_roots(alloc, workspaces.as_slice())?;
-    let mut text = String::new(alloc);
-    for root in &roots {
-        text.push_str(root.as_str())?;
-    }
-    Ok(text)
-}
-
-#[test]
-fn roots_stand_in_order(rt: HostRuntime) -> Result<(), Fail> {
-    let text = joined_roots(rt.alloc())?;
-    assert_eq!(rt; text.as_str(), "/a/b/c/d");
-    Ok(())
+fn roots_stand_in_order(rt: HostRuntime) {
+    assert!(rt; are_roots(rt.alloc(), "/a /b:0; /c /d:0", "/a/b/c/d") == Some(true));
 }

@@ -1,80 +1,101 @@
-use crate::made::{path_at, text_of, workspace};
-use docs_vfs::Root;
+// What is watched for workspaces.
+use crate::made::{cut, path_at, push, text_of, workspace};
+use docs_vfs::{Root, VfsPath};
 use plain::{Items, Text};
 use project_model::{ProjectWorkspace, WorkspaceKind};
 use reload::{Watcher, watchers};
 use std::alloc::Global;
-use std::test::Fail;
+
+fn one_path(alloc: Global, path: VfsPath) -> Option<Items<VfsPath>> {
+    let mut paths = Items::new(alloc);
+    paths.push(path).ok()?;
+    Some(paths)
+}
 
 /// A root of one folder.
-fn root_at(alloc: Global, text: &str, is_local: bool) -> Result<Root, Fail> {
-    let mut include = Items::new(alloc);
-    include.push(path_at(alloc, text)?)?;
-    Ok(Root {
-        include,
+fn root_at(alloc: Global, text: &str, is_local: bool) -> Option<Root> {
+    Some(Root {
+        include: one_path(alloc, path_at(alloc, text)?)?,
         exclude: Items::new(alloc),
         is_local,
     })
 }
 
-/// A workspace with a local root and one that isn't, with a manifest and a build file.
-fn with_roots(alloc: Global, kind: WorkspaceKind, root: &str) -> Result<ProjectWorkspace, Fail> {
-    let mut made = workspace(alloc, kind, root)?;
-    made.roots.push(root_at(alloc, "/sysroot", false)?)?;
-    made.roots.push(root_at(alloc, root, true)?)?;
-    made.manifest = Some(path_at(alloc, "/w/Cargo.toml")?);
-    made.build_files.push(text_of(alloc, "/w/BUCK")?)?;
-    Ok(made)
+/// Adds a local root and one that isn't.
+fn push_roots(alloc: Global, roots: &mut Items<Root>, local: &str) -> Option<()> {
+    roots.push(root_at(alloc, "/sysroot", false)?).ok()?;
+    roots.push(root_at(alloc, local, true)?).ok()
 }
 
-fn push_watcher(text: &mut Text, watcher: &Watcher) -> Result<(), Fail> {
+fn push_text(alloc: Global, texts: &mut Items<Text>, text: &str) -> Option<()> {
+    texts.push(text_of(alloc, text)?).ok()
+}
+
+/// A workspace with a local root and one that isn't, with a manifest and a build file.
+fn with_roots(alloc: Global, kind: WorkspaceKind, root: &str) -> Option<ProjectWorkspace> {
+    let mut made = workspace(alloc, kind, root)?;
+    push_roots(alloc, &mut made.roots, root)?;
+    push_text(alloc, &mut made.build_files, "/w/BUCK")?;
+    made.manifest = Some(path_at(alloc, "/w/Cargo.toml")?);
+    Some(made)
+}
+
+fn push_watcher(out: &mut String, watcher: &Watcher) -> Option<()> {
     match watcher {
         Watcher::Relative { base_uri, pattern } => {
-            text.push_str(base_uri.as_str())?;
-            text.push_str(" below ")?;
-            text.push_str(pattern.as_str())?;
+            push(out, base_uri.as_str())?;
+            push(out, " below ")?;
+            push(out, pattern.as_str())?;
         }
-        Watcher::Text(pattern) => text.push_str(pattern.as_str())?,
+        Watcher::Text(pattern) => push(out, pattern.as_str())?,
     }
-    text.push_str("\n")?;
-    Ok(())
+    push(out, "; ")
 }
 
-/// What is watched for a workspace, a line each.
-fn watched(alloc: Global, kind: WorkspaceKind, root: &str, relative: bool) -> Result<Text, Fail> {
-    let workspaces = [with_roots(alloc, kind, root)?];
-    let mut text = Text::new(alloc);
-    for watcher in &watchers(alloc, &workspaces, relative)? {
-        push_watcher(&mut text, watcher)?;
-    }
-    Ok(text)
+fn watched(alloc: Global, workspace: ProjectWorkspace, relative: bool) -> Option<Items<Watcher>> {
+    watchers(alloc, &[workspace], relative).ok()
 }
 
-const RELATIVE: &str =
-    "file:///a%20b below **/*.rs\nfile:///a%20b below **/Cargo.{lock,toml}\nfile:///a%20b below **/rust-analyzer.toml\n/w/BUCK\n/w/Cargo.toml\n";
+fn push_watchers(out: &mut String, watchers: &[Watcher]) -> Option<()> {
+    for watcher in watchers {
+        push_watcher(out, watcher)?;
+    }
+    Some(())
+}
 
-const WHOLE: &str =
-    "/a b/**/*.rs\n/a b/**/Cargo.{toml,lock}\n/a b/**/rust-analyzer.toml\n/w/BUCK\n/w/Cargo.toml\n";
+fn are(alloc: Global, watchers: &[Watcher], want: &str) -> Option<bool> {
+    let mut out = String::new(alloc);
+    push_watchers(&mut out, watchers)?;
+    Some(out.as_str().trim_ascii() == want)
+}
 
-const WITHOUT_BUILD_FILES: &str =
-    "/w/**/*.rs\n/w/**/Cargo.{toml,lock}\n/w/**/rust-analyzer.toml\n/w/Cargo.toml\n";
+fn kind_of(word: &str) -> WorkspaceKind {
+    match word {
+        "json" => WorkspaceKind::Json,
+        "cargo" => WorkspaceKind::Cargo,
+        _ => WorkspaceKind::DetachedFile,
+    }
+}
+
+/// The kind of a workspace, its root, whether patterns may be relative, and what is watched.
+const WATCHED: &str =
+    "json > /a b > relative > file:///a%20b below **/*.rs; file:///a%20b below **/Cargo.{lock,toml}; file:///a%20b below **/rust-analyzer.toml; /w/BUCK; /w/Cargo.toml;
+json > /a b > whole > /a b/**/*.rs; /a b/**/Cargo.{toml,lock}; /a b/**/rust-analyzer.toml; /w/BUCK; /w/Cargo.toml;
+cargo > /w > whole > /w/**/*.rs; /w/**/Cargo.{toml,lock}; /w/**/rust-analyzer.toml; /w/Cargo.toml;
+file > /w > whole > /w/**/*.rs; /w/**/Cargo.{toml,lock}; /w/**/rust-analyzer.toml; /w/Cargo.toml;";
+
+fn agrees(alloc: Global, line: &str) -> Option<bool> {
+    let (kind, rest) = cut(line, " > ");
+    let (root, rest) = cut(rest, " > ");
+    let (relative, want) = cut(rest, " > ");
+    let workspace = with_roots(alloc, kind_of(kind), root)?;
+    let watchers = watched(alloc, workspace, relative == "relative")?;
+    are(alloc, watchers.as_slice(), want)
+}
 
 #[test]
-fn local_roots_build_files_and_manifests_are_watched(rt: HostRuntime) -> Result<(), Fail> {
-    let cases = [
-        (WorkspaceKind::Json, "/a b", true, RELATIVE),
-        (WorkspaceKind::Json, "/a b", false, WHOLE),
-        (WorkspaceKind::Cargo, "/w", false, WITHOUT_BUILD_FILES),
-        (
-            WorkspaceKind::DetachedFile,
-            "/w",
-            false,
-            WITHOUT_BUILD_FILES,
-        ),
-    ];
-    for (kind, root, relative, wanted) in cases {
-        let text = watched(rt.alloc(), kind, root, relative)?;
-        assert_eq!(rt; text.as_str(), wanted);
+fn local_roots_build_files_and_manifests_are_watched(rt: HostRuntime) {
+    for line in WATCHED.lines() {
+        assert!(rt; agrees(rt.alloc(), line) == Some(true), "at {line}");
     }
-    Ok(())
 }
