@@ -52,7 +52,7 @@ pub job_sync : IsSync Job.the_row
 job_sync = declared_sync Job.the_type (search (PoolClass.the_sync, JobKind.the_sync, snapshot_sync, sendable) depth 20 fits 20000)
 
 pub command_send : IsSend Command.the_row
-command_send = variants_send Command.enum (search (job_send, LogCode.the_send, Text.the_send, sendable) depth 20 fits 20000)
+command_send = variants_send Command.enum (search (job_send, LogCode.the_send, Text.the_send, VfsPath.the_send, sendable) depth 20 fits 20000)
 
 -- for a type or a closure that holds one of these
 pub ruleset sends = (world_send, versions_send, snapshot_send, job_send, command_send, heap.Arc-send)
