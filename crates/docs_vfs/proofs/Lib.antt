@@ -3,6 +3,7 @@ pub mod CutLemmas
 pub mod Escapes
 pub mod Faults
 pub mod FrontLemmas
+pub mod HeldLemmas
 pub mod KeptLaws
 pub mod LastLemmas
 pub mod NamedLaws

@@ -4,6 +4,7 @@ pub mod FileRuns
 pub mod FileUrls
 pub mod Files
 pub mod Fronts
+pub mod Held
 pub mod Lent
 pub mod Paths
 pub mod Resolve

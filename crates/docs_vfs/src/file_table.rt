@@ -74,17 +74,17 @@ fn contents_of_row(row: Option<&FileRow>) -> Option<&SharedBytes>
 }
 
 /// What is kept of a path with these contents.
-fn keep(alloc: Global, contents: Option<Bytes>) -> Result<Kept, AllocError>
-    ensures { IfOk result (λ kept. kept ≡ kept_of contents) }
+fn keep(contents: Option<SharedBytes>) -> Kept
+    ensures { result ≡ kept_of contents }
 {
     match contents {
-        Some(bytes) => Ok(Kept::Contents(SharedBytes::new(alloc, bytes)?)),
-        None => Ok(Kept::Nothing),
+        Some(bytes) => Kept::Contents(bytes),
+        None => Kept::Nothing,
     }
 }
 
 /// Whether contents are the same, or there are none in both.
-fn are_same(old: Option<&SharedBytes>, new: &Option<Bytes>) -> bool
+fn are_same(old: Option<&SharedBytes>, new: &Option<SharedBytes>) -> bool
     ensures { result ≡ same_contents (option_copied old.entry) new.now }
 {
     match (old, new) {
@@ -349,12 +349,26 @@ impl FileTable {
     ) -> Result<bool, TableFault>
         ensures { Gives result (set_in self.old path contents) self.old self.new }
     {
+        let contents = match contents {
+            Some(bytes) => Some(SharedBytes::new(self.alloc, bytes)?),
+            None => None,
+        };
+        self.set_shared(path, contents)
+    }
+
+    /// The same of contents that others share.
+    pub fn set_shared(
+        &mut self,
+        path: VfsPath,
+        contents: Option<SharedBytes>,
+    ) -> Result<bool, TableFault>
+        ensures { Gives result (set_in self.old path contents) self.old self.new }
+    {
         let row = self.rows.get(&path);
         if is_marked_row(row) || are_same(contents_of_row(row), &contents) {
             return Ok(false);
         }
-        let kept = keep(self.alloc, contents)?;
-        self.put(&path, kept)?;
+        self.put(&path, keep(contents))?;
         Ok(true)
     }
 

@@ -1,6 +1,7 @@
 //! Paths of files, the file URLs that name them, and the tables that are kept by path.
 #![tactic(auto)]
 
+mod arc_bytes;
 mod by_path;
 mod file_kinds;
 mod file_laws;

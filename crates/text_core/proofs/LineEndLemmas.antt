@@ -1,6 +1,6 @@
 -- Where CR LF stand, and what is left without their CR.
 use Rattle.std.proofs.Common.{◌≡◌, ◌≢◌, ℕ, zero, suc, ◌+◌, ◌<◌, ◌≤◌, Bool, true, false, ◌&&◌, ◌==◌, List, [], ◌∷◌, ◌++◌, length, take, drop, get_or, Option, Some, None, refl, ap, sym, subst, ◌∙◌, arith, append_assoc, ⊎_elim}
-use Rattle.std.specs.Prelude.{◌⊎◌, is_some}
+use Rattle.std.specs.Prelude.{◌⊎◌, is_some, if◌then◌else◌}
 use Rattle.memchr.specs.Find.{IsFirstByte, is_byte}
 use Rattle.std.specs.Str.{IsUtf8}
 use Rattle.std.proofs.lemmas.Bool.{cases_Bool, cond-true, cond-false, eq-eqb, ne_eqb, false≢true}
@@ -215,3 +215,12 @@ rest_on old bytes new read gap rest moved =
     let sum : read + (gap + 1) ≡ read + gap + 1 = omega arith in
     ap (λ n. drop n new) sum ∙ sym (drop-drop 1 (read + gap) new) ∙ ap (drop 1) moved ∙ drop-drop 1 (read + gap) bytes ∙ ap (λ n. drop n bytes) (sym sum)
     ∙ sym (drop-drop (gap + 1) read bytes) ∙ ap (drop (gap + 1)) rest ∙ drop-drop (gap + 1) read old
+
+len-if : (c : Bool) (b : ℕ) (xs ys : List ℕ) → length ys ≤ length xs → length (if c then ys else b ∷ ys) ≤ length (b ∷ xs)
+len-if true b xs ys h = omega (arith, h)
+len-if false b xs ys h = omega (arith, h)
+
+-- a normalised text is no longer
+pub normalized_len : (xs : List ℕ) → length (normalized xs) ≤ length xs
+normalized_len [] = omega arith
+normalized_len (b ∷ rest) = len-if (is_crlf b rest) b rest (normalized rest) (normalized_len rest)

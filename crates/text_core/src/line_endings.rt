@@ -1,9 +1,10 @@
 // How lines end.
-ghost use Rattle.std.specs.Prelude.{◌≡◌, ◌+◌, ◌<◌, ◌≤◌, ◌++◌, length, take, drop, is_some, IfSome};
+ghost use Rattle.std.specs.Prelude.{◌≡◌, ◌+◌, ◌<◌, ◌≤◌, ◌++◌, length, take, drop, is_some, IfSome, IfOk};
 ghost use Rattle.text_core.specs.LineEnds.{normalized, endings_of, crlf_place};
 
 use memchr::memchr;
-use plain::Text;
+use plain::{ArcText, Text};
+use std::alloc::{AllocError, Global};
 
 /// How the lines of a text ended.
 #[derive(Clone, Copy, Debug, PartialEq, Eq, PartialOrd, Ord, Hash)]
@@ -76,5 +77,22 @@ impl LineEndings {
             LineEndings::Unix
         };
         (Text::from_string(text), endings)
+    }
+
+    /// The same of a text that others share. Where it has no CR LF it stays shared.
+    #[tactic(auto, using(crate::proofs::LineEndLemmas::crlf_none, crate::proofs::LineEndLemmas::normalized_len))]
+    pub fn normalize_shared(
+        alloc: Global,
+        src: ArcText,
+    ) -> Result<(ArcText, LineEndings), AllocError>
+        ensures text { IfOk result (λ made. made.0 ≡ normalized src) }
+        ensures endings { IfOk result (λ made. made.1 ≡ endings_of src) }
+        ensures within { IfOk result (λ made. length made.0 ≤ length src) }
+    {
+        if find_crlf(src.as_str().as_bytes()).is_none() {
+            return Ok((src, LineEndings::Unix));
+        }
+        let (text, endings) = LineEndings::normalize(src.into_text()?);
+        Ok((ArcText::new(alloc, text)?, endings))
     }
 }

@@ -16,7 +16,7 @@ use crate::line_endings::LineEndings;
 use crate::position::{OffsetFault, Position, PositionEncoding, Range};
 use crate::starts::{find_starts, push_moved, push_starts, starts_up_to};
 use crate::{columns, offsets};
-use plain::Text;
+use plain::{ArcText, Text};
 use std::alloc::{AllocError, Global};
 use std::marker::Model;
 use std::sync::Arc;
@@ -24,7 +24,7 @@ use std::sync::Arc;
 /// A text with the places at which its lines begin. Contracts see it as the text.
 #[derive(Drop)]
 pub struct TextIndex {
-    text: Text,
+    text: ArcText,
     starts: Vec<u32>,
 }
 
@@ -47,7 +47,7 @@ impl TextIndex {
         let mut starts = Vec::new(alloc);
         find_starts(&mut starts, text.as_bytes())?;
         Ok(TextIndex {
-            text: Text::from_str(alloc, text)?,
+            text: ArcText::new(alloc, Text::from_str(alloc, text)?)?,
             starts,
         })
     }
@@ -57,9 +57,25 @@ impl TextIndex {
         requires { length text < 2 ^ 32 }
         ensures { IfOk result (λ index. index ≡ text) }
     {
+        TextIndex::from_shared(alloc, ArcText::new(alloc, text)?)
+    }
+
+    /// The same of a text that others share.
+    pub fn from_shared(alloc: Global, text: ArcText) -> Result<TextIndex, AllocError>
+        requires { length text < 2 ^ 32 }
+        ensures { IfOk result (λ index. index ≡ text) }
+    {
         let mut starts = Vec::new(alloc);
         find_starts(&mut starts, text.as_str().as_bytes())?;
         Ok(TextIndex { text, starts })
+    }
+
+    /// The text, shared, without its lines.
+    pub fn share_text(&self) -> Result<ArcText, AllocError>
+        ensures value { IfOk result (λ text. text ≡ self.now) }
+        ensures within { length self.now < 2 ^ 32 }
+    {
+        self.text.clone()
     }
 
     pub fn text(&self) -> &str
@@ -131,7 +147,7 @@ impl TextIndex {
         }
         let starts = self.starts_of(alloc, text.as_bytes(), ends)?;
         Ok(Some(TextIndex {
-            text: Text::from_string(text),
+            text: ArcText::new(alloc, Text::from_string(text))?,
             starts,
         }))
     }
@@ -144,14 +160,6 @@ impl TextIndex {
             return None;
         }
         Some(self)
-    }
-
-    /// The text without its lines.
-    pub fn into_text(self) -> Text
-        ensures value { result ≡ self }
-        ensures within { length result < 2 ^ 32 }
-    {
-        self.text
     }
 
     /// Where a line begins and ends, with its LF.
