@@ -2,7 +2,7 @@
 ghost use Rattle.std.specs.Prelude.{◌≡◌, ◌<◌, ◌^◌, length, IfOk};
 ghost use Rattle.std.specs.Arc.{arc_value};
 
-use plain::{Copied, Text};
+use plain::{ArcText, Copied, Text};
 use std::alloc::{AllocError, Global};
 use std::marker::Model;
 use std::sync::Arc;
@@ -29,6 +29,22 @@ impl SharedText {
         ensures { IfOk result (λ shared. shared ≡ text) }
     {
         SharedText::from_index(alloc, TextIndex::from_text(alloc, text)?)
+    }
+
+    /// The same of a text that others share.
+    pub fn from_shared(alloc: Global, text: ArcText) -> Result<SharedText, AllocError>
+        requires { length text < 2 ^ 32 }
+        ensures { IfOk result (λ shared. shared ≡ text) }
+    {
+        SharedText::from_index(alloc, TextIndex::from_shared(alloc, text)?)
+    }
+
+    /// The text, shared, without its index.
+    pub fn share_text(&self) -> Result<ArcText, AllocError>
+        ensures value { IfOk result (λ text. text ≡ self.now) }
+        ensures within { length self.now < 2 ^ 32 }
+    {
+        self.index.share_text()
     }
 
     /// The text of an index.

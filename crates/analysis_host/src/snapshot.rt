@@ -7,6 +7,7 @@ ghost use Rattle.analysis_host.specs.SnapshotData.{encoding_of, text_at, IsLineI
 use crate::versions::Versions;
 use crate::world::World;
 use docs_vfs::VfsPath;
+use file_ids::FileIds;
 use plain::Copied;
 use ra_config::Config;
 use std::alloc::{AllocError, Global};
@@ -18,6 +19,7 @@ use text_core::{LineIndex, PositionEncoding, TextIndex};
 #[derive(Drop)]
 pub struct SnapshotParts {
     pub world: World,
+    pub file_ids: FileIds,
     pub versions: Versions,
     pub config: Arc<Config, Global>,
     pub revision: u64,
@@ -39,12 +41,12 @@ impl Model for GlobalStateSnapshot {
 
     ghost coded = { snapshot_code };
 
-    ghost view = { λ s. record { world = s.parts.world; versions = s.parts.versions; config = arc_value s.parts.config; revision = s.parts.revision } };
+    ghost view = { λ s. record { world = s.parts.world; file_ids = s.parts.file_ids; versions = s.parts.versions; config = arc_value s.parts.config; revision = s.parts.revision } };
 }
 
 impl GlobalStateSnapshot {
     pub fn new(parts: SnapshotParts) -> Self
-        ensures { result ≡ record { world = parts.world; versions = parts.versions; config = arc_value parts.config; revision = parts.revision } }
+        ensures { result ≡ record { world = parts.world; file_ids = parts.file_ids; versions = parts.versions; config = arc_value parts.config; revision = parts.revision } }
     {
         GlobalStateSnapshot { parts }
     }
@@ -111,6 +113,7 @@ impl Clone for GlobalStateSnapshot {
         Ok(GlobalStateSnapshot {
             parts: SnapshotParts {
                 world: self.parts.world.clone()?,
+                file_ids: self.parts.file_ids.clone()?,
                 versions: self.parts.versions.clone()?,
                 config: Arc::try_clone(&self.parts.config)?,
                 revision: self.parts.revision,

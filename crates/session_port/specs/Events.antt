@@ -3,7 +3,7 @@ use Rattle.std.specs.Prelude.{ℕ, List, [], Option, None, Some}
 use Rattle.session_port.specs.declared.command.Command.{Command}
 use Rattle.session_port.specs.declared.command.Command.TheVariants.{Spawn, Revise, Invalidate, Log, Stop}
 use Rattle.session_port.specs.declared.event.HostEvent.{HostEvent}
-use Rattle.session_port.specs.declared.event.HostEvent.TheVariants.{Bytes, Ended, Tasks}
+use Rattle.session_port.specs.declared.event.HostEvent.TheVariants.{Bytes, Ended, Tasks, Vfs}
 use Rattle.session_port.specs.declared.event.TaskMsg.{TaskMsg}
 use Rattle.session_port.specs.declared.job.Job.{Job}
 
@@ -12,12 +12,14 @@ abbrev pub bytes_of : HostEvent → List ℕ
 bytes_of (Bytes bytes) = bytes
 bytes_of Ended = []
 bytes_of (Tasks batch) = []
+bytes_of (Vfs messages) = []
 
 -- the messages of jobs that an event brings
 abbrev pub batch_in : HostEvent → List TaskMsg
 batch_in (Bytes bytes) = []
 batch_in Ended = []
 batch_in (Tasks batch) = batch
+batch_in (Vfs messages) = []
 
 -- the job that a command hands over
 abbrev pub job_of : Command → Option Job

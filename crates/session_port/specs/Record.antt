@@ -8,7 +8,7 @@ use Rattle.session_port.specs.declared.cause.HostError.{HostError}
 use Rattle.session_port.specs.declared.cause.HostError.TheVariants.{Failed, NoMemory}
 use Rattle.session_port.specs.declared.command.Command.{Command}
 use Rattle.session_port.specs.declared.event.HostEvent.{HostEvent}
-use Rattle.session_port.specs.declared.event.HostEvent.TheVariants.{Bytes, Ended, Tasks}
+use Rattle.session_port.specs.declared.event.HostEvent.TheVariants.{Bytes, Ended, Tasks, Vfs}
 use Rattle.session_port.specs.declared.job.Job.{Job}
 
 -- a record with more entries, if there is a record
@@ -46,6 +46,7 @@ abbrev pub UnlessEnded : HostEvent → Type 0 → Type 0
 UnlessEnded (Bytes bytes) P = P
 UnlessEnded Ended P = Unit {0}
 UnlessEnded (Tasks batch) P = P
+UnlessEnded (Vfs messages) P = P
 
 -- the jobs out after an event
 abbrev pub after_event : HostEvent → Jobs → Jobs

@@ -3,6 +3,7 @@ ghost use Rattle.std.specs.Prelude.{◌≡◌};
 ghost use Rattle.session_port.specs.Jobs.{fits};
 
 use crate::job::{Job, JobKind, JobResult};
+use docs_vfs::VfsPath;
 use plain::{Bytes, Copied, Items};
 
 /// What a message says of its job.
@@ -19,6 +20,39 @@ pub struct TaskMsg {
     pub body: TaskBody,
 }
 
+/// A file that a loader tells of: its bytes, or that it has none.
+#[derive(Clone, Debug, Drop)]
+pub struct LoadedFile {
+    pub path: VfsPath,
+    pub contents: Option<Bytes>,
+}
+
+/// How far a loader is.
+#[derive(Clone, Copy, Debug, PartialEq, Eq, PartialOrd, Ord, Hash)]
+pub enum LoadingProgress {
+    Started,
+    /// So many files are done.
+    Progress(u64),
+    Finished,
+}
+
+/// A message of a loader.
+#[derive(Clone, Debug, Drop)]
+pub enum LoaderMsg {
+    /// Files that have changed.
+    Changed { files: Items<LoadedFile> },
+    /// Files that were read for the first time.
+    Loaded { files: Items<LoadedFile> },
+    /// How far it is with the files of these settings.
+    Progress {
+        n_total: u64,
+        n_done: LoadingProgress,
+        /// The folder that is read.
+        dir: Option<VfsPath>,
+        config_version: u32,
+    },
+}
+
 /// What a host gives.
 #[derive(Clone, Debug, Drop)]
 pub enum HostEvent {
@@ -28,6 +62,8 @@ pub enum HostEvent {
     Ended,
     /// Messages of jobs, in the order in which they came.
     Tasks(Items<TaskMsg>),
+    /// Messages of a loader, in the order in which they came.
+    Vfs(Items<LoaderMsg>),
 }
 
 impl TaskBody {
@@ -39,6 +75,18 @@ impl TaskBody {
             (TaskBody::Final(result), JobKind::Request { .. }) => result.is_plain(),
         }
     }
+}
+
+impl Copied for LoadedFile {
+    ghost use Rattle.std.proofs.Common.{rules};
+
+    ghost copies = { λ x y h. Prim.search rules };
+}
+
+impl Copied for LoaderMsg {
+    ghost use Rattle.std.proofs.Common.{rules};
+
+    ghost copies = { λ x y h. Prim.search rules };
 }
 
 impl Copied for TaskMsg {

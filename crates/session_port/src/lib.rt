@@ -12,7 +12,7 @@ mod runs;
 
 pub use cause::HostError;
 pub use command::{Command, LogCode};
-pub use event::{HostEvent, TaskBody, TaskMsg};
+pub use event::{HostEvent, LoadedFile, LoaderMsg, LoadingProgress, TaskBody, TaskMsg};
 pub use job::{Job, JobKind, JobResult, JobValue};
 pub use peers::{Host, Sink, Source};
 pub use runs::run_job;
