@@ -1,4 +1,4 @@
-//! What a host with threads hands to them. JSON, a message of the client, settings, a snapshot, a job, its messages, an event and a command may go to another
+//! What a host with threads hands to them. JSON, a message of the client, settings, a snapshot, a job, its messages, a loader's, an event and a command may go to another
 //! thread, and threads may share a snapshot and a job: the functions here say no more than that these bounds hold. A
 //! worker may be started on a job. A crate above, whose types or closures hold one of these, cites the rulesets `sends`
 //! and `syncs` of `proofs/Sent.antt`.
@@ -10,7 +10,7 @@ use analysis_host::GlobalStateSnapshot;
 use lsp_frame::Message;
 use plain::{Json, SharedJson};
 use ra_config::Config;
-use session_port::{Command, HostEvent, Job, JobResult, TaskMsg};
+use session_port::{Command, HostEvent, Job, JobResult, LoaderMsg, TaskMsg};
 pub use worker::{Promised, Started, Worker, start};
 
 /// Lets go of a value that may go to another thread.
@@ -68,6 +68,10 @@ pub fn result_is_sent(x: JobResult) {
 }
 
 pub fn message_is_sent(x: TaskMsg) {
+    sends(x)
+}
+
+pub fn loader_message_is_sent(x: LoaderMsg) {
     sends(x)
 }
 

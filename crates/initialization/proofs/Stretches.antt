@@ -6,13 +6,14 @@ use Rattle.lsp_frame.specs.Reader.{Reader}
 use Rattle.lsp_frame.specs.declared.frame.Cut.TheVariants.{NeedMore}
 use Rattle.lsp_frame.specs.declared.message.Message.{Message}
 use Rattle.lsp_frame.specs.declared.message.Response.{Response}
-use Rattle.session_port.specs.declared.event.HostEvent.TheVariants.{Bytes, Tasks}
+use Rattle.session_port.specs.declared.event.HostEvent.TheVariants.{Bytes, Tasks, Vfs as Files}
+use Rattle.session_port.specs.declared.event.LoaderMsg.{LoaderMsg}
 use Rattle.session_port.specs.declared.event.TaskMsg.{TaskMsg}
 use Rattle.session_model.specs.Course.{is_exit, course_of}
 use Rattle.session_model.specs.Run.{Told, fed_bytes}
 use Rattle.session_model.specs.declared.fault.SessionError.{SessionError}
 use Rattle.session_model.specs.declared.fault.SessionError.TheVariants.{ClientExited, BadFrame, BadMessage, HostFault, WriteFault, Exhausted, NoMemory}
-use Rattle.session_model.specs.declared.input.Event.TheVariants.{Lsp, Task}
+use Rattle.session_model.specs.declared.input.Event.TheVariants.{Lsp, Task, Vfs}
 use Rattle.session_model.specs.declared.input.Input.TheVariants.{Next}
 use Rattle.session_laws.proofs.Courses.{course-event, course-fed, course-empty, message-takes}
 use Rattle.session_laws.proofs.Stretches.{bytes-append}
@@ -89,6 +90,24 @@ module _ (threads : ℕ) (before : Talk) (old new : Told) (partial : cut_of befo
       events = Tasks batch ∷ [];
       inputs = Next (Task batch) ∷ [];
       course = λ more. course-event before.reader.place before.reader.held (Tasks batch) more partial;
+      stage = refl;
+      told = told;
+      fed = omega arith;
+      counted = refl;
+    };
+    fewer = omega (arith, room);
+    in_step = in_step;
+    sound = sound;
+    fits = fits;
+  })
+
+  -- a loader's messages are passed over
+  pub goes-loader : (messages : List LoaderMsg) (now : Talk) → now ≡ counted before → new ≡ telling (Files messages ∷ []) [] old → Goes threads before now old new
+  goes-loader messages now is told = rw is (record {
+    stretch = record {
+      events = Files messages ∷ [];
+      inputs = Next (Vfs messages) ∷ [];
+      course = λ more. course-event before.reader.place before.reader.held (Files messages) more partial;
       stage = refl;
       told = told;
       fed = omega arith;

@@ -106,6 +106,7 @@ fn take_event<H: Host<A>, A: Analysis>(talk: &mut Talk, host: &mut H) -> Result<
     match event {
         HostEvent::Ended => Err(SessionError::ClientExited),
         HostEvent::Tasks(_) => Ok(()),
+        HostEvent::Vfs(_) => Ok(()),
         HostEvent::Bytes(bytes) => feed(&mut talk.reader, &bytes),
     }
 }

@@ -3,7 +3,7 @@ use initialization::{Opening, initialize};
 use plain::{Bytes, Items};
 use session_model::SessionError;
 use session_peers::{HostileHost, MemorySink, NullAnalysis};
-use session_port::HostEvent;
+use session_port::{HostEvent, LoaderMsg, LoadingProgress};
 use std::alloc::{AllocError, Global};
 use std::process::Abort;
 use std::test::Fail;
@@ -20,7 +20,18 @@ fn framed(alloc: Global, bodies: &str) -> Result<String, Fail> {
     Ok(stream)
 }
 
-/// A stream in events of so many bytes each.
+fn loader_messages(alloc: Global) -> Result<Items<LoaderMsg>, AllocError> {
+    let mut messages = Items::new(alloc);
+    messages.push(LoaderMsg::Progress {
+        n_total: 0,
+        n_done: LoadingProgress::Finished,
+        dir: None,
+        config_version: 0,
+    })?;
+    Ok(messages)
+}
+
+/// A stream in events of so many bytes each. Behind each stand messages of a loader, which a handshake passes over.
 fn events(alloc: Global, stream: &[u8], size: usize) -> Result<Items<HostEvent>, AllocError> {
     let mut events = Items::new(alloc);
     if size == 0 {
@@ -28,6 +39,7 @@ fn events(alloc: Global, stream: &[u8], size: usize) -> Result<Items<HostEvent>,
     }
     for piece in stream.chunks(size) {
         events.push(HostEvent::Bytes(Bytes::from_slice(alloc, piece)?))?;
+        events.push(HostEvent::Vfs(loader_messages(alloc)?))?;
     }
     Ok(events)
 }

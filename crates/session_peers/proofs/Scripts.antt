@@ -15,7 +15,7 @@ use Rattle.session_port.specs.Jobs.{Jobs, after_message}
 use Rattle.session_peers.proofs.Fitting.{after_fitting}
 use Rattle.session_peers.specs.Script.{Gift, event, results, named, left_out, can_see, stopped, gift_of, next_gift, FinishesAt, IsGift}
 use Rattle.session_port.specs.declared.event.HostEvent.{HostEvent}
-use Rattle.session_port.specs.declared.event.HostEvent.TheVariants.{Bytes, Ended, Tasks}
+use Rattle.session_port.specs.declared.event.HostEvent.TheVariants.{Bytes, Ended, Tasks, Vfs}
 use Rattle.session_port.specs.declared.event.TaskMsg.{TaskMsg}
 use Rattle.session_port.specs.declared.job.Job.{Job}
 use Rattle.session_peers.specs.declared.script.ScriptStep.{ScriptStep}
@@ -96,6 +96,7 @@ module _ (answer : SnapshotData → Ask → Finding) where
   honest_gift out (Give (Bytes bytes)) gift coming is comes = honest_event (Bytes bytes) coming out tt (subst (λ g. IsGift answer g coming) (sym (some_gift _ _ is)) comes)
   honest_gift out (Give Ended) gift coming is comes = honest_event Ended coming out tt (subst (λ g. IsGift answer g coming) (sym (some_gift _ _ is)) comes)
   honest_gift out (Give (Tasks batch)) gift coming is comes = cc
+  honest_gift out (Give (Vfs messages)) gift coming is comes = honest_event (Vfs messages) coming out tt (subst (λ g. IsGift answer g coming) (sym (some_gift _ _ is)) comes)
   honest_gift out (Finish numbers) gift coming is comes =
       let given : IsGift answer (results (named numbers out)) coming = subst (λ g. IsGift answer g coming) (sym (some_gift _ _ is)) comes in
       subst (IsHonest answer out) (sym given.1) (honest_named numbers out given.0 given.2)

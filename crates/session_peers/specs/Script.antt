@@ -13,7 +13,7 @@ use Rattle.session_peers.specs.Memory.{PlanData, no_calls}
 use Rattle.session_port.specs.Record.{HostCall}
 use Rattle.session_port.specs.Runs.{IsFinal, IsUncancelled}
 use Rattle.session_port.specs.declared.event.HostEvent.{HostEvent}
-use Rattle.session_port.specs.declared.event.HostEvent.TheVariants.{Bytes, Ended, Tasks}
+use Rattle.session_port.specs.declared.event.HostEvent.TheVariants.{Bytes, Ended, Tasks, Vfs}
 use Rattle.session_port.specs.declared.event.TaskBody.TheVariants.{Final}
 use Rattle.session_port.specs.declared.event.TaskMsg.{TaskMsg}
 use Rattle.session_port.specs.declared.job.Job.{Job}
@@ -45,11 +45,12 @@ can_see (Some job) saw = nat_lt job.snapshot.revision saw
 abbrev pub stopped : ℕ → ℕ → TaskMsg
 stopped number saw = record { job = number; body = Final (Cancelled saw) }
 
--- what a step gives, if anything. A made-up message is never given
+-- what a step gives, if anything. A made-up message of a job is never given
 abbrev pub gift_of : Jobs → ScriptStep → Option Gift
 gift_of out (Give (Bytes bytes)) = Some (event (Bytes bytes))
 gift_of out (Give Ended) = Some (event Ended)
 gift_of out (Give (Tasks batch)) = None
+gift_of out (Give (Vfs messages)) = Some (event (Vfs messages))
 gift_of out (Finish numbers) = Some (results (named numbers out))
 gift_of out (Cancel number saw) = if can_see (map.get out number) saw then Some (event (Tasks (stopped number saw ∷ []))) else None
 

@@ -1,9 +1,10 @@
 // The host that runs everything on one thread.
-ghost use Rattle.std.specs.Prelude.{◌≡◌, ℕ, List, true, false, Err, IsTrue, IfOk, IfErr, OnErr, option_copied};
+ghost use Rattle.std.specs.Prelude.{◌≡◌, ◌≢◌, ℕ, List, true, false, Err, IsTrue, IfOk, IfErr, OnErr, option_copied};
 ghost use Rattle.session_peers.specs.Coming.{Comes, IsHeld, NeedsRead, source_after, jobs_after};
 ghost use Rattle.session_peers.specs.Framed.{waiting as framed_waiting};
 ghost use Rattle.session_port.specs.Honest.{IsHonest};
 ghost use Rattle.session_peers.specs.Inline.{new_inline, waiting, GivesBytes, GivesResults, GivesEnd, ReadsNow};
+ghost use Rattle.session_port.specs.declared.event.LoaderMsg.{LoaderMsg};
 ghost use Rattle.session_port.specs.declared.event.TaskMsg.{TaskMsg};
 ghost use Rattle.session_port.specs.Record.{HasCause, AreRising, UnlessEnded, added, after_given, after_ok, after_order, gave, last_number, spawned, took};
 
@@ -82,7 +83,7 @@ fn let_go<S: Source>(source: &mut FramedSource<S>, jobs: &mut JobsOut, event: &H
 {
     match event {
         HostEvent::Bytes(piece) => source.advance(piece.len()),
-        HostEvent::Ended => {}
+        HostEvent::Ended | HostEvent::Vfs(_) => {}
         HostEvent::Tasks(_) => jobs.clear(),
     }
 }
@@ -136,6 +137,7 @@ impl<'a, S: Source, A: Analysis> Host<A> for InlineHost<'a, S, A> {
         ensures bytes { IfOk result (λ event. (piece : List ℕ) → event ≡ HostEvent.Bytes piece → GivesBytes self.old self.new piece) }
         ensures results { IfOk result (λ event. (batch : List TaskMsg) → event ≡ HostEvent.Tasks batch → GivesResults self.old self.new batch) }
         ensures ended { IfOk result (λ event. event ≡ HostEvent.Ended → GivesEnd self.old self.new) }
+        ensures no_loader { IfOk result (λ event. (messages : List LoaderMsg) → event ≢ HostEvent.Vfs messages) }
         // It may be called again after the end too.
         ensures fresh_at_end { IfOk result (λ _. self.new.spent ≡ false) }
         ensures kept { OnErr result (waiting self.new ≡ waiting self.old) }

@@ -51,7 +51,7 @@ impl NumberedJobs {
         ensures { self.new ≡ record self.old { out = after_event event.now self.old.out } }
     {
         match event {
-            HostEvent::Bytes(_) | HostEvent::Ended => {}
+            HostEvent::Bytes(_) | HostEvent::Ended | HostEvent::Vfs(_) => {}
             HostEvent::Tasks(batch) => end_jobs(&mut self.out, batch.as_slice()),
         }
     }

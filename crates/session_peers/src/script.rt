@@ -14,7 +14,8 @@ use std::alloc::{AllocError, Global};
 /// A step of a script. There are no jobs but those of requests, so no step hands in the result of a host's own job.
 #[derive(Drop)]
 pub enum ScriptStep {
-    /// Gives this event. Messages of jobs are not given so, since a script is honest: the step gives nothing then.
+    /// Gives this event, a loader's messages too. Messages of jobs are not given so, since a script is honest: the
+    /// step gives nothing then.
     Give(HostEvent),
     /// Gives one batch, with the results of those jobs out that have these numbers, in this order and each once. It
     /// is empty where none has.

@@ -40,9 +40,13 @@ pub enum LoadingProgress {
 #[derive(Clone, Debug, Drop)]
 pub enum LoaderMsg {
     /// Files that have changed.
-    Changed { files: Items<LoadedFile> },
+    Changed {
+        files: Items<LoadedFile>,
+    },
     /// Files that were read for the first time.
-    Loaded { files: Items<LoadedFile> },
+    Loaded {
+        files: Items<LoadedFile>,
+    },
     /// How far it is with the files of these settings.
     Progress {
         n_total: u64,

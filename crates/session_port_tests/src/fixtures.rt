@@ -2,8 +2,10 @@
 ghost use Rattle.std.specs.Prelude.{◌≡◌, IfOk};
 ghost use Rattle.session_port.specs.Record.{AreRising, spawned};
 
+use crate::loader::loader_text;
 use analysis_host::{GlobalStateSnapshot, RowId, SnapshotParts, Versions, World};
 use docs_vfs::VfsPath;
+use file_ids::FileIds;
 use method_table::PoolClass;
 use plain::{Items, Json, SharedJson};
 use ra_config::Config;
@@ -21,6 +23,7 @@ fn snapshot(alloc: Global) -> Result<GlobalStateSnapshot, Fail>
     let root = VfsPath::new(alloc, "/w")?.ok_or("no path")?;
     Ok(GlobalStateSnapshot::new(SnapshotParts {
         world: World::new(alloc)?,
+        file_ids: FileIds::new(alloc),
         versions: Versions::new(alloc)?,
         config: Arc::new(alloc, Config::new(alloc, root, 4)?)?,
         revision: 0,
@@ -90,6 +93,7 @@ pub fn event_text(alloc: Global, event: Result<HostEvent, HostError>) -> Result<
         },
         Ok(HostEvent::Ended) => Ok(String::from_str(alloc, "ended")?),
         Ok(HostEvent::Tasks(batch)) => batch_text(alloc, batch),
+        Ok(HostEvent::Vfs(messages)) => loader_text(alloc, messages),
         Err(_) => Ok(String::from_str(alloc, "failed")?),
     }
 }

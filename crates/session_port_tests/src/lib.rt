@@ -9,6 +9,8 @@ mod inline;
 #[cfg(test)]
 mod jobs;
 #[cfg(test)]
+mod loader;
+#[cfg(test)]
 mod memory;
 #[cfg(test)]
 mod scripts;

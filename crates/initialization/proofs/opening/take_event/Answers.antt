@@ -1,11 +1,11 @@
 use Rattle.std.proofs.Common.{arith, refl, inl, sym, ◌∙◌, [], ◌∷◌, ◌<◌, ◌-◌, ◌^◌}
 use Rattle.std.proofs.lemmas.Grind.{common_steps}
 use Rattle.session_port.specs.Record.{after_event}
-use Rattle.session_port.specs.declared.event.HostEvent.TheVariants.{Bytes, Tasks, Ended}
+use Rattle.session_port.specs.declared.event.HostEvent.TheVariants.{Bytes, Tasks, Ended, Vfs}
 use Rattle.session_laws.proofs.Courses.{course-event, course-waits}
 use Rattle.initialization.proofs.Folds.{telling-events, telling-none, telling-same}
 use Rattle.initialization.proofs.Idle.{batch-none}
-use Rattle.initialization.proofs.Stretches.{advances-feed, goes-tasks}
+use Rattle.initialization.proofs.Stretches.{advances-feed, goes-loader, goes-tasks}
 use Rattle.initialization.proofs.opening.take_event.Goals as goal
 
 pub returns-then-talk-clause-event : goal.returns-then-talk-clause-event
@@ -40,6 +40,16 @@ returns-in-Tasks-clause-event g c =
     let room : c.args.talk.now.events < 2 ^ 64 - 1 = omega arith in
     λ threads turns. goes-tasks threads c.args.talk.now _ _ c.requires.waits c.requires.sound c.requires.in_step c.requires.fits room c.in-Tasks.field-0 _ refl
     (telling-events (Tasks c.in-Tasks.field-0 ∷ []) _ _ (grind (arith, common_steps, h)) refl)
+
+pub returns-in-Vfs-clause-idle : goal.returns-in-Vfs-clause-idle
+returns-in-Vfs-clause-idle g c = c.in-Ok.ensures.out ∙ (λ i. after_event (c.in-Vfs.is i) (c.requires.idle i))
+
+pub returns-in-Vfs-clause-event : goal.returns-in-Vfs-clause-event
+returns-in-Vfs-clause-event g c =
+    let h = c.in-Ok.ensures in
+    let room : c.args.talk.now.events < 2 ^ 64 - 1 = omega arith in
+    λ threads turns. goes-loader threads c.args.talk.now _ _ c.requires.waits c.requires.sound c.requires.in_step c.requires.fits room c.in-Vfs.field-0 _ refl
+    (telling-events (Vfs c.in-Vfs.field-0 ∷ []) _ _ (grind (arith, common_steps, h)) refl)
 
 pub returns-clause-event : goal.returns-clause-event
 returns-clause-event g c =
