@@ -1,11 +1,12 @@
--- Which types may go to another thread, and which ones threads may share, from the lowest up. The tree in a world and
--- in the versions leads back to itself, so the check doesn't find the types above it. It finds all others by itself.
+-- Which types may go to another thread, and which ones threads may share, from the lowest up. The tree in a world,
+-- in the numbers and in the versions leads back to itself, so the check doesn't find the types above it. It finds all others by itself.
 use denote.Param.Send.{IsSend, IsSync, view_send, view_sync, sendable}
 use denote.Param.SendFields.{declared_send, declared_sync, variants_send}
 use Rattle.std.proofs.Crossing as heap
 use Rattle.shared_map.proofs.tree.Tree.TheLaws.TheKnot as knot
 use Rattle.plain.proofs.text.Text.TheSendSync as Text
 use Rattle.docs_vfs.proofs.path.VfsPath.TheSendSync as VfsPath
+use Rattle.file_ids.specs.contracts.FileIds as FileIds
 use Rattle.ra_config.proofs.config.Config.TheSendSync as Config
 use Rattle.analysis_host.proofs.text_entry.TextEntry.TheSendSync as TextEntry
 use Rattle.analysis_host.specs.contracts.snapshot.GlobalStateSnapshot as Snapshot
@@ -27,6 +28,12 @@ world_send = search trees depth 60 fits 20000
 pub world_sync : IsSync World.the_row
 world_sync = search trees depth 60 fits 20000
 
+pub file_ids_send : IsSend FileIds.the_row
+file_ids_send = search trees depth 60 fits 20000
+
+pub file_ids_sync : IsSync FileIds.the_row
+file_ids_sync = search trees depth 60 fits 20000
+
 pub versions_send : IsSend Versions.the_row
 versions_send = search trees depth 60 fits 20000
 
@@ -34,10 +41,10 @@ pub versions_sync : IsSync Versions.the_row
 versions_sync = search trees depth 60 fits 20000
 
 pub parts_send : IsSend SnapshotParts.the_row
-parts_send = declared_send SnapshotParts.the_type (search (world_send, versions_send, Config.the_send, Config.the_sync, heap.Arc-send, sendable) depth 20 fits 20000)
+parts_send = declared_send SnapshotParts.the_type (search (world_send, file_ids_send, versions_send, Config.the_send, Config.the_sync, heap.Arc-send, sendable) depth 20 fits 20000)
 
 pub parts_sync : IsSync SnapshotParts.the_row
-parts_sync = declared_sync SnapshotParts.the_type (search (world_sync, versions_sync, Config.the_send, Config.the_sync, heap.Arc-sync, sendable) depth 20 fits 20000)
+parts_sync = declared_sync SnapshotParts.the_type (search (world_sync, file_ids_sync, versions_sync, Config.the_send, Config.the_sync, heap.Arc-sync, sendable) depth 20 fits 20000)
 
 pub snapshot_send : IsSend Snapshot.the_row
 snapshot_send = view_send SnapshotInside.the_row _ _ _ _ (declared_send SnapshotInside.the_type (search (parts_send, sendable) depth 20 fits 20000))
@@ -55,6 +62,6 @@ pub command_send : IsSend Command.the_row
 command_send = variants_send Command.enum (search (job_send, LogCode.the_send, Text.the_send, VfsPath.the_send, sendable) depth 20 fits 20000)
 
 -- for a type or a closure that holds one of these
-pub ruleset sends = (world_send, versions_send, snapshot_send, job_send, command_send, heap.Arc-send)
+pub ruleset sends = (world_send, file_ids_send, versions_send, snapshot_send, job_send, command_send, heap.Arc-send)
 
-pub ruleset syncs = (world_sync, versions_sync, snapshot_sync, job_sync, heap.Arc-sync)
+pub ruleset syncs = (world_sync, file_ids_sync, versions_sync, snapshot_sync, job_sync, heap.Arc-sync)

@@ -1,7 +1,7 @@
-//! What a host with threads hands to them. JSON, a message of the client, settings, a snapshot, a job, its messages, a loader's, an event and a command may go to another
-//! thread, and threads may share a snapshot and a job: the functions here say no more than that these bounds hold. A
-//! worker may be started on a job. A crate above, whose types or closures hold one of these, cites the rulesets `sends`
-//! and `syncs` of `proofs/Sent.antt`.
+//! What a host with threads hands to them. JSON, a message of the client, settings, a snapshot, a job, its messages, a
+//! loader's messages, an event and a command may go to another thread, and threads may share a snapshot and a job: the
+//! functions here say no more than that these bounds hold. A worker may be started on a job. A crate above, whose types
+//! or closures hold one of these, cites the rulesets `sends` and `syncs` of `proofs/Sent.antt`.
 #![tactic(auto)]
 
 mod worker;
