@@ -65,7 +65,8 @@ impl GlobalStateSnapshot {
 
     /// The same of the path that a URL names.
     pub fn url_to_file_id(&self, alloc: Global, url: &str) -> Result<Option<FileId>, ProtoFault>
-        ensures { Finds result (named_file self.now (path_of url.now)) }
+        ensures number { Finds result (named_file self.now (path_of url.now)) }
+        ensures file { IfOk result (λ found. IfSome found (IsFile self.now)) }
     {
         match path_of_url(alloc, url) {
             Ok(path) => self.vfs_path_to_file_id(&path),
