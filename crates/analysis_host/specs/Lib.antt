@@ -2,7 +2,9 @@ pub mod Answers
 pub mod HostData
 pub mod Polls
 pub mod SnapshotData
+pub mod SnapshotFiles
 pub mod Versions
 pub mod Codes
 pub mod FromProto
+pub mod FilePlaces
 pub mod Costs

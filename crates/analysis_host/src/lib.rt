@@ -3,12 +3,15 @@
 #![tactic(auto)]
 
 mod analysis;
+mod annotations;
 mod ask;
 mod cancel;
 mod file_places;
 mod from_proto;
 mod host;
+mod lens;
 mod path_map;
+mod proto_fault;
 mod shared_text;
 mod snapshot;
 mod text_entry;
@@ -16,13 +19,16 @@ mod versions;
 mod world;
 
 pub use analysis::Analysis;
+pub use annotations::annotation;
 pub use ask::{Answer, Ask, Outcome};
 pub use cancel::{Cancel, Never};
-pub use file_places::{FilePosition, FileRange, ProtoFault, file_position, file_range};
+pub use file_places::{FilePosition, FileRange, file_position, file_range};
 pub use from_proto::{AssistKind, assist_kind, position_of, range_of};
 pub use host::{AnalysisHost, Change, FileChange, WorldFault};
+pub use lens::{Annotation, LensKind, LensResolve};
 pub use method_table::RowId;
 pub use path_map::{PathMap, TextTree};
+pub use proto_fault::ProtoFault;
 pub use shared_text::SharedText;
 pub use snapshot::{GlobalStateSnapshot, SnapshotParts};
 pub use text_entry::TextEntry;

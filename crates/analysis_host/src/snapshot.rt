@@ -1,19 +1,19 @@
 // What a job works on: everything that a query may ask, at one moment, shared and never changed.
-ghost use Rattle.std.specs.Prelude.{◌≡◌, None, IfOk, MatchOption, option_copied};
+ghost use Rattle.std.specs.Prelude.{◌≡◌};
 ghost use Rattle.std.specs.Arc.{arc_value};
-ghost use Rattle.std.specs.FinMap as map;
-ghost use Rattle.analysis_host.specs.SnapshotData.{encoding_of, text_at, IsLineIndexAt};
+ghost use Rattle.analysis_host.specs.SnapshotData.{encoding_of};
 
 use crate::versions::Versions;
 use crate::world::World;
-use docs_vfs::VfsPath;
 use file_ids::FileIds;
 use plain::Copied;
 use ra_config::Config;
 use std::alloc::{AllocError, Global};
 use std::marker::Model;
 use std::sync::Arc;
-use text_core::{LineIndex, PositionEncoding, TextIndex};
+use text_core::PositionEncoding;
+
+mod files;
 
 /// The parts of a snapshot.
 #[derive(Drop)]
@@ -68,41 +68,6 @@ impl GlobalStateSnapshot {
         ensures { result ≡ encoding_of self.now }
     {
         self.config().encodings()
-    }
-
-    /// The text of a path.
-    pub fn file_text(&self, path: &VfsPath) -> Option<&str>
-        ensures { option_copied result ≡ text_at self.now.world path.now }
-    {
-        self.parts.world.text(path)
-    }
-
-    /// The text of a path, with its lines.
-    pub fn file_index(&self, path: &VfsPath) -> Option<&TextIndex>
-        ensures { option_copied result ≡ text_at self.now.world path.now }
-    {
-        self.parts.world.index(path)
-    }
-
-    /// The index of a path's text, with its line endings and what a column counts in it.
-    pub fn file_line_index(&self, path: &VfsPath) -> Result<Option<LineIndex>, AllocError>
-        ensures { IfOk result (λ found. MatchOption found (map.get self.now.world.texts path.now ≡ None) (IsLineIndexAt self.now path.now)) }
-    {
-        let Some(entry) = self.parts.world.entry(path) else {
-            return Ok(None);
-        };
-        Ok(Some(LineIndex {
-            index: entry.text.share()?,
-            endings: entry.endings,
-            encoding: self.encoding(),
-        }))
-    }
-
-    /// The version of a path that is open.
-    pub fn file_version(&self, path: &VfsPath) -> Option<i32>
-        ensures { result ≡ map.get self.now.versions path.now }
-    {
-        self.parts.versions.get(path)
     }
 }
 

@@ -1,7 +1,7 @@
 // What a world keeps of a file beside its text.
 use crate::files::{done, entry_of, path_at, snapshot_of};
 use analysis_host::{AnalysisHost, Change, FileChange, GlobalStateSnapshot};
-use docs_vfs::VfsPath;
+use docs_vfs::FileId;
 use plain::Items;
 use std::alloc::Global;
 use std::test::Fail;
@@ -32,8 +32,8 @@ fn told(alloc: Global, found: Option<LineIndex>) -> Result<String, Fail> {
     Ok(format!(in alloc; "{lines} {:?} {encoding}", found.endings)?)
 }
 
-fn line_index(snapshot: &GlobalStateSnapshot, path: &VfsPath) -> Result<Option<LineIndex>, Fail> {
-    Ok(snapshot.file_line_index(path)?)
+fn line_index(snapshot: &GlobalStateSnapshot, file: FileId) -> Result<Option<LineIndex>, Fail> {
+    Ok(snapshot.file_line_index(file)?)
 }
 
 #[test]
@@ -45,10 +45,10 @@ fn line_endings(rt: HostRuntime) -> Result<(), Fail> {
     ];
     for (endings, expected) in cases {
         let snapshot = snapshot(alloc, endings)?;
-        let found = line_index(&snapshot, &path_at(alloc, "/w/a.rs")?)?;
-        assert_eq!(rt; told(alloc, found)?.as_str(), expected);
-        let none = line_index(&snapshot, &path_at(alloc, "/w/b.rs")?)?;
-        assert_eq!(rt; told(alloc, none)?.as_str(), "none");
+        for (file, expected) in [(0, expected), (2, "none"), (7, "none")] {
+            let found = line_index(&snapshot, FileId(file))?;
+            assert_eq!(rt; told(alloc, found)?.as_str(), expected, "of {file}");
+        }
     }
     Ok(())
 }

@@ -1,9 +1,13 @@
 // Files, hosts and snapshots that the tests stand on. Nothing is claimed of them but what calls require.
+ghost use Rattle.std.specs.Prelude.{◌≡◌, true, Some};
+ghost use Rattle.file_ids.specs.Numbers.{IsFree};
+
 use analysis_host::{
     AnalysisHost, Change, FileChange, GlobalStateSnapshot, SharedText, SnapshotParts, TextEntry,
     Versions, World, WorldFault,
 };
-use docs_vfs::VfsPath;
+use docs_vfs::{FileExcluded, FileId, VfsPath};
+use file_ids::FileIds;
 use plain::{Items, Text};
 use ra_config::Config;
 use std::alloc::Global;
@@ -104,31 +108,74 @@ fn settings(alloc: Global) -> Result<Arc<Config, Global>, Fail> {
     Ok(Arc::new(alloc, config)?)
 }
 
+/// Whether no path but this one has the number.
+fn is_free(ids: &FileIds, path: &VfsPath, file: FileId) -> bool
+    ensures { result ≡ true → IsFree path.now (Some file) ids.now }
+{
+    match ids.path_of(file) {
+        Some(other) => *other == *path,
+        None => true,
+    }
+}
+
+/// The numbers with this one at a path, or a failed test where another path has it.
+fn with_number(
+    alloc: Global,
+    ids: &FileIds,
+    path: &str,
+    file: FileId,
+    excluded: FileExcluded,
+) -> Result<FileIds, Fail> {
+    let path = path_at(alloc, path)?;
+    if !is_free(ids, &path, file) {
+        return Err(Fail::from("taken"));
+    }
+    Ok(ids.set(path, Some((file, excluded)))?)
+}
+
+/// `/w/a.rs` with number 0, `/w/x.rs` with 1, which is excluded, `/w/t.rs` with 2, and `/r.rs` with 3.
+fn numbers(alloc: Global) -> Result<FileIds, Fail> {
+    let mut ids = FileIds::new(alloc);
+    for (path, number, excluded) in [
+        ("/w/a.rs", 0, FileExcluded::No),
+        ("/w/x.rs", 1, FileExcluded::Yes),
+        ("/w/t.rs", 2, FileExcluded::No),
+        ("/r.rs", 3, FileExcluded::No),
+    ] {
+        ids = with_number(alloc, &ids, path, FileId(number), excluded)?;
+    }
+    Ok(ids)
+}
+
 fn frozen(
     world: World,
+    file_ids: FileIds,
     versions: Versions,
     config: Arc<Config, Global>,
-    revision: u64,
 ) -> GlobalStateSnapshot {
     GlobalStateSnapshot::new(SnapshotParts {
         world,
+        file_ids,
         versions,
         config,
-        revision,
+        revision: 9,
     })
 }
 
-/// Versions that say 3 at `/w/a.rs`.
-fn third_version(alloc: Global) -> Result<Versions, Fail> {
-    let versions = Versions::new(alloc)?;
-    with_version(alloc, &versions, &path_at(alloc, "/w/a.rs")?, Some(3))
+/// Versions that say 3 at `/w/a.rs`, `/w/x.rs` and `/w/t.rs`.
+fn third_versions(alloc: Global) -> Result<Versions, Fail> {
+    let mut versions = Versions::new(alloc)?;
+    for path in ["/w/a.rs", "/w/x.rs", "/w/t.rs"] {
+        versions = with_version(alloc, &versions, &path_at(alloc, path)?, Some(3))?;
+    }
+    Ok(versions)
 }
 
-/// A snapshot of a world with version 3 of `/w/a.rs`, at revision 9.
+/// A snapshot of a world with four numbers and three versions, at revision 9.
 pub fn snapshot_of(alloc: Global, world: World) -> Result<GlobalStateSnapshot, Fail> {
     let config = settings(alloc)?;
-    let versions = third_version(alloc)?;
-    Ok(frozen(world, versions, config, 9))
+    let versions = third_versions(alloc)?;
+    Ok(frozen(world, numbers(alloc)?, versions, config))
 }
 
 /// The same of a world with one text.

@@ -6,6 +6,10 @@ mod endings;
 #[cfg(test)]
 mod files;
 #[cfg(test)]
+mod lenses;
+#[cfg(test)]
+mod numbers;
+#[cfg(test)]
 mod places;
 #[cfg(test)]
 mod polls;

@@ -17,17 +17,18 @@ fn position_in(
     snapshot: &GlobalStateSnapshot,
     url: &str,
     position: Position,
-) -> Result<FilePosition, ProtoFault> {
+) -> Result<Option<FilePosition>, ProtoFault> {
     file_position(alloc, snapshot, url, position)
 }
 
 /// A place in words, or why there is none.
 fn place_told(
     alloc: Global,
-    place: Result<FilePosition, ProtoFault>,
+    place: Result<Option<FilePosition>, ProtoFault>,
 ) -> Result<String, AllocError> {
     match place {
-        Ok(place) => format!(in alloc; "{} {}", place.path.as_str(), place.offset),
+        Ok(Some(place)) => format!(in alloc; "{} {}", place.file.0, place.offset),
+        Ok(None) => String::from_str(alloc, "excluded"),
         Err(fault) => format!(in alloc; "{fault:?}"),
     }
 }
@@ -44,16 +45,20 @@ fn range_in(
     snapshot: &GlobalStateSnapshot,
     url: &str,
     range: Range,
-) -> Result<FileRange, ProtoFault> {
+) -> Result<Option<FileRange>, ProtoFault> {
     file_range(alloc, snapshot, url, range)
 }
 
 /// Places in words, or why there are none.
-fn places_told(alloc: Global, places: Result<FileRange, ProtoFault>) -> Result<String, AllocError> {
+fn places_told(
+    alloc: Global,
+    places: Result<Option<FileRange>, ProtoFault>,
+) -> Result<String, AllocError> {
     match places {
-        Ok(places) => {
-            format!(in alloc; "{} {} {}", places.path.as_str(), places.start, places.end)
+        Ok(Some(places)) => {
+            format!(in alloc; "{} {} {}", places.file.0, places.start, places.end)
         }
+        Ok(None) => String::from_str(alloc, "excluded"),
         Err(fault) => format!(in alloc; "{fault:?}"),
     }
 }
@@ -72,10 +77,12 @@ fn places(alloc: Global, url: &str, start: u32, end: u32) -> Result<String, Fail
 #[test]
 fn places_of_positions(rt: HostRuntime) -> Result<(), Fail> {
     let cases = [
-        ("file:///w/a.rs", 0, 0, "/w/a.rs 0"),
-        ("file:///w/a.rs", 0, 4, "/w/a.rs 4"),
-        ("file:///w/a.rs", 0, 99, "/w/a.rs 6"),
+        ("file:///w/a.rs", 0, 0, "0 0"),
+        ("file:///w/a.rs", 0, 4, "0 4"),
+        ("file:///w/a.rs", 0, 99, "0 6"),
         ("file:///w/a.rs", 1, 0, "Offset(LinePastEnd)"),
+        ("file:///w/x.rs", 9, 0, "excluded"),
+        ("file:///w/t.rs", 0, 0, "NotFound"),
         ("file:///w/b.rs", 1, 0, "NotFound"),
         ("http://w/b.rs", 1, 0, "Url(NotFile)"),
         ("file://host/w/a.rs", 0, 0, "Url(HasHost)"),
@@ -91,9 +98,11 @@ fn places_of_positions(rt: HostRuntime) -> Result<(), Fail> {
 #[test]
 fn places_of_ranges(rt: HostRuntime) -> Result<(), Fail> {
     let cases = [
-        ("file:///w/a.rs", 1, 3, "/w/a.rs 1 3"),
-        ("file:///w/a.rs", 2, 2, "/w/a.rs 2 2"),
+        ("file:///w/a.rs", 1, 3, "0 1 3"),
+        ("file:///w/a.rs", 2, 2, "0 2 2"),
         ("file:///w/a.rs", 3, 1, "Offset(Reversed)"),
+        ("file:///w/x.rs", 1, 0, "excluded"),
+        ("file:///w/t.rs", 0, 0, "NotFound"),
         ("file:///w/b.rs", 0, 0, "NotFound"),
         ("http://w/b.rs", 0, 0, "Url(NotFile)"),
         ("file://host/w/a.rs", 0, 0, "Url(HasHost)"),

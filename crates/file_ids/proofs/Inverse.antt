@@ -17,7 +17,7 @@ use Rattle.docs_vfs.specs.declared.file_kinds.FileExcluded.{FileExcluded}
 use Rattle.file_ids.specs.Numbers.{IsFree, file_of, number_in, number_of, AreInverse, without_number, with_number}
 
 -- a test that says whether something is so
-abbrev Says : Bool → Type 0 → Type 0
+abbrev pub Says : Bool → Type 0 → Type 0
 Says true A = A
 Says false A = A → ⊥
 
@@ -31,10 +31,10 @@ module _ {K : Type 0} {R : K → K → Ordering} (o : IsTotalOrder R) (same : ma
   says_by_order x y Equal p = same x y p
   says_by_order x y Greater p = λ e. absurd (false≢true (sym (ap is_eq p) ∙ ap is_eq (subst (λ z. R x z ≡ Equal) e (tied_itself o x))))
 
-  says_same : (x y : K) → Says (eq_by_cmp R x y) (x ≡ y)
+  pub says_same : (x y : K) → Says (eq_by_cmp R x y) (x ≡ y)
   says_same x y = says_by_order x y (R x y) refl
 
-abbrev same_path : map.IsAntisymmetric path_cmp
+abbrev pub same_path : map.IsAntisymmetric path_cmp
 same_path = map.slice_cmp-IsAntisymmetric map.nat_cmp-IsAntisymmetric
 
 -- whether this is the number

@@ -1,5 +1,6 @@
 -- The numbers of paths, and the paths of numbers.
-use Rattle.std.specs.Prelude.{◌≡◌, ◌↔◌, ℕ, List, Option, None, Some}
+use Rattle.std.specs.Prelude.{◌≡◌, ◌↔◌, ℕ, ◌==◌, Bool, false, List, Option, None, Some}
+use Rattle.std.specs.List.{find as first}
 use Rattle.std.specs.Ordering.{nat_cmp}
 use Rattle.std.specs.FinMap as map
 use Rattle.std.specs.FinMap.Entries.{find}
@@ -19,6 +20,15 @@ number_in (Some file) = Some file.0
 
 abbrev pub number_of : Option (FileId × FileExcluded) → Option ℕ
 number_of entry = number_in (file_of entry)
+
+-- the entry has this number
+abbrev pub has_number : FileId → Option (FileId × FileExcluded) → Bool
+has_number file None = false
+has_number file (Some entry) = entry.0.0 == file.0
+
+-- the path that has the number, if there is one
+abbrev pub path_of : map.FinMap path_cmp (FileId × FileExcluded) → FileId → Option (List ℕ)
+path_of files file = first (λ path. has_number file (map.get files path)) (map.keys files)
 
 -- no other path has the number
 abbrev pub IsFree : List ℕ → Option FileId → map.FinMap path_cmp (FileId × FileExcluded) → Type 0

@@ -1,10 +1,10 @@
 //! The numbers of files by path, as a snapshot freezes them.
 #![tactic(auto)]
 
-ghost use Rattle.std.specs.Prelude.{◌≡◌, ◌↔◌, ◌<◌, ℕ, List, Some, IfOk, option_copied};
+ghost use Rattle.std.specs.Prelude.{◌≡◌, ◌↔◌, ◌<◌, ℕ, List, Some, IfOk, IfSome, option_copied};
 ghost use Rattle.std.specs.FinMap as map;
 ghost use Rattle.shared_map.specs.AsMap.{set_in_map};
-ghost use Rattle.file_ids.specs.Numbers.{IsFree, number_of, file_of, with_number, without_number};
+ghost use Rattle.file_ids.specs.Numbers.{IsFree, number_of, file_of, path_of, with_number, without_number};
 
 use docs_vfs::{FileExcluded, FileId, VfsPath};
 use plain::{Copied, NoMemory};
@@ -73,16 +73,18 @@ impl FileIds {
         }
     }
 
-    /// The number of a path, and whether its file is excluded.
+    /// The number of a path, and whether its file is excluded. The number leads back to the path.
     pub fn get(&self, path: &VfsPath) -> Option<(FileId, FileExcluded)>
-        ensures { result ≡ map.get self.now path.now }
+        ensures entry { result ≡ map.get self.now path.now }
+        ensures back { IfSome result (λ entry. path_of self.now entry.0 ≡ Some path.now) }
     {
         self.files.get(path).copied()
     }
 
     /// The path that has the number.
     pub fn path_of(&self, file: FileId) -> Option<&VfsPath>
-        ensures { (path : List ℕ) → (option_copied result ≡ Some path) ↔ (number_of (map.get self.now path) ≡ Some file.0) }
+        ensures value { option_copied result ≡ path_of self.now file }
+        ensures each { (path : List ℕ) → (option_copied result ≡ Some path) ↔ (number_of (map.get self.now path) ≡ Some file.0) }
     {
         self.paths.get(&file.0)
     }

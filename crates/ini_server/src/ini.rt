@@ -7,7 +7,7 @@ ghost use Rattle.text_core.specs.Lines.{line_text};
 use analysis_host::{Analysis, Answer, Ask, Cancel, GlobalStateSnapshot, Outcome, RowId};
 use method_table::{HOVER, default_of};
 use plain::{Json, NoMemory, Text};
-use requests::{malformed, position_of, refusal, text_of, uri_of};
+use requests::{malformed, nothing, position_of, refusal, text_of, uri_of};
 use serde_json::json;
 use std::alloc::Global;
 use text_core::{Position, PositionEncoding, Range, TextIndex};
@@ -106,7 +106,8 @@ impl Analysis for Ini {
             return malformed(self.0);
         };
         match text_of(self.0, snapshot, uri)? {
-            Ok(index) => hover_in(self.0, snapshot.encoding(), index, position),
+            Ok(Some(index)) => hover_in(self.0, snapshot.encoding(), index, position),
+            Ok(None) => Ok(nothing()),
             Err(message) => Ok(refusal(message)),
         }
     }

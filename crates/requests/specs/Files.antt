@@ -1,10 +1,14 @@
 -- The text that a request speaks of, and the faults by which a request is refused.
-use Rattle.std.specs.Prelude.{ℕ, ◌++◌, List, codes, None, Result, Ok, Err}
-use Rattle.std.specs.Option.{ok_or}
+use Rattle.std.specs.Prelude.{ℕ, ◌++◌, List, codes, Option, None, Some, Result, Ok, Err}
+use Rattle.serde_json.specs.Data.{null}
 use Rattle.docs_vfs.specs.FileUrls.{path_of}
+use Rattle.docs_vfs.specs.declared.file_kinds.FileId.{FileId}
 use Rattle.docs_vfs.specs.declared.file_url.UrlFault.{UrlFault}
-use Rattle.analysis_host.specs.Answers.{Finding, fault}
-use Rattle.analysis_host.specs.SnapshotData.{SnapshotData, text_at as world_text}
+use Rattle.analysis_host.specs.Answers.{Finding, answer, fault}
+use Rattle.analysis_host.specs.SnapshotData.{SnapshotData}
+use Rattle.analysis_host.specs.SnapshotFiles.{file_text, path_to_file}
+use Rattle.analysis_host.specs.declared.ask.Answer.TheVariants.{Json}
+use Rattle.analysis_host.specs.declared.proto_fault.ProtoFault.{ProtoFault}
 
 -- a fault without code
 abbrev pub refusal : List ℕ → Finding
@@ -13,15 +17,26 @@ refusal message = fault None message
 abbrev pub malformed : Finding
 malformed = refusal (codes "invalid params")
 
--- the text of the file that a URL names, or why there is none
-abbrev pub text_at : SnapshotData → Result (List ℕ) UrlFault → Result (List ℕ) (List ℕ)
-text_at snapshot (Err e) = Err (codes "url is not a file")
-text_at snapshot (Ok path) = ok_or (world_text snapshot.world path) (codes "file not found: " ++ path)
+-- the answer null
+abbrev pub nothing : Finding
+nothing = answer (Json null)
 
-abbrev pub text_of : SnapshotData → List ℕ → Result (List ℕ) (List ℕ)
+-- the text of a path's file, by its number: none where it is excluded; or why there is no such file
+abbrev pub text_in : SnapshotData → List ℕ → Result (Option FileId) ProtoFault → Result (Option (List ℕ)) (List ℕ)
+text_in snapshot path (Err e) = Err (codes "file not found: " ++ path)
+text_in snapshot path (Ok None) = Ok None
+text_in snapshot path (Ok (Some file)) = Ok (file_text snapshot file)
+
+-- the text of the file that a URL names
+abbrev pub text_at : SnapshotData → Result (List ℕ) UrlFault → Result (Option (List ℕ)) (List ℕ)
+text_at snapshot (Err e) = Err (codes "url is not a file")
+text_at snapshot (Ok path) = text_in snapshot path (path_to_file snapshot path)
+
+abbrev pub text_of : SnapshotData → List ℕ → Result (Option (List ℕ)) (List ℕ)
 text_of snapshot uri = text_at snapshot (path_of uri)
 
--- what comes of a text that is there
-abbrev pub in_text : (List ℕ → Finding) → Result (List ℕ) (List ℕ) → Finding
-in_text find (Ok text) = find text
+-- what comes of a text that is there; null of an excluded file
+abbrev pub in_text : (List ℕ → Finding) → Result (Option (List ℕ)) (List ℕ) → Finding
+in_text find (Ok (Some text)) = find text
+in_text find (Ok None) = nothing
 in_text find (Err message) = refusal message

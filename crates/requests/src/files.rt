@@ -1,11 +1,11 @@
 // The text that a request speaks of, and why it is refused.
-ghost use Rattle.std.specs.Prelude.{◌≡◌, ◌++◌, codes, None, Ok, Err, IfOk, MatchResult};
+ghost use Rattle.std.specs.Prelude.{◌≡◌, ◌++◌, codes, None, Ok, Err, IfOk, MatchResult, option_copied};
 ghost use Rattle.analysis_host.specs.Answers.{Answers, IsPlainOutcome};
-ghost use Rattle.requests.specs.Files.{malformed, refusal, text_of};
+ghost use Rattle.requests.specs.Files.{malformed, nothing, refusal, text_at, text_of};
 
-use analysis_host::{GlobalStateSnapshot, Outcome};
+use analysis_host::{Answer, GlobalStateSnapshot, Outcome};
 use docs_vfs::{UrlFault, VfsPath, path_of_url};
-use plain::{NoMemory, Text};
+use plain::{Json, NoMemory, Text};
 use std::alloc::{AllocError, Global};
 use text_core::TextIndex;
 
@@ -28,6 +28,15 @@ pub fn malformed(alloc: Global) -> Result<Outcome, NoMemory>
     Ok(refusal(Text::from_str(alloc, "invalid params")?))
 }
 
+/// The answer null.
+#[tactic(auto, unfolding(plain::specs::Plain::most_levels))]
+pub fn nothing() -> Outcome
+    ensures answers { Answers nothing None result }
+    ensures plain { IsPlainOutcome result }
+{
+    Outcome::Value(Answer::Json(Json::null()))
+}
+
 /// That a file is not there.
 fn not_found(alloc: Global, path: &VfsPath) -> Result<Text, NoMemory>
     ensures { IfOk result (λ message. message ≡ codes "file not found: " ++ path.now) }
@@ -37,21 +46,37 @@ fn not_found(alloc: Global, path: &VfsPath) -> Result<Text, NoMemory>
     Ok(message)
 }
 
-/// The text of the file that a URL names, with its lines, or the message that there is none.
+/// The text of the file of a path, with its lines, or none where it is excluded, or the message that there is no such
+/// file.
+fn text_in<'a>(
+    alloc: Global,
+    snapshot: &'a GlobalStateSnapshot,
+    path: &VfsPath,
+) -> Result<Result<Option<&'a TextIndex>, Text>, NoMemory>
+    ensures { IfOk result (λ found. MatchResult found
+        (λ text. text_at snapshot.now (Ok path.now) ≡ Ok (option_copied text))
+        (λ message. text_at snapshot.now (Ok path.now) ≡ Err message)) }
+{
+    match snapshot.vfs_path_to_file_id(path) {
+        Ok(Some(file)) => Ok(Ok(snapshot.file_index(file))),
+        Ok(None) => Ok(Ok(None)),
+        Err(_) => Ok(Err(not_found(alloc, path)?)),
+    }
+}
+
+/// The text of the file that a URL names, with its lines, or none where it is excluded, or the message that there is no
+/// such file.
 pub fn text_of<'a>(
     alloc: Global,
     snapshot: &'a GlobalStateSnapshot,
     uri: &str,
-) -> Result<Result<&'a TextIndex, Text>, NoMemory>
+) -> Result<Result<Option<&'a TextIndex>, Text>, NoMemory>
     ensures { IfOk result (λ found. MatchResult found
-        (λ text. text_of snapshot.now uri.now ≡ Ok text.now)
+        (λ text. text_of snapshot.now uri.now ≡ Ok (option_copied text))
         (λ message. text_of snapshot.now uri.now ≡ Err message)) }
 {
     match path_of_url(alloc, uri) {
-        Ok(path) => match snapshot.file_index(&path) {
-            Some(index) => Ok(Ok(index)),
-            None => Ok(Err(not_found(alloc, &path)?)),
-        },
+        Ok(path) => text_in(alloc, snapshot, &path),
         Err(UrlFault::NoMemory) => Err(AllocError),
         Err(UrlFault::NotFile | UrlFault::HasHost | UrlFault::NotText) => {
             Ok(Err(Text::from_str(alloc, "url is not a file")?))

@@ -5,6 +5,6 @@
 mod files;
 mod params;
 
-pub use files::{malformed, refusal, text_of};
+pub use files::{malformed, nothing, refusal, text_of};
 pub use params::{has_positions, position_of, positions_of, range_of, uri_of};
 pub use plain::NoMemory;

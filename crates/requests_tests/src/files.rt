@@ -1,12 +1,16 @@
 // The text that a request speaks of. Each function holds one large value, so that it stays quick to prove.
+ghost use Rattle.std.specs.Prelude.{◌≡◌, true, Some};
+ghost use Rattle.file_ids.specs.Numbers.{IsFree};
+
 use analysis_host::{
-    AnalysisHost, Change, FileChange, GlobalStateSnapshot, Outcome, SharedText, SnapshotParts,
-    TextEntry, Versions,
+    AnalysisHost, Answer, Change, FileChange, GlobalStateSnapshot, Outcome, SharedText,
+    SnapshotParts, TextEntry, Versions,
 };
-use docs_vfs::VfsPath;
+use docs_vfs::{FileExcluded, FileId, VfsPath};
+use file_ids::FileIds;
 use plain::{Items, Text};
 use ra_config::Config;
-use requests::{malformed, refusal, text_of};
+use requests::{malformed, nothing, refusal, text_of};
 use std::alloc::Global;
 use std::sync::Arc;
 use std::test::Fail;
@@ -44,11 +48,50 @@ fn config(alloc: Global) -> Result<Arc<Config, Global>, Fail> {
     Ok(Arc::new(alloc, Config::new(alloc, path(alloc, "/w")?, 1)?)?)
 }
 
+/// Whether no path but this one has the number.
+fn is_free(ids: &FileIds, path: &VfsPath, file: FileId) -> bool
+    ensures { result ≡ true → IsFree path.now (Some file) ids.now }
+{
+    match ids.path_of(file) {
+        Some(other) => *other == *path,
+        None => true,
+    }
+}
+
+/// The numbers with this one at a path, or a failed test where another path has it.
+fn with_number(
+    alloc: Global,
+    ids: &FileIds,
+    at: &str,
+    file: FileId,
+    excluded: FileExcluded,
+) -> Result<FileIds, Fail> {
+    let path = path(alloc, at)?;
+    if !is_free(ids, &path, file) {
+        return Err(Fail::from("taken"));
+    }
+    Ok(ids.set(path, Some((file, excluded)))?)
+}
+
+/// `/w/a.rs` with number 0, `/w/x.rs` with 1, which is excluded, and `/w/t.rs` with 2.
+fn numbers(alloc: Global) -> Result<FileIds, Fail> {
+    let mut ids = FileIds::new(alloc);
+    for (path, number, excluded) in [
+        ("/w/a.rs", 0, FileExcluded::No),
+        ("/w/x.rs", 1, FileExcluded::Yes),
+        ("/w/t.rs", 2, FileExcluded::No),
+    ] {
+        ids = with_number(alloc, &ids, path, FileId(number), excluded)?;
+    }
+    Ok(ids)
+}
+
 fn snapshot(alloc: Global) -> Result<GlobalStateSnapshot, Fail> {
     let host = host(alloc)?;
     Ok(GlobalStateSnapshot::new(SnapshotParts {
         revision: host.revision(),
         world: host.world()?,
+        file_ids: numbers(alloc)?,
         versions: Versions::new(alloc)?,
         config: config(alloc)?,
     }))
@@ -58,7 +101,8 @@ fn snapshot(alloc: Global) -> Result<GlobalStateSnapshot, Fail> {
 fn found(alloc: Global, uri: &str) -> Result<Text, Fail> {
     let snapshot = snapshot(alloc)?;
     match text_of(alloc, &snapshot, uri)? {
-        Ok(index) => Ok(Text::from_str(alloc, index.text())?),
+        Ok(Some(index)) => Ok(Text::from_str(alloc, index.text())?),
+        Ok(None) => Ok(Text::from_str(alloc, "excluded")?),
         Err(message) => Ok(message),
     }
 }
@@ -67,6 +111,8 @@ fn found(alloc: Global, uri: &str) -> Result<Text, Fail> {
 fn texts(rt: HostRuntime) -> Result<(), Fail> {
     for (uri, text) in [
         ("file:///w/a.rs", "fn a() {}"),
+        ("file:///w/x.rs", "excluded"),
+        ("file:///w/t.rs", "file not found: /w/t.rs"),
         ("file:///w/b.rs", "file not found: /w/b.rs"),
         ("http://x/a", "url is not a file"),
         ("file://h/a", "url is not a file"),
@@ -94,6 +140,18 @@ fn a_refusal(rt: HostRuntime) -> Result<(), Fail> {
     let message = message_of(refusal(Text::from_str(rt.alloc(), "no")?))?;
     assert_eq!(rt; message.as_str(), "no");
     Ok(())
+}
+
+fn is_null(outcome: Outcome) -> bool {
+    match outcome {
+        Outcome::Value(Answer::Json(value)) => value.as_value().is_null(),
+        _ => false,
+    }
+}
+
+#[test]
+fn the_answer_null(rt: HostRuntime) {
+    assert!(rt; is_null(nothing()));
 }
 
 #[test]

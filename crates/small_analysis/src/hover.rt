@@ -11,7 +11,7 @@ use crate::names::name_at;
 use crate::offsets::place_in;
 use analysis_host::{Answer, GlobalStateSnapshot, Outcome};
 use plain::{Json, Members, Text};
-use requests::{malformed, position_of, refusal, text_of, uri_of};
+use requests::{malformed, nothing, position_of, refusal, text_of, uri_of};
 use std::alloc::{AllocError, Global};
 use text_core::{Position, PositionEncoding, TextIndex};
 
@@ -63,7 +63,8 @@ fn at_url(
     ensures plain { IfOk result IsPlainOutcome }
 {
     match text_of(alloc, snapshot, uri)? {
-        Ok(index) => in_text(alloc, snapshot.encoding(), index, position),
+        Ok(Some(index)) => in_text(alloc, snapshot.encoding(), index, position),
+        Ok(None) => Ok(nothing()),
         Err(message) => Ok(refusal(message)),
     }
 }

@@ -10,7 +10,7 @@ use crate::matches::all_matched;
 use analysis_host::{Answer, GlobalStateSnapshot, Outcome};
 use plain::{Json, Text};
 use protocol_values::list_json;
-use requests::{malformed, positions_of, refusal, text_of, uri_of};
+use requests::{malformed, nothing, positions_of, refusal, text_of, uri_of};
 use std::alloc::{AllocError, Global};
 use text_core::{Position, PositionEncoding, TextIndex};
 
@@ -44,7 +44,8 @@ fn at_url(
     ensures plain { IfOk result IsPlainOutcome }
 {
     match text_of(alloc, snapshot, uri)? {
-        Ok(index) => in_text(alloc, snapshot.encoding(), index, positions),
+        Ok(Some(index)) => in_text(alloc, snapshot.encoding(), index, positions),
+        Ok(None) => Ok(nothing()),
         Err(message) => Ok(refusal(message)),
     }
 }

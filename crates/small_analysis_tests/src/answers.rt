@@ -57,6 +57,14 @@ fn faults(rt: HostRuntime) -> Result<(), Fail> {
             "file not found: /w/b.rs",
         ),
         (
+            "{\"textDocument\":{\"uri\":\"file:///w/t.rs\"},\"position\":{\"line\":0,\"character\":0}}",
+            "file not found: /w/t.rs",
+        ),
+        (
+            "{\"textDocument\":{\"uri\":\"file:///w/x.rs\"},\"position\":{\"line\":9,\"character\":0}}",
+            "null",
+        ),
+        (
             "{\"textDocument\":{\"uri\":\"http://x/a\"},\"position\":{\"line\":9,\"character\":0}}",
             "url is not a file",
         ),
@@ -147,6 +155,8 @@ fn positions_of_brackets(rt: HostRuntime) -> Result<(), Fail> {
         (here, "[{\"line\":9,\"character\":0},7]", "invalid params"),
         (here, "[{\"line\":0,\"character\":-1}]", "invalid params"),
         ("file:///w/b.rs", "[]", "file not found: /w/b.rs"),
+        ("file:///w/t.rs", "[]", "file not found: /w/t.rs"),
+        ("file:///w/x.rs", "[{\"line\":9,\"character\":0}]", "null"),
         ("x", "[{\"line\":9,\"character\":0}]", "url is not a file"),
     ] {
         let found = braces(rt.alloc(), uri, "()", positions)?;

@@ -1,12 +1,13 @@
-use Rattle.std.proofs.Common.{sym, ap, ◌∙◌}
-use Rattle.std.specs.Cmp.Lexicographic.{nat_list_cmp_total}
-use Rattle.std.specs.FinMap as map
-use Rattle.shared_map.proofs.AsMap.{get-view}
-use Rattle.file_ids.specs.Numbers.{number_of}
+use Rattle.std.proofs.Common.{sym, ◌∙◌}
+use Rattle.file_ids.proofs.FirstPath.{at_number, first_path}
 use Rattle.file_ids.proofs.FileIds.path_of.Goals as goal
 
-pub returns : goal.returns
-returns c = λ path.
-    let same = c.self.invariant.same path c.args.file.0 in
-    let at = ap number_of (sym (get-view nat_list_cmp_total c.self.inside.files path) ∙ ap (λ m. map.get m path) c.self.view_is) in
-    (λ e. sym at ∙ same.0 (sym c.get.ensures ∙ e), λ e. c.get.ensures ∙ same.1 (at ∙ e))
+pub returns-clause-value : goal.returns-clause-value
+returns-clause-value c =
+    let file = c.args.file in
+    c.get.ensures ∙ first_path c.args.self.now file _ (at_number c.self.inside.files c.self.inside.paths c.self.invariant c.args.self.now c.self.view_is file)
+
+pub returns-clause-each : goal.returns-clause-each
+returns-clause-each c = λ path.
+    let told = at_number c.self.inside.files c.self.inside.paths c.self.invariant c.args.self.now c.self.view_is c.args.file path in
+    (λ e. told.0 (sym c.get.ensures ∙ e), λ e. c.get.ensures ∙ told.1 e)

@@ -14,7 +14,7 @@ invariant_of-result g c =
     let files = c.self.inside.files in
     let seen : (q : List ℕ) → map.get c.args.self.now q ≡ find path_cmp q files = λ q. ap (λ m. map.get m q) (sym c.self.view_is) ∙ get-view nat_list_cmp_total files q in
     let free = free_number c.args.entry c.args.path c.args.self.now files c.requires.free seen in
-    let old : c.number-old.result ≡ file_of (find path_cmp c.args.path files) = c.number-old.ensures ∙ ap file_of (c.get.ensures ∙ seen c.args.path) in
+    let old : c.number-old.result ≡ file_of (find path_cmp c.args.path files) = c.number-old.ensures ∙ ap file_of (c.get.ensures.entry ∙ seen c.args.path) in
     rw c.in_ok-files.ensures.ok (rw c.in_ok-paths.ensures (rw old (rw c.number.ensures (
     renumbered files c.self.inside.paths c.args.path c.args.entry c.self.invariant c.len.ensures.order c.len-2.ensures.order free
     ))))

@@ -1,0 +1,30 @@
+// What is known of a code lens.
+use crate::file_places::FilePosition;
+use plain::Text;
+use text_core::Position;
+
+/// What a lens counts.
+#[derive(Clone, Copy, Debug, PartialEq, Eq)]
+pub enum LensKind {
+    Impls,
+    References,
+}
+
+/// What a lens that is to be resolved says of itself.
+#[derive(Debug, Drop)]
+pub struct LensResolve {
+    /// The version of the document that the lens was made for.
+    pub version: i32,
+    pub kind: LensKind,
+    pub url: Text,
+    pub position: Position,
+}
+
+/// A lens in its file.
+#[derive(Clone, Copy, Debug, PartialEq, Eq)]
+pub struct Annotation {
+    pub start: u32,
+    pub end: u32,
+    pub kind: LensKind,
+    pub pos: FilePosition,
+}
