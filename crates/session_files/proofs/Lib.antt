@@ -1,0 +1,4 @@
+pub mod EntryLemmas
+pub mod News
+pub mod NumberLemmas
+pub mod Steps
