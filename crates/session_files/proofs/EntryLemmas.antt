@@ -61,8 +61,7 @@ other_entry bytes found = cond-false _ _ _ (ap (λ b. b && nat_le (length bytes)
 
 -- ---- documents
 
-pub document_entry : (document bytes : List ℕ) (entry : TextEntry) → IsUtf8 document → length document < 2 ^ 32 → document ≡ bytes → entry ≡ normalized_entry document → Some entry ≡ entry_of (Some bytes)
-document_entry document bytes entry utf8 within same is =
-    ap Some is ∙ sym (entry_is document (is_utf8-from_IsUtf8 document utf8) (omega arith)) ∙ ap (λ t. entry_of (Some t)) same
+pub document_entry : (document : List ℕ) (entry : TextEntry) → IsUtf8 document → length document < 2 ^ 32 → entry ≡ normalized_entry document → Some entry ≡ entry_of (Some document)
+document_entry document entry utf8 within is = ap Some is ∙ sym (entry_is document (is_utf8-from_IsUtf8 document utf8) (omega arith))
 
 pub ruleset bytes_entries = (long_entry, text_within, text_entry, other_entry)

@@ -77,12 +77,16 @@ number_row (Some row) file is = let e = number_by row.file row.kept file.0 is in
 one_number : (u : Files) → IsNumbered u → (p q : List ℕ) (file : FileId) → number_at u p ≡ Some file → number_at u q ≡ Some file → q ≡ p
 one_number u numbered p q file here there = same_Some _ _ (sym (numbered.path_of q file there) ∙ numbered.path_of p file here)
 
-free_by : (ids : Ids) (t u : Files) (path : List ℕ) → AreNumbersOf ids t → IsNumbered u → Moved t path u → (e : Option (FileId × FileExcluded)) → file_id_of u path ≡ e → IsFree path (file_of e) ids
-free_by ids t u path numbers numbered moved None is = tt
-free_by ids t u path numbers numbered moved (Some e) is other has =
+free_of : (ids : Ids) (t u : Files) (path : List ℕ) → AreNumbersOf ids t → IsNumbered u → Moved t path u → (e : FileId × FileExcluded) → file_id_of u path ≡ Some e
+    → (other : List ℕ) → number_of (map.get ids other) ≡ Some e.0.0 → other ≡ path
+free_of ids t u path numbers numbered moved e is other has =
     let here : number_at u path ≡ Some e.0 = number_row (map.get u.rows path) e.0 (ap number_of is) in
     let there : number_at u other ≡ Some e.0 = moved.kept other e.0 (number_row (map.get t.rows other) e.0 (ap number_of (sym (numbers other)) ∙ has)) in
     one_number u numbered path other e.0 here there
+
+free_by : (ids : Ids) (t u : Files) (path : List ℕ) → AreNumbersOf ids t → IsNumbered u → Moved t path u → (e : Option (FileId × FileExcluded)) → file_id_of u path ≡ e → IsFree path (file_of e) ids
+free_by ids t u path numbers numbered moved None is = tt
+free_by ids t u path numbers numbered moved (Some e) is = free_of ids t u path numbers numbered moved e is
 
 -- the number that the path has now is no other path's
 pub free_after : (ids : Ids) (t u : Files) (path : List ℕ) → AreNumbersOf ids t → IsNumbered u → Moved t path u → IsFree path (file_of (file_id_of u path)) ids
@@ -99,8 +103,11 @@ free_mark ids t u path numbers before after is = free_after ids t u path numbers
 pub none_numbers : (first : ℕ) → AreNumbersOf map.empty (new_files first)
 none_numbers first path = map.get-empty path_cmp path ∙ sym (ap id_in (map.get-empty path_cmp path))
 
+pub none_at : (first : ℕ) (ids : Ids) (u : Files) → u ≡ new_files first → ids ≡ map.empty → AreNumbersOf ids u
+none_at first ids u table empty path = ap (λ (m : Ids). map.get m path) empty ∙ none_numbers first path ∙ ap (λ v. file_id_of v path) (sym table)
+
 pub none_are : (ids : Ids) (u : Files) → u ≡ new_files 0 → ids ≡ map.empty → AreNumbersOf ids u
-none_are ids u table empty path = ap (λ (m : Ids). map.get m path) empty ∙ none_numbers 0 path ∙ ap (λ v. file_id_of v path) (sym table)
+none_are = none_at 0
 
 pub set_numbers : (ids now : Ids) (t u v : Files) (path : List ℕ) (contents : Option (List ℕ)) (changed : Bool) → AreNumbersOf ids t → IsNumbered t → set_in t path contents ≡ Ok (u, changed) → v ≡ u
     → now ≡ set_in_map ids path (file_id_of u path) → AreNumbersOf now v

@@ -1,5 +1,5 @@
 // What a world keeps of a file's contents.
-ghost use Rattle.std.specs.Prelude.{◌≡◌, ◌<◌, ◌^◌, length, Some, IfOk};
+ghost use Rattle.std.specs.Prelude.{◌≡◌, ◌<◌, ◌^◌, length, Some, IfOk, OnOk};
 ghost use Rattle.session_files.specs.Texts.{normalized_entry, entry_of};
 
 use analysis_host::{SharedText, TextEntry};
@@ -20,13 +20,11 @@ fn entry_of_text(alloc: Global, text: ArcText) -> Result<TextEntry, AllocError>
     })
 }
 
-/// The same of a document's text, whose index is shared too.
+// The same of a document's text, whose index is shared too.
 #[tactic(auto, using(crate::proofs::EntryLemmas::unix_stays))]
-pub(crate) fn entry_of_document(
-    alloc: Global,
-    document: &SharedText,
-) -> Result<TextEntry, AllocError>
-    ensures { IfOk result (λ entry. entry ≡ normalized_entry document.now) }
+fn normalize_document(alloc: Global, document: &SharedText) -> Result<TextEntry, AllocError>
+    ensures entry { IfOk result (λ entry. entry ≡ normalized_entry document.now) }
+    ensures within { OnOk result (length document.now < 2 ^ 32) }
 {
     let (text, endings) = LineEndings::normalize_shared(alloc, document.share_text()?)?;
     let text = match endings {
@@ -36,7 +34,19 @@ pub(crate) fn entry_of_document(
     Ok(TextEntry { text, endings })
 }
 
-/// The same of bytes, where they are a text.
+/// What a world keeps of a document's text.
+#[tactic(auto, using(crate::proofs::EntryLemmas::document_entry))]
+pub(crate) fn entry_of_document(
+    alloc: Global,
+    document: &SharedText,
+) -> Result<TextEntry, AllocError>
+    ensures { IfOk result (λ entry. Some entry ≡ entry_of (Some document.now)) }
+{
+    let _is_utf8 = document.as_str();
+    normalize_document(alloc, document)
+}
+
+/// What a world keeps of bytes.
 #[tactic(auto, using(crate::proofs::EntryLemmas::bytes_entries))]
 pub(crate) fn entry_of_bytes(
     alloc: Global,

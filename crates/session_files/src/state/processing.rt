@@ -1,5 +1,5 @@
 // What has changed goes into the world.
-ghost use Rattle.std.specs.Prelude.{◌≡◌, map as each, Some, IfOk};
+ghost use Rattle.std.specs.Prelude.{◌≡◌, map as each, Some, IfOk, IfSome};
 ghost use Rattle.docs_vfs.specs.Files.{changes};
 ghost use Rattle.turn_parts.specs.Meets.{Meets};
 ghost use Rattle.session_files.specs.Folds.{world_put, taken_up, after_processing, after_turn, are_some, changes_world};
@@ -10,23 +10,36 @@ ghost use Rattle.analysis_host.specs.HostData.{changed};
 
 use crate::entries::{entry_of_bytes, entry_of_document};
 use crate::state::SessionFiles;
-use analysis_host::{Change, FileChange, TextEntry, WorldFault};
+use analysis_host::{Change, FileChange, SharedText, TextEntry, WorldFault};
 use docs_vfs::{ChangedFile, SharedBytes, VfsPath};
 use plain::Items;
 use std::alloc::AllocError;
 use turn_parts::{Counter, TurnError, TurnOut};
 
 impl SessionFiles {
+    // The document of a path, where its text is these bytes.
+    fn document_with(&self, path: &VfsPath, bytes: &SharedBytes) -> Option<&SharedText>
+        ensures { IfSome result (λ document. document.now ≡ bytes.now) }
+    {
+        let document = self.texts.get(path)?;
+        if document.as_str().as_bytes() == bytes.as_slice() {
+            Some(document)
+        } else {
+            None
+        }
+    }
+
     // What the world is to keep of a path with these contents. Where they are the text of a document, that is shared.
-    #[tactic(auto, using(crate::proofs::EntryLemmas::document_entry))]
-    fn entry_at(&self, path: &VfsPath, bytes: &SharedBytes) -> Result<Option<TextEntry>, AllocError>
+    fn entry_at(
+        &self,
+        path: &VfsPath,
+        bytes: &SharedBytes,
+    ) -> Result<Option<TextEntry>, AllocError>
         ensures { IfOk result (λ entry. entry ≡ entry_of (Some bytes.now)) }
     {
-        match self.texts.get(path) {
-            Some(document) if document.as_str().as_bytes() == bytes.as_slice() => {
-                Ok(Some(entry_of_document(self.alloc, document)?))
-            }
-            _ => entry_of_bytes(self.alloc, bytes),
+        match self.document_with(path, bytes) {
+            Some(document) => Ok(Some(entry_of_document(self.alloc, document)?)),
+            None => entry_of_bytes(self.alloc, bytes),
         }
     }
 
