@@ -4,7 +4,9 @@
 
 mod edits;
 mod entries;
+mod laws;
 mod numbers;
 mod state;
 
+pub use laws::{files_stay_sound, worlds_change_at_the_end_of_a_turn};
 pub use state::SessionFiles;

@@ -30,11 +30,7 @@ impl SessionFiles {
     }
 
     // What the world is to keep of a path with these contents. Where they are the text of a document, that is shared.
-    fn entry_at(
-        &self,
-        path: &VfsPath,
-        bytes: &SharedBytes,
-    ) -> Result<Option<TextEntry>, AllocError>
+    fn entry_at(&self, path: &VfsPath, bytes: &SharedBytes) -> Result<Option<TextEntry>, AllocError>
         ensures { IfOk result (λ entry. entry ≡ entry_of (Some bytes.now)) }
     {
         match self.document_with(path, bytes) {
