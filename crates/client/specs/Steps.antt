@@ -1,6 +1,5 @@
 -- What is done with a request of the session's own, with an answer to one, and with folders that the client adds and removes.
-use Rattle.std.specs.Prelude.{ℕ, ◌==◌, pos, Bool, List, ◌++◌, map, filter, codes, if◌then◌else◌, Option, None, Some, Result, Ok, Err, is_err}
-use Rattle.serde_json.specs.Data.{Data, null}
+use Rattle.std.specs.Prelude.{ℕ, ◌==◌, pos, Bool, List, ◌++◌, map, filter, if◌then◌else◌, Option, None, Some, Result, Ok, Err, is_err}
 use Rattle.docs_vfs.specs.FileUrls.{path_of}
 use Rattle.lsp_frame.specs.declared.message.RequestId.TheVariants.{Number}
 use Rattle.lsp_frame.specs.declared.message.Message.{Message}
@@ -13,6 +12,9 @@ use Rattle.session_port.specs.declared.command.LogCode.TheVariants.{UnknownRespo
 use Rattle.turn_parts.specs.Working.{Working, written, logged}
 use Rattle.turn_parts.specs.declared.fault.Counter.{Counter}
 use Rattle.turn_parts.specs.declared.fault.Counter.TheVariants.{Outgoing as OutgoingNumbers}
+use Rattle.notify.specs.Writing.{outgo_body}
+use Rattle.notify.specs.declared.outgo.Outgo.{Outgo}
+use Rattle.notify.specs.declared.outgo.Outgo.TheVariants.{OpenLogs as OpenLogsMessage}
 use Rattle.outgoing.specs.Outgoing.{number_limit}
 use Rattle.client.specs.Answers.{fault_in, chooses}
 use Rattle.client.specs.Client.{Client}
@@ -23,21 +25,21 @@ use Rattle.client.specs.declared.handler.ReqHandler.TheVariants.{Ignore, Setting
 
 -- ---- requests of the session's own
 
--- a request with this number
-abbrev pub request_at : ℕ → List ℕ → Data → Message
-request_at number method params = RequestMessage (record { id = Number (pos number); method = method; params = params })
+-- a message as a request with this number
+abbrev pub request_at : ℕ → Outgo → Message
+request_at number message = RequestMessage (record { id = Number (pos number); method = (outgo_body message).0; params = (outgo_body message).1 })
+
+-- a message as a notification
+abbrev pub notification_of : Outgo → Message
+notification_of message = NotificationMessage (record { method = (outgo_body message).0; params = (outgo_body message).1 })
 
 -- a request is written with the next number, and waits, unless all numbers were given
-unfoldable pub asked_for : List ℕ → Data → ReqHandler → Working Client → Result (Working Client) Counter
-asked_for method params handler w =
+unfoldable pub asked_for : Outgo → ReqHandler → Working Client → Result (Working Client) Counter
+asked_for message handler w =
     if w.state.asked.given == number_limit then Err OutgoingNumbers
-    else Ok (written (request_at w.state.asked.given method params) (record w { state = after_asking handler w.state }))
+    else Ok (written (request_at w.state.asked.given message) (record w { state = after_asking handler w.state }))
 
 -- ---- answers
-
--- the client is to open the logs
-abbrev pub open_logs : Message
-open_logs = NotificationMessage (record { method = codes "experimental/openServerLogs"; params = null })
 
 abbrev pub logged_if : {S : Type 0} → LogCode → Option (List ℕ) → Working S → Working S
 logged_if code None w = w
@@ -48,7 +50,7 @@ unfoldable pub followed : Option ReqHandler → Response → Working Client → 
 followed None response w = logged UnknownResponse (id_text response.id) w
 followed (Some Ignore) response w = w
 followed (Some Settings) response w = logged_if SettingsError (fault_in response) w
-followed (Some OpenLogs) response w = if chooses response then written open_logs w else w
+followed (Some OpenLogs) response w = if chooses response then written (notification_of OpenLogsMessage) w else w
 
 unfoldable pub answered : Response → Working Client → Working Client
 answered response w = record (followed (follows response.id w.state.asked) response w) { state = after_answer response w.state }

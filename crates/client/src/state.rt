@@ -1,22 +1,24 @@
 // What is agreed with the client, and the requests of the session's own.
 ghost use Rattle.std.specs.Prelude.{◌≡◌, ◌≢◌, ◌≤◌, ◌⊎◌, pos, IfOk, IfErr, OnOk};
 ghost use Rattle.std.specs.Arc.{arc_value};
-ghost use Rattle.lsp_frame.specs.Written.{IsWritable};
+ghost use Rattle.notify.specs.Writing.{HoldsPlain};
 ghost use Rattle.outgoing.specs.Outgoing.{number_limit};
 ghost use Rattle.turn_parts.specs.Meets.{Meets};
 ghost use Rattle.turn_parts.specs.declared.fault.TurnError.TheVariants.{Exhausted, NoMemory as OutOfMemory};
 ghost use Rattle.turn_parts.specs.declared.fault.Counter.TheVariants.{Outgoing as OutgoingNumbers};
 ghost use Rattle.client.specs.Client.{new_client, new_client_at};
 ghost use Rattle.client.specs.Folds.{after_asking};
-ghost use Rattle.client.specs.Steps.{asked_for};
+ghost use Rattle.client.specs.Steps.{asked_for, notification_of};
+ghost use Rattle.turn_parts.specs.Working.{written};
 
 mod answering;
 mod folders;
 
 use crate::handler::ReqHandler;
-use lsp_frame::{Message, Request, RequestId};
+use lsp_frame::{Message, Notification, Request, RequestId};
+use notify::{Outgo, outgo_body};
 use outgoing::{Outgoing, OutgoingFault};
-use plain::{Json, Text};
+use plain::NoMemory;
 use ra_config::Config;
 use std::alloc::{AllocError, Global};
 use std::marker::Model;
@@ -90,14 +92,14 @@ impl Client {
     #[tactic(auto, unfolding(crate::specs::Steps::asked_for, turn_parts::specs::Working::written))]
     pub fn ask(
         &mut self,
-        method: Text,
-        params: Json,
+        message: Outgo,
         then: ReqHandler,
         out: &mut TurnOut,
     ) -> Result<(), TurnError>
-        requires { IsWritable params }
-        ensures { Meets result (asked_for method params then (record { state = self.old; out = out.old })) self.new out.new }
+        requires { HoldsPlain message }
+        ensures { Meets result (asked_for message then (record { state = self.old; out = out.old })) self.new out.new }
     {
+        let (method, params) = outgo_body(self.alloc, message)?;
         let number = self.register(then)?;
         out.write(Message::Request(Request {
             id: RequestId::Number(number),
@@ -105,5 +107,15 @@ impl Client {
             params,
         }))?;
         Ok(())
+    }
+
+    /// Sends a notification.
+    #[tactic(auto, unfolding(turn_parts::specs::Working::written))]
+    pub fn tell(&self, message: Outgo, out: &mut TurnOut) -> Result<(), NoMemory>
+        requires { HoldsPlain message }
+        ensures { OnOk result (written (notification_of message) (record { state = self.now; out = out.old }) ≡ record { state = self.now; out = out.new }) }
+    {
+        let (method, params) = outgo_body(self.alloc, message)?;
+        out.write(Message::Notification(Notification { method, params }))
     }
 }

@@ -18,9 +18,12 @@ pub record Desk : Type 0 where
   -- `shutdown` was requested
   pub shutdown : Bool
 
--- the desk before any turn
+-- the desk before any turn, where so many turns were counted and so many jobs handed over
+abbrev pub new_desk_at : ℕ → ℕ → Desk
+new_desk_at turns handed = record { turns = turns; pending = none_pending; jobs = map.empty; handed = handed; shutdown = false }
+
 abbrev pub new_desk : Desk
-new_desk = record { turns = 0; pending = none_pending; jobs = map.empty; handed = 0; shutdown = false }
+new_desk = new_desk_at 0 0
 
 -- the request that a job is for, where it still waits
 abbrev pub waiting_for : Job → Desk → Option RequestId

@@ -4,7 +4,7 @@ ghost use Rattle.session_port.specs.Record.{after_order};
 ghost use Rattle.turn_parts.specs.Meets.{Meets, Gives};
 ghost use Rattle.turn_parts.specs.Working.{next_number, replied, ordered, logged};
 ghost use Rattle.turn_parts.specs.declared.fault.TurnError.TheVariants.{Exhausted};
-ghost use Rattle.desk.specs.Desk.{new_desk};
+ghost use Rattle.desk.specs.Desk.{new_desk, new_desk_at};
 ghost use Rattle.desk.specs.Steps.{counted, kept, responded};
 ghost use Rattle.lsp_frame.specs.Pending.{IsAbove};
 ghost use Rattle.lsp_frame.specs.Written.{AreWritable};
@@ -81,16 +81,23 @@ fn put_jobs(jobs: &mut ByNumber<Job>, commands: &[Command]) -> Result<(), AllocE
 
 impl Desk {
     /// The desk before any turn.
-    #[tactic(auto, using(lsp_frame::proofs::Above::none_above))]
     pub fn new(alloc: Global) -> Self
         ensures { result ≡ new_desk }
     {
+        Desk::new_at(alloc, 0, 0)
+    }
+
+    /// The same, where so many turns were counted and so many jobs handed over.
+    #[tactic(auto, using(lsp_frame::proofs::Above::none_above))]
+    pub fn new_at(alloc: Global, turns: u64, handed: u64) -> Self
+        ensures { result ≡ new_desk_at turns handed }
+    {
         Desk {
             alloc,
-            turns: 0,
+            turns,
             pending: Incoming::new(alloc),
             jobs: ByNumber::new(alloc),
-            handed: 0,
+            handed,
             shutdown: false,
         }
     }

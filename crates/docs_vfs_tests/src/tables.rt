@@ -2,7 +2,7 @@ use crate::calls::{cut, path_at};
 use docs_vfs::{
     ChangeKind, ChangedFile, FileExcluded, FileId, FileTable, SharedBytes, TableFault, VfsPath,
 };
-use plain::Bytes;
+use plain::{ArcText, Bytes, Text};
 use std::alloc::Global;
 use std::test::Fail;
 
@@ -191,5 +191,47 @@ fn tables(rt: HostRuntime) -> Result<(), Fail> {
     assert_eq!(rt; failure(alloc, last, LAST_NUMBER)?, "");
     let full = FileTable::new_at(alloc, 4_294_967_295);
     assert_eq!(rt; failure(alloc, full, NO_NUMBER)?, "");
+    Ok(())
+}
+
+/// Whether contents that are the bytes of a text are its bytes, and whether they are the text, also in a table.
+fn shares_text(alloc: Global, text: &str) -> Result<bool, Fail> {
+    let shared = ArcText::new(alloc, Text::from_str(alloc, text)?)?;
+    let mut table = FileTable::new(alloc);
+    let path = path_at(alloc, "/x")?;
+    let set = table.set_shared(path.clone()?, Some(SharedBytes::of_text(shared)))?;
+    let again = table.set_contents(
+        path.clone()?,
+        Some(Bytes::from_slice(alloc, text.as_bytes())?),
+    )?;
+    let Some(bytes) = table.contents(&path) else {
+        return Ok(false);
+    };
+    Ok(set && !again && bytes.as_slice() == text.as_bytes() && is_text(alloc, bytes, text)?)
+}
+
+fn is_text(alloc: Global, bytes: &SharedBytes, text: &str) -> Result<bool, Fail> {
+    Ok(match bytes.to_text(alloc)? {
+        Some(found) => found.as_str() == text,
+        None => false,
+    })
+}
+
+/// Whether these bytes are this text, or none where it is `-`.
+fn reads(alloc: Global, bytes: &[u8], text: &str) -> Result<bool, Fail> {
+    let bytes = SharedBytes::new(alloc, Bytes::from_slice(alloc, bytes)?)?;
+    Ok(match bytes.to_text(alloc)? {
+        Some(found) => found.as_str() == text,
+        None => text == "-",
+    })
+}
+
+#[test]
+fn contents_are_texts(rt: HostRuntime) -> Result<(), Fail> {
+    for text in ["", "a", "é\r\n"] {
+        assert!(rt; shares_text(rt.alloc(), text)?, "{text:?}");
+    }
+    assert!(rt; reads(rt.alloc(), b"ab", "ab")?);
+    assert!(rt; reads(rt.alloc(), &[0xff], "-")?);
     Ok(())
 }

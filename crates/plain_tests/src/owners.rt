@@ -1,6 +1,6 @@
 // Texts, bytes and lists.
 use crate::calls::{bit, count, cut, number, text};
-use plain::{Bytes, Items, Text};
+use plain::{ArcText, Bytes, Items, Text};
 use std::alloc::Global;
 
 /// A text that grew.
@@ -35,6 +35,20 @@ fn grows(alloc: Global) -> Option<bool> {
 fn a_text_grows(rt: HostRuntime) {
     assert!(rt; grows(rt.alloc()) == Some(true));
     assert!(rt; Text::new(rt.alloc()).is_empty());
+}
+
+/// Whether a shared text is what it was made of, and so the text that is taken out where nothing else shares it and where a clone does.
+fn is_shared(alloc: Global) -> Option<bool> {
+    let one = ArcText::new(alloc, text(alloc, "frère")?).ok()?;
+    let other = one.clone().ok()?;
+    let agrees = one.as_str() == "frère" && one.len() == 6 && !one.is_empty();
+    let copied = one.into_text().ok()?;
+    Some(agrees && copied.is("frère") && other.into_text().ok()?.is("frère"))
+}
+
+#[test]
+fn a_text_is_shared(rt: HostRuntime) {
+    assert!(rt; is_shared(rt.alloc()) == Some(true));
 }
 
 /// Pairs of texts in their order: a text that another begins with comes first, and `é` comes after `b`.

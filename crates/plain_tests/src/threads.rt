@@ -1,5 +1,7 @@
 // What may go to another thread, and what threads may share.
-use plain::{Buffered, ByNumber, ByText, Bytes, Items, Json, Members, Plain, SharedJson, Text};
+use plain::{
+    ArcText, Buffered, ByNumber, ByText, Bytes, Items, Json, Members, Plain, SharedJson, Text,
+};
 use std::alloc::Global;
 
 /// Lets go of a value that may go to another thread.
@@ -14,6 +16,10 @@ fn shares<T: Sync + Drop>(x: T) {
 
 fn shared(alloc: Global) -> Option<SharedJson> {
     SharedJson::new(alloc, Json::null()).ok()
+}
+
+fn shared_text(alloc: Global) -> Option<ArcText> {
+    ArcText::new(alloc, Text::new(alloc)).ok()
 }
 
 #[test]
@@ -32,6 +38,7 @@ fn values_cross_threads(rt: HostRuntime) {
     sends(Plain::new(Json::null()));
     sends(Members::new(rt.alloc()));
     sends(shared(rt.alloc()));
+    sends(shared_text(rt.alloc()));
 }
 
 #[test]
@@ -40,4 +47,5 @@ fn values_are_shared_by_threads(rt: HostRuntime) {
     shares::<Json>(Json::null());
     shares(Members::new(rt.alloc()));
     shares(shared(rt.alloc()));
+    shares(shared_text(rt.alloc()));
 }

@@ -155,6 +155,10 @@ fn take_event<H: Host<A>, S: Sink, A: Analysis>(
             let input = Input::Next(Event::Task(batch));
             run_turn(alloc, input, state, host, sink, analysis)
         }
+        HostEvent::Vfs(messages) => {
+            let input = Input::Next(Event::Vfs(messages));
+            run_turn(alloc, input, state, host, sink, analysis)
+        }
         HostEvent::Bytes(bytes) => {
             if bytes.len() == 0 {
                 let batch = Items::new(alloc);

@@ -26,6 +26,7 @@ use Rattle.session_laws.proofs.Asking.{asks-on, asks-events, no-event, given-app
 use Rattle.session_laws.proofs.Exhausting.{step-needs}
 use Rattle.session_laws.proofs.Held.{numbered-sound, turn-once, sound-beginning}
 use Rattle.session_laws.proofs.Handed.{turn-handed, handed-beginning, after_all-append}
+use Rattle.session_laws.proofs.Seeing.{places-see}
 use Rattle.session_laws.proofs.Rows.{steps-fit}
 use Rattle.session_laws.proofs.Stretches.{runs-append, read-append, honest-append, bytes-append, telling-append, telling-none}
 
@@ -50,7 +51,7 @@ after-one config before turn = after_all-append before (turn ∷ []) (beginning 
 record Turned (meaning : Meaning) (config : ConfigData) (before : List Turn) (turn : Turn) (mid : State) : Type 0 where
   does : reaction_of turn ≡ row meaning turn.input (placed config before)
   next : Stands config (before ++ turn ∷ []) mid
-  revised : Revises (placed config before) (place_after turn (placed config before))
+  revised : Revises turn (placed config before)
 
 turned : (meaning : Meaning) (config : ConfigData) (s : State) (before : List Turn) (turn : Turn) (mid : State) → Stands config before s → Steps meaning s turn mid → Turned meaning config before turn mid
 turned meaning config s before turn mid stands steps =
@@ -59,7 +60,7 @@ turned meaning config s before turn mid stands steps =
     let does = subst (λ p. reaction_of turn ≡ row meaning turn.input p) stands.place fit.does in
     let numbered : AreNumbered here.desk.handed (spawned turn.commands) = subst (λ (p : Place). AreNumbered p.desk.handed (spawned turn.commands)) stands.place fit.numbered in
     let place : place_of mid ≡ place_after turn here = fit.place ∙ ap (place_after turn) stands.place in
-    let rises : here.revision ≤ (place_after turn here).revision = subst (λ (p : Place). p.revision ≤ (place_after turn here).revision) stands.place (subst (λ (p : Place). s.host.revision ≤ p.revision) place fit.later) in
+    let rises : here.revision ≤ (place_after turn here).revision = subst (λ (p : Place). p.revision ≤ (place_after turn here).revision) stands.place (subst (λ (p : Place). s.files.host.revision ≤ p.revision) place fit.later) in
     let sound : SoundAt (place_after turn here) = numbered-sound meaning turn here does numbered rises stands.sound in
     let handed : AreHandedOver config (before ++ turn ∷ []) (place_after turn here).desk.jobs = turn-handed meaning config before turn does stands.sound stands.handed in
     record {
@@ -71,7 +72,7 @@ turned meaning config s before turn mid stands steps =
         accounted = subst (λ (p : Place). AreAccountedFor p.desk.pending (answered_by (before ++ turn ∷ []) (beginning config)) p.desk.jobs) (sym (after-one config before turn))
             (turns-accounted meaning config before turn does stands.accounted);
       };
-      revised = subst (λ (p : Place). Revises here p) place (subst (λ (p : Place). Revises p (place_of mid)) stands.place fit.revised);
+      revised = subst (Revises turn) stands.place fit.revised;
     }
 
 all-answer : (meaning : Meaning) (config : ConfigData) (honest : Bool) (s : State) (before turns : List Turn) (last : State) → Stands config before s
@@ -85,6 +86,7 @@ all-answer meaning config honest s before (turn ∷ turns) last stands (mid, ste
         held = t.next.sound.held;
         handed_over = stands.handed;
         revised = t.revised;
+        sees = places-see config before;
         value = λ h. (fair h).0;
       },
       all-answer meaning config honest mid (before ++ turn ∷ []) turns last t.next runs (λ h. subst (λ (p : Place). AreHonest meaning p.desk.jobs turns) (sym (after-one config before turn)) (fair h).1),

@@ -1,24 +1,22 @@
 -- A turn that the machine can't take needs one more of a counter than there are.
-use Rattle.std.proofs.Common.{◌≡◌, ℕ, ◌+◌, ◌-◌, ◌^◌, ◌≤◌, List, [], ◌∷◌, ◌++◌, length, Bool, true, false, refl, sym, subst, arith, eqb-true, inl, inr}
-use Rattle.std.proofs.lemmas.Bool.{ltb-false}
+use Rattle.std.proofs.Common.{◌≡◌, ℕ, ◌+◌, ◌-◌, ◌^◌, ◌≤◌, List, [], ◌∷◌, ◌++◌, length, Bool, true, false, refl, sym, ap, ◌∙◌, subst, arith, eqb-true}
 use Rattle.std.proofs.lemmas.List.{length-append}
 use Rattle.std.proofs.lemmas.Result.{IfErr-at_err, IfOk-at_ok}
-use Rattle.std.specs.Prelude.{◌⊎◌, ◌==◌, Result, Ok, Err, IfErr, ℤ, Some, if◌then◌else◌, ltb}
-use Rattle.serde_json.specs.Data.{Data}
+use Rattle.std.specs.Prelude.{◌==◌, Result, Ok, Err, IfErr, if◌then◌else◌}
 use Rattle.docs_vfs.specs.FileUrls.{path_of}
 use Rattle.docs_vfs.specs.declared.file_url.UrlFault.{UrlFault}
+use Rattle.lsp_frame.specs.declared.message.Notification.{Notification}
 use Rattle.lsp_frame.specs.declared.message.Request.{Request}
 use Rattle.lsp_frame.specs.declared.message.Message.TheVariants.{Request as RequestMessage, Notification as NotificationMessage, Response as ResponseMessage}
 use Rattle.analysis_host.specs.HostData.{HostData}
-use Rattle.analysis_host.specs.SnapshotData.{text_at}
-use Rattle.analysis_host.specs.declared.host.WorldFault.TheVariants.{Exhausted}
 use Rattle.session_port.specs.Jobs.{after_message}
-use Rattle.session_port.specs.declared.command.LogCode.{LogCode}
-use Rattle.session_port.specs.declared.command.LogCode.TheVariants.{DuplicateOpen, UnexpectedChange, SkippedChange}
 use Rattle.session_port.specs.declared.event.TaskMsg.{TaskMsg}
-use Rattle.turn_parts.specs.Working.{Working, and_then, logged, ordered, within, written}
+use Rattle.turn_parts.specs.Working.{Working, and_then, within, written}
+use Rattle.turn_parts.specs.Written.{nothing_done}
 use Rattle.turn_parts.specs.declared.fault.Counter.{Counter}
-use Rattle.turn_parts.specs.declared.fault.Counter.TheVariants.{Turns, Outgoing, Revisions}
+use Rattle.turn_parts.specs.declared.fault.Counter.TheVariants.{Turns, Outgoing}
+use Rattle.notify.specs.declared.outgo.Outgo.{Outgo}
+use Rattle.notify.specs.declared.outgo.Outgo.TheVariants.{Configuration}
 use Rattle.outgoing.specs.Outgoing.{number_limit}
 use Rattle.client.specs.Client.{Client}
 use Rattle.client.specs.Folds.{after_asking}
@@ -35,22 +33,26 @@ use Rattle.desk.specs.Steps.{cancelled, requested, counted as counted_at_desk, t
 use Rattle.desk_laws.proofs.Refusing.{TooMany, counted-errs, err-and_then, err-weaker, message-errs, request-errs}
 use Rattle.desk_laws.proofs.Results.{IfErr-within}
 use Rattle.desk_laws.proofs.Settling.{message-turns, request-turns}
-use Rattle.session_model.specs.Changing.{text_after, has_skipped}
-use Rattle.session_model.specs.Headline.{NeedsMore, row, batch_row, place_past, scene_at}
-use Rattle.session_model.specs.Machine.{Turning, asked_for_settings, at_client, at_desk, batched, changed_at, client_in, closed, closing_part, counted, desk_in, edited, edited_by, event_part, happened, is_open, kept, later_parts, noticed, open_noted, opened_at, received, skip_noted, state_in, step, taken, taken_in, text_set, told, turned, turning, version_set, with_client, with_desk, with_state, world_by, world_changed}
-use Rattle.session_model.specs.Entries.{entry_of, holds_text}
+use Rattle.session_files.specs.Folds.{after_messages, after_opening}
+use Rattle.session_files.specs.SessionFiles.{SessionFiles}
+use Rattle.session_files.specs.Steps.{changed, closed as closed_document, loaded, opened, processed}
+use Rattle.session_model.specs.Headline.{NeedsMore, files_told, row, batch_row, place_past, scene_at}
+use Rattle.session_model.specs.Machine.{Turning, asked_for_settings, at_client, at_desk, at_files, batched, changed_at, client_in, closed, closed_at, closing_part, counted, desk_in, event_part}
+use Rattle.session_model.specs.Machine.{files_in, files_part, happened, kept, later_parts, noticed, opened_at, received, state_in, step, taken, taken_in, told, turned, turning, with_client}
+use Rattle.session_model.specs.Machine.{with_desk, with_files, with_state}
+use Rattle.session_model.specs.State.{State, columns_in, excludes_in, scene_of}
 use Rattle.session_model.specs.Hearing.{heard_of}
 use Rattle.session_model.specs.Run.{begun}
-use Rattle.session_model.specs.State.{State, columns_of, scene_of}
 use Rattle.session_model.specs.declared.facts.Facts.{Facts}
 use Rattle.session_model.specs.declared.input.Event.{Event}
-use Rattle.session_model.specs.declared.input.Event.TheVariants.{Lsp, Task}
+use Rattle.session_model.specs.declared.input.Event.TheVariants.{Lsp, Task, Vfs}
 use Rattle.session_model.specs.declared.input.Input.{Input}
 use Rattle.session_model.specs.declared.input.Input.TheVariants.{Start, Next}
 use Rattle.session_model.specs.declared.heard.Heard.{Heard}
 use Rattle.session_model.specs.declared.heard.Heard.TheVariants.{Told, Malformed, Unhandled, Silent}
 use Rattle.session_laws.specs.Invariant.{place_of}
-use Rattle.session_laws.proofs.Rows.{DoesAtDesk, at, counted-is, counted_turn, place_at, settled-place, taken-settles}
+use Rattle.session_laws.proofs.Filing.{AtLast, IsFull, change_of, changed-step-errs, loaded-errs-by, opened-errs, processed-errs}
+use Rattle.session_laws.proofs.Rows.{DoesAtDesk, MidTurn, at, counted-is, counted_turn, event-fits, notification_input, place_at, session_in, settled-place, taken-settles}
 
 -- ---- jobs
 
@@ -95,104 +97,85 @@ read-errs meaning s r =
 
 -- ---- notifications
 
--- the revision is the last one
-abbrev AtLast : ℕ → Counter → Type 0
-AtLast revision counter = (counter ≡ Revisions) × (2 ^ 64 - 1 ≤ revision)
+-- a file needs a number where all were given
+files-errs : (meaning : Meaning) (s : State) (input : Input) (work : Working SessionFiles → Result (Working SessionFiles) Counter) (r : Result SessionFiles Counter) → files_told s.client.settings input s.files ≡ r
+    → IfErr (work (record { state = s.files; out = nothing_done })) (λ c. IsFull c × (r ≡ Err c)) → IfErr (at_files work (counted_turn s)) (Needs meaning s input)
+files-errs meaning s input work r told errs =
+    IfErr-within files_in with_files work (counted_turn s) (Needs meaning s input)
+    (err-weaker _ (λ c. IsFull c × (r ≡ Err c)) (Needs meaning s input) errs
+    (λ c h. subst (Needs meaning s input) (sym h.0) (told ∙ h.1 ∙ ap Err h.0)))
 
-room-errs : (host : HostData) (w : Working State) (b : Bool) → ltb w.state.host.revision (2 ^ 64 - 1) ≡ b → IfErr (world_by (if b then Ok host else Err Exhausted) w) (AtLast w.state.host.revision)
-unfolding world_by
-room-errs host w true h = tt
-room-errs host w false h = (refl, ltb-false _ _ h)
+open-path-errs : (meaning : Meaning) (s : State) (n : Notification) (document : DidOpen) (o : Result (List ℕ) UrlFault) → heard_of n ≡ Told (notices.DidOpen document) → path_of document.uri ≡ o
+    → IfErr (opened_at o document (counted_turn s)) (Needs meaning s (notification_input n))
+unfolding opened_at
+open-path-errs meaning s n document (Err fault) heard is = tt
+open-path-errs meaning s n document (Ok path) heard is =
+    let excludes = excludes_in s.client.settings in
+    files-errs meaning s (notification_input n) (opened excludes path document.version document.text) (after_opening excludes path document.version document.text s.files)
+    (rw (heard, is) refl) (opened-errs excludes path document.version document.text (record { state = s.files; out = nothing_done }))
 
-text-cases : (path text : List ℕ) (w : Working State) (b : Bool) → IfErr (if b then Ok w else world_changed ((record { path = path; entry = Some (entry_of text) }) ∷ []) w) (AtLast w.state.host.revision)
-unfolding world_changed
-text-cases path text w true = tt
-text-cases path text w false = room-errs _ w (ltb w.state.host.revision (2 ^ 64 - 1)) refl
-
-text-errs : (path text : List ℕ) (w : Working State) → IfErr (text_set path text w) (AtLast w.state.host.revision)
-unfolding text_set
-text-errs path text w = text-cases path text w (holds_text (text_at w.state.host.world path) text)
-
--- the same where a line is logged first, or not
-noted-errs : (code : LogCode) (path : List ℕ) (version : ℤ) (text : List ℕ) (w : Working State) (b : Bool)
-    → IfErr (text_set path text (version_set path version (if b then logged code path w else w))) (AtLast w.state.host.revision)
-unfolding version_set logged ordered
-noted-errs code path version text w true = text-errs path text (version_set path version (logged code path w))
-noted-errs code path version text w false = text-errs path text (version_set path version w)
-
-open-path-errs : (o : Result (List ℕ) UrlFault) (document : DidOpen) (w : Working State) → IfErr (opened_at o document w) (AtLast w.state.host.revision)
-unfolding opened_at open_noted
-open-path-errs (Err fault) document w = tt
-open-path-errs (Ok path) document w = noted-errs DuplicateOpen path document.version document.text w (is_open path w)
-
-is_open-errs : (path : List ℕ) (change : DidChange) (w : Working State) (b : Bool) → IfErr (if b then edited path change w else Ok (logged UnexpectedChange path w)) (AtLast w.state.host.revision)
-unfolding edited edited_by skip_noted
-is_open-errs path change w true =
-    let held = text_at w.state.host.world path in
-    let columns = columns_of w.state in
-    noted-errs SkippedChange path change.version (text_after columns change.changes held) w (has_skipped columns change.changes held)
-is_open-errs path change w false = tt
-
-change-path-errs : (o : Result (List ℕ) UrlFault) (change : DidChange) (w : Working State) → IfErr (changed_at o change w) (AtLast w.state.host.revision)
+change-path-errs : (meaning : Meaning) (s : State) (n : Notification) (change : DidChange) (o : Result (List ℕ) UrlFault) → heard_of n ≡ Told (notices.DidChange change) → path_of change.uri ≡ o
+    → IfErr (changed_at o change (counted_turn s)) (Needs meaning s (notification_input n))
 unfolding changed_at
-change-path-errs (Err fault) change w = tt
-change-path-errs (Ok path) change w = is_open-errs path change w (is_open path w)
+change-path-errs meaning s n change (Err fault) heard is = tt
+change-path-errs meaning s n change (Ok path) heard is =
+    let columns = columns_in s.client.settings in
+    files-errs meaning s (notification_input n) (changed columns path change.version change.changes) (change_of columns path change.version change.changes s.files)
+    (rw (heard, is) refl) (changed-step-errs columns path change.version change.changes (record { state = s.files; out = nothing_done }))
 
--- the revision is the last one, or all numbers of requests were given
-abbrev AreUsed : State → Counter → Type 0
-AreUsed s counter = AtLast s.host.revision counter ⊎ ((counter ≡ Outgoing) × (number_limit ≤ s.client.asked.given))
+close-path-errs : (meaning : Meaning) (s : State) (n : Notification) (uri : List ℕ) (o : Result (List ℕ) UrlFault) → IfErr (closed_at o uri (counted_turn s)) (Needs meaning s (notification_input n))
+unfolding closed_at
+close-path-errs meaning s n uri (Err fault) = tt
+close-path-errs meaning s n uri (Ok path) = IfErr-within files_in with_files (λ f. Ok (closed_document path f)) (counted_turn s) _ tt
 
-asked-errs : (method : List ℕ) (params : Data) (handler : ReqHandler) (c : Working Client) (b : Bool) → (c.state.asked.given == number_limit) ≡ b
-    → IfErr (if b then Err Outgoing else Ok (written (request_at c.state.asked.given method params) (record c { state = after_asking handler c.state })))
+asked-errs : (message : Outgo) (handler : ReqHandler) (c : Working Client) (b : Bool) → (c.state.asked.given == number_limit) ≡ b
+    → IfErr (if b then Err Outgoing else Ok (written (request_at c.state.asked.given message) (record c { state = after_asking handler c.state })))
     (λ counter. (counter ≡ Outgoing) × (number_limit ≤ c.state.asked.given))
-asked-errs method params handler c true all = (refl, subst (λ n. number_limit ≤ n) (sym (eqb-true _ _ all)) (omega arith))
-asked-errs method params handler c false some = tt
+asked-errs message handler c true all = (refl, subst (λ n. number_limit ≤ n) (sym (eqb-true _ _ all)) (omega arith))
+asked-errs message handler c false some = tt
 
-asking-errs : (w : Working State) → IfErr (at_client asked_for_settings w) (AreUsed w.state)
+asking-errs : (meaning : Meaning) (s : State) (input : Input) → IfErr (at_client asked_for_settings (counted_turn s)) (Needs meaning s input)
 unfolding asked_for
-asking-errs w =
-    IfErr-within client_in with_client asked_for_settings w (AreUsed w.state)
-    (err-weaker _ (λ counter. (counter ≡ Outgoing) × (number_limit ≤ w.state.client.asked.given)) (AreUsed w.state)
-    (asked-errs _ _ Settings (record { state = w.state.client; out = w.out }) (w.state.client.asked.given == number_limit) refl) (λ c h. inr h))
+asking-errs meaning s input =
+    IfErr-within client_in with_client asked_for_settings (counted_turn s) (Needs meaning s input)
+    (err-weaker _ (λ counter. (counter ≡ Outgoing) × (number_limit ≤ s.client.asked.given)) (Needs meaning s input)
+    (asked-errs Configuration Settings (record { state = s.client; out = nothing_done }) (s.client.asked.given == number_limit) refl) (λ c h. subst (Needs meaning s input) (sym h.0) h.1))
 
-told-errs : (notice : Notice) (w : Working State) → IfErr (told notice w) (AreUsed w.state)
+told-errs : (meaning : Meaning) (s : State) (n : Notification) (notice : Notice) → heard_of n ≡ Told notice → IfErr (told notice (counted_turn s)) (Needs meaning s (notification_input n))
 unfolding told
-told-errs (notices.CancelRequest id) w = IfErr-within desk_in with_desk (λ d. Ok (cancelled id d)) w (AreUsed w.state) tt
-told-errs (notices.CancelProgress token) w = tt
-told-errs (notices.DidOpen document) w = err-weaker _ (AtLast w.state.host.revision) _ (open-path-errs (path_of document.uri) document w) (λ c h. inl h)
-told-errs (notices.DidChange change) w = err-weaker _ (AtLast w.state.host.revision) _ (change-path-errs (path_of change.uri) change w) (λ c h. inl h)
-told-errs (notices.DidClose uri) w = tt
-told-errs (notices.DidSave uri) w = tt
-told-errs notices.DidChangeConfiguration w = asking-errs w
-told-errs (notices.DidChangeWorkspaceFolders added removed) w = IfErr-within client_in with_client (λ c. Ok (folders_changed added removed c)) w (AreUsed w.state) tt
-told-errs (notices.DidChangeWatchedFiles changes) w = tt
-told-errs notices.CancelFlycheck w = tt
-told-errs notices.ClearFlycheck w = tt
-told-errs (notices.RunFlycheck uri) w = tt
-told-errs notices.AbortRunTest w = tt
+told-errs meaning s n (notices.CancelRequest id) heard = IfErr-within desk_in with_desk (λ d. Ok (cancelled id d)) (counted_turn s) _ tt
+told-errs meaning s n (notices.CancelProgress token) heard = tt
+told-errs meaning s n (notices.DidOpen document) heard = open-path-errs meaning s n document (path_of document.uri) heard refl
+told-errs meaning s n (notices.DidChange change) heard = change-path-errs meaning s n change (path_of change.uri) heard refl
+told-errs meaning s n (notices.DidClose uri) heard = close-path-errs meaning s n uri (path_of uri)
+told-errs meaning s n (notices.DidSave uri) heard = tt
+told-errs meaning s n notices.DidChangeConfiguration heard = asking-errs meaning s (notification_input n)
+told-errs meaning s n (notices.DidChangeWorkspaceFolders added removed) heard = IfErr-within client_in with_client (λ c. Ok (folders_changed added removed c)) (counted_turn s) _ tt
+told-errs meaning s n (notices.DidChangeWatchedFiles changes) heard = tt
+told-errs meaning s n notices.CancelFlycheck heard = tt
+told-errs meaning s n notices.ClearFlycheck heard = tt
+told-errs meaning s n (notices.RunFlycheck uri) heard = tt
+told-errs meaning s n notices.AbortRunTest heard = tt
 
-heard-errs : (heard : Heard) (method : List ℕ) (w : Working State) → IfErr (noticed heard method w) (AreUsed w.state)
+heard-errs : (meaning : Meaning) (s : State) (n : Notification) (heard : Heard) → heard_of n ≡ heard → IfErr (noticed heard n.method (counted_turn s)) (Needs meaning s (notification_input n))
 unfolding noticed
-heard-errs (Told notice) method w = told-errs notice w
-heard-errs Malformed method w = tt
-heard-errs Unhandled method w = tt
-heard-errs Silent method w = tt
-
-needs-used : (meaning : Meaning) (s : State) (input : Input) (counter : Counter) → AreUsed s counter → Needs meaning s input counter
-needs-used meaning s input counter (inl h) = subst (Needs meaning s input) (sym h.0) h.1
-needs-used meaning s input counter (inr h) = subst (Needs meaning s input) (sym h.0) h.1
+heard-errs meaning s n (Told notice) is = told-errs meaning s n notice is
+heard-errs meaning s n Malformed is = tt
+heard-errs meaning s n Unhandled is = tt
+heard-errs meaning s n Silent is = tt
 
 -- ---- whole turns
 
 event-errs : (meaning : Meaning) (s : State) (event : Event) → IfErr (happened meaning event (counted_turn s)) (Needs meaning s (Next event))
 unfolding happened received
 event-errs meaning s (Lsp (RequestMessage r)) = read-errs meaning s r
-event-errs meaning s (Lsp (NotificationMessage n)) =
-    err-weaker _ (AreUsed s) _ (heard-errs (heard_of n) n.method (counted_turn s)) (λ c h. needs-used meaning s (Next (Lsp (NotificationMessage n))) c h)
+event-errs meaning s (Lsp (NotificationMessage n)) = heard-errs meaning s n (heard_of n) refl
 event-errs meaning s (Lsp (ResponseMessage r)) = IfErr-within client_in with_client (λ c. Ok (answered r c)) (counted_turn s) _ tt
 event-errs meaning s (Task batch) =
     let done = batch_row meaning batch (place_of s) in
     err-weaker _ (TooMany s.desk.handed done) _ (batch-errs meaning s.desk.turns batch (counted_turn s)) (λ c h. needs-jobs meaning s (Next (Task batch)) done c refl h)
+event-errs meaning s (Vfs messages) =
+    files-errs meaning s (Next (Vfs messages)) (loaded messages) (after_messages messages s.files) refl (loaded-errs-by messages (record { state = s.files; out = nothing_done }))
 
 turns-errs : (meaning : Meaning) (s : State) (event : Event) → IfErr (counted (begun s)) (Needs meaning s (Next event))
 unfolding counted
@@ -219,12 +202,23 @@ closing-errs : (t : Working Turning) (P : Counter → Type 0) → IfErr (closing
 unfolding closing_part
 closing-errs t P = IfErr-within state_in with_state (closed t.state.facts) t P (closed-errs t.state.facts _ P)
 
+-- the world is to change at the last revision
+files-part-errs : (meaning : Meaning) (s : State) (event : Event) (t : Working Turning) → MidTurn meaning s (Next event) t → IfErr (files_part t) (Needs meaning s (Next event))
+unfolding files_part
+files-part-errs meaning s event t m =
+    IfErr-within state_in with_state (at_files processed) t (Needs meaning s (Next event))
+    (IfErr-within files_in with_files processed (session_in t) (Needs meaning s (Next event))
+    (err-weaker _ (AtLast t.state.state.files.host.revision) (Needs meaning s (Next event)) (processed-errs _)
+    (λ c h. subst (Needs meaning s (Next event)) (sym h.0) (subst (λ (host : HostData). 2 ^ 64 - 1 ≤ host.revision) m.mid.host h.1))))
+
 step-errs : (meaning : Meaning) (s : State) (input : Input) → IfErr (step meaning input (begun s)) (Needs meaning s input)
 unfolding step
 step-errs meaning s Start = err-and_then (closing_part (turning (begun s))) turned (Needs meaning s Start) (closing-errs (turning (begun s)) (Needs meaning s Start)) (λ v is. tt)
 step-errs meaning s (Next event) =
     err-and_then (and_then (event_part meaning event (turning (begun s))) later_parts) turned (Needs meaning s (Next event))
-    (err-and_then (event_part meaning event (turning (begun s))) later_parts (Needs meaning s (Next event)) (event-part-errs meaning s event) (λ t is. closing-errs t (Needs meaning s (Next event))))
+    (err-and_then (event_part meaning event (turning (begun s))) later_parts (Needs meaning s (Next event)) (event-part-errs meaning s event)
+    (λ t is. err-and_then (files_part t) closing_part (Needs meaning s (Next event))
+    (files-part-errs meaning s event t (IfOk-at_ok (MidTurn meaning s (Next event)) is (event-fits meaning s event))) (λ u made. closing-errs u (Needs meaning s (Next event)))))
     (λ v is. tt)
 
 -- where the machine can't take a turn, one more of the counter that it names is needed than there are

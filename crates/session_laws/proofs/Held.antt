@@ -25,7 +25,7 @@ use Rattle.session_model.specs.Headline.{Place, reaction_of, row, notice_row, ba
 use Rattle.session_model.specs.Inputs.{cancelled_by, request_in, turns_after}
 use Rattle.session_model.specs.Hearing.{heard_of, told_by}
 use Rattle.session_model.specs.Run.{Turn, after_input}
-use Rattle.session_model.specs.declared.input.Event.TheVariants.{Lsp, Task}
+use Rattle.session_model.specs.declared.input.Event.TheVariants.{Lsp, Task, Vfs}
 use Rattle.session_model.specs.declared.input.Input.{Input}
 use Rattle.session_model.specs.declared.input.Input.TheVariants.{Start, Next}
 use Rattle.session_laws.specs.Invariant.{SoundAt}
@@ -84,6 +84,7 @@ row-kept meaning Start place s = idle-kept _ _ place.desk place.revision (omega 
 row-kept meaning (Next (Lsp (RequestMessage r))) place s = request-kept meaning (scene_at place) r place.desk s
 row-kept meaning (Next (Lsp (NotificationMessage n))) place s = notice-kept n (cancelled_by (told_by (heard_of n))) place s
 row-kept meaning (Next (Lsp (ResponseMessage r))) place s = idle-kept _ _ place.desk place.revision (omega arith) s
+row-kept meaning (Next (Vfs messages)) place s = idle-kept _ _ place.desk place.revision (omega arith) s
 row-kept meaning (Next (Task batch)) place s = batch-kept meaning batch place s
 
 -- ---- jobs that are for no request, among those that are

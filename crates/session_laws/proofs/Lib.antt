@@ -7,6 +7,7 @@ pub mod Counted
 pub mod Courses
 pub mod Each
 pub mod Exhausting
+pub mod Filing
 pub mod Handed
 pub mod Held
 pub mod Joined
@@ -15,5 +16,6 @@ pub mod Once
 pub mod Rising
 pub mod Rows
 pub mod Same
+pub mod Seeing
 pub mod Telling
 pub mod Stretches

@@ -1,10 +1,7 @@
 -- The machine's turns are the rows of the reply table.
-use Rattle.std.proofs.Common.{◌≡◌, ◌≢◌, ℕ, ◌+◌, ◌-◌, ◌^◌, ◌≤◌, List, [], ◌∷◌, ◌++◌, length, Bool, true, false, refl, sym, ap, ◌∙◌, subst, arith, eqb-true, append-nil, inl, inr}
-use Rattle.std.proofs.lemmas.Bool.{true≢false}
+use Rattle.std.proofs.Common.{◌≡◌, ℕ, ◌+◌, ◌≤◌, List, [], ◌∷◌, ◌++◌, length, Bool, true, false, refl, sym, ap, ◌∙◌, subst, arith, eqb-true, append-nil}
 use Rattle.plain.specs.Texts.{text_cmp}
-use Rattle.docs_vfs.specs.Paths.{path_cmp}
-use Rattle.std.specs.Prelude.{◌⊎◌, Result, Ok, Err, IfOk, ℤ, None, Some, ◌==◌, is_some, if◌then◌else◌, ltb}
-use Rattle.std.specs.Cmp.Lexicographic.{bytes_decides}
+use Rattle.std.specs.Prelude.{Result, Ok, Err, IfOk, None, Some, ◌==◌, is_some, if◌then◌else◌}
 use Rattle.std.specs.FinMap as map
 use Rattle.std.specs.List.{filter_map}
 use Rattle.std.proofs.lemmas.Result.{IfOk-at_ok}
@@ -17,23 +14,23 @@ use Rattle.lsp_frame.specs.declared.message.Notification.{Notification}
 use Rattle.lsp_frame.specs.declared.message.Message.{Message}
 use Rattle.lsp_frame.specs.declared.message.Message.TheVariants.{Request as RequestMessage, Notification as NotificationMessage, Response as ResponseMessage}
 use Rattle.analysis_host.specs.HostData.{HostData}
-use Rattle.analysis_host.specs.SnapshotData.{text_at, text_of}
-use Rattle.analysis_host.specs.declared.text_entry.TextEntry.{TextEntry}
-use Rattle.analysis_host.specs.declared.host.WorldFault.TheVariants.{Exhausted}
 use Rattle.session_port.specs.Events.{revision_of}
 use Rattle.session_port.specs.Jobs.{Jobs, after_message, after_batch}
 use Rattle.session_port.specs.Record.{spawned, with_jobs}
 use Rattle.session_port.specs.declared.command.Command.TheVariants.{Invalidate, Revise}
 use Rattle.session_port.specs.declared.command.LogCode.{LogCode}
-use Rattle.session_port.specs.declared.command.LogCode.TheVariants.{BadPath, DuplicateOpen, OrphanClose, UnexpectedChange, SkippedChange}
+use Rattle.session_port.specs.declared.command.LogCode.TheVariants.{BadPath}
+use Rattle.session_port.specs.declared.event.LoaderMsg.{LoaderMsg}
 use Rattle.session_port.specs.declared.event.TaskMsg.{TaskMsg}
 use Rattle.session_port.specs.declared.job.Job.{Job}
 use Rattle.turn_parts.specs.Working.{Working, and_then, logged, ordered, within}
 use Rattle.turn_parts.specs.Written.{Written, nothing_done}
+use Rattle.turn_parts.specs.declared.fault.Counter.{Counter}
 use Rattle.client.specs.Client.{Client}
 use Rattle.client.specs.Folds.{after_answer, after_asking, after_folders}
 use Rattle.client.specs.Steps.{answered, folders_changed}
 use Rattle.client.specs.declared.handler.ReqHandler.TheVariants.{Settings}
+use Rattle.notify.specs.declared.outgo.Outgo.TheVariants.{Configuration}
 use Rattle.notify.specs.declared.notice.DidChange.{DidChange}
 use Rattle.notify.specs.declared.notice.DidOpen.{DidOpen}
 use Rattle.notify.specs.declared.notice.Notice.{Notice}
@@ -46,21 +43,23 @@ use Rattle.desk.specs.Steps.{cancelled, requested, counted as counted_at_desk, k
 use Rattle.desk_laws.specs.Numbers.{AreNumbered}
 use Rattle.desk_laws.specs.Settled.{Settled}
 use Rattle.desk_laws.proofs.Appends.{spawned-append, revisions-append}
-use Rattle.desk_laws.proofs.Keyed.{get-insert_same}
-use Rattle.desk_laws.proofs.Orders.{by_path_total, by_path_same}
 use Rattle.desk_laws.proofs.Results.{IfOk-and_then, IfOk-next, IfOk-weaker, IfOk-within}
 use Rattle.desk_laws.proofs.Settling.{cancel-settles, message-settles, message-turns, nothing-settles, request-settles, request-turns, settled-on}
-use Rattle.session_model.specs.Changing.{text_after, has_skipped}
-use Rattle.session_model.specs.Headline.{Documents, Place, Revises, reaction_of, row, notice_row, batch_row, desk_after, place_after, place_past, client_after, documents_after, last_of, revision_after, scene_at}
+use Rattle.session_files.specs.Folds.{after_closing, after_messages, after_opening}
+use Rattle.session_files.specs.SessionFiles.{SessionFiles}
+use Rattle.session_files.specs.Steps.{changed, closed as closed_document, loaded, opened, processed}
+use Rattle.session_model.specs.Headline.{Place, reaction_of, row, notice_row, batch_row, desk_after, place_after, place_past, client_after, last_of, revision_after, scene_at}
+use Rattle.session_model.specs.Headline.{are_due, changes_world, files_after, files_made, files_told, files_turned, or_before}
 use Rattle.session_model.specs.Inputs.{cancelled_by, request_in, turns_after}
-use Rattle.session_model.specs.Machine.{Turning, asked_for_settings, at_client, at_desk, batched, changed_at, client_in, close_noted, closed, closed_at, closing_part, counted, desk_in, edited, edited_by, event_part, facts_of, file_changed, files_changed, happened, kept, later_parts, noticed, open_noted, opened_at, received, revised, skip_noted, state_in, step, taken, taken_in, text_set, told, turned, turning, version_removed, version_set, with_client, with_desk, with_state, world_by, world_changed}
-use Rattle.session_model.specs.Entries.{entry_of, holds_text, text_put}
+use Rattle.session_model.specs.Machine.{Turning, asked_for_settings, at_client, at_desk, at_files, batched, changed_at, client_in, closed, closed_at, closing_part, counted, desk_in, event_part}
+use Rattle.session_model.specs.Machine.{facts_of, file_changed, files_changed, files_in, files_part, happened, kept, later_parts, noticed, opened_at, received, revised, state_in, step, taken, taken_in, told}
+use Rattle.session_model.specs.Machine.{turned, turning, with_client, with_desk, with_files, with_state}
 use Rattle.session_model.specs.Hearing.{heard_of, told_by}
 use Rattle.session_model.specs.Run.{Turn, Steps, begun, after_input, out_after}
-use Rattle.session_model.specs.State.{State, columns_of, scene_of}
+use Rattle.session_model.specs.State.{State, columns_in, excludes_in, scene_of}
 use Rattle.session_model.specs.declared.facts.Facts.{Facts}
 use Rattle.session_model.specs.declared.input.Event.{Event}
-use Rattle.session_model.specs.declared.input.Event.TheVariants.{Lsp, Task}
+use Rattle.session_model.specs.declared.input.Event.TheVariants.{Lsp, Task, Vfs}
 use Rattle.session_model.specs.declared.input.Input.{Input}
 use Rattle.session_model.specs.declared.input.Input.TheVariants.{Start, Next}
 use Rattle.session_model.specs.declared.heard.Heard.{Heard}
@@ -68,6 +67,8 @@ use Rattle.session_model.specs.declared.heard.Heard.TheVariants.{Told, Malformed
 use Rattle.session_laws.specs.Beside.{Serves, Tells, turn_of}
 use Rattle.session_laws.specs.Invariant.{StepFits, place_of}
 use Rattle.session_laws.proofs.Beside.{beside-fits, beside-revised}
+use Rattle.session_laws.proofs.Filing.{DoesForFiles, KeepsHost, Processes, change-host, change_of, changed-does, closed-does, loaded-does, messages-host, opened-does, opening-host}
+use Rattle.session_laws.proofs.Filing.{processed-does, revision_by, revision_now, turn-revises}
 use Rattle.session_laws.proofs.Numbered.{row-numbered}
 use Rattle.session_laws.proofs.Same.{none-handed, same_desk, same_place}
 use Rattle.session_laws.proofs.Telling.{DoesForClient, answered-does, asked-does, beside-told, folders-do, tells-invalidated, tells-logged, tells-none, tells-on}
@@ -83,20 +84,21 @@ counted_turn s = record { state = record s { desk = record s.desk { turns = s.de
 abbrev pub desk_now : State → Working Desk → Working State
 desk_now s v = record { state = record s { desk = v.state }; out = v.out }
 
--- the world stays, or its texts are others and its revision is one more
-abbrev pub Raises : HostData → HostData → Type 0
-Raises old new = (new ≡ old) ⊎ ((new.world.texts ≢ old.world.texts) × (new.revision ≡ old.revision + 1))
-
--- a turn before it closes
+-- a turn behind its event
 pub record Mid (meaning : Meaning) (s : State) (input : Input) (u : Working State) : Type 0 where
   pub serves : Serves meaning s input (after_input input s.desk.jobs) u
   pub client : u.state.client ≡ client_after input s.client
-  pub texts : u.state.host.world.texts ≡ (documents_after (columns_of s) input (place_of s).documents).texts
-  pub versions : u.state.versions ≡ (documents_after (columns_of s) input (place_of s).documents).versions
-  pub loading : u.state.loading ≡ s.loading
+  pub files : files_told s.client.settings input s.files ≡ Ok u.state.files
   pub unrevised : filter_map revision_of u.out.commands ≡ []
-  pub later : s.host.revision ≤ u.state.host.revision
-  pub raised : Raises s.host u.state.host
+  pub host : KeepsHost s.files u.state.files
+
+-- a turn before it closes
+pub record Made (meaning : Meaning) (s : State) (input : Input) (u : Working State) : Type 0 where
+  pub serves : Serves meaning s input (after_input input s.desk.jobs) u
+  pub client : u.state.client ≡ client_after input s.client
+  pub files : files_made s.client.settings input s.files ≡ Ok u.state.files
+  pub unrevised : filter_map revision_of u.out.commands ≡ []
+  pub revised : u.state.files.host.revision ≡ revision_now (changes_world s.client.settings input s.files) s.files
 
 -- ---- the desk
 
@@ -115,10 +117,10 @@ serves-desk meaning s input done v number is a = record {
     asked : asked_among (spawned v.out.commands) ≡ done.jobs
     asked = ap asked_among a.spawns ∙ a.asked
 
--- the input says nothing of the client's settings and requests, and nothing of documents
+-- the input says nothing of the client's settings and requests, and nothing of files
 pub record IsStill (s : State) (input : Input) : Type 0 where
   pub client : client_after input s.client ≡ s.client
-  pub documents : documents_after (columns_of s) input (place_of s).documents ≡ (place_of s).documents
+  pub files : files_told s.client.settings input s.files ≡ Ok s.files
 
 -- a turn that changed nothing but the desk
 desk-mid : (meaning : Meaning) (s : State) (input : Input) (done : Reaction) (v : Working Desk) → turns_after input s.desk.turns ≡ s.desk.turns + 1 → row meaning input (place_of s) ≡ done
@@ -126,28 +128,21 @@ desk-mid : (meaning : Meaning) (s : State) (input : Input) (done : Reaction) (v 
 desk-mid meaning s input done v number is still a = record {
   serves = serves-desk meaning s input done v number is a;
   client = sym still.client;
-  texts = sym (ap (λ (d : Documents). d.texts) still.documents);
-  versions = sym (ap (λ (d : Documents). d.versions) still.documents);
-  loading = refl;
+  files = still.files;
   unrevised = a.unrevised;
-  later = omega arith;
-  raised = inl refl;
+  host = refl;
 }
 
 -- a turn that leaves the desk as it is, once it is counted
 told-mid : (meaning : Meaning) (s : State) (input : Input) (u : Working State) → Serves meaning s input (after_input input s.desk.jobs) (counted_turn s) → Tells nothing_done u.out
-    → u.state.desk ≡ (counted_turn s).state.desk → u.state.client ≡ client_after input s.client
-    → u.state.host.world.texts ≡ (documents_after (columns_of s) input (place_of s).documents).texts → u.state.versions ≡ (documents_after (columns_of s) input (place_of s).documents).versions
-    → u.state.loading ≡ s.loading → s.host.revision ≤ u.state.host.revision → Raises s.host u.state.host → Mid meaning s input u
-told-mid meaning s input u serves tells desk client texts versions loading later raised = record {
+    → u.state.desk ≡ (counted_turn s).state.desk → u.state.client ≡ client_after input s.client → files_told s.client.settings input s.files ≡ Ok u.state.files → KeepsHost s.files u.state.files
+    → Mid meaning s input u
+told-mid meaning s input u serves tells desk client files host = record {
   serves = beside-fits meaning s input (after_input input s.desk.jobs) (counted_turn s) u (beside-told (counted_turn s) u tells desk) serves;
   client = client;
-  texts = texts;
-  versions = versions;
-  loading = loading;
+  files = files;
   unrevised = ap (filter_map revision_of) tells.ordered ∙ tells.revises_none;
-  later = later;
-  raised = raised;
+  host = host;
 }
 
 -- a turn that leaves all as it is
@@ -155,9 +150,7 @@ still-mid : (meaning : Meaning) (s : State) (input : Input) (u : Working State) 
     → u.state ≡ (counted_turn s).state → Mid meaning s input u
 still-mid meaning s input u serves still tells same =
     told-mid meaning s input u serves tells (ap (λ (t : State). t.desk) same) (ap (λ (t : State). t.client) same ∙ sym still.client)
-    (ap (λ (t : State). t.host.world.texts) same ∙ sym (ap (λ (d : Documents). d.texts) still.documents))
-    (ap (λ (t : State). t.versions) same ∙ sym (ap (λ (d : Documents). d.versions) still.documents))
-    (ap (λ (t : State). t.loading) same) (subst (λ n. s.host.revision ≤ n) (sym (ap (λ (t : State). t.host.revision) same)) (omega arith)) (inl (ap (λ (t : State). t.host) same))
+    (still.files ∙ ap (λ (t : State). Ok t.files) (sym same)) (ap (λ (t : State). t.files.host) same)
 
 -- with a log line
 logged-mid : (meaning : Meaning) (s : State) (input : Input) (code : LogCode) (text : List ℕ) → Serves meaning s input (after_input input s.desk.jobs) (counted_turn s) → IsStill s input
@@ -175,11 +168,22 @@ client_now s v = record { state = with_client v.state (counted_turn s).state; ou
 
 -- a turn that changes nothing else
 client-mid : (meaning : Meaning) (s : State) (input : Input) (v : Working Client) (client : Client) → Serves meaning s input (after_input input s.desk.jobs) (counted_turn s)
-    → client ≡ client_after input s.client → documents_after (columns_of s) input (place_of s).documents ≡ (place_of s).documents → DoesForClient (client_turn s) v client
+    → client ≡ client_after input s.client → files_told s.client.settings input s.files ≡ Ok s.files → DoesForClient (client_turn s) v client
     → Mid meaning s input (client_now s v)
-client-mid meaning s input v client serves is same does =
-    told-mid meaning s input (client_now s v) serves does.tells refl (does.is ∙ is) (sym (ap (λ (d : Documents). d.texts) same)) (sym (ap (λ (d : Documents). d.versions) same))
-    refl (omega arith) (inl refl)
+client-mid meaning s input v client serves is same does = told-mid meaning s input (client_now s v) serves does.tells refl (does.is ∙ is) same refl
+
+-- the files, at the beginning of a turn
+abbrev files_turn : State → Working SessionFiles
+files_turn s = record { state = s.files; out = nothing_done }
+
+-- a turn that changes nothing but the files
+files-mid : (meaning : Meaning) (s : State) (input : Input) (work : Working SessionFiles → Result (Working SessionFiles) Counter) (r : Result SessionFiles Counter)
+    → Serves meaning s input (after_input input s.desk.jobs) (counted_turn s) → client_after input s.client ≡ s.client → files_told s.client.settings input s.files ≡ r → IfOk r (KeepsHost s.files)
+    → IfOk (work (files_turn s)) (λ v. DoesForFiles (files_turn s) v r) → IfOk (at_files work (counted_turn s)) (Mid meaning s input)
+files-mid meaning s input work r serves client told host does =
+    IfOk-within files_in with_files work (counted_turn s) (Mid meaning s input)
+    (IfOk-weaker _ (λ v. DoesForFiles (files_turn s) v r) _ does
+    (λ v d. told-mid meaning s input _ serves d.tells refl (sym client) (told ∙ d.is) (IfOk-at_ok (KeepsHost s.files) d.is host)))
 
 -- ---- requests
 
@@ -191,11 +195,11 @@ requested-mid meaning s r =
     IfOk-within desk_in with_desk (requested meaning (scene_of s) r) (counted_turn s) (Mid meaning s (request_input r))
     (IfOk-weaker _ (λ v. Settled (Some r) (counted_desk s.desk) v (request_row meaning (scene_of s) (counted_desk s.desk).state (s.desk.turns + 1) r) s.desk.jobs) (λ v. Mid meaning s (request_input r) (desk_now s v))
     (request-settles meaning (scene_of s) r (counted_desk s.desk))
-    (λ v a. desk-mid meaning s (request_input r) (request_row meaning (scene_of s) (counted_desk s.desk).state (s.desk.turns + 1) r) v refl (sym (request-turns meaning (scene_of s) s.desk (s.desk.turns + 1) (s.desk.turns + 1) r)) (record { client = refl; documents = refl }) a))
+    (λ v a. desk-mid meaning s (request_input r) (request_row meaning (scene_of s) (counted_desk s.desk).state (s.desk.turns + 1) r) v refl (sym (request-turns meaning (scene_of s) s.desk (s.desk.turns + 1) (s.desk.turns + 1) r)) (record { client = refl; files = refl }) a))
 
 -- ---- notifications
 
-abbrev notification_input : Notification → Input
+abbrev pub notification_input : Notification → Input
 notification_input n = Next (Lsp (NotificationMessage n))
 
 -- a notification that the desk does nothing for
@@ -203,130 +207,56 @@ silent-serves : (meaning : Meaning) (s : State) (n : Notification) → notice_ro
     → Serves meaning s (notification_input n) s.desk.jobs (counted_turn s)
 silent-serves meaning s n quiet = serves-desk meaning s (notification_input n) silent (counted_desk s.desk) refl quiet (nothing-settles (counted_desk s.desk))
 
--- the notification sets the version and the text of a path
-record Sets (s : State) (n : Notification) (path : List ℕ) (version : ℤ) (text : List ℕ) : Type 0 where
-  silent : notice_row (cancelled_by (told_by (heard_of n))) s.desk ≡ silent
-  client : client_after (notification_input n) s.client ≡ s.client
-  texts : (documents_after (columns_of s) (notification_input n) (place_of s).documents).texts ≡ text_put path text s.host.world.texts
-  versions : (documents_after (columns_of s) (notification_input n) (place_of s).documents).versions ≡ map.insert s.versions path version
-
-abbrev set_state : State → List ℕ → ℤ → State
-set_state s path version = record s { desk = record s.desk { turns = s.desk.turns + 1 }; versions = map.insert s.versions path version }
-
-abbrev setting_turn : State → List ℕ → ℤ → Written → Working State
-setting_turn s path version out = record { state = set_state s path version; out = out }
-
-abbrev set_turn : State → List ℕ → ℤ → Written → HostData → Working State
-set_turn s path version out host = record { state = record (set_state s path version) { host = host }; out = out }
-
-set-mid : (meaning : Meaning) (s : State) (n : Notification) (path : List ℕ) (version : ℤ) (text : List ℕ) (out : Written) (host : HostData) → Tells nothing_done out → Sets s n path version text
-    → host.world.texts ≡ text_put path text s.host.world.texts → s.host.revision ≤ host.revision → Raises s.host host → Mid meaning s (notification_input n) (set_turn s path version out host)
-set-mid meaning s n path version text out host quiet sets texts later raised =
-    told-mid meaning s (notification_input n) (set_turn s path version out host) (silent-serves meaning s n sets.silent) quiet refl (sym sets.client) (texts ∙ sym sets.texts) (sym sets.versions)
-    refl later raised
-
--- a text that the world doesn't have changes it
-other-texts : (texts : map.FinMap path_cmp TextEntry) (path text : List ℕ) → holds_text (text_of (map.get texts path)) text ≡ false → map.insert texts path (entry_of text) ≢ texts
-other-texts texts path text other same =
-    let there : map.get texts path ≡ Some (entry_of text) = ap (λ (t : map.FinMap path_cmp TextEntry). map.get t path) (sym same) ∙ get-insert_same by_path_total by_path_same texts path (entry_of text) in
-    let held : holds_text (text_of (map.get texts path)) text ≡ true = ap (λ o. holds_text (text_of o) text) there ∙ (bytes_decides text text).1 refl in
-    true≢false (sym held ∙ other)
-
--- the world after the change
-abbrev later_host : State → List ℕ → List ℕ → HostData
-later_host s path text = record { world = record { texts = map.insert s.host.world.texts path (entry_of text) }; revision = s.host.revision + 1 }
-
-room-cases : (meaning : Meaning) (s : State) (n : Notification) (path : List ℕ) (version : ℤ) (text : List ℕ) (out : Written) (b : Bool) → Tells nothing_done out → Sets s n path version text → holds_text (text_at s.host.world path) text ≡ false
-    → IfOk (world_by (if b then Ok (later_host s path text) else Err Exhausted) (setting_turn s path version out)) (Mid meaning s (notification_input n))
-unfolding world_by
-room-cases meaning s n path version text out true quiet sets other =
-    set-mid meaning s n path version text out (later_host s path text) quiet sets (rw other refl) (omega arith) (inr (other-texts s.host.world.texts path text other, refl))
-room-cases meaning s n path version text out false quiet sets other = tt
-
-text-cases : (meaning : Meaning) (s : State) (n : Notification) (path : List ℕ) (version : ℤ) (text : List ℕ) (out : Written) (b : Bool) → Tells nothing_done out → Sets s n path version text
-    → holds_text (text_at s.host.world path) text ≡ b
-    → IfOk (if b then Ok (setting_turn s path version out) else world_changed ((record { path = path; entry = Some (entry_of text) }) ∷ []) (setting_turn s path version out)) (Mid meaning s (notification_input n))
-unfolding world_changed
-text-cases meaning s n path version text out true quiet sets held =
-    set-mid meaning s n path version text out s.host quiet sets (rw held refl) (omega arith) (inl refl)
-text-cases meaning s n path version text out false quiet sets held = room-cases meaning s n path version text out (ltb s.host.revision (2 ^ 64 - 1)) quiet sets held
-
-text-mid : (meaning : Meaning) (s : State) (n : Notification) (path : List ℕ) (version : ℤ) (text : List ℕ) (out : Written) → Tells nothing_done out → Sets s n path version text
-    → IfOk (text_set path text (version_set path version (record { state = (counted_turn s).state; out = out }))) (Mid meaning s (notification_input n))
-unfolding text_set version_set
-text-mid meaning s n path version text out quiet sets = text-cases meaning s n path version text out (holds_text (text_at s.host.world path) text) quiet sets refl
-
--- the same where a line is logged first, or not
-noted-cases : (meaning : Meaning) (s : State) (n : Notification) (code : LogCode) (path : List ℕ) (version : ℤ) (text : List ℕ) (b : Bool) → Sets s n path version text
-    → IfOk (text_set path text (version_set path version (if b then logged code path (counted_turn s) else counted_turn s))) (Mid meaning s (notification_input n))
-unfolding logged ordered
-noted-cases meaning s n code path version text true sets = text-mid meaning s n path version text _ (tells-logged code path (counted_turn s)) sets
-noted-cases meaning s n code path version text false sets = text-mid meaning s n path version text _ (tells-none nothing_done) sets
-
 opened-cases : (meaning : Meaning) (s : State) (n : Notification) (document : DidOpen) (o : Result (List ℕ) UrlFault) → heard_of n ≡ Told (notices.DidOpen document) → path_of document.uri ≡ o
     → IfOk (opened_at o document (counted_turn s)) (Mid meaning s (notification_input n))
-unfolding opened_at open_noted
+unfolding opened_at
 opened-cases meaning s n document (Err fault) heard is =
-    logged-mid meaning s (notification_input n) _ _ (silent-serves meaning s n (rw heard refl)) (record { client = rw heard refl; documents = rw (heard, is) refl })
+    logged-mid meaning s (notification_input n) _ _ (silent-serves meaning s n (rw heard refl)) (record { client = rw heard refl; files = rw (heard, is) refl })
 opened-cases meaning s n document (Ok path) heard is =
-    noted-cases meaning s n DuplicateOpen path document.version document.text (is_some (map.get s.versions path))
-    (record { silent = rw heard refl; client = rw heard refl; texts = rw (heard, is) refl; versions = rw (heard, is) refl })
-
-is_open-cases : (meaning : Meaning) (s : State) (n : Notification) (change : DidChange) (path : List ℕ) (b : Bool) → heard_of n ≡ Told (notices.DidChange change) → path_of change.uri ≡ Ok path → is_some (map.get s.versions path) ≡ b
-    → IfOk (if b then edited path change (counted_turn s) else Ok (logged UnexpectedChange path (counted_turn s))) (Mid meaning s (notification_input n))
-unfolding edited edited_by skip_noted
-is_open-cases meaning s n change path true heard is stays =
-    let held = text_at s.host.world path in
-    let columns = columns_of s in
-    noted-cases meaning s n SkippedChange path change.version (text_after columns change.changes held) (has_skipped columns change.changes held)
-    (record { silent = rw heard refl; client = rw heard refl; texts = rw (heard, is, stays) refl; versions = rw (heard, is, stays) refl })
-is_open-cases meaning s n change path false heard is shut =
-    logged-mid meaning s (notification_input n) _ _ (silent-serves meaning s n (rw heard refl)) (record { client = rw heard refl; documents = rw (heard, is, shut) refl })
+    let excludes = excludes_in s.client.settings in
+    files-mid meaning s (notification_input n) (opened excludes path document.version document.text) (after_opening excludes path document.version document.text s.files)
+    (silent-serves meaning s n (rw heard refl)) (rw heard refl) (rw (heard, is) refl) (opening-host excludes path document.version document.text s.files)
+    (opened-does excludes path document.version document.text (files_turn s))
 
 changed-cases : (meaning : Meaning) (s : State) (n : Notification) (change : DidChange) (o : Result (List ℕ) UrlFault) → heard_of n ≡ Told (notices.DidChange change) → path_of change.uri ≡ o
     → IfOk (changed_at o change (counted_turn s)) (Mid meaning s (notification_input n))
 unfolding changed_at
 changed-cases meaning s n change (Err fault) heard is =
-    logged-mid meaning s (notification_input n) _ _ (silent-serves meaning s n (rw heard refl)) (record { client = rw heard refl; documents = rw (heard, is) refl })
-changed-cases meaning s n change (Ok path) heard is = is_open-cases meaning s n change path (is_some (map.get s.versions path)) heard is refl
-
--- a document is closed
-abbrev close_turn : State → List ℕ → Written → Working State
-close_turn s path out = record { state = record (counted_turn s).state { versions = map.remove s.versions path }; out = out }
-
-close-mid : (meaning : Meaning) (s : State) (n : Notification) (uri path : List ℕ) (out : Written) → heard_of n ≡ Told (notices.DidClose uri) → path_of uri ≡ Ok path → Tells nothing_done out
-    → Mid meaning s (notification_input n) (close_turn s path out)
-close-mid meaning s n uri path out heard is tells =
-    told-mid meaning s (notification_input n) (close_turn s path out) (silent-serves meaning s n (rw heard refl)) tells refl (sym (rw heard refl)) (sym (rw (heard, is) refl)) (sym (rw (heard, is) refl))
-    refl (omega arith) (inl refl)
-
-closed-noted : (meaning : Meaning) (s : State) (n : Notification) (uri path : List ℕ) (b : Bool) → heard_of n ≡ Told (notices.DidClose uri) → path_of uri ≡ Ok path
-    → Mid meaning s (notification_input n) (ordered (Invalidate path) (version_removed path (if b then counted_turn s else logged OrphanClose path (counted_turn s))))
-unfolding version_removed ordered logged
-closed-noted meaning s n uri path true heard is = close-mid meaning s n uri path _ heard is (tells-invalidated path (close_turn s path nothing_done))
-closed-noted meaning s n uri path false heard is =
-    close-mid meaning s n uri path _ heard is
-    (tells-on _ _ _ (tells-logged OrphanClose path (counted_turn s)) (tells-invalidated path (close_turn s path (logged OrphanClose path (counted_turn s)).out)))
+    logged-mid meaning s (notification_input n) _ _ (silent-serves meaning s n (rw heard refl)) (record { client = rw heard refl; files = rw (heard, is) refl })
+changed-cases meaning s n change (Ok path) heard is =
+    let columns = columns_in s.client.settings in
+    files-mid meaning s (notification_input n) (changed columns path change.version change.changes) (change_of columns path change.version change.changes s.files)
+    (silent-serves meaning s n (rw heard refl)) (rw heard refl) (rw (heard, is) refl) (change-host columns path change.version change.changes s.files)
+    (changed-does columns path change.version change.changes (files_turn s))
 
 closed-cases : (meaning : Meaning) (s : State) (n : Notification) (uri : List ℕ) (o : Result (List ℕ) UrlFault) → heard_of n ≡ Told (notices.DidClose uri) → path_of uri ≡ o
-    → Mid meaning s (notification_input n) (closed_at o uri (counted_turn s))
-unfolding closed_at close_noted
+    → IfOk (closed_at o uri (counted_turn s)) (Mid meaning s (notification_input n))
+unfolding closed_at
 closed-cases meaning s n uri (Err fault) heard is =
-    logged-mid meaning s (notification_input n) _ _ (silent-serves meaning s n (rw heard refl)) (record { client = rw heard refl; documents = rw (heard, is) refl })
-closed-cases meaning s n uri (Ok path) heard is = closed-noted meaning s n uri path (is_some (map.get s.versions path)) heard is
+    logged-mid meaning s (notification_input n) _ _ (silent-serves meaning s n (rw heard refl)) (record { client = rw heard refl; files = rw (heard, is) refl })
+closed-cases meaning s n uri (Ok path) heard is =
+    files-mid meaning s (notification_input n) (λ f. Ok (closed_document path f)) (Ok (after_closing path s.files))
+    (silent-serves meaning s n (rw heard refl)) (rw heard refl) (rw (heard, is) refl) refl (closed-does path (files_turn s))
+
+-- the loader brings files
+loaded-mid : (meaning : Meaning) (s : State) (messages : List LoaderMsg) → IfOk (at_files (loaded messages) (counted_turn s)) (Mid meaning s (Next (Vfs messages)))
+loaded-mid meaning s messages =
+    let input : Input = Next (Vfs messages) in
+    files-mid meaning s input (loaded messages) (after_messages messages s.files) (serves-desk meaning s input silent (counted_desk s.desk) refl refl (nothing-settles (counted_desk s.desk)))
+    refl refl (messages-host messages s.files) (loaded-does messages (files_turn s))
 
 cancel-mid : (meaning : Meaning) (s : State) (n : Notification) (id : RequestId) → heard_of n ≡ Told (notices.CancelRequest id)
     → IfOk (at_desk (λ d. Ok (cancelled id d)) (counted_turn s)) (Mid meaning s (notification_input n))
 cancel-mid meaning s n id heard =
     IfOk-within desk_in with_desk (λ d. Ok (cancelled id d)) (counted_turn s) (Mid meaning s (notification_input n))
     (desk-mid meaning s (notification_input n) (cancel_row id s.desk) (cancelled id (counted_desk s.desk)) refl (rw heard refl)
-    (record { client = rw heard refl; documents = rw heard refl }) (cancel-settles id (counted_desk s.desk)))
+    (record { client = rw heard refl; files = rw heard refl }) (cancel-settles id (counted_desk s.desk)))
 
 -- the client is asked for its settings
 asking-mid : (meaning : Meaning) (s : State) (n : Notification) → heard_of n ≡ Told notices.DidChangeConfiguration → IfOk (at_client asked_for_settings (counted_turn s)) (Mid meaning s (notification_input n))
 asking-mid meaning s n heard =
     IfOk-within client_in with_client asked_for_settings (counted_turn s) (Mid meaning s (notification_input n))
-    (IfOk-weaker _ (λ v. DoesForClient (client_turn s) v (after_asking Settings s.client)) (λ v. Mid meaning s (notification_input n) (client_now s v)) (asked-does _ _ Settings (client_turn s))
+    (IfOk-weaker _ (λ v. DoesForClient (client_turn s) v (after_asking Settings s.client)) (λ v. Mid meaning s (notification_input n) (client_now s v)) (asked-does Configuration Settings (client_turn s))
     (λ v does. client-mid meaning s (notification_input n) v (after_asking Settings s.client) (silent-serves meaning s n (rw heard refl)) (sym (rw heard refl)) (rw heard refl) does))
 
 -- the folders of its workspaces change
@@ -374,10 +304,10 @@ files-same seen (url ∷ urls) w =
     same-if (is_some (map.get seen url)) w.state (files_changed seen urls w) (files_changed others urls done) (files-same seen urls w)
     (files-same others urls done ∙ file-same url (path_of url) w)
 
-files-mid : (meaning : Meaning) (s : State) (n : Notification) (changes : List (List ℕ)) → heard_of n ≡ Told (notices.DidChangeWatchedFiles changes)
+watched-mid : (meaning : Meaning) (s : State) (n : Notification) (changes : List (List ℕ)) → heard_of n ≡ Told (notices.DidChangeWatchedFiles changes)
     → Mid meaning s (notification_input n) (files_changed map.empty changes (counted_turn s))
-files-mid meaning s n changes heard =
-    still-mid meaning s (notification_input n) _ (silent-serves meaning s n (rw heard refl)) (record { client = rw heard refl; documents = rw heard refl })
+watched-mid meaning s n changes heard =
+    still-mid meaning s (notification_input n) _ (silent-serves meaning s n (rw heard refl)) (record { client = rw heard refl; files = rw heard refl })
     (files-tell map.empty changes (counted_turn s)) (files-same map.empty changes (counted_turn s))
 
 -- a notice that changes nothing
@@ -387,18 +317,18 @@ pass-mid meaning s n quiet still = still-mid meaning s (notification_input n) (c
 told-cases : (meaning : Meaning) (s : State) (n : Notification) (notice : Notice) → heard_of n ≡ Told notice → IfOk (told notice (counted_turn s)) (Mid meaning s (notification_input n))
 unfolding told
 told-cases meaning s n (notices.CancelRequest id) heard = cancel-mid meaning s n id heard
-told-cases meaning s n (notices.CancelProgress token) heard = pass-mid meaning s n (rw heard refl) (record { client = rw heard refl; documents = rw heard refl })
+told-cases meaning s n (notices.CancelProgress token) heard = pass-mid meaning s n (rw heard refl) (record { client = rw heard refl; files = rw heard refl })
 told-cases meaning s n (notices.DidOpen document) heard = opened-cases meaning s n document (path_of document.uri) heard refl
 told-cases meaning s n (notices.DidChange change) heard = changed-cases meaning s n change (path_of change.uri) heard refl
 told-cases meaning s n (notices.DidClose uri) heard = closed-cases meaning s n uri (path_of uri) heard refl
-told-cases meaning s n (notices.DidSave uri) heard = pass-mid meaning s n (rw heard refl) (record { client = rw heard refl; documents = rw heard refl })
+told-cases meaning s n (notices.DidSave uri) heard = pass-mid meaning s n (rw heard refl) (record { client = rw heard refl; files = rw heard refl })
 told-cases meaning s n notices.DidChangeConfiguration heard = asking-mid meaning s n heard
 told-cases meaning s n (notices.DidChangeWorkspaceFolders added removed) heard = folders-mid meaning s n added removed heard
-told-cases meaning s n (notices.DidChangeWatchedFiles changes) heard = files-mid meaning s n changes heard
-told-cases meaning s n notices.CancelFlycheck heard = pass-mid meaning s n (rw heard refl) (record { client = rw heard refl; documents = rw heard refl })
-told-cases meaning s n notices.ClearFlycheck heard = pass-mid meaning s n (rw heard refl) (record { client = rw heard refl; documents = rw heard refl })
-told-cases meaning s n (notices.RunFlycheck uri) heard = pass-mid meaning s n (rw heard refl) (record { client = rw heard refl; documents = rw heard refl })
-told-cases meaning s n notices.AbortRunTest heard = pass-mid meaning s n (rw heard refl) (record { client = rw heard refl; documents = rw heard refl })
+told-cases meaning s n (notices.DidChangeWatchedFiles changes) heard = watched-mid meaning s n changes heard
+told-cases meaning s n notices.CancelFlycheck heard = pass-mid meaning s n (rw heard refl) (record { client = rw heard refl; files = rw heard refl })
+told-cases meaning s n notices.ClearFlycheck heard = pass-mid meaning s n (rw heard refl) (record { client = rw heard refl; files = rw heard refl })
+told-cases meaning s n (notices.RunFlycheck uri) heard = pass-mid meaning s n (rw heard refl) (record { client = rw heard refl; files = rw heard refl })
+told-cases meaning s n notices.AbortRunTest heard = pass-mid meaning s n (rw heard refl) (record { client = rw heard refl; files = rw heard refl })
 
 heard-cases : (meaning : Meaning) (s : State) (n : Notification) (heard : Heard) → heard_of n ≡ heard → IfOk (noticed heard n.method (counted_turn s)) (Mid meaning s (notification_input n))
 unfolding noticed
@@ -435,8 +365,8 @@ taken-settles meaning turns message w =
 -- what a message leaves is the next one's place
 pub settled-place : (turns : ℕ) (message : TaskMsg) (w v : Working State) (done : Reaction) → DoesAtDesk w v done (after_message message w.state.desk.jobs) → place_at turns v.state ≡ place_past message done (place_at turns w.state)
 settled-place turns message w v done a = same_place _ _
-    (ap (λ (s : State). s.client) a.rest) (ap (λ (s : State). s.host.world.texts) a.rest) (ap (λ (s : State). s.versions) a.rest) (ap (λ (s : State). s.host.revision) a.rest)
-    (same_desk _ _ refl a.desk.pending a.desk.out a.desk.handed a.desk.shutdown) (ap (λ (s : State). s.loading) a.rest)
+    (ap (λ (s : State). s.client) a.rest) (ap (λ (s : State). s.files) a.rest) (ap (λ (s : State). s.files.host.revision) a.rest)
+    (same_desk _ _ refl a.desk.pending a.desk.out a.desk.handed a.desk.shutdown)
 
 does-on : (w v u : Working State) (a b : Reaction) (js ks : Jobs) → DoesAtDesk w v a js → DoesAtDesk v u b ks → DoesAtDesk w u (joined a b) ks
 does-on w v u a b js ks p q = record {
@@ -466,7 +396,7 @@ batch-mid meaning s batch =
     let done = batch_row meaning batch (place_of s) in
     IfOk-weaker _ (λ u. DoesAtDesk (counted_turn s) u done (after_batch batch s.desk.jobs)) (Mid meaning s (Next (Task batch)))
     (batch-settles meaning s.desk.turns batch (counted_turn s))
-    (λ u a. subst (Mid meaning s (Next (Task batch))) (is-now u a.rest) (desk-mid meaning s (Next (Task batch)) done (at u) refl refl (record { client = refl; documents = refl }) a.desk))
+    (λ u a. subst (Mid meaning s (Next (Task batch))) (is-now u a.rest) (desk-mid meaning s (Next (Task batch)) done (at u) refl refl (record { client = refl; files = refl }) a.desk))
   where
     is-now : (u : Working State) → u.state ≡ record s { desk = u.state.desk } → desk_now s (at u) ≡ u
     is-now u rest = λ i. record { state = sym rest i; out = u.out }
@@ -490,6 +420,7 @@ event-mid : (meaning : Meaning) (s : State) (event : Event) → IfOk (happened m
 unfolding happened
 event-mid meaning s (Lsp message) = message-mid meaning s message
 event-mid meaning s (Task batch) = batch-mid meaning s batch
+event-mid meaning s (Vfs messages) = loaded-mid meaning s messages
 
 pub counted-is : (s : State) → IfOk (counted (begun s)) (λ v. v ≡ counted_turn s)
 unfolding counted counted_at_desk
@@ -501,16 +432,13 @@ mid-fits meaning s event =
     IfOk-and_then (counted (begun s)) (happened meaning event) (λ v. v ≡ counted_turn s) (Mid meaning s (Next event)) (counted-is s)
     (λ v is. subst (λ w. IfOk (happened meaning event w) (Mid meaning s (Next event))) (sym is) (event-mid meaning s event))
 
-start-mid : (meaning : Meaning) (s : State) → Mid meaning s Start (begun s)
-start-mid meaning s = record {
+start-made : (meaning : Meaning) (s : State) → Made meaning s Start (begun s)
+start-made meaning s = record {
   serves = record { does = refl; numbered = tt; desk = none-handed s.desk };
   client = refl;
-  texts = refl;
-  versions = refl;
-  loading = refl;
+  files = refl;
   unrevised = refl;
-  later = omega arith;
-  raised = inl refl;
+  revised = refl;
 }
 
 -- a turn of the machine is a row, and what it leaves is the next place
@@ -518,8 +446,8 @@ pub record Fits (meaning : Meaning) (s : State) (input : Input) (v : Working Sta
   pub does : reaction_of (turn_of input v) ≡ row meaning input (place_of s)
   pub numbered : AreNumbered s.desk.handed (spawned v.out.commands)
   pub place : place_of v.state ≡ place_after (turn_of input v) (place_of s)
-  pub later : s.host.revision ≤ v.state.host.revision
-  pub raised : Raises s.host v.state.host
+  pub later : s.files.host.revision ≤ v.state.files.host.revision
+  pub revised : v.state.files.host.revision ≡ revision_now (changes_world s.client.settings input s.files) s.files
 
 -- the jobs that were handed over are out
 abbrev kept_turn : Working State → Working State
@@ -532,54 +460,95 @@ kept-serves meaning s input u p = record {
   desk = ap (λ (d : Desk). record d { jobs = with_jobs (spawned u.out.commands) d.jobs }) p.desk;
 }
 
-close-cases : (meaning : Meaning) (s : State) (input : Input) (u : Working State) (b : Bool) → (u.state.host.revision == s.host.revision) ≡ b → Mid meaning s input u
-    → Fits meaning s input (if b then kept_turn u else ordered (Revise u.state.host.revision) (kept_turn u))
+-- the files that a turn makes are those after it
+files-now : (s : State) (input : Input) (now : SessionFiles) → files_made s.client.settings input s.files ≡ Ok now → now ≡ files_after s.client.settings input s.files
+files-now s input now made = sym (ap (or_before s.files) made)
+
+-- a revision doesn't fall
+no-less : (due : Bool) (files : SessionFiles) (revision : ℕ) → revision ≡ revision_now due files → files.host.revision ≤ revision
+no-less true files revision is = omega (arith, is)
+no-less false files revision is = omega (arith, is)
+
+close-cases : (meaning : Meaning) (s : State) (input : Input) (u : Working State) (b : Bool) → (u.state.files.host.revision == s.files.host.revision) ≡ b → Made meaning s input u
+    → Fits meaning s input (if b then kept_turn u else ordered (Revise u.state.files.host.revision) (kept_turn u))
 unfolding ordered
-close-cases meaning s input u true h mid =
-    let serves = kept-serves meaning s input u mid.serves in
-    let same : u.state.host.revision ≡ revision_after u.out.commands s.host.revision = eqb-true _ _ h ∙ sym (ap (λ ns. last_of ns s.host.revision) mid.unrevised) in
+close-cases meaning s input u true h made =
+    let serves = kept-serves meaning s input u made.serves in
+    let same : u.state.files.host.revision ≡ revision_after u.out.commands s.files.host.revision = eqb-true _ _ h ∙ sym (ap (λ ns. last_of ns s.files.host.revision) made.unrevised) in
     record {
       does = serves.does;
       numbered = serves.numbered;
-      place = same_place _ _ mid.client mid.texts mid.versions same serves.desk mid.loading;
-      later = mid.later;
-      raised = mid.raised;
+      place = same_place _ _ made.client (files-now s input u.state.files made.files) same serves.desk;
+      later = no-less _ s.files _ made.revised;
+      revised = made.revised;
     }
-close-cases meaning s input u false h mid =
-    let v = ordered (Revise u.state.host.revision) (kept_turn u) in
-    let beside = beside-revised u.state.host.revision (kept_turn u) in
-    let serves : Serves meaning s input (out_after (turn_of input u) s.desk.jobs) v = beside-fits meaning s input _ (kept_turn u) v beside (kept-serves meaning s input u mid.serves) in
+close-cases meaning s input u false h made =
+    let revision = u.state.files.host.revision in
+    let v = ordered (Revise revision) (kept_turn u) in
+    let beside = beside-revised revision (kept_turn u) in
+    let serves : Serves meaning s input (out_after (turn_of input u) s.desk.jobs) v = beside-fits meaning s input _ (kept_turn u) v beside (kept-serves meaning s input u made.serves) in
     let spawns : spawned v.out.commands ≡ spawned u.out.commands = spawned-append u.out.commands _ ∙ append-nil (spawned u.out.commands) in
     let jobs : out_after (turn_of input u) s.desk.jobs ≡ out_after (turn_of input v) s.desk.jobs = ap (λ js. with_jobs js (after_input input s.desk.jobs)) (sym spawns) in
-    let numbers : filter_map revision_of v.out.commands ≡ u.state.host.revision ∷ [] = revisions-append u.out.commands _ ∙ ap (λ (ns : List ℕ). ns ++ u.state.host.revision ∷ []) mid.unrevised in
+    let numbers : filter_map revision_of v.out.commands ≡ revision ∷ [] = revisions-append u.out.commands _ ∙ ap (λ (ns : List ℕ). ns ++ revision ∷ []) made.unrevised in
     record {
       does = serves.does;
       numbered = serves.numbered;
-      place = same_place _ _ mid.client mid.texts mid.versions (sym (ap (λ ns. last_of ns s.host.revision) numbers))
-          (serves.desk ∙ ap (λ js. record (desk_after (turn_of input v) s.desk) { jobs = js }) jobs) mid.loading;
-      later = mid.later;
-      raised = mid.raised;
+      place = same_place _ _ made.client (files-now s input u.state.files made.files) (sym (ap (λ ns. last_of ns s.files.host.revision) numbers))
+          (serves.desk ∙ ap (λ js. record (desk_after (turn_of input v) s.desk) { jobs = js }) jobs);
+      later = no-less _ s.files _ made.revised;
+      revised = made.revised;
     }
 
-close-fits : (meaning : Meaning) (s : State) (input : Input) (u : Working State) → Mid meaning s input u → IfOk (closed (facts_of (begun s)) u) (Fits meaning s input)
+close-fits : (meaning : Meaning) (s : State) (input : Input) (u : Working State) → Made meaning s input u → IfOk (closed (facts_of (begun s)) u) (Fits meaning s input)
 unfolding revised kept kept_at_desk within
-close-fits meaning s input u mid = close-cases meaning s input u (u.state.host.revision == s.host.revision) refl mid
+close-fits meaning s input u made = close-cases meaning s input u (u.state.files.host.revision == s.files.host.revision) refl made
+
+-- the files are processed
+made-now : (meaning : Meaning) (s : State) (event : Event) (u : Working State) (v : Working SessionFiles) → Mid meaning s (Next event) u → Processes (record { state = u.state.files; out = u.out }) v
+    → Made meaning s (Next event) (record { state = with_files v.state u.state; out = v.out })
+made-now meaning s event u v mid p =
+    let told = mid.files in
+    let due : changes_world s.client.settings (Next event) s.files ≡ are_due (Ok u.state.files) = ap are_due told in
+    let rises : v.state.host.revision ≡ revision_now (are_due (Ok u.state.files)) u.state.files = IfOk-at_ok (λ f. f.host.revision ≡ revision_now (are_due (Ok u.state.files)) u.state.files) p.is (turn-revises u.state.files) in
+    record {
+      serves = record {
+        does = ap (λ (o : Written). reaction_of (turn_of (Next event) (record { state = u.state; out = o }))) p.out ∙ mid.serves.does;
+        numbered = subst (λ (o : Written). AreNumbered s.desk.handed (spawned o.commands)) (sym p.out) mid.serves.numbered;
+        desk = mid.serves.desk ∙ ap (λ (o : Written). record (desk_after (turn_of (Next event) (record { state = u.state; out = o })) s.desk) { jobs = after_input (Next event) s.desk.jobs }) (sym p.out);
+      };
+      client = mid.client;
+      files = ap (λ r. and_then r (files_turned (Next event))) told ∙ p.is;
+      unrevised = ap (λ (o : Written). filter_map revision_of o.commands) p.out ∙ mid.unrevised;
+      revised = rises ∙ ap (λ (h : HostData). revision_by (are_due (Ok u.state.files)) h) mid.host ∙ ap (λ b. revision_now b s.files) (sym due);
+    }
 
 -- the session within a turn
 abbrev pub session_in : Working Turning → Working State
 session_in t = record { state = t.state.state; out = t.out }
 
-record MidTurn (meaning : Meaning) (s : State) (input : Input) (t : Working Turning) : Type 0 where
-  facts : t.state.facts ≡ facts_of (begun s)
-  mid : Mid meaning s input (session_in t)
+pub record MidTurn (meaning : Meaning) (s : State) (input : Input) (t : Working Turning) : Type 0 where
+  pub facts : t.state.facts ≡ facts_of (begun s)
+  pub mid : Mid meaning s input (session_in t)
 
-closing-fits : (meaning : Meaning) (s : State) (input : Input) (t : Working Turning) → MidTurn meaning s input t → IfOk (closing_part t) (λ v. Fits meaning s input (session_in v))
+record MadeTurn (meaning : Meaning) (s : State) (input : Input) (t : Working Turning) : Type 0 where
+  facts : t.state.facts ≡ facts_of (begun s)
+  made : Made meaning s input (session_in t)
+
+files-made : (meaning : Meaning) (s : State) (event : Event) (t : Working Turning) → MidTurn meaning s (Next event) t → IfOk (files_part t) (MadeTurn meaning s (Next event))
+unfolding files_part
+files-made meaning s event t m =
+    IfOk-within state_in with_state (at_files processed) t (MadeTurn meaning s (Next event))
+    (IfOk-within files_in with_files processed (session_in t) _
+    (IfOk-weaker _ (Processes (record { state = t.state.state.files; out = t.out })) _ (processed-does _)
+    (λ v p. record { facts = m.facts; made = made-now meaning s event (session_in t) v m.mid p })))
+
+closing-fits : (meaning : Meaning) (s : State) (input : Input) (t : Working Turning) → MadeTurn meaning s input t → IfOk (closing_part t) (λ v. Fits meaning s input (session_in v))
 unfolding closing_part
 closing-fits meaning s input t m =
     IfOk-within state_in with_state (closed t.state.facts) t (λ v. Fits meaning s input (session_in v))
-    (subst (λ (f : Facts). IfOk (closed f (session_in t)) (Fits meaning s input)) (sym m.facts) (close-fits meaning s input (session_in t) m.mid))
+    (subst (λ (f : Facts). IfOk (closed f (session_in t)) (Fits meaning s input)) (sym m.facts) (close-fits meaning s input (session_in t) m.made))
 
-event-fits : (meaning : Meaning) (s : State) (event : Event) → IfOk (event_part meaning event (turning (begun s))) (MidTurn meaning s (Next event))
+pub event-fits : (meaning : Meaning) (s : State) (event : Event) → IfOk (event_part meaning event (turning (begun s))) (MidTurn meaning s (Next event))
 unfolding event_part
 event-fits meaning s event =
     IfOk-within state_in with_state (taken_in meaning event) (turning (begun s)) (MidTurn meaning s (Next event))
@@ -589,17 +558,21 @@ step-fits : (meaning : Meaning) (s : State) (input : Input) → IfOk (step meani
 unfolding step
 step-fits meaning s Start =
     IfOk-and_then (closing_part (turning (begun s))) turned (λ v. Fits meaning s Start (session_in v)) (Fits meaning s Start)
-    (closing-fits meaning s Start (turning (begun s)) (record { facts = refl; mid = start-mid meaning s })) (λ v fits. fits)
+    (closing-fits meaning s Start (turning (begun s)) (record { facts = refl; made = start-made meaning s })) (λ v fits. fits)
 step-fits meaning s (Next event) =
     IfOk-and_then (and_then (event_part meaning event (turning (begun s))) later_parts) turned (λ v. Fits meaning s (Next event) (session_in v)) (Fits meaning s (Next event))
     (IfOk-and_then (event_part meaning event (turning (begun s))) later_parts (MidTurn meaning s (Next event)) (λ v. Fits meaning s (Next event) (session_in v))
-    (event-fits meaning s event) (λ t m. closing-fits meaning s (Next event) t m)) (λ v fits. fits)
-
-raises-revises : (s new : State) → Raises s.host new.host → Revises (place_of s) (place_of new)
-raises-revises s new (inl same) = inl (ap (λ (h : HostData). h.world.texts) same, ap (λ (h : HostData). h.revision) same)
-raises-revises s new (inr h) = inr (h.0, h.1)
+    (event-fits meaning s event)
+    (λ t m. IfOk-and_then (files_part t) closing_part (MadeTurn meaning s (Next event)) (λ v. Fits meaning s (Next event) (session_in v))
+    (files-made meaning s event t m) (λ u n. closing-fits meaning s (Next event) u n))) (λ v fits. fits)
 
 pub steps-fit : (meaning : Meaning) (s : State) (turn : Turn) (new : State) → Steps meaning s turn new → StepFits meaning s turn new
 steps-fit meaning s turn new steps =
     let fits : Fits meaning s turn.input (record { state = new; out = record { messages = turn.messages; commands = turn.commands } }) = IfOk-at_ok (Fits meaning s turn.input) steps (step-fits meaning s turn.input) in
-    record { does = fits.does; numbered = fits.numbered; place = fits.place; later = fits.later; revised = raises-revises s new fits.raised }
+    record {
+      does = fits.does;
+      numbered = fits.numbered;
+      place = fits.place;
+      later = fits.later;
+      revised = sym (ap (λ (p : Place). p.revision) fits.place) ∙ fits.revised;
+    }

@@ -2,7 +2,6 @@
 use Rattle.std.proofs.Common.{◌≡◌, ◌+◌, ℕ, List, [], ◌∷◌, ◌++◌, length, Bool, true, false, refl, sym, ap, ◌∙◌, subst, append-nil, append_assoc}
 use Rattle.std.specs.Prelude.{Option, None, Some, Ok, Err, IfOk, ◌==◌, filter, map, if◌then◌else◌}
 use Rattle.std.specs.List.{filter_map}
-use Rattle.serde_json.specs.Data.{Data}
 use Rattle.lsp_frame.specs.declared.message.Notification.{Notification}
 use Rattle.lsp_frame.specs.declared.message.Request.{Request}
 use Rattle.lsp_frame.specs.declared.message.Response.{Response}
@@ -19,10 +18,12 @@ use Rattle.turn_parts.specs.declared.fault.Counter.TheVariants.{Outgoing}
 use Rattle.client.specs.Answers.{chooses, fault_in}
 use Rattle.client.specs.Client.{Client}
 use Rattle.client.specs.Folds.{after_answer, after_asking, after_folders, follows}
-use Rattle.client.specs.Steps.{answered, asked_for, folders_changed, followed, logged_if, misses, names_none, open_logs, request_at}
+use Rattle.client.specs.Steps.{answered, asked_for, folders_changed, followed, logged_if, misses, names_none, notification_of, request_at}
 use Rattle.client.specs.Texts.{id_text}
 use Rattle.client.specs.declared.handler.ReqHandler.{ReqHandler}
 use Rattle.client.specs.declared.handler.ReqHandler.TheVariants.{Ignore, Settings, OpenLogs}
+use Rattle.notify.specs.declared.outgo.Outgo.{Outgo}
+use Rattle.notify.specs.declared.outgo.Outgo.TheVariants.{OpenLogs as OpenLogsMessage}
 use Rattle.outgoing.specs.Outgoing.{number_limit}
 use Rattle.desk.specs.Desk.{Desk}
 use Rattle.desk.specs.Folds.{asked_among}
@@ -126,22 +127,22 @@ pub record DoesForClient (w v : Working Client) (client : Client) : Type 0 where
   pub is : v.state ≡ client
   pub tells : Tells w.out v.out
 
-asked-cases : (method : List ℕ) (params : Data) (handler : ReqHandler) (w : Working Client) (b : Bool)
-    → IfOk (if b then Err Outgoing else Ok (written (request_at w.state.asked.given method params) (record w { state = after_asking handler w.state })))
+asked-cases : (message : Outgo) (handler : ReqHandler) (w : Working Client) (b : Bool)
+    → IfOk (if b then Err Outgoing else Ok (written (request_at w.state.asked.given message) (record w { state = after_asking handler w.state })))
     (λ v. DoesForClient w v (after_asking handler w.state))
 unfolding written
-asked-cases method params handler w true = tt
-asked-cases method params handler w false = record { is = refl; tells = tells-request _ (record w { state = after_asking handler w.state }) }
+asked-cases message handler w true = tt
+asked-cases message handler w false = record { is = refl; tells = tells-request _ (record w { state = after_asking handler w.state }) }
 
-pub asked-does : (method : List ℕ) (params : Data) (handler : ReqHandler) (w : Working Client) → IfOk (asked_for method params handler w) (λ v. DoesForClient w v (after_asking handler w.state))
+pub asked-does : (message : Outgo) (handler : ReqHandler) (w : Working Client) → IfOk (asked_for message handler w) (λ v. DoesForClient w v (after_asking handler w.state))
 unfolding asked_for
-asked-does method params handler w = asked-cases method params handler w (w.state.asked.given == number_limit)
+asked-does message handler w = asked-cases message handler w (w.state.asked.given == number_limit)
 
 faults-tell : (fault : Option (List ℕ)) (w : Working Client) → Tells w.out (logged_if SettingsError fault w).out
 faults-tell None w = tells-none w.out
 faults-tell (Some text) w = tells-logged SettingsError text w
 
-logs-tell : (b : Bool) (w : Working Client) → Tells w.out (if b then written open_logs w else w).out
+logs-tell : (b : Bool) (w : Working Client) → Tells w.out (if b then written (notification_of OpenLogsMessage) w else w).out
 logs-tell true w = tells-notification _ w
 logs-tell false w = tells-none w.out
 

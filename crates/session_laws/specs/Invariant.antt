@@ -18,10 +18,9 @@ SoundAt place = Sound place.desk place.revision
 abbrev pub place_of : State → Place
 place_of s = record {
   client = s.client;
-  documents = record { texts = s.host.world.texts; versions = s.versions };
-  revision = s.host.revision;
+  files = s.files;
+  revision = s.files.host.revision;
   desk = s.desk;
-  loading = s.loading;
 }
 
 -- a turn of the machine is its row of the reply table, the jobs that it hands over have the next numbers, and what it leaves is the next place
@@ -29,8 +28,8 @@ pub record StepFits (meaning : Meaning) (s : State) (turn : Turn) (new : State) 
   pub does : reaction_of turn ≡ row meaning turn.input (place_of s)
   pub numbered : AreNumbered s.desk.handed (spawned turn.commands)
   pub place : place_of new ≡ place_after turn (place_of s)
-  pub later : s.host.revision ≤ new.host.revision
-  pub revised : Revises (place_of s) (place_of new)
+  pub later : s.files.host.revision ≤ new.files.host.revision
+  pub revised : Revises turn (place_of s)
 
 -- after some turns of a fresh machine: it stands where the lists say, the invariant holds, and each job out for a request was handed over by one of the
 -- turns, for a request that waits or was answered

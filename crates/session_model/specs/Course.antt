@@ -9,9 +9,9 @@ use Rattle.lsp_frame.specs.declared.message.Message.{Message}
 use Rattle.lsp_frame.specs.declared.message.Message.TheVariants.{Request as RequestMessage, Notification as NotificationMessage, Response as ResponseMessage}
 use Rattle.session_port.specs.Events.{bytes_of}
 use Rattle.session_port.specs.declared.event.HostEvent.{HostEvent}
-use Rattle.session_port.specs.declared.event.HostEvent.TheVariants.{Bytes, Ended, Tasks}
+use Rattle.session_port.specs.declared.event.HostEvent.TheVariants.{Bytes, Ended, Tasks, Vfs}
 use Rattle.session_model.specs.Texts.{same_text}
-use Rattle.session_model.specs.declared.input.Event.TheVariants.{Lsp, Task}
+use Rattle.session_model.specs.declared.input.Event.TheVariants.{Lsp, Task, Vfs as VfsEvent}
 use Rattle.session_model.specs.declared.input.Input.{Input}
 use Rattle.session_model.specs.declared.input.Input.TheVariants.{Start, Next}
 
@@ -55,6 +55,7 @@ abbrev pub event_then : HostEvent → List ℕ → (List ℕ → Course) → Cou
 event_then (Bytes []) held later = takes (Next (Task [])) (later held)
 event_then (Bytes (byte ∷ bytes)) held later = later (held ++ byte ∷ bytes)
 event_then (Tasks batch) held later = takes (Next (Task batch)) (later held)
+event_then (Vfs messages) held later = takes (Next (VfsEvent messages)) (later held)
 event_then Ended held later = stops client_gone
 
 -- the course of the bytes that are held, of which the first stands at this place in the stream, and of these events

@@ -1,19 +1,17 @@
 -- What a session's record says of requests and answers: by the lists of inputs, messages and commands alone.
-use Rattle.std.specs.Prelude.{◌≡◌, ◌≢◌, ◌≤◌, ℕ, ◌+◌, ◌-◌, ◌^◌, ◌⊎◌, ℤ, List, [], ◌∷◌, ◌++◌, length, Contains, Bool, false}
-use Rattle.std.specs.Prelude.{IsTrue, Option, None, Some, is_some, Result, Ok, Err, if◌then◌else◌}
+use Rattle.std.specs.Prelude.{◌≡◌, ◌≤◌, ℕ, ◌+◌, ◌-◌, ◌^◌, ◌⊎◌, List, [], ◌∷◌, ◌++◌, length, Contains, Bool, true, false, not, ◌&&◌}
+use Rattle.std.specs.Prelude.{IsTrue, Option, None, Some, Result, Ok, Err, if◌then◌else◌}
 use Rattle.std.specs.FinMap as map
 use Rattle.std.specs.List.{filter_map}
-use Rattle.docs_vfs.specs.Paths.{path_cmp}
 use Rattle.docs_vfs.specs.FileUrls.{path_of}
+use Rattle.docs_vfs.specs.Files.{changes}
 use Rattle.docs_vfs.specs.declared.file_url.UrlFault.{UrlFault}
 use Rattle.lsp_frame.specs.Reader.{Reader}
 use Rattle.lsp_frame.specs.declared.message.Message.TheVariants.{Request as RequestMessage, Notification as NotificationMessage, Response as ResponseMessage}
 use Rattle.lsp_frame.specs.declared.message.RequestId.{RequestId}
 use Rattle.lsp_frame.specs.declared.message.Response.{Response}
 use Rattle.ra_config.specs.Config.{ConfigData}
-use Rattle.text_core.specs.declared.position.PositionEncoding.{PositionEncoding}
-use Rattle.analysis_host.specs.SnapshotData.{SnapshotData, text_of}
-use Rattle.analysis_host.specs.declared.text_entry.TextEntry.{TextEntry}
+use Rattle.analysis_host.specs.SnapshotData.{SnapshotData}
 use Rattle.session_port.specs.Events.{revision_of}
 use Rattle.session_port.specs.Jobs.{Jobs, ticket_of}
 use Rattle.session_port.specs.Record.{HostCall, given_in, taken_in, spawned}
@@ -21,6 +19,7 @@ use Rattle.session_port.specs.declared.command.Command.{Command}
 use Rattle.session_port.specs.declared.command.Command.TheVariants.{Stop}
 use Rattle.session_port.specs.declared.event.TaskMsg.{TaskMsg}
 use Rattle.session_port.specs.declared.job.Job.{Job}
+use Rattle.turn_parts.specs.Working.{and_then}
 use Rattle.turn_parts.specs.Written.{responses_in}
 use Rattle.turn_parts.specs.declared.fault.Counter.{Counter}
 use Rattle.turn_parts.specs.declared.fault.Counter.TheVariants.{Turns, Bytes, Jobs as JobsCounter, Revisions, Outgoing, Files}
@@ -39,40 +38,33 @@ use Rattle.desk.specs.Reactions.{Reaction, silent, joined, cancel_row, message_r
 use Rattle.desk.specs.declared.scene.Scene.{Scene}
 use Rattle.session_model.specs.Course.{Course, Stop as CourseStop, takes, stops, waits, exit, client_gone, bad_frame, bad_message, end_of}
 use Rattle.session_model.specs.Course.{session_course, bytes_in}
-use Rattle.session_model.specs.Changing.{text_after}
-use Rattle.session_model.specs.Entries.{text_put}
 use Rattle.session_model.specs.Inputs.{cancelled_by, notice_in, request_in, response_in, turns_after}
+use Rattle.session_files.specs.Current.{AreNumbers, IsCurrent}
+use Rattle.session_files.specs.Folds.{after_closing, after_editing, after_messages, after_opening, after_turn, is_open}
+use Rattle.session_files.specs.SessionFiles.{SessionFiles, no_files}
 use Rattle.session_model.specs.Hearing.{heard_of, told_by}
+use Rattle.session_model.specs.State.{columns_in, excludes_in}
 use Rattle.session_model.specs.Run.{Turn, Told, AllRead, AsksLast, IsHonestInput, commands_of, fed_bytes, out_after, taking, telling}
 use Rattle.session_model.specs.declared.fault.SessionError.{SessionError}
 use Rattle.session_model.specs.declared.fault.SessionError.TheVariants.{ClientExited, BadFrame, BadMessage, HostFault, WriteFault, Exhausted, NoMemory}
-use Rattle.session_model.specs.declared.input.Event.TheVariants.{Lsp, Task}
+use Rattle.session_model.specs.declared.input.Event.TheVariants.{Lsp, Task, Vfs}
 use Rattle.session_model.specs.declared.input.Input.{Input}
 use Rattle.session_model.specs.declared.input.Input.TheVariants.{Start, Next}
 
 -- ---- what the lists say before a turn
 
--- the documents that are open: the text that each path has, and its version
-pub record Documents : Type 0 where
-  pub texts : map.FinMap path_cmp TextEntry
-  pub versions : map.FinMap path_cmp ℤ
-
 pub record Place : Type 0 where
   -- the settings, and what the client was asked
   pub client : Client
-  pub documents : Documents
+  -- the documents that are open, the files that have contents, the world, and whether files are loading
+  pub files : SessionFiles
   -- the number of the last `Revise`
   pub revision : ℕ
   -- the turns, the requests that are read and not answered, the jobs handed over and not ended
   pub desk : Desk
-  -- files are loading; nothing tells of it yet
-  pub loading : Bool
-
-abbrev pub no_documents : Documents
-no_documents = record { texts = map.empty; versions = map.empty }
 
 abbrev pub beginning : ConfigData → Place
-beginning settings = record { client = new_client settings; documents = no_documents; revision = 0; desk = new_desk; loading = false }
+beginning settings = record { client = new_client settings; files = no_files; revision = 0; desk = new_desk }
 
 -- the number of the next turn, from 1; the start has none
 abbrev pub next_turn : Place → ℕ
@@ -81,56 +73,64 @@ next_turn place = place.desk.turns + 1
 -- what a job works on that is handed over here
 abbrev pub snapshot_at : Place → SnapshotData
 snapshot_at place = record {
-  world = record { texts = place.documents.texts };
-  versions = place.documents.versions;
+  world = place.files.host.world;
+  file_ids = place.files.ids;
+  versions = place.files.versions;
   config = place.client.settings;
   revision = place.revision;
 }
 
--- what a column counts here
-abbrev pub columns_at : Place → PositionEncoding
-columns_at place = place.client.settings.capabilities.encodings
-
 -- what a request meets here; the crate graph counts as complete
 abbrev pub scene_at : Place → Scene
-scene_at place = record { snapshot = snapshot_at place; loading = place.loading; incomplete = false }
+scene_at place = record { snapshot = snapshot_at place; loading = place.files.loading; incomplete = false }
 
 -- ---- what a turn changes of it
 
--- a document is opened at a path
-abbrev pub opened_at : Result (List ℕ) UrlFault → DidOpen → Documents → Documents
-opened_at (Err fault) document documents = documents
-opened_at (Ok path) document documents = record {
-  texts = text_put path document.text documents.texts;
-  versions = map.insert documents.versions path document.version;
-}
+-- a document is opened at the path of its URL
+abbrev pub opened_at : ConfigData → Result (List ℕ) UrlFault → DidOpen → SessionFiles → Result SessionFiles Counter
+opened_at settings (Err fault) document files = Ok files
+opened_at settings (Ok path) document files = after_opening (excludes_in settings) path document.version document.text files
 
--- a document is changed at a path, where it is open: its text is what the changes make of it, one after another
-abbrev pub changed_at : PositionEncoding → Result (List ℕ) UrlFault → DidChange → Documents → Documents
-changed_at columns (Err fault) change documents = documents
-changed_at columns (Ok path) change documents =
-    if is_some (map.get documents.versions path)
-    then record {
-      texts = text_put path (text_after columns change.changes (text_of (map.get documents.texts path))) documents.texts;
-      versions = map.insert documents.versions path change.version;
-    }
-    else documents
+-- a document is changed, where it is open: its text is what the changes make of it, one after another
+abbrev pub changed_at : ConfigData → Result (List ℕ) UrlFault → DidChange → SessionFiles → Result SessionFiles Counter
+changed_at settings (Err fault) change files = Ok files
+changed_at settings (Ok path) change files =
+    if is_open path files then after_editing (columns_in settings) path change.version change.changes files else Ok files
 
--- a document is closed at a path: its text stays
-abbrev pub closed_at : Result (List ℕ) UrlFault → Documents → Documents
-closed_at (Err fault) documents = documents
-closed_at (Ok path) documents = record documents { versions = map.remove documents.versions path }
+-- a document is closed: its contents stay
+abbrev pub closed_at : Result (List ℕ) UrlFault → SessionFiles → SessionFiles
+closed_at (Err fault) files = files
+closed_at (Ok path) files = after_closing path files
 
-abbrev pub documents_told : PositionEncoding → Option Notice → Documents → Documents
-documents_told columns None documents = documents
-documents_told columns (Some (notices.DidOpen document)) documents = opened_at (path_of document.uri) document documents
-documents_told columns (Some (notices.DidChange change)) documents = changed_at columns (path_of change.uri) change documents
-documents_told columns (Some (notices.DidClose uri)) documents = closed_at (path_of uri) documents
-documents_told columns (Some other) documents = documents
+abbrev pub documents_told : ConfigData → Option Notice → SessionFiles → Result SessionFiles Counter
+documents_told settings None files = Ok files
+documents_told settings (Some (notices.DidOpen document)) files = opened_at settings (path_of document.uri) document files
+documents_told settings (Some (notices.DidChange change)) files = changed_at settings (path_of change.uri) change files
+documents_told settings (Some (notices.DidClose uri)) files = Ok (closed_at (path_of uri) files)
+documents_told settings (Some other) files = Ok files
 
--- by what a column counts
-abbrev pub documents_after : PositionEncoding → Input → Documents → Documents
-documents_after columns input documents = documents_told columns (notice_in input) documents
+-- what an input tells of documents and files: by the excluded prefixes and by what a column counts
+abbrev pub files_told : ConfigData → Input → SessionFiles → Result SessionFiles Counter
+files_told settings Start files = Ok files
+files_told settings (Next (Lsp message)) files = documents_told settings (notice_in (Next (Lsp message))) files
+files_told settings (Next (Task batch)) files = Ok files
+files_told settings (Next (Vfs messages)) files = after_messages messages files
+
+-- behind the event of a turn what has changed goes into the world, unless files are loading; the start has no event
+abbrev pub files_turned : Input → SessionFiles → Result SessionFiles Counter
+files_turned Start files = Ok files
+files_turned (Next event) files = after_turn files
+
+abbrev pub files_made : ConfigData → Input → SessionFiles → Result SessionFiles Counter
+files_made settings input files = and_then (files_told settings input files) (files_turned input)
+
+-- a turn that needs one more of a counter than there are doesn't come to be
+abbrev pub or_before : SessionFiles → Result SessionFiles Counter → SessionFiles
+or_before files (Ok made) = made
+or_before files (Err counter) = files
+
+abbrev pub files_after : ConfigData → Input → SessionFiles → SessionFiles
+files_after settings input files = or_before files (files_made settings input files)
 
 -- the client is asked for its settings, or tells which folders its workspaces have
 abbrev pub client_told : Option Notice → Client → Client
@@ -168,10 +168,9 @@ desk_after turn desk = record {
 abbrev pub place_after : Turn → Place → Place
 place_after turn place = record {
   client = client_after turn.input place.client;
-  documents = documents_after (columns_at place) turn.input place.documents;
+  files = files_after place.client.settings turn.input place.files;
   revision = revision_after turn.commands place.revision;
   desk = desk_after turn place.desk;
-  loading = place.loading;
 }
 
 abbrev pub place_after_all : List Turn → Place → Place
@@ -207,6 +206,7 @@ row meaning (Next (Lsp (RequestMessage r))) place = request_row meaning (scene_a
 row meaning (Next (Lsp (NotificationMessage n))) place = notice_row (cancelled_by (told_by (heard_of n))) place.desk
 row meaning (Next (Lsp (ResponseMessage r))) place = silent
 row meaning (Next (Task batch)) place = batch_row meaning batch place
+row meaning (Next (Vfs messages)) place = silent
 
 -- ---- what holds between turns
 
@@ -225,11 +225,29 @@ abbrev pub AreHandedOver : ConfigData → List Turn → Jobs → Type 0
 AreHandedOver settings turns jobs =
     (number : ℕ) (job : Job) (ticket : ℕ) → map.get jobs number ≡ Some job → ticket_of job.kind ≡ Some ticket → WasHandedOver settings turns ticket job
 
--- the texts stay and the revision stays, or they are others and it is one more
-abbrev pub Revises : Place → Place → Type 0
-Revises before after =
-    ((after.documents.texts ≡ before.documents.texts) × (after.revision ≡ before.revision))
-    ⊎ ((after.documents.texts ≢ before.documents.texts) × (after.revision ≡ before.revision + 1))
+abbrev pub are_some : {X : Type 0} → List X → Bool
+are_some [] = false
+are_some (x ∷ xs) = true
+
+-- the contents of some path aren't those that the world was last made of, and no files are loading
+abbrev pub are_due : Result SessionFiles Counter → Bool
+are_due (Ok files) = not files.loading && are_some (changes files.table)
+are_due (Err counter) = false
+
+-- a turn changes the world
+abbrev pub changes_world : ConfigData → Input → SessionFiles → Bool
+changes_world settings Start files = false
+changes_world settings (Next event) files = are_due (files_told settings (Next event) files)
+
+-- the revision is one more where the turn changes the world, and else the same
+abbrev pub Revises : Turn → Place → Type 0
+Revises turn place =
+    (place_after turn place).revision ≡ (if changes_world place.client.settings turn.input place.files then place.revision + 1 else place.revision)
+
+-- the numbers of the files are the table's; and where no files are loading, the world has, of each path, its contents, normalised, where they are a text
+pub record SeesFiles (files : SessionFiles) : Type 0 where
+  pub numbers : AreNumbers files
+  pub texts : files.loading ≡ false → IsCurrent files
 
 -- ---- the headline
 
@@ -244,8 +262,10 @@ pub record Answers (meaning : Meaning) (settings : ConfigData) (honest : Bool) (
   pub held : AreHeld (place_after_all (before ++ turn ∷ []) (beginning settings)).desk
   -- each job out for a request was handed over by the turn that read it, or a later one, on the documents of all inputs before that turn
   pub handed_over : AreHandedOver settings before (place_after_all before (beginning settings)).desk.jobs
-  -- the revision rises by one exactly where a text changed
-  pub revised : let place = place_after_all before (beginning settings) in Revises place (place_after turn place)
+  -- the revision rises by one exactly where the contents of some path are others than those that the world was last made of
+  pub revised : Revises turn (place_after_all before (beginning settings))
+  -- what queries see of the files: the snapshots that this turn hands over are made of it
+  pub sees : SeesFiles (place_after_all before (beginning settings)).files
   -- an honest host's results are what the questions of jobs out, on their snapshots, come to
   pub value : IsTrue honest → IsHonestInput meaning (place_after_all before (beginning settings)).desk.jobs turn.input
 
@@ -268,14 +288,14 @@ pub record NextInput (left : Course) (P : Input → Type 0) : Type 0 where
   pub needs : P input
 
 -- a turn needs one more of a counter than there are: its number is past the last one, it hands over more jobs, it asks the client where all numbers of requests
--- were given, or it changes a text at the last revision
+-- were given, it changes the world at the last revision, or one of its files needs a number where all were given
 abbrev pub NeedsMore : Meaning → Place → Input → Counter → Type 0
 NeedsMore meaning place input Turns = 2 ^ 64 ≤ next_turn place
 NeedsMore meaning place input Bytes = ⊥
 NeedsMore meaning place input JobsCounter = 2 ^ 64 ≤ place.desk.handed + length (row meaning input place).jobs
 NeedsMore meaning place input Revisions = 2 ^ 64 - 1 ≤ place.revision
 NeedsMore meaning place input Outgoing = number_limit ≤ place.client.asked.given
-NeedsMore meaning place input Files = ⊥
+NeedsMore meaning place input Files = files_told place.client.settings input place.files ≡ Err Files
 
 -- one more of a counter was needed than there are, by the turn of the next input, or for the bytes that were given
 abbrev pub IsUsedUp : Meaning → ConfigData → Reader → List HostCall → List Turn → Course → Counter → Type 0

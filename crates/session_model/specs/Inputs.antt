@@ -10,7 +10,7 @@ use Rattle.notify.specs.declared.notice.Notice.{Notice}
 use Rattle.notify.specs.declared.notice.Notice.TheVariants.{CancelRequest}
 use Rattle.session_model.specs.Hearing.{heard_of, told_by}
 use Rattle.session_model.specs.declared.input.Event.{Event}
-use Rattle.session_model.specs.declared.input.Event.TheVariants.{Lsp, Task}
+use Rattle.session_model.specs.declared.input.Event.TheVariants.{Lsp, Task, Vfs}
 use Rattle.session_model.specs.declared.input.Input.{Input}
 use Rattle.session_model.specs.declared.input.Input.TheVariants.{Start, Next}
 
@@ -21,6 +21,7 @@ request_in (Next (Lsp (RequestMessage r))) = Some r
 request_in (Next (Lsp (NotificationMessage n))) = None
 request_in (Next (Lsp (ResponseMessage r))) = None
 request_in (Next (Task batch)) = None
+request_in (Next (Vfs messages)) = None
 
 -- what an input tells, if it is a notification that tells something
 abbrev pub notice_in : Input → Option Notice
@@ -29,6 +30,7 @@ notice_in (Next (Lsp (RequestMessage r))) = None
 notice_in (Next (Lsp (NotificationMessage n))) = told_by (heard_of n)
 notice_in (Next (Lsp (ResponseMessage r))) = None
 notice_in (Next (Task batch)) = None
+notice_in (Next (Vfs messages)) = None
 
 -- the request that a notice cancels, if it cancels one
 abbrev pub cancelled_by : Option Notice → Option RequestId
@@ -43,12 +45,14 @@ response_in (Next (Lsp (RequestMessage r))) = None
 response_in (Next (Lsp (NotificationMessage n))) = None
 response_in (Next (Lsp (ResponseMessage r))) = Some r
 response_in (Next (Task batch)) = None
+response_in (Next (Vfs messages)) = None
 
 -- the messages of jobs that an input brings
 abbrev pub batch_of : Input → List TaskMsg
 batch_of Start = []
 batch_of (Next (Lsp message)) = []
 batch_of (Next (Task batch)) = batch
+batch_of (Next (Vfs messages)) = []
 
 -- the start uses no number of the turns
 abbrev pub turns_after : Input → ℕ → ℕ

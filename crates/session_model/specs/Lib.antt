@@ -1,7 +1,5 @@
-pub mod Changing
 pub mod Codes
 pub mod Course
-pub mod Entries
 pub mod Headline
 pub mod Hearing
 pub mod Inputs

@@ -1,5 +1,5 @@
 -- The session machine: one turn, as a chain of its parts.
-use Rattle.std.specs.Prelude.{ℕ, ◌==◌, ℤ, Bool, false, List, [], ◌∷◌, length, Option, None, Some, is_some, Result, Ok, Err, if◌then◌else◌}
+use Rattle.std.specs.Prelude.{ℕ, ◌==◌, List, [], ◌∷◌, length, is_some, Result, Ok, Err, if◌then◌else◌}
 use Rattle.std.specs.FinMap as map
 use Rattle.lsp_frame.specs.declared.message.RequestId.{RequestId}
 use Rattle.lsp_frame.specs.declared.message.Message.{Message}
@@ -7,21 +7,15 @@ use Rattle.lsp_frame.specs.declared.message.Message.TheVariants.{Request as Requ
 use Rattle.plain.specs.Texts.{text_cmp}
 use Rattle.docs_vfs.specs.FileUrls.{path_of}
 use Rattle.docs_vfs.specs.declared.file_url.UrlFault.{UrlFault}
-use Rattle.analysis_host.specs.HostData.{HostData, changed as changed_world}
-use Rattle.analysis_host.specs.SnapshotData.{text_at}
-use Rattle.analysis_host.specs.declared.host.FileChange.{FileChange}
-use Rattle.analysis_host.specs.declared.host.WorldFault.{WorldFault}
 use Rattle.session_port.specs.declared.command.Command.TheVariants.{Revise, Invalidate}
 use Rattle.session_port.specs.declared.command.LogCode.TheVariants.{MalformedNotification, UnhandledNotification}
-use Rattle.session_port.specs.declared.command.LogCode.TheVariants.{DuplicateOpen, OrphanClose, UnexpectedChange, SkippedChange, BadPath}
+use Rattle.session_port.specs.declared.command.LogCode.TheVariants.{BadPath}
 use Rattle.session_port.specs.declared.event.TaskMsg.{TaskMsg}
 use Rattle.turn_parts.specs.Working.{Working, and_then, ordered, logged, put_back, within}
 use Rattle.turn_parts.specs.declared.fault.Counter.{Counter}
-use Rattle.turn_parts.specs.declared.fault.Counter.TheVariants.{Revisions}
 use Rattle.client.specs.Client.{Client}
 use Rattle.client.specs.Steps.{asked_for, answered, folders_changed}
 use Rattle.client.specs.declared.handler.ReqHandler.TheVariants.{Settings}
-use Rattle.notify.specs.Writing.{outgo_body}
 use Rattle.notify.specs.declared.outgo.Outgo.TheVariants.{Configuration}
 use Rattle.notify.specs.declared.notice.DidChange.{DidChange}
 use Rattle.notify.specs.declared.notice.DidOpen.{DidOpen}
@@ -30,13 +24,13 @@ use Rattle.notify.specs.declared.notice.Notice.TheVariants as notices
 use Rattle.desk.specs.Desk.{Desk}
 use Rattle.desk.specs.Meaning.{Meaning}
 use Rattle.desk.specs.Steps.{requested, cancelled, counted as counted_at_desk, taken as taken_at_desk, kept as kept_at_desk}
-use Rattle.session_model.specs.Changing.{text_after, has_skipped}
-use Rattle.session_model.specs.Entries.{entry_of, holds_text}
+use Rattle.session_files.specs.SessionFiles.{SessionFiles}
+use Rattle.session_files.specs.Steps.{changed, closed as closed_document, loaded, opened, processed}
 use Rattle.session_model.specs.Hearing.{heard_of}
-use Rattle.session_model.specs.State.{State, columns_of, scene_of}
+use Rattle.session_model.specs.State.{State, columns_in, excludes_in, scene_of}
 use Rattle.session_model.specs.declared.facts.Facts.{Facts}
 use Rattle.session_model.specs.declared.input.Event.{Event}
-use Rattle.session_model.specs.declared.input.Event.TheVariants.{Lsp, Task}
+use Rattle.session_model.specs.declared.input.Event.TheVariants.{Lsp, Task, Vfs}
 use Rattle.session_model.specs.declared.input.Input.{Input}
 use Rattle.session_model.specs.declared.input.Input.TheVariants.{Start, Next}
 use Rattle.session_model.specs.declared.heard.Heard.{Heard}
@@ -64,71 +58,38 @@ with_client client state = record state { client = client }
 
 -- the client is asked for its settings
 abbrev pub asked_for_settings : Working Client → Result (Working Client) Counter
-asked_for_settings w = asked_for (outgo_body Configuration).0 (outgo_body Configuration).1 Settings w
+asked_for_settings w = asked_for Configuration Settings w
 
 -- a step of it
 abbrev pub at_client : (Working Client → Result (Working Client) Counter) → Working State → Result (Working State) Counter
 at_client step w = within client_in with_client step w
 
+-- ---- the files, within the session
+
+abbrev pub files_in : State → SessionFiles
+files_in state = state.files
+
+abbrev pub with_files : SessionFiles → State → State
+with_files files state = record state { files = files }
+
+-- a step of them
+abbrev pub at_files : (Working SessionFiles → Result (Working SessionFiles) Counter) → Working State → Result (Working State) Counter
+at_files step w = within files_in with_files step w
+
 -- ---- notifications
 
-unfoldable pub world_by : Result HostData WorldFault → Working State → Result (Working State) Counter
-world_by (Ok host) w = Ok (record w { state = record w.state { host = host } })
-world_by (Err fault) w = Err Revisions
-
--- one change of the world, and so one revision more
-unfoldable pub world_changed : List FileChange → Working State → Result (Working State) Counter
-world_changed files w = world_by (changed_world files w.state.host) w
-
--- the text of a path, where the world has another one
-unfoldable pub text_set : List ℕ → List ℕ → Working State → Result (Working State) Counter
-text_set path text w =
-    if holds_text (text_at w.state.host.world path) text then Ok w
-    else world_changed ((record { path = path; entry = Some (entry_of text) }) ∷ []) w
-
-unfoldable pub version_set : List ℕ → ℤ → Working State → Working State
-version_set path version w = record w { state = record w.state { versions = map.insert w.state.versions path version } }
-
-abbrev pub is_open : List ℕ → Working State → Bool
-is_open path w = is_some (map.get w.state.versions path)
-
--- a document that is open already is logged, and replaced all the same
-unfoldable pub open_noted : List ℕ → Working State → Working State
-open_noted path w = if is_open path w then logged DuplicateOpen path w else w
-
+-- a URL that names no path is logged, and the item is skipped
 unfoldable pub opened_at : Result (List ℕ) UrlFault → DidOpen → Working State → Result (Working State) Counter
 opened_at (Err fault) document w = Ok (logged BadPath document.uri w)
-opened_at (Ok path) document w = text_set path document.text (version_set path document.version (open_noted path w))
+opened_at (Ok path) document w = at_files (opened (excludes_in w.state.client.settings) path document.version document.text) w
 
--- that an edit was skipped is logged once
-unfoldable pub skip_noted : List ℕ → Bool → Working State → Working State
-skip_noted path skipped w = if skipped then logged SkippedChange path w else w
-
-unfoldable pub edited_by : List ℕ → Option (List ℕ) → DidChange → Working State → Result (Working State) Counter
-edited_by path held change w =
-    let columns = columns_of w.state in
-    text_set path (text_after columns change.changes held) (version_set path change.version (skip_noted path (has_skipped columns change.changes held) w))
-
--- the text that the changes leave, made on the one that the path has
-unfoldable pub edited : List ℕ → DidChange → Working State → Result (Working State) Counter
-edited path change w = edited_by path (text_at w.state.host.world path) change w
-
--- a document that isn't open is logged; else its version is set, also where each change is skipped
 unfoldable pub changed_at : Result (List ℕ) UrlFault → DidChange → Working State → Result (Working State) Counter
 changed_at (Err fault) change w = Ok (logged BadPath change.uri w)
-changed_at (Ok path) change w = if is_open path w then edited path change w else Ok (logged UnexpectedChange path w)
+changed_at (Ok path) change w = at_files (changed (columns_in w.state.client.settings) path change.version change.changes) w
 
--- a document that isn't open is logged, and the rest is done all the same
-unfoldable pub close_noted : List ℕ → Working State → Working State
-close_noted path w = if is_open path w then w else logged OrphanClose path w
-
-unfoldable pub version_removed : List ℕ → Working State → Working State
-version_removed path w = record w { state = record w.state { versions = map.remove w.state.versions path } }
-
--- a document is closed: its text stays, until the file is read anew
-unfoldable pub closed_at : Result (List ℕ) UrlFault → List ℕ → Working State → Working State
-closed_at (Err fault) uri w = logged BadPath uri w
-closed_at (Ok path) uri w = ordered (Invalidate path) (version_removed path (close_noted path w))
+unfoldable pub closed_at : Result (List ℕ) UrlFault → List ℕ → Working State → Result (Working State) Counter
+closed_at (Err fault) uri w = Ok (logged BadPath uri w)
+closed_at (Ok path) uri w = at_files (λ f. Ok (closed_document path f)) w
 
 -- the file of a URL is to be read anew
 unfoldable pub file_changed : List ℕ → Result (List ℕ) UrlFault → Working State → Working State
@@ -147,7 +108,7 @@ unfoldable pub told : Notice → Working State → Result (Working State) Counte
 told (notices.CancelRequest id) w = at_desk (λ d. Ok (cancelled id d)) w
 told (notices.DidOpen document) w = opened_at (path_of document.uri) document w
 told (notices.DidChange change) w = changed_at (path_of change.uri) change w
-told (notices.DidClose uri) w = Ok (closed_at (path_of uri) uri w)
+told (notices.DidClose uri) w = closed_at (path_of uri) uri w
 told notices.DidChangeConfiguration w = at_client asked_for_settings w
 told (notices.DidChangeWorkspaceFolders added removed) w = at_client (λ c. Ok (folders_changed added removed c)) w
 told (notices.DidChangeWatchedFiles changes) w = Ok (files_changed map.empty changes w)
@@ -181,6 +142,7 @@ batched meaning (message ∷ messages) w = and_then (taken meaning message w) (b
 unfoldable pub happened : Meaning → Event → Working State → Result (Working State) Counter
 happened meaning (Lsp message) w = received meaning message w
 happened meaning (Task batch) w = batched meaning batch w
+happened meaning (Vfs messages) w = at_files (loaded messages) w
 
 -- the turn is counted, and its event is taken in
 unfoldable pub counted : Working State → Result (Working State) Counter
@@ -206,7 +168,7 @@ in_state part w = within state_in with_state part w
 
 -- the host is told of a revision that rose in this turn
 unfoldable pub revised : ℕ → Working State → Working State
-revised before w = if w.state.host.revision == before then w else ordered (Revise w.state.host.revision) w
+revised before w = if w.state.files.host.revision == before then w else ordered (Revise w.state.files.host.revision) w
 
 unfoldable pub kept : ℕ → Working State → Result (Working State) Counter
 kept before w = at_desk (λ d. Ok (kept_at_desk before d)) w
@@ -216,8 +178,9 @@ kept before w = at_desk (λ d. Ok (kept_at_desk before d)) w
 unfoldable pub event_part : Meaning → Event → Working Turning → Result (Working Turning) Counter
 event_part meaning event w = in_state (taken_in meaning event) w
 
-abbrev pub files_part : Working Turning → Result (Working Turning) Counter
-files_part w = Ok w
+-- what has changed goes into the world, unless files are loading
+unfoldable pub files_part : Working Turning → Result (Working Turning) Counter
+files_part w = in_state (at_files processed) w
 
 abbrev pub quiet_part : Working Turning → Result (Working Turning) Counter
 quiet_part w = Ok w
@@ -252,7 +215,7 @@ later_parts w =
 
 -- the facts before a turn
 abbrev pub facts_of : Working State → Facts
-facts_of w = record { revision = w.state.host.revision; ordered = length w.out.commands }
+facts_of w = record { revision = w.state.files.host.revision; ordered = length w.out.commands }
 
 abbrev pub turning : Working State → Working Turning
 turning w = record { state = record { state = w.state; facts = facts_of w }; out = w.out }

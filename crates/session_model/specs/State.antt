@@ -1,39 +1,60 @@
 -- The session's state, as contracts see it: a record of its parts.
-use Rattle.std.specs.Prelude.{ℤ, Bool, false}
-use Rattle.std.specs.FinMap as map
-use Rattle.docs_vfs.specs.Paths.{path_cmp}
+use Rattle.std.specs.Prelude.{ℕ, List, [], None, false}
 use Rattle.text_core.specs.declared.position.PositionEncoding.{PositionEncoding}
+use Rattle.ra_settings.specs.declared.row.Row.TheVariants.{FilesExclude}
+use Rattle.ra_settings.specs.declared.value.SettingValue.{SettingValue}
+use Rattle.ra_settings.specs.declared.value.SettingValue.TheVariants.{Paths}
+use Rattle.layered_settings.specs.Search.{setting}
 use Rattle.ra_config.specs.Config.{ConfigData}
-use Rattle.client.specs.Client.{Client, new_client}
 use Rattle.analysis_host.specs.SnapshotData.{SnapshotData}
-use Rattle.analysis_host.specs.HostData.{HostData, new_host}
-use Rattle.desk.specs.Desk.{Desk, new_desk}
+use Rattle.client.specs.Client.{Client, new_client, new_client_at}
+use Rattle.session_files.specs.SessionFiles.{SessionFiles, no_files, no_files_at}
+use Rattle.desk.specs.Desk.{Desk, new_desk, new_desk_at}
 use Rattle.desk.specs.declared.scene.Scene.{Scene}
+use Rattle.session_model.specs.declared.counters.Counters.{Counters}
 
 pub record State : Type 0 where
   -- the settings, and what the client was asked
   pub client : Client
-  -- the world and its revision
-  pub host : HostData
-  -- the versions of the open documents
-  pub versions : map.FinMap path_cmp ℤ
+  -- the documents, the files and the world
+  pub files : SessionFiles
   -- requests and jobs
   pub desk : Desk
-  -- files are loading
-  pub loading : Bool
 
 -- what a column counts: what the client and the session have agreed upon
-abbrev pub columns_of : State → PositionEncoding
-columns_of state = state.client.settings.capabilities.encodings
+abbrev pub columns_in : ConfigData → PositionEncoding
+columns_in settings = settings.capabilities.encodings
+
+abbrev pub paths_in : SettingValue → List (List ℕ)
+paths_in (Paths paths) = paths
+paths_in other = []
+
+-- the prefixes of the files that are excluded: the setting `files.exclude`
+abbrev pub excludes_in : ConfigData → List (List ℕ)
+excludes_in settings = paths_in (setting FilesExclude None settings.settings)
 
 -- the snapshot of the present
 abbrev pub snapshot_of : State → SnapshotData
-snapshot_of state = record { world = state.host.world; versions = state.versions; config = state.client.settings; revision = state.host.revision }
+snapshot_of state = record {
+  world = state.files.host.world;
+  file_ids = state.files.ids;
+  versions = state.files.versions;
+  config = state.client.settings;
+  revision = state.files.host.revision;
+}
 
 -- what a request meets; the crate graph counts as complete
 abbrev pub scene_of : State → Scene
-scene_of state = record { snapshot = snapshot_of state; loading = state.loading; incomplete = false }
+scene_of state = record { snapshot = snapshot_of state; loading = state.files.loading; incomplete = false }
 
 -- the state before any turn
 abbrev pub fresh : ConfigData → State
-fresh settings = record { client = new_client settings; host = new_host; versions = map.empty; desk = new_desk; loading = false }
+fresh settings = record { client = new_client settings; files = no_files; desk = new_desk }
+
+-- the same, where so many of each counter were used
+abbrev pub fresh_at : Counters → ConfigData → State
+fresh_at used settings = record {
+  client = new_client_at used.outgoing settings;
+  files = no_files_at used.files used.revisions;
+  desk = new_desk_at used.turns used.jobs;
+}

@@ -1,7 +1,7 @@
 // What a turn takes in.
 use lsp_frame::Message;
 use plain::Items;
-use session_port::TaskMsg;
+use session_port::{LoaderMsg, TaskMsg};
 
 /// What a turn takes in after the first.
 #[derive(Drop)]
@@ -10,6 +10,8 @@ pub enum Event {
     Lsp(Message),
     /// Messages of jobs, handled one after another.
     Task(Items<TaskMsg>),
+    /// Messages of the loader, one after another.
+    Vfs(Items<LoaderMsg>),
 }
 
 /// What a turn takes in: the start of the session, then one event after another.

@@ -2,11 +2,13 @@
 //! requests and answers. The laws that carry it and the code that is it are in crates above; here are its types.
 #![tactic(auto)]
 
+mod counters;
 mod facts;
 mod fault;
 mod heard;
 mod input;
 
+pub use counters::Counters;
 pub use facts::Facts;
 pub use fault::SessionError;
 pub use heard::Heard;

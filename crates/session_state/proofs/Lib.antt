@@ -1,3 +1,4 @@
 pub mod AtClient
 pub mod AtDesk
-pub mod News
+pub mod AtFiles
+pub mod Heard

@@ -1,28 +1,31 @@
 // The session's state and its turns.
-ghost use Rattle.std.specs.Prelude.{◌≡◌, IfOk, OnOk, Some, is_some, not};
+ghost use Rattle.std.specs.Prelude.{◌≡◌, ◌≤◌, IfOk, OnOk, Some, is_some, not};
 ghost use Rattle.lsp_frame.specs.Pending.{IsAbove, id_of, is_pending};
 ghost use Rattle.lsp_frame.specs.Written.{AreWritable};
 ghost use Rattle.lsp_frame.specs.declared.message.Message.TheVariants.{Response as ResponseMessage};
+ghost use Rattle.outgoing.specs.Outgoing.{number_limit};
 ghost use Rattle.turn_parts.specs.Meets.{Meets, Gives};
 ghost use Rattle.turn_parts.specs.Working.{ordered, logged};
 ghost use Rattle.desk.specs.Meaning.{Meaning, meaning_of};
 ghost use Rattle.desk.specs.Steps.{responded, cancelled};
 ghost use Rattle.session_model.specs.Machine.{at_desk, closed, counted, facts_of, happened, kept, revised, step, taken_in};
-ghost use Rattle.session_model.specs.State.{scene_of, snapshot_of, fresh};
+ghost use Rattle.session_model.specs.State.{scene_of, snapshot_of, fresh, fresh_at};
 ghost use Rattle.session_model.specs.declared.input.Input.TheVariants.{Start, Next};
 
 mod asking;
+mod filing;
 mod messages;
 mod notifications;
 mod watching;
 
-use analysis_host::{Analysis, AnalysisHost, GlobalStateSnapshot, SnapshotParts, Versions};
+use analysis_host::{Analysis, GlobalStateSnapshot, SnapshotParts};
 use client::Client;
 use desk::{Desk, Scene};
 use lsp_frame::{RequestId, Response};
 use plain::{NoMemory, Text};
 use ra_config::Config;
-use session_model::{Event, Facts, TurnError};
+use session_files::SessionFiles;
+use session_model::{Counters, Event, Facts, TurnError};
 use session_port::{Command, LogCode};
 use std::alloc::{AllocError, Global};
 use std::marker::Model;
@@ -34,13 +37,13 @@ use turn_parts::TurnOut;
 pub struct GlobalState {
     alloc: Global,
     client: Client,
-    host: AnalysisHost,
-    versions: Versions,
+    files: SessionFiles,
     desk: Desk,
-    loading: bool,
 }
 
 impl Model for GlobalState {
+    ghost use Rattle.std.specs.Coded.{codes};
+    ghost use Rattle.std.specs.FinMap as map;
     ghost use Rattle.client.specs.contracts.handler.ReqHandler as handler;
     ghost use Rattle.session_port.specs.contracts.job.Job as job;
     ghost use Rattle.session_model.specs.Codes.{state_code};
@@ -48,9 +51,9 @@ impl Model for GlobalState {
 
     ghost Value = { State };
 
-    ghost coded = { state_code handler.the_row.coded job.the_row.coded };
+    ghost coded = { state_code handler.the_row.coded (Prim.hlevel (codes, map.code)) job.the_row.coded };
 
-    ghost view = { λ g. record { client = g.client; host = g.host; versions = g.versions; desk = g.desk; loading = g.loading } };
+    ghost view = { λ g. record { client = g.client; files = g.files; desk = g.desk } };
 }
 
 impl GlobalState {
@@ -61,18 +64,22 @@ impl GlobalState {
         Ok(GlobalState {
             alloc,
             client: Client::new(alloc, settings)?,
-            host: AnalysisHost::new(alloc)?,
-            versions: Versions::new(alloc)?,
+            files: SessionFiles::new(alloc)?,
             desk: Desk::new(alloc),
-            loading: false,
         })
     }
 
-    /// Whether files are loading. A session does not set it by itself yet: it is for a caller that loads files.
-    pub fn set_loading(&mut self, loading: bool)
-        ensures { self.new ≡ record self.old { loading = loading } }
+    /// The same, where so many of each counter were used.
+    pub fn new_at(alloc: Global, settings: Config, used: Counters) -> Result<Self, AllocError>
+        requires { used.outgoing ≤ number_limit }
+        ensures { IfOk result (λ state. state ≡ fresh_at used settings) }
     {
-        self.loading = loading;
+        Ok(GlobalState {
+            alloc,
+            client: Client::new_at(alloc, used.outgoing, settings)?,
+            files: SessionFiles::new_at(alloc, used.files, used.revisions)?,
+            desk: Desk::new_at(alloc, used.turns, used.jobs),
+        })
     }
 
     /// The snapshot of the present.
@@ -80,10 +87,11 @@ impl GlobalState {
         ensures { IfOk result (λ snapshot. snapshot ≡ snapshot_of self.now) }
     {
         Ok(GlobalStateSnapshot::new(SnapshotParts {
-            world: self.host.world()?,
-            versions: self.versions.clone()?,
+            world: self.files.world()?,
+            file_ids: self.files.file_ids()?,
+            versions: self.files.versions()?,
             config: Arc::try_clone(self.client.settings())?,
-            revision: self.host.revision(),
+            revision: self.files.revision(),
         }))
     }
 
@@ -93,7 +101,7 @@ impl GlobalState {
     {
         Ok(Scene {
             snapshot: self.snapshot()?,
-            loading: self.loading,
+            loading: self.files.is_loading(),
             incomplete: false,
         })
     }
@@ -178,6 +186,7 @@ impl GlobalState {
         match event {
             Event::Lsp(message) => self.on_message(message, analysis, out),
             Event::Task(batch) => self.on_batch(batch, analysis, out),
+            Event::Vfs(messages) => self.on_loader(messages, out),
         }
     }
 
@@ -208,7 +217,7 @@ impl GlobalState {
     fn revise(&mut self, before: u64, out: &mut TurnOut) -> Result<(), TurnError>
         ensures { Gives result (revised before (record { state = self.old; out = out.old })) self.new out.new }
     {
-        let revision = self.host.revision();
+        let revision = self.files.revision();
         if revision == before {
             return Ok(());
         }
@@ -228,7 +237,7 @@ impl GlobalState {
         ensures { result ≡ facts_of (record { state = self.now; out = out.now }) }
     {
         Facts {
-            revision: self.host.revision(),
+            revision: self.files.revision(),
             ordered: out.commands().len(),
         }
     }
@@ -243,7 +252,7 @@ impl GlobalState {
     }
 
     /// One turn. After an `Err` the state is spent.
-    #[tactic(auto, unfolding(session_model::specs::Machine::step, session_model::specs::Machine::event_part, session_model::specs::Machine::closing_part, turn_parts::specs::Working::within))]
+    #[tactic(auto, unfolding(session_model::specs::Machine::step, session_model::specs::Machine::event_part, session_model::specs::Machine::files_part, session_model::specs::Machine::closing_part, turn_parts::specs::Working::within))]
     pub fn handle_event<A: Analysis>(
         &mut self,
         event: Event,
@@ -254,6 +263,7 @@ impl GlobalState {
     {
         let facts = self.facts(out);
         self.take_in(event, analysis, out)?;
+        self.process(out)?;
         self.close_turn(facts, out)
     }
 }

@@ -1,8 +1,8 @@
 // Ends of lines.
-use plain::Text;
+use plain::{ArcText, Text};
 use std::alloc::Global;
 use std::test::Fail;
-use text_core::LineEndings;
+use text_core::{LineEndings, TextIndex};
 
 /// Whether a text has this normal form and these endings.
 fn normalizes(alloc: Global, src: &str, text: &str, endings: LineEndings) -> Result<bool, Fail> {
@@ -10,11 +10,27 @@ fn normalizes(alloc: Global, src: &str, text: &str, endings: LineEndings) -> Res
     Ok(found.is(text) && kind == endings)
 }
 
+/// The same of a text that others share, which stays as it was.
+fn normalizes_shared(
+    alloc: Global,
+    src: &str,
+    text: &str,
+    endings: LineEndings,
+) -> Result<bool, Fail> {
+    let shared = ArcText::new(alloc, Text::from_str(alloc, src)?)?;
+    let (found, kind) = LineEndings::normalize_shared(alloc, shared.clone()?)?;
+    Ok(found.as_str() == text && kind == endings && shared.as_str() == src)
+}
+
 #[test]
 fn unix_texts(rt: HostRuntime) -> Result<(), Fail> {
     for text in ["a\nb\nc\n\n\n\n", "abc", "", "a\rb\r"] {
         assert!(rt;
             normalizes(rt.alloc(), text, text, LineEndings::Unix)?,
+            "{text:?}"
+        );
+        assert!(rt;
+            normalizes_shared(rt.alloc(), text, text, LineEndings::Unix)?,
             "{text:?}"
         );
     }
@@ -33,6 +49,25 @@ fn dos_texts(rt: HostRuntime) -> Result<(), Fail> {
             normalizes(rt.alloc(), src, text, LineEndings::Dos)?,
             "{src:?}"
         );
+        assert!(rt;
+            normalizes_shared(rt.alloc(), src, text, LineEndings::Dos)?,
+            "{src:?}"
+        );
+    }
+    Ok(())
+}
+
+/// An index of a text that others share, and the text that it shares.
+fn is_indexed(alloc: Global, text: &str) -> Result<bool, Fail> {
+    let shared = ArcText::new(alloc, Text::from_str(alloc, text)?)?;
+    let index = TextIndex::from_shared(alloc, shared)?;
+    Ok(index.text() == text && index.share_text()?.as_str() == text)
+}
+
+#[test]
+fn shared_texts_are_indexed(rt: HostRuntime) -> Result<(), Fail> {
+    for text in ["", "a\r\nb", "é\n"] {
+        assert!(rt; is_indexed(rt.alloc(), text)?, "{text:?}");
     }
     Ok(())
 }

@@ -2,17 +2,17 @@
 ghost use Rattle.std.specs.Prelude.{◌≡◌, OnOk};
 ghost use Rattle.client.specs.Answers.{fault_in, settings_in};
 ghost use Rattle.client.specs.Folds.{follows, asked_after, with_client, client_change};
-ghost use Rattle.client.specs.Steps.{answered, logged_if, open_logs};
+ghost use Rattle.client.specs.Steps.{answered, logged_if};
 ghost use Rattle.session_port.specs.declared.command.LogCode.TheVariants.{SettingsError};
 ghost use Rattle.turn_parts.specs.Meets.{Gives};
-ghost use Rattle.turn_parts.specs.Working.{written};
 
 use crate::answers::{SettingsAnswer, chooses, read_settings};
 use crate::handler::ReqHandler;
 use crate::ids::id_text;
 use crate::state::Client;
-use lsp_frame::{Message, Notification, RequestId, Response};
-use plain::{Items, Json, Text};
+use lsp_frame::{RequestId, Response};
+use notify::Outgo;
+use plain::{Items, Json};
 use ra_config::ConfigChange;
 use session_port::{Command, LogCode};
 use std::alloc::{AllocError, Global};
@@ -71,18 +71,6 @@ impl Client {
         self.set_client(settings)
     }
 
-    // The client is to open the logs.
-    #[tactic(auto, unfolding(turn_parts::specs::Working::written))]
-    fn open_logs(&self, out: &mut TurnOut) -> Result<(), AllocError>
-        ensures { OnOk result (written open_logs (record { state = self.now; out = out.old }) ≡ record { state = self.now; out = out.new }) }
-    {
-        let method = Text::from_str(self.alloc, "experimental/openServerLogs")?;
-        out.write(Message::Notification(Notification {
-            method,
-            params: Json::null(),
-        }))
-    }
-
     /// An answer to a request of the session's own. After an `Err` the client is spent.
     #[tactic(auto, unfolding(crate::specs::Steps::answered, crate::specs::Steps::followed, turn_parts::specs::Working::logged, turn_parts::specs::Working::ordered, turn_parts::specs::Working::written))]
     pub fn complete(&mut self, response: Response, out: &mut TurnOut) -> Result<(), TurnError>
@@ -95,7 +83,7 @@ impl Client {
             }
             Some(ReqHandler::Ignore) => {}
             Some(ReqHandler::Settings) => self.take_settings(response, out)?,
-            Some(ReqHandler::OpenLogs) if chooses(&response) => self.open_logs(out)?,
+            Some(ReqHandler::OpenLogs) if chooses(&response) => self.tell(Outgo::OpenLogs, out)?,
             Some(ReqHandler::OpenLogs) => {}
         }
         Ok(())

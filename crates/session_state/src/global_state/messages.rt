@@ -42,7 +42,7 @@ impl GlobalState {
         match message {
             Message::Request(request) => self.on_request(request, analysis, out),
             Message::Notification(notification) => self.on_notification(notification, out),
-            Message::Response(response) => self.on_response(response, out),
+            Message::Response(response) => self.complete_request(response, out),
         }
     }
 

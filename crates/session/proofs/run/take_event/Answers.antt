@@ -1,7 +1,7 @@
 use Rattle.std.proofs.Common.{rules, arith, refl, inl, [], ◌∷◌, ◌≡◌, ◌<◌, length}
 use Rattle.std.proofs.lemmas.Grind.{common_steps}
-use Rattle.session_port.specs.declared.event.HostEvent.TheVariants.{Bytes, Tasks, Ended}
-use Rattle.session_model.specs.declared.input.Event.TheVariants.{Task}
+use Rattle.session_port.specs.declared.event.HostEvent.TheVariants.{Bytes, Tasks, Vfs, Ended}
+use Rattle.session_model.specs.declared.input.Event.TheVariants.{Task, Vfs as VfsEvent}
 use Rattle.session_model.specs.declared.input.Input.TheVariants.{Next}
 use Rattle.session_laws.proofs.Courses.{course-event, course-fed, course-empty, course-waits}
 use Rattle.session_laws.proofs.Stretches.{telling-calls}
@@ -30,6 +30,13 @@ returns-in-Tasks-clause-turn g c =
     advances-turn _ (Next (Task c.in-Tasks.batch)) (Tasks c.in-Tasks.batch ∷ []) _ _ _ _ _ _ _ _ _ _ _ _
     (course-waits _ _ c.requires.waits) (λ more. course-event _ _ (Tasks c.in-Tasks.batch) more c.requires.waits) refl
     (telling-calls _ _ _ (grind (arith, common_steps, h)) refl) (grind (arith, common_steps, h)) (grind (arith, common_steps, h)) tt refl c.run_turn.ensures.turn
+
+pub returns-in-Vfs-clause-turn : goal.returns-in-Vfs-clause-turn
+returns-in-Vfs-clause-turn g c =
+    let h = c.in-Ok.ensures in
+    advances-turn _ (Next (VfsEvent c.in-Vfs.messages)) (Vfs c.in-Vfs.messages ∷ []) _ _ _ _ _ _ _ _ _ _ _ _
+    (course-waits _ _ c.requires.waits) (λ more. course-event _ _ (Vfs c.in-Vfs.messages) more c.requires.waits) refl
+    (telling-calls _ _ _ (grind (arith, common_steps, h)) refl) (grind (arith, common_steps, h)) (λ _. tt) tt refl c.run_turn.ensures.turn
 
 pub returns-then-len-eq0-clause-turn : goal.returns-then-len-eq0-clause-turn
 returns-then-len-eq0-clause-turn g c =

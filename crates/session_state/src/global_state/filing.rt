@@ -1,0 +1,129 @@
+// Documents, the loader's files, and the world that is made of them.
+ghost use Rattle.std.specs.Prelude.{◌≡◌, ◌<◌, ◌^◌, ◌&&◌, length, not, Ok, IfOk};
+ghost use Rattle.docs_vfs.specs.Files.{changes};
+ghost use Rattle.docs_vfs.specs.FileUrls.{path_of};
+ghost use Rattle.turn_parts.specs.Meets.{Meets};
+ghost use Rattle.session_files.specs.Steps.{changed, closed as closed_document, loaded, opened, processed};
+ghost use Rattle.session_model.specs.Headline.{are_some};
+ghost use Rattle.session_model.specs.Machine.{at_files, changed_at, closed_at, opened_at};
+ghost use Rattle.session_model.specs.State.{columns_in, excludes_in};
+
+use crate::global_state::GlobalState;
+use docs_vfs::{UrlFault, VfsPath, path_of_url};
+use notify::{DidChange, DidOpen};
+use plain::{Items, Text};
+use session_model::TurnError;
+use session_port::{LoaderMsg, LogCode};
+use turn_parts::TurnOut;
+
+impl GlobalState {
+    fn open_at(
+        &mut self,
+        path: VfsPath,
+        document: DidOpen,
+        out: &mut TurnOut,
+    ) -> Result<(), TurnError>
+        requires { length document.text < 2 ^ 32 }
+        ensures { Meets result (at_files (opened (excludes_in self.old.client.settings) path document.version document.text) (record { state = self.old; out = out.old })) self.new out.new }
+    {
+        let DidOpen { version, text, .. } = document;
+        let excludes = self.client.settings().files_exclude();
+        self.files.open(excludes, path, version, text, out)
+    }
+
+    // A document is open at the path of its URL.
+    #[tactic(auto, unfolding(session_model::specs::Machine::opened_at))]
+    pub(super) fn on_open(&mut self, document: DidOpen, out: &mut TurnOut) -> Result<(), TurnError>
+        requires { length document.text < 2 ^ 32 }
+        ensures { Meets result (opened_at (path_of document.uri) document (record { state = self.old; out = out.old })) self.new out.new }
+    {
+        match path_of_url(self.alloc, document.uri.as_str()) {
+            Ok(path) => self.open_at(path, document, out),
+            Err(UrlFault::NoMemory) => Err(TurnError::NoMemory),
+            Err(UrlFault::NotFile | UrlFault::HasHost | UrlFault::NotText) => {
+                self.log(LogCode::BadPath, document.uri, out)
+            }
+        }
+    }
+
+    fn change_at(
+        &mut self,
+        path: VfsPath,
+        change: DidChange,
+        out: &mut TurnOut,
+    ) -> Result<(), TurnError>
+        ensures { Meets result (at_files (changed (columns_in self.old.client.settings) path change.version change.changes) (record { state = self.old; out = out.old })) self.new out.new }
+    {
+        let DidChange {
+            version, changes, ..
+        } = change;
+        let columns = self.client.settings().encodings();
+        self.files.change(columns, path, version, changes, out)
+    }
+
+    // A document is changed at the path of its URL.
+    #[tactic(auto, unfolding(session_model::specs::Machine::changed_at))]
+    pub(super) fn on_change(
+        &mut self,
+        change: DidChange,
+        out: &mut TurnOut,
+    ) -> Result<(), TurnError>
+        ensures { Meets result (changed_at (path_of change.uri) change (record { state = self.old; out = out.old })) self.new out.new }
+    {
+        match path_of_url(self.alloc, change.uri.as_str()) {
+            Ok(path) => self.change_at(path, change, out),
+            Err(UrlFault::NoMemory) => Err(TurnError::NoMemory),
+            Err(UrlFault::NotFile | UrlFault::HasHost | UrlFault::NotText) => {
+                self.log(LogCode::BadPath, change.uri, out)
+            }
+        }
+    }
+
+    fn close_at(&mut self, path: VfsPath, out: &mut TurnOut) -> Result<(), TurnError>
+        ensures { Meets result (at_files (λ f. Ok (closed_document path f)) (record { state = self.old; out = out.old })) self.new out.new }
+    {
+        self.files.close(path, out)
+    }
+
+    // A document is closed at the path of its URL.
+    #[tactic(auto, unfolding(session_model::specs::Machine::closed_at))]
+    pub(super) fn on_close(&mut self, uri: Text, out: &mut TurnOut) -> Result<(), TurnError>
+        ensures { Meets result (closed_at (path_of uri) uri (record { state = self.old; out = out.old })) self.new out.new }
+    {
+        match path_of_url(self.alloc, uri.as_str()) {
+            Ok(path) => self.close_at(path, out),
+            Err(UrlFault::NoMemory) => Err(TurnError::NoMemory),
+            Err(UrlFault::NotFile | UrlFault::HasHost | UrlFault::NotText) => {
+                self.log(LogCode::BadPath, uri, out)
+            }
+        }
+    }
+
+    // What a loader brings.
+    pub(super) fn on_loader(
+        &mut self,
+        messages: Items<LoaderMsg>,
+        out: &mut TurnOut,
+    ) -> Result<(), TurnError>
+        ensures { Meets result (at_files (loaded messages) (record { state = self.old; out = out.old })) self.new out.new }
+    {
+        self.files.load(messages, out)
+    }
+
+    /// What has changed goes into the world, unless files are loading: one change, and so one revision. Answers whether
+    /// something has. After an `Err` the state is spent.
+    pub fn process_changes(&mut self, out: &mut TurnOut) -> Result<bool, TurnError>
+        ensures meets { Meets result (at_files processed (record { state = self.old; out = out.old })) self.new out.new }
+        ensures some { IfOk result (λ some. some ≡ (not self.old.files.loading && are_some (changes self.old.files.table))) }
+    {
+        self.files.process(out)
+    }
+
+    // The same behind the event of a turn.
+    pub(super) fn process(&mut self, out: &mut TurnOut) -> Result<(), TurnError>
+        ensures { Meets result (at_files processed (record { state = self.old; out = out.old })) self.new out.new }
+    {
+        self.process_changes(out)?;
+        Ok(())
+    }
+}
