@@ -1,6 +1,6 @@
 -- What becomes of the files of a session. Each answers the counter that is at its end where one more of it was needed: the numbers of files, or the
 -- revisions.
-use Rattle.std.specs.Prelude.{ℕ, ℤ, List, [], ◌∷◌, Bool, true, false, ◌||◌, map as each, Option, None, Some, is_some, Result, Ok, Err, if◌then◌else◌}
+use Rattle.std.specs.Prelude.{ℕ, ℤ, List, [], ◌∷◌, Bool, true, false, not, ◌||◌, ◌&&◌, map as each, Option, None, Some, is_some, Result, Ok, Err, if◌then◌else◌}
 use Rattle.std.specs.List.{list_any}
 use Rattle.std.specs.FinMap as map
 use Rattle.shared_map.specs.AsMap.{set_in_map}
@@ -125,10 +125,22 @@ abbrev pub with_changes : List ChangedFile → SessionFiles → Result SessionFi
 with_changes [] files = Ok files
 with_changes (file ∷ later) files = world_put (changed (each file_change (file ∷ later)) files.host) files
 
+-- the contents are from now on those of the last time
+abbrev pub taken_up : SessionFiles → SessionFiles
+taken_up files = record files { table = record files.table { before = map.empty } }
+
 -- the files are processed: what has changed since the last time goes into the world
 unfoldable pub after_processing : SessionFiles → Result SessionFiles Counter
-after_processing files = with_changes (changes files.table) (record files { table = record files.table { before = map.empty } })
+after_processing files = with_changes (changes files.table) (taken_up files)
 
 -- at the end of a turn, unless files are loading
 unfoldable pub after_turn : SessionFiles → Result SessionFiles Counter
 after_turn files = if files.loading then Ok files else after_processing files
+
+abbrev pub are_some : List ChangedFile → Bool
+are_some [] = false
+are_some (file ∷ later) = true
+
+-- the end of a turn changes the world: no files are loading, and some have changed
+abbrev pub changes_world : SessionFiles → Bool
+changes_world files = not files.loading && are_some (changes files.table)

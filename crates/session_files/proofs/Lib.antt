@@ -1,0 +1,5 @@
+pub mod EntryLemmas
+pub mod News
+pub mod NumberLemmas
+pub mod SoundLemmas
+pub mod Steps

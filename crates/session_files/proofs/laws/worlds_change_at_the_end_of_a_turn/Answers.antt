@@ -1,0 +1,13 @@
+use Rattle.session_files.proofs.SoundLemmas.{opening_keeps, editing_keeps, closing_keeps, messages_keep, turned}
+use Rattle.session_files.proofs.laws.worlds_change_at_the_end_of_a_turn.Goals as goal
+
+pub returns : goal.returns
+returns c = record {
+  opening = λ excludes path version text files now is. (opening_keeps excludes path version text files now is).host;
+  editing = λ columns path version edits files now is. (editing_keeps columns path version edits files now is).host;
+  closing = λ path files. (closing_keeps path files).host;
+  messages = λ messages files now is. (messages_keep messages files now is).host;
+  rest = λ files now is. (turned files now is).rest;
+  revision = λ files now is. (turned files now is).revision;
+  same = λ files now is quiet. (turned files now is).same quiet;
+}

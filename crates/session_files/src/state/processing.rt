@@ -1,0 +1,111 @@
+// What has changed goes into the world.
+ghost use Rattle.std.specs.Prelude.{◌≡◌, map as each, Some, IfOk, IfSome};
+ghost use Rattle.docs_vfs.specs.Files.{changes};
+ghost use Rattle.turn_parts.specs.Meets.{Meets};
+ghost use Rattle.session_files.specs.Folds.{world_put, taken_up, after_processing, after_turn, are_some, changes_world};
+ghost use Rattle.session_files.specs.Meets.{Leaves};
+ghost use Rattle.session_files.specs.Steps.{processed};
+ghost use Rattle.session_files.specs.Texts.{entry_of, file_change};
+ghost use Rattle.analysis_host.specs.HostData.{changed};
+
+use crate::entries::{entry_of_bytes, entry_of_document};
+use crate::state::SessionFiles;
+use analysis_host::{Change, FileChange, SharedText, TextEntry, WorldFault};
+use docs_vfs::{ChangedFile, SharedBytes, VfsPath};
+use plain::Items;
+use std::alloc::AllocError;
+use turn_parts::{Counter, TurnError, TurnOut};
+
+impl SessionFiles {
+    // The document of a path, where its text is these bytes.
+    fn document_with(&self, path: &VfsPath, bytes: &SharedBytes) -> Option<&SharedText>
+        ensures { IfSome result (λ document. document.now ≡ bytes.now) }
+    {
+        let document = self.texts.get(path)?;
+        if document.as_str().as_bytes() == bytes.as_slice() {
+            Some(document)
+        } else {
+            None
+        }
+    }
+
+    // What the world is to keep of a path with these contents. Where they are the text of a document, that is shared.
+    fn entry_at(&self, path: &VfsPath, bytes: &SharedBytes) -> Result<Option<TextEntry>, AllocError>
+        ensures { IfOk result (λ entry. entry ≡ entry_of (Some bytes.now)) }
+    {
+        match self.document_with(path, bytes) {
+            Some(document) => Ok(Some(entry_of_document(self.alloc, document)?)),
+            None => entry_of_bytes(self.alloc, bytes),
+        }
+    }
+
+    fn file_change(&self, file: ChangedFile) -> Result<FileChange, AllocError>
+        ensures { IfOk result (λ change. change ≡ file_change file) }
+    {
+        let ChangedFile { path, contents, .. } = file;
+        let entry = match contents {
+            Some(bytes) => self.entry_at(&path, &bytes)?,
+            None => None,
+        };
+        Ok(FileChange { path, entry })
+    }
+
+    fn file_changes(&self, files: Items<ChangedFile>) -> Result<Items<FileChange>, AllocError>
+        ensures { IfOk result (λ changes. changes ≡ each file_change files) }
+    {
+        let mut changes = Items::new(self.alloc);
+        for file in files.into_vec() {
+            changes.push(self.file_change(file)?)?;
+        }
+        Ok(changes)
+    }
+
+    // One change of the world, and so one revision more.
+    fn change_world(&mut self, files: Items<FileChange>) -> Result<(), TurnError>
+        ensures { Leaves result (world_put (changed files self.old.host) self.old) self.new }
+    {
+        match self.host.apply_change(Change { files }) {
+            Ok(()) => Ok(()),
+            Err(WorldFault::Exhausted) => Err(TurnError::Exhausted {
+                counter: Counter::Revisions,
+            }),
+            Err(WorldFault::NoMemory) => Err(TurnError::NoMemory),
+        }
+    }
+
+    // What has changed since the last time.
+    #[tactic(auto, using(crate::proofs::NumberLemmas::taken_numbers))]
+    fn take_changes(&mut self) -> Result<Items<ChangedFile>, AllocError>
+        ensures list { IfOk result (λ list. list ≡ changes self.old.table) }
+        ensures rest { self.new ≡ taken_up self.old }
+    {
+        self.table.take_changes()
+    }
+
+    #[tactic(auto, unfolding(crate::specs::Folds::after_processing))]
+    fn process_changes(&mut self) -> Result<bool, TurnError>
+        ensures leaves { Leaves result (after_processing self.old) self.new }
+        ensures changed { IfOk result (λ changed. changed ≡ are_some (changes self.old.table)) }
+    {
+        let files = self.take_changes()?;
+        if files.is_empty() {
+            return Ok(false);
+        }
+        let changes = self.file_changes(files)?;
+        self.change_world(changes)?;
+        Ok(true)
+    }
+
+    /// What has changed since the last time goes into the world, unless files are loading. Answers whether that was
+    /// something. After an `Err` the files are spent.
+    #[tactic(auto, using(crate::proofs::Steps::become_meets), unfolding(crate::specs::Steps::processed, crate::specs::Folds::after_turn))]
+    pub fn process(&mut self, out: &mut TurnOut) -> Result<bool, TurnError>
+        ensures meets { Meets result (processed (record { state = self.old; out = out.old })) self.new out.new }
+        ensures changed { IfOk result (λ changed. changed ≡ changes_world self.old) }
+    {
+        if self.loading {
+            return Ok(false);
+        }
+        self.process_changes()
+    }
+}
