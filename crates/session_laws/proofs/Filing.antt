@@ -1,7 +1,7 @@
 -- What is done with the files of a session answers nobody, and leaves the world as it is until they are processed.
 use Rattle.std.proofs.Common.{◌≡◌, ◌+◌, ◌-◌, ◌^◌, ◌≤◌, ℕ, List, [], ◌∷◌, Bool, true, false, refl, sym, ap, ◌∙◌, subst}
 use Rattle.std.proofs.lemmas.Bool.{ltb-false}
-use Rattle.std.specs.Prelude.{ℤ, Option, None, Some, Result, Ok, Err, IfOk, IfErr, ◌&&◌, not, ltb, if◌then◌else◌}
+use Rattle.std.specs.Prelude.{ℤ, Option, None, Some, Result, Ok, Err, IfOk, IfErr, ltb, if◌then◌else◌}
 use Rattle.std.specs.FinMap as map
 use Rattle.docs_vfs.specs.Files.{Files, changes}
 use Rattle.docs_vfs.specs.declared.file_kinds.ChangedFile.{ChangedFile}
@@ -20,13 +20,14 @@ use Rattle.turn_parts.specs.Working.{Working, and_then, logged, ordered}
 use Rattle.turn_parts.specs.declared.fault.Counter.{Counter}
 use Rattle.turn_parts.specs.declared.fault.Counter.TheVariants.{Files as FilesCounter, Revisions}
 use Rattle.desk_laws.proofs.Refusing.{err-and_then}
-use Rattle.desk_laws.proofs.Results.{IfOk-and_then, IfOk-if, IfOk-weaker}
+use Rattle.desk_laws.proofs.Results.{IfOk-if}
 use Rattle.session_files.specs.Changing.{has_skipped}
 use Rattle.session_files.specs.Folds.{after_changed, after_closing, after_each_changed, after_each_loaded, after_editing, after_loaded, after_message, after_messages, after_opening, after_processing}
 use Rattle.session_files.specs.Folds.{after_turn, contents_put, is_open, made_of, mark_put, table_put, text_edited, with_changes, world_put}
 use Rattle.session_files.specs.SessionFiles.{SessionFiles}
 use Rattle.session_files.specs.Steps.{become, changed, close_noted, closed, edited, loaded, open_noted, opened, processed, skip_noted}
-use Rattle.session_model.specs.Headline.{are_due, are_some}
+use Rattle.session_files.proofs.SoundLemmas.{editing_keeps, messages_keep, opening_keeps, turned}
+use Rattle.session_model.specs.Headline.{are_due}
 use Rattle.session_laws.specs.Beside.{Tells}
 use Rattle.session_laws.proofs.Telling.{tells-invalidated, tells-logged, tells-none, tells-on}
 
@@ -35,64 +36,19 @@ use Rattle.session_laws.proofs.Telling.{tells-invalidated, tells-logged, tells-n
 abbrev pub KeepsHost : SessionFiles → SessionFiles → Type 0
 KeepsHost files now = now.host ≡ files.host
 
-put-host : (path : List ℕ) (r : Result Files TableFault) (files : SessionFiles) → IfOk (table_put path r files) (KeepsHost files)
-put-host path (Ok table) files = refl
-put-host path (Err fault) files = tt
-
-contents-host : (path : List ℕ) (contents : Option (List ℕ)) (files : SessionFiles) → IfOk (contents_put path contents files) (KeepsHost files)
-unfolding contents_put
-contents-host path contents files = put-host path _ files
-
-mark-host : (path : List ℕ) (files : SessionFiles) → IfOk (mark_put path files) (KeepsHost files)
-unfolding mark_put
-mark-host path files = put-host path _ files
+-- what holds of each outcome
+pub ok-from : {X E : Type 0} (r : Result X E) (P : X → Type 0) → ((x : X) → r ≡ Ok x → P x) → IfOk r P
+ok-from (Ok x) P h = h x refl
+ok-from (Err e) P h = tt
 
 pub opening-host : (excludes : List (List ℕ)) (path : List ℕ) (version : ℤ) (text : List ℕ) (files : SessionFiles) → IfOk (after_opening excludes path version text files) (KeepsHost files)
-unfolding after_opening
-opening-host excludes path version text files = IfOk-if _ _ _ (KeepsHost files) (mark-host path _) (contents-host path (Some text) _)
+opening-host excludes path version text files = ok-from _ (KeepsHost files) (λ now is. (opening_keeps excludes path version text files now is).host)
 
-text-host : (path text : List ℕ) (files : SessionFiles) → IfOk (text_edited path text files) (KeepsHost files)
-unfolding text_edited
-text-host path text files = IfOk-if _ (Ok files) _ (KeepsHost files) refl (contents-host path (Some text) _)
-
-pub editing-host : (columns : PositionEncoding) (path : List ℕ) (version : ℤ) (changes : List ContentChange) (files : SessionFiles) → IfOk (after_editing columns path version changes files) (KeepsHost files)
-unfolding after_editing
-editing-host columns path version changes files = text-host path _ _
-
-changed-host : (file : LoadedFile) (files : SessionFiles) → IfOk (after_changed file files) (KeepsHost files)
-unfolding after_changed
-changed-host file files = IfOk-if _ (Ok files) _ (KeepsHost files) refl (contents-host file.path file.contents files)
-
-loaded-host : (file : LoadedFile) (files : SessionFiles) → IfOk (after_loaded file files) (KeepsHost files)
-unfolding after_loaded
-loaded-host file files = IfOk-if _ (Ok files) _ (KeepsHost files) refl (contents-host file.path file.contents files)
-
-each_changed-host : (list : List LoadedFile) (files : SessionFiles) → IfOk (after_each_changed list files) (KeepsHost files)
-unfolding after_each_changed
-each_changed-host [] files = refl
-each_changed-host (file ∷ later) files =
-    IfOk-and_then (after_changed file files) (after_each_changed later) (KeepsHost files) (KeepsHost files) (changed-host file files)
-    (λ now same. IfOk-weaker _ (KeepsHost now) (KeepsHost files) (each_changed-host later now) (λ last h. h ∙ same))
-
-each_loaded-host : (list : List LoadedFile) (files : SessionFiles) → IfOk (after_each_loaded list files) (KeepsHost files)
-unfolding after_each_loaded
-each_loaded-host [] files = refl
-each_loaded-host (file ∷ later) files =
-    IfOk-and_then (after_loaded file files) (after_each_loaded later) (KeepsHost files) (KeepsHost files) (loaded-host file files)
-    (λ now same. IfOk-weaker _ (KeepsHost now) (KeepsHost files) (each_loaded-host later now) (λ last h. h ∙ same))
-
-message-host : (message : LoaderMsg) (files : SessionFiles) → IfOk (after_message message files) (KeepsHost files)
-unfolding after_message
-message-host (Changed list) files = each_changed-host list files
-message-host (Loaded list) files = each_loaded-host list files
-message-host (Progress total done dir version) files = refl
+editing-host : (columns : PositionEncoding) (path : List ℕ) (version : ℤ) (edits : List ContentChange) (files : SessionFiles) → IfOk (after_editing columns path version edits files) (KeepsHost files)
+editing-host columns path version edits files = ok-from _ (KeepsHost files) (λ now is. (editing_keeps columns path version edits files now is).host)
 
 pub messages-host : (messages : List LoaderMsg) (files : SessionFiles) → IfOk (after_messages messages files) (KeepsHost files)
-unfolding after_messages
-messages-host [] files = refl
-messages-host (message ∷ later) files =
-    IfOk-and_then (after_message message files) (after_messages later) (KeepsHost files) (KeepsHost files) (message-host message files)
-    (λ now same. IfOk-weaker _ (KeepsHost now) (KeepsHost files) (messages-host later now) (λ last h. h ∙ same))
+messages-host messages files = ok-from _ (KeepsHost files) (λ now is. (messages_keep messages files now is).host)
 
 -- ---- the counter that can be at its end is that of the numbers of files
 
@@ -165,30 +121,12 @@ revision_by due host = if due then host.revision + 1 else host.revision
 abbrev pub revision_now : Bool → SessionFiles → ℕ
 revision_now due files = revision_by due files.host
 
-abbrev RevisesBy : Bool → SessionFiles → SessionFiles → Type 0
-RevisesBy due files now = now.host.revision ≡ revision_now due files
-
 -- the last revision was reached
 abbrev pub AtLast : ℕ → Counter → Type 0
 AtLast revision counter = (counter ≡ Revisions) × (2 ^ 64 - 1 ≤ revision)
 
-put-revises : (b : Bool) (host : HostData) (old files : SessionFiles) → host.revision ≡ files.host.revision + 1 → IfOk (world_put (if b then Ok host else Err Exhausted) old) (RevisesBy true files)
-put-revises true host old files more = more
-put-revises false host old files more = tt
-
-list-revises : (list : List ChangedFile) (old files : SessionFiles) → old.host ≡ files.host → IfOk (with_changes list old) (RevisesBy (are_some list) files)
-list-revises [] old files same = ap (λ (h : HostData). h.revision) same
-list-revises (file ∷ later) old files same =
-    put-revises (ltb old.host.revision (2 ^ 64 - 1)) _ old files (ap (λ (h : HostData). h.revision + 1) same)
-
-loading-revises : (b : Bool) (files : SessionFiles) → IfOk (if b then Ok files else after_processing files) (RevisesBy (not b && are_some (changes files.table)) files)
-unfolding after_processing
-loading-revises true files = refl
-loading-revises false files = list-revises (changes files.table) _ files refl
-
-pub turn-revises : (files : SessionFiles) → IfOk (after_turn files) (RevisesBy (are_due (Ok files)) files)
-unfolding after_turn
-turn-revises files = loading-revises files.loading files
+pub turn-revises : (files : SessionFiles) → IfOk (after_turn files) (λ now. now.host.revision ≡ revision_now (are_due (Ok files)) files)
+turn-revises files = ok-from _ _ (λ now is. (turned files now is).revision)
 
 put-last : (b : Bool) (host : HostData) (old : SessionFiles) → ltb old.host.revision (2 ^ 64 - 1) ≡ b → IfErr (world_put (if b then Ok host else Err Exhausted) old) (AtLast old.host.revision)
 put-last true host old is = tt

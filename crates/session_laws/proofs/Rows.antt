@@ -49,7 +49,7 @@ use Rattle.session_files.specs.Folds.{after_closing, after_messages, after_openi
 use Rattle.session_files.specs.SessionFiles.{SessionFiles}
 use Rattle.session_files.specs.Steps.{changed, closed as closed_document, loaded, opened, processed}
 use Rattle.session_model.specs.Headline.{Place, reaction_of, row, notice_row, batch_row, desk_after, place_after, place_past, client_after, last_of, revision_after, scene_at}
-use Rattle.session_model.specs.Headline.{are_due, changes_world, files_after, files_made, files_told, files_turned, or_before}
+use Rattle.session_model.specs.Headline.{are_due, is_changed, files_after, files_made, files_told, files_turned, or_before}
 use Rattle.session_model.specs.Inputs.{cancelled_by, request_in, turns_after}
 use Rattle.session_model.specs.Machine.{Turning, asked_for_settings, at_client, at_desk, at_files, batched, changed_at, client_in, closed, closed_at, closing_part, counted, desk_in, event_part}
 use Rattle.session_model.specs.Machine.{facts_of, file_changed, files_changed, files_in, files_part, happened, kept, later_parts, noticed, opened_at, received, revised, state_in, step, taken, taken_in, told}
@@ -98,7 +98,7 @@ pub record Made (meaning : Meaning) (s : State) (input : Input) (u : Working Sta
   pub client : u.state.client ≡ client_after input s.client
   pub files : files_made s.client.settings input s.files ≡ Ok u.state.files
   pub unrevised : filter_map revision_of u.out.commands ≡ []
-  pub revised : u.state.files.host.revision ≡ revision_now (changes_world s.client.settings input s.files) s.files
+  pub revised : u.state.files.host.revision ≡ revision_now (is_changed s.client.settings input s.files) s.files
 
 -- ---- the desk
 
@@ -447,7 +447,7 @@ pub record Fits (meaning : Meaning) (s : State) (input : Input) (v : Working Sta
   pub numbered : AreNumbered s.desk.handed (spawned v.out.commands)
   pub place : place_of v.state ≡ place_after (turn_of input v) (place_of s)
   pub later : s.files.host.revision ≤ v.state.files.host.revision
-  pub revised : v.state.files.host.revision ≡ revision_now (changes_world s.client.settings input s.files) s.files
+  pub revised : v.state.files.host.revision ≡ revision_now (is_changed s.client.settings input s.files) s.files
 
 -- the jobs that were handed over are out
 abbrev kept_turn : Working State → Working State
@@ -508,7 +508,7 @@ made-now : (meaning : Meaning) (s : State) (event : Event) (u : Working State) (
     → Made meaning s (Next event) (record { state = with_files v.state u.state; out = v.out })
 made-now meaning s event u v mid p =
     let told = mid.files in
-    let due : changes_world s.client.settings (Next event) s.files ≡ are_due (Ok u.state.files) = ap are_due told in
+    let due : is_changed s.client.settings (Next event) s.files ≡ are_due (Ok u.state.files) = ap are_due told in
     let rises : v.state.host.revision ≡ revision_now (are_due (Ok u.state.files)) u.state.files = IfOk-at_ok (λ f. f.host.revision ≡ revision_now (are_due (Ok u.state.files)) u.state.files) p.is (turn-revises u.state.files) in
     record {
       serves = record {

@@ -1,7 +1,11 @@
 -- What queries see of the files is what the lists say.
-use Rattle.std.proofs.Common.{◌≡◌, List, [], ◌∷◌, false, subst, sym}
+use Rattle.std.proofs.Common.{◌≡◌, ℕ, List, [], ◌∷◌, false, ap, ◌∙◌}
 use Rattle.std.specs.Prelude.{Option, None, Some, Result, Ok, Err, IfOk}
+use Rattle.std.specs.FinMap as map
+use Rattle.docs_vfs.specs.FileLaws.{taken}
+use Rattle.docs_vfs.specs.Files.{contents_at}
 use Rattle.docs_vfs.specs.FileUrls.{path_of}
+use Rattle.docs_vfs.specs.Paths.{path_cmp}
 use Rattle.docs_vfs.specs.declared.file_url.UrlFault.{UrlFault}
 use Rattle.lsp_frame.specs.declared.message.Message.{Message}
 use Rattle.ra_config.specs.Config.{ConfigData}
@@ -12,12 +16,14 @@ use Rattle.notify.specs.declared.notice.Notice.{Notice}
 use Rattle.notify.specs.declared.notice.Notice.TheVariants as notices
 use Rattle.desk_laws.proofs.Results.{IfOk-and_then, IfOk-if}
 use Rattle.session_files.specs.Current.{IsCurrent, IsSound}
-use Rattle.session_files.specs.SessionFiles.{SessionFiles}
-use Rattle.session_files.proofs.Sound.{closing-sound, editing-sound, messages-sound, no-files-sound, opening-sound, turn-current, turn-sound}
+use Rattle.session_files.specs.SessionFiles.{SessionFiles, no_files}
+use Rattle.session_files.specs.Texts.{entry_of}
+use Rattle.session_files.proofs.SoundLemmas.{closing_keeps, editing_keeps, messages_keep, none_sound, opening_keeps, turned}
 use Rattle.session_model.specs.Headline.{Place, SeesFiles, beginning, changed_at, closed_at, documents_told, files_after, files_made, files_told, files_turned, opened_at, or_before}
 use Rattle.session_model.specs.Headline.{place_after, place_after_all}
 use Rattle.session_model.specs.Inputs.{notice_in}
 use Rattle.session_model.specs.Run.{Turn}
+use Rattle.session_laws.proofs.Filing.{ok-from}
 use Rattle.session_model.specs.State.{columns_in, excludes_in}
 use Rattle.session_model.specs.declared.input.Event.{Event}
 use Rattle.session_model.specs.declared.input.Event.TheVariants.{Lsp, Task, Vfs}
@@ -31,15 +37,15 @@ record AreSeen (files : SessionFiles) : Type 0 where
 
 opened-sound : (settings : ConfigData) (o : Result (List ℕ) UrlFault) (document : DidOpen) (files : SessionFiles) → IsSound files → IfOk (opened_at settings o document files) IsSound
 opened-sound settings (Err fault) document files sound = sound
-opened-sound settings (Ok path) document files sound = opening-sound (excludes_in settings) path document.version document.text files sound
+opened-sound settings (Ok path) document files sound = ok-from _ IsSound (λ now is. (opening_keeps (excludes_in settings) path document.version document.text files now is).sound sound)
 
 changed-sound : (settings : ConfigData) (o : Result (List ℕ) UrlFault) (change : DidChange) (files : SessionFiles) → IsSound files → IfOk (changed_at settings o change files) IsSound
 changed-sound settings (Err fault) change files sound = sound
-changed-sound settings (Ok path) change files sound = IfOk-if _ _ (Ok files) IsSound (editing-sound (columns_in settings) path change.version change.changes files sound) sound
+changed-sound settings (Ok path) change files sound = IfOk-if _ _ (Ok files) IsSound (ok-from _ IsSound (λ now is. (editing_keeps (columns_in settings) path change.version change.changes files now is).sound sound)) sound
 
 closed-sound : (o : Result (List ℕ) UrlFault) (files : SessionFiles) → IsSound files → IsSound (closed_at o files)
 closed-sound (Err fault) files sound = sound
-closed-sound (Ok path) files sound = closing-sound path files sound
+closed-sound (Ok path) files sound = (closing_keeps path files).sound sound
 
 documents-sound : (settings : ConfigData) (notice : Option Notice) (files : SessionFiles) → IsSound files → IfOk (documents_told settings notice files) IsSound
 documents-sound settings None files sound = sound
@@ -60,17 +66,13 @@ documents-sound settings (Some notices.AbortRunTest) files sound = sound
 told-sound : (settings : ConfigData) (event : Event) (files : SessionFiles) → IsSound files → IfOk (files_told settings (Next event) files) IsSound
 told-sound settings (Lsp message) files sound = documents-sound settings (notice_in (Next (Lsp message))) files sound
 told-sound settings (Task batch) files sound = sound
-told-sound settings (Vfs messages) files sound = messages-sound messages files sound
-
-both : (r : Result SessionFiles Counter) → IfOk r IsSound → IfOk r (λ now. now.loading ≡ false → IsCurrent now) → IfOk r AreSeen
-both (Ok now) sound current = record { sound = sound; current = current }
-both (Err counter) sound current = tt
+told-sound settings (Vfs messages) files sound = ok-from _ IsSound (λ now is. (messages_keep messages files now is).sound sound)
 
 made-seen : (settings : ConfigData) (input : Input) (files : SessionFiles) → AreSeen files → IfOk (files_made settings input files) AreSeen
 made-seen settings Start files seen = seen
 made-seen settings (Next event) files seen =
     IfOk-and_then (files_told settings (Next event) files) (files_turned (Next event)) IsSound AreSeen (told-sound settings event files seen.sound)
-    (λ now sound. both _ (turn-sound now sound) (turn-current now sound))
+    (λ now sound. ok-from _ AreSeen (λ last is. let t = turned now last is in record { sound = t.sound sound; current = λ ready. t.current ready sound }))
 
 or-seen : (files : SessionFiles) (r : Result SessionFiles Counter) → AreSeen files → IfOk r AreSeen → AreSeen (or_before files r)
 or-seen files (Ok now) seen made = made
@@ -83,7 +85,15 @@ all-seen : (turns : List Turn) (place : Place) → AreSeen place.files → AreSe
 all-seen [] place seen = seen
 all-seen (turn ∷ turns) place seen = all-seen turns (place_after turn place) (after-seen place.client.settings turn.input place.files seen)
 
+-- nothing has changed since the files were last processed
+never-changed : IsSound no_files → IsCurrent no_files
+never-changed sound path = sound.processed path ∙ ap (λ was. entry_of (taken was (contents_at no_files.table path))) (map.get-empty path_cmp path)
+
+-- where there are no files
+none-seen : AreSeen no_files
+none-seen = record { sound = none_sound 0 0; current = λ ready. never-changed (none_sound 0 0) }
+
 pub places-see : (settings : ConfigData) (turns : List Turn) → SeesFiles (place_after_all turns (beginning settings)).files
 places-see settings turns =
-    let seen = all-seen turns (beginning settings) (record { sound = no-files-sound 0 0; current = λ _. no-files-current }) in
+    let seen = all-seen turns (beginning settings) none-seen in
     record { numbers = seen.sound.numbers; texts = seen.current }

@@ -1,10 +1,9 @@
 -- What a session's record says of requests and answers: by the lists of inputs, messages and commands alone.
-use Rattle.std.specs.Prelude.{◌≡◌, ◌≤◌, ℕ, ◌+◌, ◌-◌, ◌^◌, ◌⊎◌, List, [], ◌∷◌, ◌++◌, length, Contains, Bool, true, false, not, ◌&&◌}
+use Rattle.std.specs.Prelude.{◌≡◌, ◌≤◌, ℕ, ◌+◌, ◌-◌, ◌^◌, ◌⊎◌, List, [], ◌∷◌, ◌++◌, length, Contains, Bool, false}
 use Rattle.std.specs.Prelude.{IsTrue, Option, None, Some, Result, Ok, Err, if◌then◌else◌}
 use Rattle.std.specs.FinMap as map
 use Rattle.std.specs.List.{filter_map}
 use Rattle.docs_vfs.specs.FileUrls.{path_of}
-use Rattle.docs_vfs.specs.Files.{changes}
 use Rattle.docs_vfs.specs.declared.file_url.UrlFault.{UrlFault}
 use Rattle.lsp_frame.specs.Reader.{Reader}
 use Rattle.lsp_frame.specs.declared.message.Message.TheVariants.{Request as RequestMessage, Notification as NotificationMessage, Response as ResponseMessage}
@@ -40,7 +39,7 @@ use Rattle.session_model.specs.Course.{Course, Stop as CourseStop, takes, stops,
 use Rattle.session_model.specs.Course.{session_course, bytes_in}
 use Rattle.session_model.specs.Inputs.{cancelled_by, notice_in, request_in, response_in, turns_after}
 use Rattle.session_files.specs.Current.{AreNumbers, IsCurrent}
-use Rattle.session_files.specs.Folds.{after_closing, after_editing, after_messages, after_opening, after_turn, is_open}
+use Rattle.session_files.specs.Folds.{after_closing, after_editing, after_messages, after_opening, after_turn, changes_world, is_open}
 use Rattle.session_files.specs.SessionFiles.{SessionFiles, no_files}
 use Rattle.session_model.specs.Hearing.{heard_of, told_by}
 use Rattle.session_model.specs.State.{columns_in, excludes_in}
@@ -225,24 +224,20 @@ abbrev pub AreHandedOver : ConfigData → List Turn → Jobs → Type 0
 AreHandedOver settings turns jobs =
     (number : ℕ) (job : Job) (ticket : ℕ) → map.get jobs number ≡ Some job → ticket_of job.kind ≡ Some ticket → WasHandedOver settings turns ticket job
 
-abbrev pub are_some : {X : Type 0} → List X → Bool
-are_some [] = false
-are_some (x ∷ xs) = true
-
 -- the contents of some path aren't those that the world was last made of, and no files are loading
 abbrev pub are_due : Result SessionFiles Counter → Bool
-are_due (Ok files) = not files.loading && are_some (changes files.table)
+are_due (Ok files) = changes_world files
 are_due (Err counter) = false
 
 -- a turn changes the world
-abbrev pub changes_world : ConfigData → Input → SessionFiles → Bool
-changes_world settings Start files = false
-changes_world settings (Next event) files = are_due (files_told settings (Next event) files)
+abbrev pub is_changed : ConfigData → Input → SessionFiles → Bool
+is_changed settings Start files = false
+is_changed settings (Next event) files = are_due (files_told settings (Next event) files)
 
 -- the revision is one more where the turn changes the world, and else the same
 abbrev pub Revises : Turn → Place → Type 0
 Revises turn place =
-    (place_after turn place).revision ≡ (if changes_world place.client.settings turn.input place.files then place.revision + 1 else place.revision)
+    (place_after turn place).revision ≡ (if is_changed place.client.settings turn.input place.files then place.revision + 1 else place.revision)
 
 -- the numbers of the files are the table's; and where no files are loading, the world has, of each path, its contents, normalised, where they are a text
 pub record SeesFiles (files : SessionFiles) : Type 0 where

@@ -42,8 +42,7 @@ pub struct GlobalState {
 }
 
 impl Model for GlobalState {
-    ghost use Rattle.std.specs.Coded.{codes};
-    ghost use Rattle.std.specs.FinMap as map;
+    ghost use Rattle.docs_vfs.specs.contracts.file_table.FileTable as files_of;
     ghost use Rattle.client.specs.contracts.handler.ReqHandler as handler;
     ghost use Rattle.session_port.specs.contracts.job.Job as job;
     ghost use Rattle.session_model.specs.Codes.{state_code};
@@ -51,7 +50,7 @@ impl Model for GlobalState {
 
     ghost Value = { State };
 
-    ghost coded = { state_code handler.the_row.coded (Prim.hlevel (codes, map.code)) job.the_row.coded };
+    ghost coded = { state_code handler.the_row.coded files_of.the_row.coded job.the_row.coded };
 
     ghost view = { λ g. record { client = g.client; files = g.files; desk = g.desk } };
 }
