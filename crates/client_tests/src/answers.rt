@@ -85,7 +85,7 @@ fn response(alloc: Global, id: i32, message: &str, value: &str) -> Result<Respon
 // What is done for the answer to a request, and the setting `check.command` from then on.
 fn answered(alloc: Global, then: ReqHandler, response: Response) -> Result<String, Fail> {
     let mut client = new_client(alloc)?;
-    ask(alloc, &mut client, then, &mut TurnOut::new(alloc))?;
+    ask(&mut client, then, &mut TurnOut::new(alloc))?;
     let mut out = TurnOut::new(alloc);
     went_on(client.complete(response, &mut out))?;
     let mut text = words(alloc, out)?;

@@ -1,7 +1,8 @@
 // Clients to try, and what was written and logged, in words.
 use client::{Client, ReqHandler};
 use docs_vfs::VfsPath;
-use plain::{Json, Text};
+use notify::Outgo;
+use plain::Text;
 use ra_config::Config;
 use session_port::{Command, LogCode};
 use std::alloc::Global;
@@ -33,14 +34,8 @@ pub fn went_on(done: Result<(), TurnError>) -> Result<(), Fail> {
 }
 
 /// Asks the client for something.
-pub fn ask(
-    alloc: Global,
-    client: &mut Client,
-    then: ReqHandler,
-    out: &mut TurnOut,
-) -> Result<(), Fail> {
-    let method = Text::from_str(alloc, "a/b")?;
-    went_on(client.ask(method, Json::null(), then, out))
+pub fn ask(client: &mut Client, then: ReqHandler, out: &mut TurnOut) -> Result<(), Fail> {
+    went_on(client.ask(Outgo::CodeLensRefresh, then, out))
 }
 
 fn push_log(text: &mut String, code: LogCode, line: &Text) -> Result<(), Fail> {

@@ -1,5 +1,5 @@
 // Sessions, and turns that tell in words what they did.
-use crate::words::{event_of, request, words};
+use crate::words::{event_of, loading, request, words};
 use docs_vfs::VfsPath;
 use ra_config::Config;
 use session_model::Event;
@@ -15,10 +15,14 @@ pub struct Place {
     pub shutdown: bool,
 }
 
-fn new_state(alloc: Global) -> Result<GlobalState, Fail> {
+/// The settings with the one workspace `/w`.
+pub fn settings(alloc: Global) -> Result<Config, Fail> {
     let root = VfsPath::new(alloc, "/w")?.ok_or("no path")?;
-    let config = Config::new(alloc, root, 4)?;
-    Ok(GlobalState::new(alloc, config)?)
+    Ok(Config::new(alloc, root, 4)?)
+}
+
+fn new_state(alloc: Global) -> Result<GlobalState, Fail> {
+    Ok(GlobalState::new(alloc, settings(alloc)?)?)
 }
 
 fn take_in(state: &mut GlobalState, event: Event, out: &mut TurnOut) -> Result<(), Fail> {
@@ -26,10 +30,6 @@ fn take_in(state: &mut GlobalState, event: Event, out: &mut TurnOut) -> Result<(
         Ok(()) => Ok(()),
         Err(_) => Err(Fail::from("no turn")),
     }
-}
-
-fn set_loading(state: &mut GlobalState, loading: bool) {
-    state.set_loading(loading)
 }
 
 /// One turn, in words.
@@ -42,7 +42,9 @@ pub fn turn(alloc: Global, state: &mut GlobalState, event: Event) -> Result<Stri
 /// A session at a place.
 pub fn state_at(alloc: Global, place: Place) -> Result<GlobalState, Fail> {
     let mut state = new_state(alloc)?;
-    set_loading(&mut state, place.loading);
+    if place.loading {
+        turn(alloc, &mut state, loading(alloc)?)?;
+    }
     if place.shutdown {
         turn(alloc, &mut state, request(alloc, 1, "shutdown", "null")?)?;
     }

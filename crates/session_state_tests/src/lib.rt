@@ -5,6 +5,8 @@
 #[cfg(test)]
 mod asking;
 #[cfg(test)]
+mod counters;
+#[cfg(test)]
 mod methods;
 #[cfg(test)]
 mod results;

@@ -3,7 +3,9 @@ use lsp_frame::{Message, Notification, Request, RequestId, Response};
 use method_table::PoolClass;
 use plain::{Items, Json, Text};
 use session_model::Event;
-use session_port::{Command, Job, JobResult, JobValue, TaskBody, TaskMsg};
+use session_port::{
+    Command, Job, JobResult, JobValue, LoaderMsg, LoadingProgress, TaskBody, TaskMsg,
+};
 use session_state::TurnOut;
 use std::alloc::Global;
 use std::test::Fail;
@@ -40,6 +42,18 @@ pub fn response(alloc: Global, text: &str) -> Result<Event, Fail> {
     })))
 }
 
+/// Files begin to load.
+pub fn loading(alloc: Global) -> Result<Event, Fail> {
+    let mut messages = Items::new(alloc);
+    messages.push(LoaderMsg::Progress {
+        n_total: 1,
+        n_done: LoadingProgress::Started,
+        dir: None,
+        config_version: 1,
+    })?;
+    Ok(Event::Vfs(messages))
+}
+
 /// A notification that opens `/w/a.rs`.
 fn open(alloc: Global) -> Result<Event, Fail> {
     notification(
@@ -59,10 +73,12 @@ fn ended(alloc: Global, outcome: JobResult) -> Result<Event, Fail> {
     Ok(Event::Task(batch))
 }
 
-/// `open`, `null` and `stopped` (results of the first job), or else a method that is asked with `{"a":1}`.
+/// `open`, `nothing` (no messages of jobs), `configured` (the settings have changed), `null` and `stopped` (results of the first job), or else a method that is asked with `{"a":1}`.
 pub fn event_of(alloc: Global, word: &str) -> Result<Event, Fail> {
     match word {
         "open" => open(alloc),
+        "nothing" => Ok(Event::Task(Items::new(alloc))),
+        "configured" => notification(alloc, "workspace/didChangeConfiguration", "null"),
         "null" => ended(alloc, JobResult::Value(JobValue::Json(Json::null()))),
         "stopped" => ended(alloc, JobResult::Cancelled { saw: 1 }),
         method => request(alloc, 5, method, "{\"a\":1}"),

@@ -54,7 +54,9 @@ impl GlobalState {
         ensures { Meets result (at_files (changed (columns_in self.old.client.settings) path change.version change.changes) (record { state = self.old; out = out.old })) self.new out.new }
     {
         let DidChange {
-            version, changes, ..
+            version,
+            changes,
+            ..
         } = change;
         let columns = self.client.settings().encodings();
         self.files.change(columns, path, version, changes, out)
