@@ -56,6 +56,17 @@ get_set : (m : Ids) (path : List ℕ) (e : Option (FileId × FileExcluded)) (q :
 get_set m path None q = map.get-remove nat_list_cmp_total m path q ∙ ap (λ b. cond b None (map.get m q)) (same_path q path)
 get_set m path (Some e) q = map.get-insert nat_list_cmp_total m path e q ∙ ap (λ b. cond b (Some e) (map.get m q)) (same_path q path)
 
+-- an entry that is there already changes nothing
+pub set_same : (ids : Ids) (path : List ℕ) (e : Option (FileId × FileExcluded)) → map.get ids path ≡ e → ids ≡ set_in_map ids path e
+set_same ids path e is =
+    map.same_map nat_list_cmp_total (map.slice_cmp-IsAntisymmetric map.nat_cmp-IsAntisymmetric) ids (set_in_map ids path e) (λ q.
+    sym
+    (get_set ids path e q
+    ∙ ⊎_elim
+    (λ same. cond-true _ _ _ same ∙ sym is ∙ ap (map.get ids) (sym (one_path q path same)))
+    (λ other. cond-false _ _ _ other)
+    (cases_Bool (bytes_eq q path))))
+
 -- where the table has changed at one path, so have they
 pub numbers_after : (ids : Ids) (t u : Files) (path : List ℕ) → AreNumbersOf ids t → Moved t path u → AreNumbersOf (set_in_map ids path (file_id_of u path)) u
 numbers_after ids t u path numbers moved q =

@@ -37,7 +37,7 @@ use Rattle.turn_parts.specs.declared.fault.Counter.{Counter}
 use Rattle.session_files.specs.Changing.{text_after}
 use Rattle.session_files.specs.Current.{IsSound, IsCurrent}
 use Rattle.session_files.specs.Folds.{with_table, table_put, made_of, contents_put, mark_put, is_open, version_put, text_put, is_excluded, after_opening, text_edited, after_editing, after_closing}
-use Rattle.session_files.specs.Folds.{after_changed, after_loaded, after_each_changed, after_each_loaded, after_message, after_messages, world_put, with_changes, taken_up, after_processing, after_turn, are_some, changes_world}
+use Rattle.session_files.specs.Folds.{after_changed, after_loaded, after_each_changed, after_each_loaded, after_message, after_messages, world_put, with_changes, taken_up, after_processing, after_turn, are_some, is_due}
 use Rattle.session_files.specs.SessionFiles.{SessionFiles, no_files_at}
 use Rattle.session_files.specs.Texts.{entry_of, file_change, holds_text}
 use Rattle.session_files.proofs.NumberLemmas.{Moved, set_moves, mark_moves, numbers_after, none_numbers}
@@ -285,8 +285,8 @@ pub record Turned (files now : SessionFiles) : Type 0 where
   pub sound : IsSound files → IsSound now
   pub current : now.loading ≡ false → IsSound files → IsCurrent now
   pub taken : now.loading ≡ false → changes now.table ≡ []
-  pub revision : now.host.revision ≡ (if changes_world files then files.host.revision + 1 else files.host.revision)
-  pub same : changes_world files ≡ false → now.host ≡ files.host
+  pub revision : now.host.revision ≡ (if is_due files then files.host.revision + 1 else files.host.revision)
+  pub same : is_due files ≡ false → now.host ≡ files.host
 
 abbrev Before : Type 0
 Before = map.FinMap path_cmp FileWas
@@ -307,7 +307,7 @@ taken_with files host sound now = record {
 unchanged : (files : SessionFiles) → files.loading ≡ false → changes files.table ≡ [] → Turned files (taken_up files)
 unchanged files ready none =
     let now = λ (sound : IsSound files). subst (λ (list : List ChangedFile). (q : List ℕ) → map.get (with_files (each file_change list) files.host.world.texts) q ≡ entry_of (contents_at files.table q)) none (current files.table files.host.world.texts sound.numbered sound.processed) in
-    let quiet : changes_world files ≡ false = ap (λ list. not files.loading && are_some list) none ∙ ap (λ b. not b && false) ready in
+    let quiet : is_due files ≡ false = ap (λ list. not files.loading && are_some list) none ∙ ap (λ b. not b && false) ready in
     record {
       rest = refl;
       sound = λ sound. taken_with files files.host sound (now sound);
@@ -323,7 +323,7 @@ host_with files = record { world = record { texts = with_files (each file_change
 changed_turn : (files : SessionFiles) → files.loading ≡ false → are_some (changes files.table) ≡ true → Turned files (record (taken_up files) { host = host_with files })
 changed_turn files ready some =
     let now = λ (sound : IsSound files). current files.table files.host.world.texts sound.numbered sound.processed in
-    let new : changes_world files ≡ true = ap (λ b. not b && are_some (changes files.table)) ready ∙ some in
+    let new : is_due files ≡ true = ap (λ b. not b && are_some (changes files.table)) ready ∙ some in
     record {
       rest = refl;
       sound = λ sound. taken_with files (host_with files) sound (now sound);
@@ -354,7 +354,7 @@ by_processing files now ready is = by_changes (changes files.table) files now re
 
 loading_stays : (files : SessionFiles) → files.loading ≡ true → Turned files files
 loading_stays files loading =
-    let quiet : changes_world files ≡ false = ap (λ b. not b && are_some (changes files.table)) loading in
+    let quiet : is_due files ≡ false = ap (λ b. not b && are_some (changes files.table)) loading in
     record {
       rest = refl;
       sound = λ sound. sound;

@@ -137,10 +137,10 @@ after_processing files = with_changes (changes files.table) (taken_up files)
 unfoldable pub after_turn : SessionFiles → Result SessionFiles Counter
 after_turn files = if files.loading then Ok files else after_processing files
 
-abbrev pub are_some : List ChangedFile → Bool
+abbrev pub are_some : {X : Type 0} → List X → Bool
 are_some [] = false
-are_some (file ∷ later) = true
+are_some (x ∷ xs) = true
 
--- the end of a turn changes the world: no files are loading, and some have changed
-abbrev pub changes_world : SessionFiles → Bool
-changes_world files = not files.loading && are_some (changes files.table)
+-- some path's contents aren't those of the last time, and no files are loading: the end of a turn changes the world
+abbrev pub is_due : SessionFiles → Bool
+is_due files = not files.loading && are_some (changes files.table)

@@ -3,7 +3,7 @@ ghost use Rattle.std.specs.Prelude.{◌≡◌, ◌+◌, ℕ, ℤ, Bool, false, L
 ghost use Rattle.docs_vfs.specs.Files.{changes};
 ghost use Rattle.session_port.specs.declared.event.LoaderMsg.{LoaderMsg};
 ghost use Rattle.session_files.specs.Current.{IsSound, IsCurrent};
-ghost use Rattle.session_files.specs.Folds.{after_opening, after_editing, after_closing, after_messages, after_turn, changes_world};
+ghost use Rattle.session_files.specs.Folds.{after_opening, after_editing, after_closing, after_messages, after_turn, is_due};
 ghost use Rattle.session_files.specs.SessionFiles.{SessionFiles, no_files_at};
 ghost use Rattle.text_core.specs.declared.change.ContentChange.{ContentChange};
 ghost use Rattle.text_core.specs.declared.position.PositionEncoding.{PositionEncoding};
@@ -35,6 +35,6 @@ pub fn worlds_change_at_the_end_of_a_turn()
     ensures messages { (messages : List LoaderMsg) (files now : SessionFiles) → after_messages messages files ≡ Ok now → now.host ≡ files.host }
     ensures rest { (files now : SessionFiles) → after_turn files ≡ Ok now → now ≡ record files { table = now.table; host = now.host } }
     ensures revision { (files now : SessionFiles) → after_turn files ≡ Ok now
-        → now.host.revision ≡ (if changes_world files then files.host.revision + 1 else files.host.revision) }
-    ensures same { (files now : SessionFiles) → after_turn files ≡ Ok now → changes_world files ≡ false → now.host ≡ files.host }
+        → now.host.revision ≡ (if is_due files then files.host.revision + 1 else files.host.revision) }
+    ensures same { (files now : SessionFiles) → after_turn files ≡ Ok now → is_due files ≡ false → now.host ≡ files.host }
 {}

@@ -1,5 +1,5 @@
 // The table of files, with the numbers of its paths beside it.
-ghost use Rattle.std.specs.Prelude.{◌≡◌, OnOk, OnErr};
+ghost use Rattle.std.specs.Prelude.{◌≡◌, IsTrue, OnOk, OnErr};
 ghost use Rattle.std.specs.FinMap as map;
 ghost use Rattle.shared_map.specs.AsMap.{set_in_map};
 ghost use Rattle.docs_vfs.specs.Files.{new_files, file_id_of};
@@ -9,12 +9,25 @@ ghost use Rattle.session_files.specs.Folds.{contents_put, mark_put};
 ghost use Rattle.session_files.specs.Meets.{Leaves};
 ghost use Rattle.session_files.specs.SessionFiles.{SessionFiles};
 
-use docs_vfs::{FileTable, SharedBytes, TableFault, VfsPath};
+use docs_vfs::{FileExcluded, FileId, FileTable, SharedBytes, TableFault, VfsPath};
 use file_ids::FileIds;
 use std::alloc::{AllocError, Global};
 use turn_parts::{Counter, TurnError};
 
+// Whether two entries are the same.
+fn are_same(a: Option<(FileId, FileExcluded)>, b: Option<(FileId, FileExcluded)>) -> bool
+    ensures { IsTrue result → a ≡ b }
+{
+    match (a, b) {
+        (None, None) => true,
+        (Some((a, FileExcluded::Yes)), Some((b, FileExcluded::Yes))) => a.0 == b.0,
+        (Some((a, FileExcluded::No)), Some((b, FileExcluded::No))) => a.0 == b.0,
+        _ => false,
+    }
+}
+
 // The number of a path is what the table says. Without memory both are emptied, so that they agree even then.
+#[tactic(auto, using(crate::proofs::NumberLemmas::set_same))]
 fn put_number(
     alloc: Global,
     table: &mut FileTable,
@@ -26,6 +39,9 @@ fn put_number(
     ensures err { OnErr result ((table.new ≡ new_files 0) × (ids.new ≡ map.empty)) }
 {
     let entry = table.file_id(&path);
+    if are_same(ids.get(&path), entry) {
+        return Ok(());
+    }
     match ids.set(path, entry) {
         Ok(set) => {
             *ids = set;

@@ -2,7 +2,7 @@
 ghost use Rattle.std.specs.Prelude.{◌≡◌, map as each, Some, IfOk, IfSome};
 ghost use Rattle.docs_vfs.specs.Files.{changes};
 ghost use Rattle.turn_parts.specs.Meets.{Meets};
-ghost use Rattle.session_files.specs.Folds.{world_put, taken_up, after_processing, after_turn, are_some, changes_world};
+ghost use Rattle.session_files.specs.Folds.{world_put, taken_up, after_processing, after_turn, are_some, is_due};
 ghost use Rattle.session_files.specs.Meets.{Leaves};
 ghost use Rattle.session_files.specs.Steps.{processed};
 ghost use Rattle.session_files.specs.Texts.{entry_of, file_change};
@@ -101,7 +101,7 @@ impl SessionFiles {
     #[tactic(auto, using(crate::proofs::Steps::become_meets), unfolding(crate::specs::Steps::processed, crate::specs::Folds::after_turn))]
     pub fn process(&mut self, out: &mut TurnOut) -> Result<bool, TurnError>
         ensures meets { Meets result (processed (record { state = self.old; out = out.old })) self.new out.new }
-        ensures changed { IfOk result (λ changed. changed ≡ changes_world self.old) }
+        ensures changed { IfOk result (λ changed. changed ≡ is_due self.old) }
     {
         if self.loading {
             return Ok(false);
