@@ -51,7 +51,7 @@ use Rattle.session_model.specs.declared.input.Input.TheVariants.{Start, Next}
 use Rattle.session_model.specs.declared.heard.Heard.{Heard}
 use Rattle.session_model.specs.declared.heard.Heard.TheVariants.{Told, Malformed, Unhandled, Silent}
 use Rattle.session_laws.specs.Invariant.{place_of}
-use Rattle.session_laws.proofs.Filing.{AtLast, IsFull, change_of, changed-step-errs, loaded-errs-by, opened-errs, processed-errs}
+use Rattle.session_laws.proofs.Filing.{AtLast, IsFull, change_of, changed-step-errs, full-err, loaded-errs-by, opened-errs, processed-errs}
 use Rattle.session_laws.proofs.Rows.{DoesAtDesk, MidTurn, at, counted-is, counted_turn, event-fits, notification_input, place_at, session_in, settled-place, taken-settles}
 
 -- ---- jobs
@@ -103,7 +103,7 @@ files-errs : (meaning : Meaning) (s : State) (input : Input) (work : Working Ses
 files-errs meaning s input work r told errs =
     IfErr-within files_in with_files work (counted_turn s) (Needs meaning s input)
     (err-weaker _ (λ c. IsFull c × (r ≡ Err c)) (Needs meaning s input) errs
-    (λ c h. subst (Needs meaning s input) (sym h.0) (told ∙ h.1 ∙ ap Err h.0)))
+    (λ c h. subst (Needs meaning s input) (sym h.0) (told ∙ full-err r c h.1 h.0)))
 
 open-path-errs : (meaning : Meaning) (s : State) (n : Notification) (document : DidOpen) (o : Result (List ℕ) UrlFault) → heard_of n ≡ Told (notices.DidOpen document) → path_of document.uri ≡ o
     → IfErr (opened_at o document (counted_turn s)) (Needs meaning s (notification_input n))

@@ -181,15 +181,16 @@ change_of columns path version changes files = if is_open path files then after_
 pub change-host : (columns : PositionEncoding) (path : List ℕ) (version : ℤ) (changes : List ContentChange) (files : SessionFiles) → IfOk (change_of columns path version changes files) (KeepsHost files)
 change-host columns path version changes files = IfOk-if _ _ (Ok files) (KeepsHost files) (editing-host columns path version changes files) refl
 
+-- a log line changes nothing of them
+logged-is : (code : LogCode) (path : List ℕ) (w : Working SessionFiles) → (let same : Result SessionFiles Counter = Ok w.state in same) ≡ Ok (logged code path w).state
+unfolding logged ordered
+logged-is code path w = refl
+
 changed-cases : (columns : PositionEncoding) (path : List ℕ) (version : ℤ) (changes : List ContentChange) (w : Working SessionFiles) (b : Bool)
     → IfOk (if b then edited columns path version changes w else Ok (logged UnexpectedChange path w)) (λ v. DoesForFiles w v (if b then after_editing columns path version changes w.state else Ok w.state))
 unfolding edited skip_noted
 changed-cases columns path version changes w true = become-does _ w _ (noted-tells SkippedChange path (has_skipped columns changes (map.get w.state.texts path)) w)
-changed-cases columns path version changes w false = record { is = logged-state; tells = tells-logged UnexpectedChange path w }
-  where
-    logged-state : Ok w.state ≡ Ok (logged UnexpectedChange path w).state
-    unfolding logged ordered
-    logged-state = refl
+changed-cases columns path version changes w false = record { is = logged-is UnexpectedChange path w; tells = tells-logged UnexpectedChange path w }
 
 pub changed-does : (columns : PositionEncoding) (path : List ℕ) (version : ℤ) (changes : List ContentChange) (w : Working SessionFiles)
     → IfOk (changed columns path version changes w) (λ v. DoesForFiles w v (change_of columns path version changes w.state))
@@ -238,10 +239,14 @@ pub processed-does : (w : Working SessionFiles) → IfOk (processed w) (Processe
 unfolding processed
 processed-does w = become-processes (after_turn w.state) w refl
 
+become-last : (r : Result SessionFiles Counter) (w : Working SessionFiles) (revision : ℕ) → IfErr r (AtLast revision) → IfErr (become r w) (AtLast revision)
+become-last (Ok files) w revision h = tt
+become-last (Err counter) w revision h = h
+
 pub processed-errs : (w : Working SessionFiles) → IfErr (processed w) (AtLast w.state.host.revision)
 unfolding processed
-processed-errs w = err-of (after_turn w.state) (turn-last w.state)
-  where
-    err-of : (r : Result SessionFiles Counter) → IfErr r (AtLast w.state.host.revision) → IfErr (become r w) (AtLast w.state.host.revision)
-    err-of (Ok files) h = tt
-    err-of (Err counter) h = h
+processed-errs w = become-last (after_turn w.state) w w.state.host.revision (turn-last w.state)
+
+-- the numbers of files are at their end
+pub full-err : (r : Result SessionFiles Counter) (c : Counter) → r ≡ Err c → IsFull c → r ≡ Err FilesCounter
+full-err r c is full = subst (λ (d : Counter). r ≡ Err d) full is

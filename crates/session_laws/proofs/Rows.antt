@@ -150,7 +150,7 @@ still-mid : (meaning : Meaning) (s : State) (input : Input) (u : Working State) 
     → u.state ≡ (counted_turn s).state → Mid meaning s input u
 still-mid meaning s input u serves still tells same =
     told-mid meaning s input u serves tells (ap (λ (t : State). t.desk) same) (ap (λ (t : State). t.client) same ∙ sym still.client)
-    (still.files ∙ ap (λ (t : State). Ok t.files) (sym same)) (ap (λ (t : State). t.files.host) same)
+    (subst (λ (t : State). files_told s.client.settings input s.files ≡ Ok t.files) (sym same) still.files) (ap (λ (t : State). t.files.host) same)
 
 -- with a log line
 logged-mid : (meaning : Meaning) (s : State) (input : Input) (code : LogCode) (text : List ℕ) → Serves meaning s input (after_input input s.desk.jobs) (counted_turn s) → IsStill s input
