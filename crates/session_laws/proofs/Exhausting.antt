@@ -38,7 +38,7 @@ use Rattle.session_files.specs.SessionFiles.{SessionFiles}
 use Rattle.session_files.specs.Steps.{changed, closed as closed_document, loaded, opened, processed}
 use Rattle.session_model.specs.Headline.{NeedsMore, files_told, row, batch_row, place_past, scene_at}
 use Rattle.session_model.specs.Machine.{Turning, asked_for_settings, at_client, at_desk, at_files, batched, changed_at, client_in, closed, closed_at, closing_part, counted, desk_in, event_part}
-use Rattle.session_model.specs.Machine.{files_in, files_part, happened, kept, later_parts, noticed, opened_at, received, state_in, step, taken, taken_in, told, turned, turning, with_client}
+use Rattle.session_model.specs.Machine.{files_in, files_part, files_processed, happened, kept, later_parts, noticed, opened_at, received, state_in, step, taken, taken_in, told, turned, turning, with_client}
 use Rattle.session_model.specs.Machine.{with_desk, with_files, with_state}
 use Rattle.session_model.specs.State.{State, columns_in, excludes_in, scene_of}
 use Rattle.session_model.specs.Hearing.{heard_of}
@@ -204,9 +204,9 @@ closing-errs t P = IfErr-within state_in with_state (closed t.state.facts) t P (
 
 -- the world is to change at the last revision
 files-part-errs : (meaning : Meaning) (s : State) (event : Event) (t : Working Turning) → MidTurn meaning s (Next event) t → IfErr (files_part t) (Needs meaning s (Next event))
-unfolding files_part
+unfolding files_part files_processed
 files-part-errs meaning s event t m =
-    IfErr-within state_in with_state (at_files processed) t (Needs meaning s (Next event))
+    IfErr-within state_in with_state files_processed t (Needs meaning s (Next event))
     (IfErr-within files_in with_files processed (session_in t) (Needs meaning s (Next event))
     (err-weaker _ (AtLast t.state.state.files.host.revision) (Needs meaning s (Next event)) (processed-errs _)
     (λ c h. subst (Needs meaning s (Next event)) (sym h.0) (subst (λ (host : HostData). 2 ^ 64 - 1 ≤ host.revision) m.mid.host h.1))))

@@ -52,7 +52,7 @@ use Rattle.session_model.specs.Headline.{Place, reaction_of, row, notice_row, ba
 use Rattle.session_model.specs.Headline.{are_due, is_changed, files_after, files_made, files_told, files_turned, or_before}
 use Rattle.session_model.specs.Inputs.{cancelled_by, request_in, turns_after}
 use Rattle.session_model.specs.Machine.{Turning, asked_for_settings, at_client, at_desk, at_files, batched, changed_at, client_in, closed, closed_at, closing_part, counted, desk_in, event_part}
-use Rattle.session_model.specs.Machine.{facts_of, file_changed, files_changed, files_in, files_part, happened, kept, later_parts, noticed, opened_at, received, revised, state_in, step, taken, taken_in, told}
+use Rattle.session_model.specs.Machine.{facts_of, file_changed, files_changed, files_in, files_part, files_processed, happened, kept, later_parts, noticed, opened_at, received, revised, state_in, step, taken, taken_in, told}
 use Rattle.session_model.specs.Machine.{turned, turning, with_client, with_desk, with_files, with_state}
 use Rattle.session_model.specs.Hearing.{heard_of, told_by}
 use Rattle.session_model.specs.Run.{Turn, Steps, begun, after_input, out_after}
@@ -535,9 +535,9 @@ record MadeTurn (meaning : Meaning) (s : State) (input : Input) (t : Working Tur
   made : Made meaning s input (session_in t)
 
 files-made : (meaning : Meaning) (s : State) (event : Event) (t : Working Turning) → MidTurn meaning s (Next event) t → IfOk (files_part t) (MadeTurn meaning s (Next event))
-unfolding files_part
+unfolding files_part files_processed
 files-made meaning s event t m =
-    IfOk-within state_in with_state (at_files processed) t (MadeTurn meaning s (Next event))
+    IfOk-within state_in with_state files_processed t (MadeTurn meaning s (Next event))
     (IfOk-within files_in with_files processed (session_in t) _
     (IfOk-weaker _ (Processes (record { state = t.state.state.files; out = t.out })) _ (processed-does _)
     (λ v p. record { facts = m.facts; made = made-now meaning s event (session_in t) v m.mid p })))

@@ -179,8 +179,11 @@ unfoldable pub event_part : Meaning → Event → Working Turning → Result (Wo
 event_part meaning event w = in_state (taken_in meaning event) w
 
 -- what has changed goes into the world, unless files are loading
+unfoldable pub files_processed : Working State → Result (Working State) Counter
+files_processed w = at_files processed w
+
 unfoldable pub files_part : Working Turning → Result (Working Turning) Counter
-files_part w = in_state (at_files processed) w
+files_part w = in_state files_processed w
 
 abbrev pub quiet_part : Working Turning → Result (Working Turning) Counter
 quiet_part w = Ok w

@@ -1,6 +1,8 @@
 -- A call of the files, as a step of the session.
-use Rattle.std.proofs.Common.{◌≡◌, sym, subst}
-use Rattle.std.specs.Prelude.{Result}
+use Rattle.std.proofs.Common.{◌≡◌, ℕ, List, sym, subst}
+use Rattle.std.specs.Prelude.{ℤ, Result}
+use Rattle.text_core.specs.declared.change.ContentChange.{ContentChange}
+use Rattle.text_core.specs.declared.position.PositionEncoding.{PositionEncoding}
 use Rattle.turn_parts.proofs.Parts.{within_meets}
 use Rattle.turn_parts.specs.Meets.{Meets}
 use Rattle.turn_parts.specs.Working.{Working}
@@ -8,6 +10,7 @@ use Rattle.turn_parts.specs.Written.{Written}
 use Rattle.turn_parts.specs.declared.fault.Counter.{Counter}
 use Rattle.turn_parts.specs.declared.fault.TurnError.{TurnError}
 use Rattle.session_files.specs.SessionFiles.{SessionFiles}
+use Rattle.session_files.specs.Steps.{changed, opened}
 use Rattle.session_model.specs.Machine.{at_files, files_in, with_files}
 use Rattle.session_model.specs.State.{State}
 
@@ -18,3 +21,13 @@ files_meets step result before after files files_now out out_now was is h =
     subst (λ (s : State). Meets result (at_files step (record { state = before; out = out })) s out_now) (sym is)
     (within_meets files_in with_files step result (record { state = before; out = out }) files_now out_now
     (subst (λ (f : SessionFiles). Meets result (step (record { state = f; out = out })) files_now out_now) (sym was) h))
+
+-- a document that is opened under these prefixes
+pub opened_as : {T : Type 0} (result : Result T TurnError) (excludes asked : List (List ℕ)) (path : List ℕ) (version : ℤ) (text : List ℕ) (w : Working SessionFiles) (files : SessionFiles) (out : Written)
+    → excludes ≡ asked → Meets result (opened excludes path version text w) files out → Meets result (opened asked path version text w) files out
+opened_as result excludes asked path version text w files out same h = subst (λ (xs : List (List ℕ)). Meets result (opened xs path version text w) files out) same h
+
+-- a document that is changed by these columns
+pub changed_as : {T : Type 0} (result : Result T TurnError) (columns asked : PositionEncoding) (path : List ℕ) (version : ℤ) (changes : List ContentChange) (w : Working SessionFiles) (files : SessionFiles) (out : Written)
+    → columns ≡ asked → Meets result (changed columns path version changes w) files out → Meets result (changed asked path version changes w) files out
+changed_as result columns asked path version changes w files out same h = subst (λ (c : PositionEncoding). Meets result (changed c path version changes w) files out) same h

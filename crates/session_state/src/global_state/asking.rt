@@ -36,6 +36,7 @@ impl GlobalState {
     }
 
     /// Sends a notification.
+    #[tactic(auto, unfolding(turn_parts::specs::Working::written))]
     pub fn send_notification(&mut self, message: Outgo, out: &mut TurnOut) -> Result<(), NoMemory>
         requires { HoldsPlain message }
         ensures after { OnOk result (written (notification_of message) (record { state = self.old; out = out.old }) ≡ record { state = self.new; out = out.new }) }

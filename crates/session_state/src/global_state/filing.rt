@@ -4,7 +4,7 @@ ghost use Rattle.docs_vfs.specs.FileUrls.{path_of};
 ghost use Rattle.turn_parts.specs.Meets.{Meets};
 ghost use Rattle.session_files.specs.Folds.{changes_world};
 ghost use Rattle.session_files.specs.Steps.{changed, closed as closed_document, loaded, opened, processed};
-ghost use Rattle.session_model.specs.Machine.{at_files, changed_at, closed_at, opened_at};
+ghost use Rattle.session_model.specs.Machine.{at_files, changed_at, closed_at, files_processed, opened_at};
 ghost use Rattle.session_model.specs.State.{columns_in, excludes_in};
 
 use crate::global_state::GlobalState;
@@ -121,8 +121,9 @@ impl GlobalState {
     }
 
     // The same behind the event of a turn.
+    #[tactic(auto, unfolding(session_model::specs::Machine::files_processed))]
     pub(super) fn process(&mut self, out: &mut TurnOut) -> Result<(), TurnError>
-        ensures { Meets result (at_files processed (record { state = self.old; out = out.old })) self.new out.new }
+        ensures { Meets result (files_processed (record { state = self.old; out = out.old })) self.new out.new }
     {
         self.process_changes(out)?;
         Ok(())

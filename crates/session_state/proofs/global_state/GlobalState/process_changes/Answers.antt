@@ -1,0 +1,8 @@
+use Rattle.std.proofs.Common.{rules}
+use Rattle.session_files.specs.Steps.{processed}
+use Rattle.session_state.proofs.AtFiles.{files_meets}
+use Rattle.session_state.proofs.global_state.GlobalState.process_changes.Goals as goal
+
+pub returns-clause-meets : goal.returns-clause-meets
+returns-clause-meets c =
+    files_meets processed c.process.result c.args.self.now _ c.self.inside.files c.process.new.self _ _ (search rules) (search rules) c.process.ensures.meets
