@@ -39,7 +39,7 @@ use Rattle.session_model.specs.Course.{Course, Stop as CourseStop, takes, stops,
 use Rattle.session_model.specs.Course.{session_course, bytes_in}
 use Rattle.session_model.specs.Inputs.{cancelled_by, notice_in, request_in, response_in, turns_after}
 use Rattle.session_files.specs.Current.{AreNumbers, IsCurrent}
-use Rattle.session_files.specs.Folds.{after_closing, after_editing, after_messages, after_opening, after_turn, changes_world, is_open}
+use Rattle.session_files.specs.Folds.{after_closing, after_editing, after_messages, after_opening, after_turn, is_due, is_open}
 use Rattle.session_files.specs.SessionFiles.{SessionFiles, no_files}
 use Rattle.session_model.specs.Hearing.{heard_of, told_by}
 use Rattle.session_model.specs.State.{columns_in, excludes_in}
@@ -226,7 +226,7 @@ AreHandedOver settings turns jobs =
 
 -- the contents of some path aren't those that the world was last made of, and no files are loading
 abbrev pub are_due : Result SessionFiles Counter → Bool
-are_due (Ok files) = changes_world files
+are_due (Ok files) = is_due files
 are_due (Err counter) = false
 
 -- a turn changes the world

@@ -2,7 +2,7 @@
 ghost use Rattle.std.specs.Prelude.{◌≡◌, ◌<◌, ◌^◌, length, Ok, IfOk};
 ghost use Rattle.docs_vfs.specs.FileUrls.{path_of};
 ghost use Rattle.turn_parts.specs.Meets.{Meets};
-ghost use Rattle.session_files.specs.Folds.{changes_world};
+ghost use Rattle.session_files.specs.Folds.{is_due};
 ghost use Rattle.session_files.specs.Steps.{changed, closed as closed_document, loaded, opened, processed};
 ghost use Rattle.session_model.specs.Machine.{at_files, changed_at, closed_at, files_processed, opened_at};
 ghost use Rattle.session_model.specs.State.{columns_in, excludes_in};
@@ -115,7 +115,7 @@ impl GlobalState {
     /// something has. After an `Err` the state is spent.
     pub fn process_changes(&mut self, out: &mut TurnOut) -> Result<bool, TurnError>
         ensures meets { Meets result (at_files processed (record { state = self.old; out = out.old })) self.new out.new }
-        ensures some { IfOk result (λ some. some ≡ changes_world self.old.files) }
+        ensures some { IfOk result (λ some. some ≡ is_due self.old.files) }
     {
         self.files.process(out)
     }
