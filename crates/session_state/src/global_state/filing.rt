@@ -13,19 +13,20 @@ use notify::{DidChange, DidOpen};
 use plain::{Items, Text};
 use session_model::TurnError;
 use session_port::{LoaderMsg, LogCode};
+use text_core::ContentChange;
 use turn_parts::TurnOut;
 
 impl GlobalState {
     fn open_at(
         &mut self,
         path: VfsPath,
-        document: DidOpen,
+        version: i32,
+        text: Text,
         out: &mut TurnOut,
     ) -> Result<(), TurnError>
-        requires { length document.text < 2 ^ 32 }
-        ensures { Meets result (at_files (opened (excludes_in self.old.client.settings) path document.version document.text) (record { state = self.old; out = out.old })) self.new out.new }
+        requires { length text < 2 ^ 32 }
+        ensures { Meets result (at_files (opened (excludes_in self.old.client.settings) path version text) (record { state = self.old; out = out.old })) self.new out.new }
     {
-        let DidOpen { version, text, .. } = document;
         let excludes = self.client.settings().files_exclude();
         self.files.open(excludes, path, version, text, out)
     }
@@ -37,7 +38,7 @@ impl GlobalState {
         ensures { Meets result (opened_at (path_of document.uri) document (record { state = self.old; out = out.old })) self.new out.new }
     {
         match path_of_url(self.alloc, document.uri.as_str()) {
-            Ok(path) => self.open_at(path, document, out),
+            Ok(path) => self.open_at(path, document.version, document.text, out),
             Err(UrlFault::NoMemory) => Err(TurnError::NoMemory),
             Err(UrlFault::NotFile | UrlFault::HasHost | UrlFault::NotText) => {
                 self.log(LogCode::BadPath, document.uri, out)
@@ -48,16 +49,12 @@ impl GlobalState {
     fn change_at(
         &mut self,
         path: VfsPath,
-        change: DidChange,
+        version: i32,
+        changes: Items<ContentChange>,
         out: &mut TurnOut,
     ) -> Result<(), TurnError>
-        ensures { Meets result (at_files (changed (columns_in self.old.client.settings) path change.version change.changes) (record { state = self.old; out = out.old })) self.new out.new }
+        ensures { Meets result (at_files (changed (columns_in self.old.client.settings) path version changes) (record { state = self.old; out = out.old })) self.new out.new }
     {
-        let DidChange {
-            version,
-            changes,
-            ..
-        } = change;
         let columns = self.client.settings().encodings();
         self.files.change(columns, path, version, changes, out)
     }
@@ -72,7 +69,7 @@ impl GlobalState {
         ensures { Meets result (changed_at (path_of change.uri) change (record { state = self.old; out = out.old })) self.new out.new }
     {
         match path_of_url(self.alloc, change.uri.as_str()) {
-            Ok(path) => self.change_at(path, change, out),
+            Ok(path) => self.change_at(path, change.version, change.changes, out),
             Err(UrlFault::NoMemory) => Err(TurnError::NoMemory),
             Err(UrlFault::NotFile | UrlFault::HasHost | UrlFault::NotText) => {
                 self.log(LogCode::BadPath, change.uri, out)

@@ -6,5 +6,5 @@ use Rattle.session_state.proofs.global_state.GlobalState.change_at.Goals as goal
 
 pub returns : goal.returns
 returns c =
-    files_meets (changed (columns_in c.args.self.now.client.settings) c.args.path c.args.change.version c.args.change.changes) c.change.result c.args.self.now _ c.self.inside.files c.change.new.self _ _
+    files_meets (changed (columns_in c.args.self.now.client.settings) c.args.path c.args.version c.args.changes) c.change.result c.args.self.now _ c.self.inside.files c.change.new.self _ _
     (search rules) (search rules) (changed_as _ _ _ _ _ _ _ _ _ (search rules) c.change.ensures)

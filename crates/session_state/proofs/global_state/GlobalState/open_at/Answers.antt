@@ -6,5 +6,5 @@ use Rattle.session_state.proofs.global_state.GlobalState.open_at.Goals as goal
 
 pub returns : goal.returns
 returns c =
-    files_meets (opened (excludes_in c.args.self.now.client.settings) c.args.path c.args.document.version c.args.document.text) c.open.result c.args.self.now _ c.self.inside.files c.open.new.self _ _
+    files_meets (opened (excludes_in c.args.self.now.client.settings) c.args.path c.args.version c.args.text) c.open.result c.args.self.now _ c.self.inside.files c.open.new.self _ _
     (search rules) (search rules) (opened_as _ _ _ _ _ _ _ _ _ (search rules) c.open.ensures)
