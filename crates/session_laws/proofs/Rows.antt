@@ -333,9 +333,9 @@ told-cases meaning s n notices.AbortRunTest heard = pass-mid meaning s n (rw hea
 heard-cases : (meaning : Meaning) (s : State) (n : Notification) (heard : Heard) → heard_of n ≡ heard → IfOk (noticed heard n.method (counted_turn s)) (Mid meaning s (notification_input n))
 unfolding noticed
 heard-cases meaning s n (Told notice) is = told-cases meaning s n notice is
-heard-cases meaning s n Malformed is = logged-mid meaning s (notification_input n) _ _ (silent-serves meaning s n (rw is refl)) (record { client = rw is refl; documents = rw is refl })
-heard-cases meaning s n Unhandled is = logged-mid meaning s (notification_input n) _ _ (silent-serves meaning s n (rw is refl)) (record { client = rw is refl; documents = rw is refl })
-heard-cases meaning s n Silent is = pass-mid meaning s n (rw is refl) (record { client = rw is refl; documents = rw is refl })
+heard-cases meaning s n Malformed is = logged-mid meaning s (notification_input n) _ _ (silent-serves meaning s n (rw is refl)) (record { client = rw is refl; files = rw is refl })
+heard-cases meaning s n Unhandled is = logged-mid meaning s (notification_input n) _ _ (silent-serves meaning s n (rw is refl)) (record { client = rw is refl; files = rw is refl })
+heard-cases meaning s n Silent is = pass-mid meaning s n (rw is refl) (record { client = rw is refl; files = rw is refl })
 
 -- ---- batches
 
