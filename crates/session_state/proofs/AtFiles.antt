@@ -22,12 +22,14 @@ files_meets step result before after files files_now out out_now was is h =
     (within_meets files_in with_files step result (record { state = before; out = out }) files_now out_now
     (subst (λ (f : SessionFiles). Meets result (step (record { state = f; out = out })) files_now out_now) (sym was) h))
 
--- a document that is opened under these prefixes
-pub opened_as : {T : Type 0} (result : Result T TurnError) (excludes asked : List (List ℕ)) (path : List ℕ) (version : ℤ) (text : List ℕ) (w : Working SessionFiles) (files : SessionFiles) (out : Written)
-    → excludes ≡ asked → Meets result (opened excludes path version text w) files out → Meets result (opened asked path version text w) files out
-opened_as result excludes asked path version text w files out same h = subst (λ (xs : List (List ℕ)). Meets result (opened xs path version text w) files out) same h
+-- a document that is opened under these prefixes, with this version
+pub opened_as : {T : Type 0} (result : Result T TurnError) (excludes asked : List (List ℕ)) (path : List ℕ) (version told : ℤ) (text : List ℕ) (w : Working SessionFiles) (files : SessionFiles) (out : Written)
+    → excludes ≡ asked → version ≡ told → Meets result (opened excludes path version text w) files out → Meets result (opened asked path told text w) files out
+opened_as result excludes asked path version told text w files out same is h =
+    subst (λ (xs : List (List ℕ)). Meets result (opened xs path told text w) files out) same (subst (λ (v : ℤ). Meets result (opened excludes path v text w) files out) is h)
 
--- a document that is changed by these columns
-pub changed_as : {T : Type 0} (result : Result T TurnError) (columns asked : PositionEncoding) (path : List ℕ) (version : ℤ) (changes : List ContentChange) (w : Working SessionFiles) (files : SessionFiles) (out : Written)
-    → columns ≡ asked → Meets result (changed columns path version changes w) files out → Meets result (changed asked path version changes w) files out
-changed_as result columns asked path version changes w files out same h = subst (λ (c : PositionEncoding). Meets result (changed c path version changes w) files out) same h
+-- a document that is changed by these columns, with this version
+pub changed_as : {T : Type 0} (result : Result T TurnError) (columns asked : PositionEncoding) (path : List ℕ) (version told : ℤ) (changes : List ContentChange) (w : Working SessionFiles) (files : SessionFiles) (out : Written)
+    → columns ≡ asked → version ≡ told → Meets result (changed columns path version changes w) files out → Meets result (changed asked path told changes w) files out
+changed_as result columns asked path version told changes w files out same is h =
+    subst (λ (c : PositionEncoding). Meets result (changed c path told changes w) files out) same (subst (λ (v : ℤ). Meets result (changed columns path v changes w) files out) is h)

@@ -1,4 +1,5 @@
 use Rattle.std.proofs.Common.{rules}
+use Rattle.std.proofs.lemmas.Int.{to_z-of_z}
 use Rattle.session_files.specs.Steps.{changed}
 use Rattle.session_model.specs.State.{columns_in}
 use Rattle.session_state.proofs.AtFiles.{changed_as, files_meets}
@@ -7,4 +8,4 @@ use Rattle.session_state.proofs.global_state.GlobalState.change_at.Goals as goal
 pub returns : goal.returns
 returns c =
     files_meets (changed (columns_in c.args.self.now.client.settings) c.args.path c.args.version c.args.changes) c.change.result c.args.self.now _ c.self.inside.files c.change.new.self _ _
-    (search rules) (search rules) (changed_as _ _ _ _ _ _ _ _ _ (search rules) c.change.ensures)
+    (search rules) (search rules) (changed_as _ _ _ _ _ _ _ _ _ _ (search rules) (to_z-of_z _ _ c.ranges.version) c.change.ensures)
