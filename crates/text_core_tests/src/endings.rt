@@ -60,6 +60,9 @@ fn dos_texts(rt: HostRuntime) -> Result<(), Fail> {
 /// An index of a text that others share, and the text that it shares.
 fn is_indexed(alloc: Global, text: &str) -> Result<bool, Fail> {
     let shared = ArcText::new(alloc, Text::from_str(alloc, text)?)?;
+    if shared.len() > 100 {
+        return Ok(false);
+    }
     let index = TextIndex::from_shared(alloc, shared)?;
     Ok(index.text() == text && index.share_text()?.as_str() == text)
 }
