@@ -1,7 +1,6 @@
 // Runs of a session by scripts: one event a line.
 use docs_vfs::VfsPath;
-use lsp_frame::{Message, Notification, Request, RequestId, write_message};
-use plain::{Bytes, Items, Json, Text};
+use plain::{Bytes, Items};
 use ra_config::Config;
 use session::main_loop;
 use session_peers::{MemorySink, ScriptHost, ScriptStep};
@@ -9,10 +8,6 @@ use session_port::{HostEvent, LoadedFile, LoaderMsg, LoadingProgress};
 use small_analysis::SmallAnalysis;
 use std::alloc::Global;
 use std::test::Fail;
-
-fn json(alloc: Global, text: &str) -> Result<Json, Fail> {
-    Ok(Json::read(alloc, text.as_bytes())?.ok_or("no JSON")?)
-}
 
 /// The two parts of a line around the first blank.
 fn cut(line: &str) -> (&str, &str) {
@@ -22,35 +17,21 @@ fn cut(line: &str) -> (&str, &str) {
     }
 }
 
-fn request(alloc: Global, id: i32, method: &str, params: &str) -> Result<Message, Fail> {
-    Ok(Message::Request(Request {
-        id: RequestId::Number(id),
-        method: Text::from_str(alloc, method)?,
-        params: json(alloc, params)?,
-    }))
-}
-
-fn notification(alloc: Global, method: &str, params: &str) -> Result<Message, Fail> {
-    Ok(Message::Notification(Notification {
-        method: Text::from_str(alloc, method)?,
-        params: json(alloc, params)?,
-    }))
-}
-
-/// `ID METHOD PARAMS`, or `- METHOD PARAMS` of a notification.
-fn message(alloc: Global, line: &str) -> Result<Message, Fail> {
+/// The body of `ID METHOD PARAMS`, or of a notification where the line begins with `-`.
+fn body_of(alloc: Global, line: &str) -> Result<String, Fail> {
     let (id, rest) = cut(line);
     let (method, params) = cut(rest);
-    match id.parse::<i32>() {
-        Ok(id) => request(alloc, id, method, params),
-        Err(_) => notification(alloc, method, params),
+    if id == "-" {
+        return Ok(format!(in alloc; "{{\"method\":\"{method}\",\"params\":{params}}}")?);
     }
+    Ok(format!(in alloc; "{{\"id\":{id},\"method\":\"{method}\",\"params\":{params}}}")?)
 }
 
 fn framed(alloc: Global, line: &str) -> Result<HostEvent, Fail> {
-    let mut bytes = Vec::new(alloc);
-    write_message(message(alloc, line)?, &mut bytes)?;
-    Ok(HostEvent::Bytes(Bytes::from_vec(bytes)))
+    let body = body_of(alloc, line)?;
+    let len = body.len();
+    let frame = format!(in alloc; "Content-Length: {len}\r\n\r\n{body}")?;
+    Ok(HostEvent::Bytes(Bytes::from_vec(frame.into_bytes())))
 }
 
 fn loader(alloc: Global, message: LoaderMsg) -> Result<HostEvent, Fail> {
@@ -110,7 +91,7 @@ fn steps(alloc: Global, lines: &str) -> Result<Items<ScriptStep>, Fail> {
 
 // A run, and what it writes. This call claims nothing here.
 fn turns(alloc: Global, lines: &str) -> Result<MemorySink, Fail> {
-    let analysis = SmallAnalysis::new();
+    let analysis = SmallAnalysis::new(alloc);
     let mut host = ScriptHost::new(alloc, &analysis, steps(alloc, lines)?, Items::new(alloc))?;
     let mut sink = MemorySink::new(alloc, Items::new(alloc));
     let root = VfsPath::new(alloc, "/w")?.ok_or("no path")?;
