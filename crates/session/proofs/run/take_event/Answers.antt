@@ -36,7 +36,7 @@ returns-in-Vfs-clause-turn g c =
     let h = c.in-Ok.ensures in
     advances-turn _ (Next (VfsEvent c.in-Vfs.messages)) (Vfs c.in-Vfs.messages ∷ []) _ _ _ _ _ _ _ _ _ _ _ _
     (course-waits _ _ c.requires.waits) (λ more. course-event _ _ (Vfs c.in-Vfs.messages) more c.requires.waits) refl
-    (telling-calls _ _ _ (grind (arith, common_steps, h)) refl) (grind (arith, common_steps, h)) (λ _. tt) tt refl c.run_turn.ensures.turn
+    (telling-calls _ _ _ (grind (arith, common_steps, h)) refl) (grind (arith, common_steps, h)) (λ _. tt) tt refl c.run_turn-in-Vfs.ensures.turn
 
 pub returns-then-len-eq0-clause-turn : goal.returns-then-len-eq0-clause-turn
 returns-then-len-eq0-clause-turn g c =
