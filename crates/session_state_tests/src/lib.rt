@@ -5,8 +5,6 @@
 #[cfg(test)]
 mod asking;
 #[cfg(test)]
-mod counters;
-#[cfg(test)]
 mod methods;
 #[cfg(test)]
 mod results;

@@ -73,12 +73,10 @@ fn ended(alloc: Global, outcome: JobResult) -> Result<Event, Fail> {
     Ok(Event::Task(batch))
 }
 
-/// `open`, `nothing` (no messages of jobs), `configured` (the settings have changed), `null` and `stopped` (results of the first job), or else a method that is asked with `{"a":1}`.
+/// `open`, `null` and `stopped` (results of the first job), or else a method that is asked with `{"a":1}`.
 pub fn event_of(alloc: Global, word: &str) -> Result<Event, Fail> {
     match word {
         "open" => open(alloc),
-        "nothing" => Ok(Event::Task(Items::new(alloc))),
-        "configured" => notification(alloc, "workspace/didChangeConfiguration", "null"),
         "null" => ended(alloc, JobResult::Value(JobValue::Json(Json::null()))),
         "stopped" => ended(alloc, JobResult::Cancelled { saw: 1 }),
         method => request(alloc, 5, method, "{\"a\":1}"),
