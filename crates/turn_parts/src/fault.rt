@@ -13,7 +13,7 @@ pub enum Counter {
     Revisions,
     /// The numbers of the session's own requests.
     Outgoing,
-    /// The numbers of files. Nothing gives one yet.
+    /// The numbers of files.
     Files,
 }
 
