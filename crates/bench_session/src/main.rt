@@ -1,5 +1,8 @@
-// Runs sessions with many pending requests, and with requests of many positions, and times them on standard error.
+// Runs sessions with many pending requests, with requests of many positions and with many files, and times them on standard error. The word
+// `files` runs the last in full: 100,000 files.
 #![tactic(auto)]
+
+mod files;
 
 ghost use Rattle.std.specs.Prelude.{◌≡◌, false};
 ghost use Rattle.std.specs.FinMap as map;
@@ -13,12 +16,13 @@ use session_peers::{HostileHost, MemorySink};
 use session_port::{Host, HostEvent, JobResult, JobValue, Sink, TaskBody, TaskMsg};
 use small_analysis::SmallAnalysis;
 use std::alloc::{AllocError, Global};
-use std::io;
 use std::time::Instant;
+use std::{env, io};
 
-const EXIT: &str = "Content-Length: 33\r\n\r\n{\"jsonrpc\":\"2.0\",\"method\":\"exit\"}";
+pub const EXIT: &str = "Content-Length: 33\r\n\r\n{\"jsonrpc\":\"2.0\",\"method\":\"exit\"}";
 
-fn frame(alloc: Global, body: &str) -> Result<String, AllocError> {
+/// The frame of a body.
+pub fn frame(alloc: Global, body: &str) -> Result<String, AllocError> {
     format!(in alloc; "Content-Length: {}\r\n\r\n{body}", body.len())
 }
 
@@ -46,7 +50,8 @@ fn results(alloc: Global, count: u32) -> Result<Items<TaskMsg>, AllocError> {
     Ok(batch)
 }
 
-fn bytes(alloc: Global, text: &str) -> Result<HostEvent, AllocError> {
+/// Bytes that a host brings.
+pub fn bytes(alloc: Global, text: &str) -> Result<HostEvent, AllocError> {
     Ok(HostEvent::Bytes(Bytes::from_slice(alloc, text.as_bytes())?))
 }
 
@@ -70,7 +75,8 @@ fn nested(alloc: Global, half: u32) -> Result<String, AllocError> {
     Ok(text)
 }
 
-fn open(alloc: Global, text: &str) -> Result<String, AllocError> {
+/// The message that opens `/w/a.rs` with a text, as JSON writes it.
+pub fn open(alloc: Global, text: &str) -> Result<String, AllocError> {
     let body = format!(in alloc;
         "{{\"jsonrpc\":\"2.0\",\"method\":\"textDocument/didOpen\",\"params\":{{\"textDocument\":{{\"uri\":\"file:///w/a.rs\",\"languageId\":\"rust\",\"version\":1,\"text\":\"{text}\"}}}}}}"
     )?;
@@ -90,7 +96,7 @@ fn braces(alloc: Global, count: u32, step: u32) -> Result<String, AllocError> {
 }
 
 /// A request for the partners of these brackets.
-fn matching(alloc: Global, positions: &str) -> Result<String, AllocError> {
+pub fn matching(alloc: Global, positions: &str) -> Result<String, AllocError> {
     let body = format!(in alloc;
         "{{\"jsonrpc\":\"2.0\",\"id\":1,\"method\":\"experimental/matchingBrace\",\"params\":{{\"textDocument\":{{\"uri\":\"file:///w/a.rs\"}},\"positions\":[{positions}]}}}}"
     )?;
@@ -142,7 +148,8 @@ fn written(alloc: Global, events: Items<HostEvent>) -> Result<u64, AllocError> {
     Ok(bytes)
 }
 
-fn timed(rt: &HostRuntime, name: &str, events: Items<HostEvent>) -> io::Result<()> {
+/// Runs a session of these events, and prints how long it took on standard error.
+pub fn timed(rt: &HostRuntime, name: &str, events: Items<HostEvent>) -> io::Result<()> {
     let start = Instant::now(rt)?;
     let bytes = written(rt.alloc(), events)?;
     let micros = start.elapsed(rt)?.as_micros();
@@ -163,7 +170,18 @@ fn time_matches(rt: &HostRuntime, half: u32, count: u32) -> io::Result<()> {
     timed(rt, name.as_str(), matches(alloc, half, count)?)
 }
 
+/// Whether the first word is `files`.
+fn asks_for_files(rt: &HostRuntime) -> io::Result<bool> {
+    for word in env::args(rt)?.skip(1) {
+        return Ok(word.as_str() == "files");
+    }
+    Ok(false)
+}
+
 fn main(rt: HostRuntime) -> io::Result<()> {
+    if asks_for_files(&rt)? {
+        return files::in_full(&rt);
+    }
     for count in [2_500, 5_000, 10_000, 20_000] {
         time_pending(&rt, count)?;
     }
@@ -171,5 +189,6 @@ fn main(rt: HostRuntime) -> io::Result<()> {
         time_matches(&rt, half, 0)?;
         time_matches(&rt, half, 1_000)?;
     }
-    time_matches(&rt, 10_000, 10_000)
+    time_matches(&rt, 10_000, 10_000)?;
+    files::in_little(&rt)
 }
