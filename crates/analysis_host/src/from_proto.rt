@@ -7,7 +7,7 @@ use serde_json::Value;
 use text_core::{Position, Range};
 
 /// Which assists a code action asks for.
-#[derive(Clone, Copy, Debug, PartialEq, Eq)]
+#[derive(Clone, Copy, Debug, PartialEq, Eq, PartialOrd, Ord, Hash)]
 pub enum AssistKind {
     Generate,
     QuickFix,

@@ -30,7 +30,7 @@ pub struct Change {
 }
 
 /// Why a change was not made.
-#[derive(Clone, Copy, Debug, PartialEq, Eq)]
+#[derive(Clone, Copy, Debug, PartialEq, Eq, PartialOrd, Ord, Hash)]
 pub enum WorldFault {
     /// The last revision was reached. Nothing changed.
     Exhausted,

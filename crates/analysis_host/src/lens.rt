@@ -4,7 +4,7 @@ use plain::Text;
 use text_core::Position;
 
 /// What a lens counts.
-#[derive(Clone, Copy, Debug, PartialEq, Eq)]
+#[derive(Clone, Copy, Debug, PartialEq, Eq, PartialOrd, Ord, Hash)]
 pub enum LensKind {
     Impls,
     References,

@@ -28,6 +28,7 @@ pub use host::{AnalysisHost, Change, FileChange, WorldFault};
 pub use lens::{Annotation, LensKind, LensResolve};
 pub use method_table::RowId;
 pub use path_map::{PathMap, TextTree};
+pub use plain::NoMemory;
 pub use proto_fault::ProtoFault;
 pub use shared_text::SharedText;
 pub use snapshot::{GlobalStateSnapshot, SnapshotParts};

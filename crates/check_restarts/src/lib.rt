@@ -11,5 +11,6 @@ mod scope;
 mod walk;
 
 pub use affected::affected_roots;
+pub use plain::NoMemory;
 pub use restarts::check_restarts;
 pub use scope::{CheckScope, Restart};

@@ -8,4 +8,5 @@ mod state;
 
 pub use handler::ReqHandler;
 pub use ids::id_text;
+pub use plain::NoMemory;
 pub use state::Client;

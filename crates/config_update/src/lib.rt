@@ -8,4 +8,5 @@ mod update;
 
 pub use cause::FetchCause;
 pub use compare::update_of;
+pub use plain::NoMemory;
 pub use update::ConfigUpdate;

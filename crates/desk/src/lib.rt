@@ -6,6 +6,7 @@ mod replies;
 mod scene;
 mod state;
 
+pub use plain::NoMemory;
 pub use replies::{
     already_pending, canceled_by_client, fault_reply, finished_reply, invalid_params, shut_already,
     stopped_reply, unknown_request,

@@ -5,4 +5,5 @@ mod handshake;
 mod step;
 
 pub use handshake::Handshake;
+pub use plain::NoMemory;
 pub use step::Step;

@@ -9,5 +9,6 @@ mod told;
 
 pub use ends::{HostEnd, ReaderEnd, WorkerEnd, open_inbox};
 pub use entry::{Entry, Knows};
+pub use plain::NoMemory;
 pub use queue::{Inbox, Pass};
 pub use told::{Token, Told, tell};

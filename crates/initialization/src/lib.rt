@@ -7,3 +7,4 @@ mod reading;
 mod replies;
 
 pub use opening::{Opening, initialize};
+pub use plain::NoMemory;

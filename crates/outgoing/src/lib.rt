@@ -8,3 +8,4 @@ mod outgoing;
 pub use fault::OutgoingFault;
 pub use laws::numbers_are_given_once;
 pub use outgoing::Outgoing;
+pub use plain::NoMemory;

@@ -6,6 +6,7 @@ mod running;
 mod starting;
 mod words;
 
+pub use plain::NoMemory;
 pub use running::{Program, run};
 pub use starting::start;
 pub use words::Words;

@@ -17,5 +17,6 @@ pub use crates::{CrateData, CrateEntry, CrateInfo, MacroState};
 pub use dependencies::all_workspace_dependencies_for_package;
 pub use kinds::{TargetKind, WorkspaceKind};
 pub use package::{Package, PackageSpecifier, Target};
+pub use plain::NoMemory;
 pub use target_spec::{TargetSpec, target_spec_for_file};
 pub use workspace::ProjectWorkspace;

@@ -196,7 +196,7 @@ impl Config {
         let discovered: &Items<Discovered> = &self.discovered;
         push_discovered(alloc, &mut projects, discovered.as_slice())?;
         if projects.len() == 0 {
-            push_manifests(alloc, &mut projects, self.workspace_roots())?;
+            push_manifests(&mut projects, self.workspace_roots())?;
         }
         Ok(projects)
     }

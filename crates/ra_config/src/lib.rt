@@ -11,6 +11,7 @@ pub use capabilities::{Capabilities, capabilities_of};
 pub use config::{Applied, Config};
 pub use initialize::{ConfigFault, initial_roots};
 pub use layered_settings::{ConfigChange, SettingsFile, the_search_path_ends};
+pub use plain::NoMemory;
 pub use ra_settings::{
     CargoFeatures, ConfigError, ConfigErrors, DiscoverConfig, FilesWatcher, InvocationStrategy,
     LinkedProject, Row, SettingValue,

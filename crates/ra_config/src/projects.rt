@@ -1,11 +1,11 @@
 // The projects that a session works on, and the roots of its workspaces.
-ghost use Rattle.std.specs.Prelude.{◌≡◌, ◌↔◌, ◌++◌, IsTrue, map, bytes_eq, IfOk, OnOk, option_to_list};
+ghost use Rattle.std.specs.Prelude.{◌≡◌, ◌↔◌, ◌++◌, IsTrue, map, bytes_eq, IfOk, OnOk};
 ghost use Rattle.std.specs.List.{list_any, position};
 ghost use Rattle.ra_config.specs.Projects.{newer, with_discovered, as_project, manifest, manifests, without};
 
 use docs_vfs::VfsPath;
 use plain::{Copied, Items, Json, Text, is_same};
-use ra_settings::{LinkedProject, join};
+use ra_settings::LinkedProject;
 use std::alloc::{AllocError, Global};
 use std::marker::Model;
 use std::sync::Arc;
@@ -192,40 +192,20 @@ pub(crate) fn push_discovered(
     Ok(())
 }
 
-fn manifest(alloc: Global, root: &VfsPath) -> Result<Option<LinkedProject>, AllocError>
+fn manifest(root: &VfsPath) -> Result<LinkedProject, AllocError>
     ensures { IfOk result (λ p. p ≡ manifest root.now) }
 {
-    match VfsPath::new(alloc, join(alloc, root, "Cargo.toml")?.as_str())? {
-        Some(path) => Ok(Some(LinkedProject::ProjectManifest(path))),
-        None => Ok(None),
-    }
-}
-
-fn push_manifest(
-    alloc: Global,
-    projects: &mut Items<LinkedProject>,
-    root: &VfsPath,
-) -> Result<(), AllocError>
-    ensures { OnOk result (projects.new ≡ projects.old ++ option_to_list (manifest root.now)) }
-{
-    match manifest(alloc, root)? {
-        Some(project) => {
-            projects.push(project)?;
-            Ok(())
-        }
-        None => Ok(()),
-    }
+    Ok(LinkedProject::ProjectManifest(root.join("Cargo.toml")?))
 }
 
 pub(crate) fn push_manifests(
-    alloc: Global,
     projects: &mut Items<LinkedProject>,
     roots: &[VfsPath],
 ) -> Result<(), AllocError>
     ensures { OnOk result (projects.new ≡ projects.old ++ manifests roots.now) }
 {
     for root in roots {
-        push_manifest(alloc, projects, root)?;
+        projects.push(manifest(root)?)?;
     }
     Ok(())
 }

@@ -23,7 +23,7 @@ pub use find::find_at;
 pub use from_toml::toml_tree;
 pub use laws::{a_layer_is_read_by_row, empty_segments_are_refused};
 pub use layer::{Layer, ReadLayer, Source};
-pub use path_text::join;
+pub use plain::NoMemory;
 pub use read::read_value;
 pub use row::{Facts, Kind, ROWS, Row, Scope};
 pub use value::{

@@ -1,7 +1,7 @@
 // Trees of TOML, and what stands at a path in a tree.
-use crate::calls::{cut, json, path, toml};
+use crate::calls::{cut, json, toml};
 use plain::Json;
-use ra_settings::{find_at, join};
+use ra_settings::find_at;
 use std::alloc::Global;
 
 /// A text of TOML, and the JSON that it stands for: `none` where it is no TOML. A mark of the order of bytes is none.
@@ -60,16 +60,4 @@ fn is_found_at_its_path(alloc: Global) -> Option<bool> {
 #[test]
 fn a_value_at_a_path_of_names(rt: HostRuntime) {
     assert!(rt; is_found_at_its_path(rt.alloc()) == Some(true));
-}
-
-/// Whether the segment `a` below a path is this.
-fn is_joined(alloc: Global, text: &str, want: &str) -> Option<bool> {
-    let path = path(alloc, text)?;
-    Some(join(alloc, &path, "a").ok()?.is(want))
-}
-
-#[test]
-fn a_segment_below_a_path(rt: HostRuntime) {
-    assert!(rt; is_joined(rt.alloc(), "/", "/a") == Some(true));
-    assert!(rt; is_joined(rt.alloc(), "/w", "/w/a") == Some(true));
 }

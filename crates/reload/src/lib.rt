@@ -24,6 +24,7 @@ pub use laws::{
     kept_crates_are_numbered_in_order, kept_dependencies_are_renumbered,
 };
 pub use names::eq_ignore_underscore;
+pub use plain::NoMemory;
 pub use progress::Progress;
 pub use refresh::should_refresh_for_change;
 pub use switch::Switch;

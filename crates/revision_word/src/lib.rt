@@ -6,6 +6,7 @@ mod word;
 mod word_cancel;
 mod writer;
 
+pub use plain::NoMemory;
 pub use sight::{Seat, Sight};
 pub use word::Word;
 pub use word_cancel::WordCancel;

@@ -5,6 +5,7 @@ mod serving;
 mod status;
 mod words;
 
+pub use plain::NoMemory;
 pub use serving::serve;
 pub use status::{BAD_WORDS, status_of, status_text};
 pub use words::{Asked, asked_by};

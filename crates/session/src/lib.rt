@@ -4,6 +4,7 @@
 mod reading;
 mod run;
 
+pub use plain::NoMemory;
 pub use run::{main_loop, main_loop_from};
 pub use session_model::{Counter, Event, SessionError, TurnError};
 pub use session_state::{GlobalState, TurnOut};

@@ -4,3 +4,4 @@
 mod hearing;
 
 pub use hearing::heard_of;
+pub use plain::NoMemory;

@@ -22,6 +22,7 @@ pub use inline_host::InlineHost;
 pub use memory_sink::MemorySink;
 pub use memory_source::MemorySource;
 pub use null_analysis::NullAnalysis;
+pub use plain::NoMemory;
 pub use recorded_call::RecordedCall;
 pub use script::ScriptStep;
 pub use script_host::ScriptHost;

@@ -15,4 +15,5 @@ pub use command::{Command, LogCode};
 pub use event::{HostEvent, LoadedFile, LoaderMsg, LoadingProgress, TaskBody, TaskMsg};
 pub use job::{Job, JobKind, JobResult, JobValue};
 pub use peers::{Host, Sink, Source};
+pub use plain::NoMemory;
 pub use runs::run_job;

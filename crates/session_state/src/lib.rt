@@ -4,4 +4,5 @@
 mod global_state;
 
 pub use global_state::GlobalState;
+pub use plain::NoMemory;
 pub use turn_parts::TurnOut;

@@ -12,3 +12,4 @@ mod offsets;
 
 pub use analysis::SmallAnalysis;
 pub use laws::{brackets_match_in_pairs, names_are_maximal_runs, rows_have_their_answers};
+pub use plain::NoMemory;

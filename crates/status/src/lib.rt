@@ -9,4 +9,5 @@ mod status;
 mod workspace_facts;
 
 pub use health::Health;
+pub use plain::NoMemory;
 pub use status::{Status, StatusInput, current_status};

@@ -6,5 +6,6 @@ mod standard_input;
 mod standard_output;
 
 pub use logging_host::LoggingHost;
+pub use plain::NoMemory;
 pub use standard_input::StandardInput;
 pub use standard_output::StandardOutput;

@@ -12,7 +12,7 @@ use crate::offsets;
 use crate::position::{OffsetFault, PositionEncoding, Range};
 use crate::splices::{Splice, make};
 use crate::starts::find_starts;
-use crate::steps::Steps;
+use plain::Steps;
 use std::alloc::{AllocError, Global};
 use std::mem;
 use std::sync::ledger::Ledger;

@@ -12,9 +12,8 @@ use crate::change::ContentChange;
 use crate::draft::{Draft, copy_with_room, edit, new_draft};
 use crate::position::PositionEncoding;
 use crate::splices::make;
-use crate::steps::Steps;
 use crate::text_index::TextIndex;
-use plain::{Items, Text};
+use plain::{Items, Steps, Text};
 use std::alloc::{AllocError, Global};
 use std::marker::Brand;
 use std::mem;
@@ -344,7 +343,7 @@ fn edit_whole<L: Ledger>(
 
 /// A document after a list of changes, as `apply_with_limit` has it with the limit of 4,294,967,295 bytes, and whether one
 /// of them was skipped. The lines before the edits and behind them are taken from the index, and the text is neither
-/// searched nor compared there. Of a change that is the whole text nothing is copied.
+/// searched nor compared there. Where the last change is the whole text, nothing of it is copied.
 pub fn edit_with_steps<L: Ledger>(
     alloc: Global,
     encoding: PositionEncoding,

@@ -17,7 +17,6 @@ mod offsets;
 mod position;
 mod splices;
 mod starts;
-mod steps;
 mod text_index;
 
 pub use change::{CompletionEdit, ContentChange, TextEdit};
@@ -31,6 +30,6 @@ pub use laws::{
     columns_stand_behind_their_units, lines_are_the_text, places_of_positions, positions_of_places,
 };
 pub use line_endings::LineEndings;
+pub use plain::{NoMemory, Steps};
 pub use position::{OffsetFault, Position, PositionEncoding, Range, WideEncoding};
-pub use steps::Steps;
 pub use text_index::{LineIndex, TextIndex, offset, text_range};

@@ -6,4 +6,5 @@ mod fault;
 mod turn_out;
 
 pub use fault::{Counter, TurnError};
+pub use plain::NoMemory;
 pub use turn_out::TurnOut;

@@ -1,6 +1,6 @@
-use Rattle.std.proofs.Common.{◌≡◌, ◌++◌, drop}
-use Rattle.ra_config.specs.Projects.{manifests}
+use Rattle.std.proofs.Common.{◌≡◌, ◌++◌, drop, map}
+use Rattle.ra_config.specs.Projects.{manifest}
 use Rattle.ra_config.proofs.projects.push_manifests.Given as goal
 
 abbrev pub invariant-loop-root : goal.invariant-loop-root
-invariant-loop-root l = l.projects ++ manifests (drop l.root-index l.roots) ≡ l.initial.projects ++ manifests l.roots
+invariant-loop-root l = l.projects ++ map manifest (drop l.root-index l.roots) ≡ l.initial.projects ++ map manifest l.roots
