@@ -19,7 +19,7 @@ mod tree;
 pub use laws::{
     a_key_is_found_as_it_was_set, a_removed_key_is_gone, keys_stay_in_order, one_entry_more_or_less,
 };
-pub use plain::{NoMemory, Steps};
+pub use plain::Steps;
 
 /// Values by key, seen as the entries in the order of their keys. It never changes: `set` answers another map, and a
 /// clone is the same tree.
