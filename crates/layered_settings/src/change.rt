@@ -1,5 +1,5 @@
 // A change of settings.
-ghost use Rattle.std.specs.Prelude.{◌≡◌, ◌++◌, ◌↔◌, [], ◌∷◌, IfOk, OnOk, IsTrue};
+ghost use Rattle.std.specs.Prelude.{◌≡◌, ◌++◌, ◌↔◌, [], ◌∷◌, IfOk, OnOk, IsTrue, false};
 ghost use Rattle.std.specs.FinMap as map;
 ghost use Rattle.ra_settings.specs.Layers.{nothing_set};
 ghost use Rattle.ra_settings.specs.declared.layer.Source.{Source};
@@ -138,14 +138,7 @@ fn read_sorted(
 {
     let mut errors = Items::new(alloc);
     let mut passed_over = Items::new(alloc);
-    if changes.is_empty() {
-        return Ok(ReadFiles {
-            files: before.clone()?,
-            errors,
-            passed_over,
-        });
-    }
-    let mut layers = before.copy_layers()?;
+    let mut files = before.clone()?;
     let mut done = ByNumber::new(alloc);
     for change in changes {
         let root = u64::from(change.root);
@@ -156,11 +149,11 @@ fn read_sorted(
         let place = Text::from_str(alloc, change.path.as_str())?;
         let read = read_text_layer(alloc, source, &place, root_path, &change.text)?;
         errors = append(errors, read.errors)?;
-        layers.insert(root, read.layer)?;
+        files = files.put(change.root, read.layer)?;
         done.insert(root, ())?;
     }
     Ok(ReadFiles {
-        files: Files::new(alloc, layers)?,
+        files,
         errors,
         passed_over,
     })
@@ -215,11 +208,28 @@ fn user_after(
     }
 }
 
-/// Whether the client's or the user's values differ.
-fn is_changed(new: &Settings, old: &Settings) -> bool
+/// Which of the client's and the user's settings a change names.
+#[derive(Debug, Drop)]
+struct Named {
+    client: bool,
+    user: bool,
+}
+
+/// Whether a layer stays. One that the change doesn't name does, and it is not compared.
+fn stays(is_named: bool, new: &Layer, old: &Layer) -> bool
+    requires { is_named ≡ false → new.now ≡ old.now }
+    ensures { IsTrue result ↔ (new.now ≡ old.now) }
+{
+    !is_named || new.is_same(old)
+}
+
+/// Whether the client's or the user's values differ. Only those that the change names are compared.
+fn is_changed(named: Named, new: &Settings, old: &Settings) -> bool
+    requires client { named.client ≡ false → new.now.client ≡ old.now.client }
+    requires user { named.user ≡ false → new.now.user ≡ old.now.user }
     ensures { IsTrue result ↔ HasChanged new.now old.now }
 {
-    !(new.client().is_same(old.client()) && new.user().is_same(old.user()))
+    !(stays(named.client, new.client(), old.client()) && stays(named.user, new.user(), old.user()))
 }
 
 fn put_first(parents: &mut ByNumber<u32>, pair: (u32, u32)) -> Result<(), AllocError>
@@ -435,7 +445,7 @@ impl Settings {
     }
 
     /// The settings after a change, and what is to be told of it.
-    #[tactic(auto, unfolding(crate::specs::Change::after, crate::specs::Change::errors_after, crate::specs::Change::passed_over))]
+    #[tactic(auto, using(crate::proofs::Unnamed::client_stays, crate::proofs::Unnamed::user_stays), unfolding(crate::specs::Change::after, crate::specs::Change::errors_after, crate::specs::Change::passed_over))]
     pub fn after(
         &self,
         alloc: Global,
@@ -447,6 +457,10 @@ impl Settings {
         ensures passed { IfOk result (λ r. r.passed_over ≡ passed_over change) }
         ensures truth { IfOk result (λ r. IsTrue r.changed ↔ HasChanged r.settings self.now) }
     {
+        let named = Named {
+            client: change.client.is_some(),
+            user: change.user.is_some(),
+        };
         let Parted {
             parts,
             errors,
@@ -456,7 +470,7 @@ impl Settings {
         let settings = Settings::of_parts(self.defaults().clone()?, parts);
         let errors = errors.in_order()?;
         let passed_over = append(workspaces_over, crates_over)?;
-        let changed = is_changed(&settings, self);
+        let changed = is_changed(named, &settings, self);
         Ok(ChangedSettings {
             settings,
             errors,

@@ -7,4 +7,5 @@ mod settings;
 
 pub use change::{ChangedSettings, ConfigChange, SettingsFile};
 pub use path_laws::the_search_path_ends;
+pub use plain::NoMemory;
 pub use settings::Settings;

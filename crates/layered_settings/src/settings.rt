@@ -1,5 +1,5 @@
 // What is set, by where it comes from, and how a value is searched.
-ghost use Rattle.std.specs.Prelude.{◌≡◌, option_to_list, IfSome, IfOk};
+ghost use Rattle.std.specs.Prelude.{◌≡◌, ◌<◌, option_to_list, IfSome, IfOk};
 ghost use Rattle.std.specs.Option.{option_copied};
 ghost use Rattle.std.specs.FinMap as map;
 ghost use Rattle.ra_settings.specs.Facts.{facts_of};
@@ -9,14 +9,17 @@ ghost use Rattle.layered_settings.specs.Search.{parent_of, layers_at, layers_of,
 
 use plain::ByNumber;
 use ra_settings::{Defaults, Layer, Row, SettingValue};
+use shared_map::{SharedMap, Steps};
 use std::alloc::{AllocError, Global};
-use std::marker::Model;
+use std::marker::{Brand, Model};
 use std::sync::Arc;
+use std::sync::ledger::{Blank, Ledger};
 
-/// The files of one kind, by root. A clone shares them.
+/// The files of one kind, by root. They never change: `put` answers others, which share with these all nodes but
+/// those on the way to the root, and a clone is the same tree.
 #[derive(Drop)]
 pub(crate) struct Files {
-    layers: Arc<ByNumber<Layer>, Global>,
+    layers: SharedMap<u32, Layer>,
 }
 
 impl Model for Files {
@@ -31,31 +34,50 @@ impl Model for Files {
 
     ghost coded = { map.code coded_ℕ layer_row.the_row.coded };
 
-    ghost view = { λ f. f.layers.value };
+    ghost view = { λ f. map.from_entries f.layers };
 }
 
 impl Files {
-    pub(crate) fn new(alloc: Global, layers: ByNumber<Layer>) -> Result<Files, AllocError>
-        ensures { IfOk result (λ files. files ≡ layers) }
+    /// No files.
+    pub(crate) fn new(alloc: Global) -> Files
+        ensures { result ≡ map.empty }
     {
-        Ok(Files {
-            layers: Arc::new(alloc, layers)?,
-        })
-    }
-
-    /// The layers, to change.
-    pub(crate) fn copy_layers(&self) -> Result<ByNumber<Layer>, AllocError>
-        ensures { IfOk result (λ layers. layers ≡ self.now) }
-    {
-        let layers: &ByNumber<Layer> = &self.layers;
-        layers.clone()
+        Files {
+            layers: SharedMap::new(alloc),
+        }
     }
 
     /// The layer of a root.
     pub(crate) fn get(&self, root: u32) -> Option<&Layer>
         ensures { option_copied result ≡ map.get self.now root }
     {
-        self.layers.get(u64::from(root))
+        self.layers.get(&root)
+    }
+
+    /// The files where the layer of a root is this one.
+    pub(crate) fn put(&self, root: u32, layer: Layer) -> Result<Files, AllocError>
+        ensures { IfOk result (λ files. files ≡ map.insert self.now root layer) }
+    {
+        self.put_uncounted::<Brand>(root, layer, Blank::new(1))
+    }
+
+    /// The same where nobody counts the steps.
+    fn put_uncounted<L: Ledger>(
+        &self,
+        root: u32,
+        layer: Layer,
+        blank: Blank,
+    ) -> Result<Files, AllocError>
+        requires name { blank.name ≡ L.name }
+        requires parts { blank.parts ≡ L.parts }
+        requires some { 0 < L.parts }
+        ensures { IfOk result (λ files. files ≡ map.insert self.now root layer) }
+    {
+        let mut steps = Steps::<L>::new(blank);
+        let _in_order = self.layers.len();
+        Ok(Files {
+            layers: self.layers.set(root, Some(layer), &mut steps)?,
+        })
     }
 }
 
@@ -202,8 +224,8 @@ impl Settings {
             SettingsParts {
                 client: none.clone()?,
                 user: none,
-                workspaces: Files::new(alloc, ByNumber::new(alloc))?,
-                crates: Files::new(alloc, ByNumber::new(alloc))?,
+                workspaces: Files::new(alloc),
+                crates: Files::new(alloc),
                 parents: Parents::new(alloc, ByNumber::new(alloc))?,
             },
         ))
