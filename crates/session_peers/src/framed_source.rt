@@ -1,11 +1,13 @@
 // A source whose bytes are given frame by frame.
-ghost use Rattle.std.specs.Prelude.{◌≡◌, ◌≢◌, ◌≤◌, false, [], length, take, drop, vec_len, IfNone, IfSome, IfOk, OnErr};
+ghost use Rattle.std.specs.Prelude.{◌≡◌, ◌≢◌, ◌≤◌, ◌<◌, ◌↔◌, false, [], length, take, drop, IsTrue, IfNone, IfSome, IfOk, OnErr};
 ghost use Rattle.lsp_frame.specs.Frames.{cut_of};
 ghost use Rattle.lsp_frame.specs.declared.frame.Cut.TheVariants.{NeedMore};
 ghost use Rattle.session_peers.specs.Framed.{waiting, IsRead, EndsPiece};
-ghost use Rattle.session_port.specs.Record.{HasCause};
+ghost use Rattle.session_peers.specs.Inline.{IsDry};
+ghost use Rattle.session_port.specs.Record.{HasCause, before_piece};
 
 use lsp_frame::{Cut, cut};
+use plain::{Buffered, Bytes};
 use session_port::{HostError, Source};
 use std::alloc::{AllocError, Global};
 use std::marker::Model;
@@ -16,44 +18,41 @@ const PIECE: usize = 65536;
 /// A source, and the bytes that were read of it and not given yet.
 #[derive(Drop)]
 pub(crate) struct FramedSource<S: Source> {
+    alloc: Global,
     source: S,
-    buf: Vec<u8>,
-    // Where in the buffer the bytes begin that were not given.
-    start: usize,
+    held: Buffered,
+    // A piece that was read and has no room among those held yet, or nothing.
+    pending: Bytes,
 }
 
 impl<S: Source> Model for FramedSource<S> {
-    ghost use Rattle.std.specs.Prelude.{◌≤◌, length, drop};
     ghost use Rattle.session_peers.specs.Framed.{FramedData};
+    ghost use Rattle.session_port.specs.Record.{before_piece};
 
     ghost Value = { FramedData };
 
-    ghost view = { λ s. record { held = drop s.start s.buf.items; left = S.left s.source; faults = S.faults s.source; spent = S.spent s.source } };
-
-    ghost invariant = { λ s. s.start ≤ length s.buf.items };
+    ghost view = { λ s. record { held = s.held; left = before_piece s.pending (S.left s.source); faults = S.faults s.source; spent = S.spent s.source } };
 }
 
-/// The bytes from a place on.
-fn tail(buf: &Vec<u8>, start: usize) -> &[u8]
-    requires { start ≤ vec_len buf.now }
-    ensures { result.now ≡ drop start buf.now.items }
+/// Reads a piece where none is pending, and says whether one is pending now.
+fn fill<S: Source>(source: &mut S, pending: &mut Bytes) -> Result<bool, HostError>
+    requires fresh { S.spent source.old ≡ false }
+    ensures fresh { IfOk result (λ _. S.spent source.new ≡ false) }
+    ensures left { before_piece pending.new (S.left source.new) ≡ before_piece pending.old (S.left source.old) }
+    ensures more { IfOk result (λ more. IsTrue more ↔ (0 < length pending.new)) }
+    ensures dry { IfOk result (λ more. more ≡ false → IsDry (before_piece pending.new (S.left source.new))) }
+    ensures cause { HasCause (S.faults source.old) (S.faults source.new) result }
 {
-    &buf[start..]
-}
-
-/// Gives up the bytes before a place where they are most of the buffer, and says where the others begin.
-fn compact(buf: &mut Vec<u8>, start: usize) -> usize
-    requires { start ≤ vec_len buf.old }
-    ensures kept { drop result buf.new.items ≡ drop start buf.old.items }
-    ensures within { result ≤ length buf.new.items }
-{
-    let live = buf.len() - start;
-    if start < live {
-        return start;
+    if !pending.is_empty() {
+        return Ok(true);
     }
-    buf.rotate_left(start);
-    buf.truncate(live);
-    0
+    match source.read_piece(PIECE)? {
+        Some(piece) => {
+            *pending = piece;
+            Ok(true)
+        }
+        None => Ok(false),
+    }
 }
 
 impl<S: Source> FramedSource<S> {
@@ -62,16 +61,17 @@ impl<S: Source> FramedSource<S> {
             ≡ record { held = []; left = S.left source; faults = S.faults source; spent = S.spent source }) }
     {
         Ok(FramedSource {
+            alloc,
             source,
-            buf: Vec::with_capacity(alloc, PIECE)?,
-            start: 0,
+            held: Buffered::with_capacity(alloc, PIECE)?,
+            pending: Bytes::from_vec(Vec::new(alloc)),
         })
     }
 
     fn held(&self) -> &[u8]
         ensures { result.now ≡ self.now.held }
     {
-        tail(&self.buf, self.start)
+        self.held.as_slice()
     }
 
     /// The first of the bytes held.
@@ -87,7 +87,7 @@ impl<S: Source> FramedSource<S> {
         requires { end ≤ length self.old.held }
         ensures { self.new ≡ record self.old { held = drop end self.old.held } }
     {
-        self.start += end;
+        self.held.consume(end);
     }
 
     /// Reads more, and says whether there was more.
@@ -99,13 +99,11 @@ impl<S: Source> FramedSource<S> {
         ensures left { OnErr result (self.new.left ≡ self.old.left) }
         ensures cause { HasCause self.old.faults self.new.faults result }
     {
-        self.start = compact(&mut self.buf, self.start);
-        // With the room made first, no piece is lost for want of memory.
-        self.buf.reserve(PIECE)?;
-        let Some(piece) = self.source.read_piece(PIECE)? else {
+        if !fill(&mut self.source, &mut self.pending)? {
             return Ok(false);
-        };
-        self.buf.extend_from_slice(piece.as_slice())?;
+        }
+        self.held.feed(self.pending.as_slice())?;
+        self.pending = Bytes::from_vec(Vec::new(self.alloc));
         Ok(true)
     }
 
