@@ -1,152 +1,195 @@
 // The edges of headers, and streams in pieces.
-use crate::calls::{Next, cut_of, feed, is_mid_frame, take_next};
-use lsp_frame::{Cut, FrameFault, FrameReader, Message, read_pieces};
+ghost use Rattle.std.specs.Prelude.{◌<◌};
+
+use crate::calls::{Next, feed, parts, push, take_next};
+use lsp_frame::{Cut, FrameFault, FrameReader, cut, read_pieces};
 use std::alloc::Global;
-use std::test::Fail;
 
-fn whole(body_start: usize, body_end: usize) -> Cut {
-    Cut::Frame {
-        body_start,
-        body_end,
+fn cut_of(bytes: &[u8]) -> Cut {
+    cut(bytes)
+}
+
+/// What the first frame of a stream is.
+fn told(cut: Cut) -> &'static str {
+    match cut {
+        Cut::Bad => "bad",
+        Cut::NeedMore => "more",
+        Cut::Frame { .. } => "a frame",
     }
 }
 
-fn padded(alloc: Global, end: &[u8]) -> Result<Vec<u8>, Fail> {
-    let mut bytes = Vec::from_slice(alloc, b"Content-Length: 0\r\nX: ")?;
-    for _ in 0..4070u32 {
-        bytes.push(b'a')?;
+/// Whether the first frame's body stands there.
+fn is_whole(bytes: &[u8], start: usize, end: usize) -> bool {
+    match cut_of(bytes) {
+        Cut::Frame {
+            body_start,
+            body_end,
+        } => body_start == start && body_end == end,
+        _ => false,
     }
-    bytes.extend_from_slice(end)?;
-    Ok(bytes)
+}
+
+/// The fronts of streams, and what the first frame is. A `|` stands between two.
+const EDGES: &str = "Content-Length: 1\r\nContent-Length: 1\r\n\r\nx > bad|\
+    Content-Length: 67108865\r\n\r\n > bad|\
+    Content-Length: 67108864\r\n\r\n > more|\
+    Content-Length: 00000000001\r\n\r\nx > bad|\
+    Content-Length: +1\r\n\r\nx > bad|\
+    Content-Length: \r\n\r\n > bad|\
+    Content-Length : 1\r\n\r\nx > bad|\
+    Content-Length:1\r\n\r\nx > bad|\
+    Content-Type: x\r\n\r\n > bad|\
+    \r\n\r\n > bad|\
+    not a header > more|\
+    Content-Length: 2\r\n\r\nx > more";
+
+fn agrees(row: &str) -> bool {
+    let (front, want) = parts(row);
+    told(cut_of(front.as_bytes())) == want
 }
 
 #[test]
-fn the_last_byte_of_a_header(rt: HostRuntime) -> Result<(), Fail> {
-    let bytes = padded(rt.alloc(), b"\r\n\r\n")?;
-    assert_eq!(rt; bytes.len(), 4096);
-    assert_eq!(rt; cut_of(&bytes), whole(4096, 4096));
-    let late = padded(rt.alloc(), b"a\r\n\r\n")?;
-    assert_eq!(rt; cut_of(&late), Cut::Bad);
-    Ok(())
+fn edges_of_the_header(rt: HostRuntime) {
+    for row in EDGES.split('|') {
+        assert!(rt; agrees(row), "at {row}");
+    }
+    assert!(rt; is_whole(b"Content-Length: 0000000001\r\n\r\nx", 30, 31));
+    assert!(rt; is_whole(b"content-LENGTH: 01\r\nContent-Type: \r\n\r\nxy", 38, 39));
+}
+
+/// A header with a field of so many letters.
+fn padded(alloc: Global, letters: u32) -> String {
+    let mut header = String::new(alloc);
+    push(&mut header, "Content-Length: 0\r\nX: ");
+    for _ in 0..letters {
+        push(&mut header, "a");
+    }
+    push(&mut header, "\r\n\r\n");
+    header
+}
+
+fn is_padded_whole(alloc: Global, letters: u32, end: usize) -> bool {
+    let header = padded(alloc, letters);
+    header.len() == end && is_whole(header.as_bytes(), end, end)
+}
+
+fn is_padded_bad(alloc: Global, letters: u32) -> bool {
+    told(cut_of(padded(alloc, letters).as_bytes())) == "bad"
 }
 
 #[test]
-fn edges_of_the_header(rt: HostRuntime) -> Result<(), Fail> {
-    let table: [(&[u8], Cut); 14] = [
-        (b"Content-Length: 1\r\nContent-Length: 1\r\n\r\nx", Cut::Bad),
-        (b"Content-Length: 67108865\r\n\r\n", Cut::Bad),
-        (b"Content-Length: 67108864\r\n\r\n", Cut::NeedMore),
-        (b"Content-Length: 00000000001\r\n\r\nx", Cut::Bad),
-        (b"Content-Length: 0000000001\r\n\r\nx", whole(30, 31)),
-        (b"Content-Length: +1\r\n\r\nx", Cut::Bad),
-        (b"Content-Length: \r\n\r\n", Cut::Bad),
-        (b"Content-Length : 1\r\n\r\nx", Cut::Bad),
-        (b"Content-Length:1\r\n\r\nx", Cut::Bad),
-        (b"Content-Type: x\r\n\r\n", Cut::Bad),
-        (b"\r\n\r\n", Cut::Bad),
-        (b"not a header", Cut::NeedMore),
-        (
-            b"content-LENGTH: 01\r\nContent-Type: \r\n\r\nxy",
-            whole(38, 39),
-        ),
-        (b"Content-Length: 2\r\n\r\nx", Cut::NeedMore),
-    ];
-    for (bytes, want) in table {
-        assert_eq!(rt; cut_of(bytes), want);
-    }
-    Ok(())
+fn the_last_byte_of_a_header(rt: HostRuntime) {
+    assert!(rt; is_padded_whole(rt.alloc(), 4070, 4096));
+    assert!(rt; is_padded_bad(rt.alloc(), 4071));
 }
 
 const STREAM: &[u8] =
     b"Content-Length: 14\r\n\r\n{\"method\":\"a\"}Content-Length: 8\r\n\r\n{\"id\":1}Content-Type: x\r\n\r\n";
 
-/// Notes the kind of each message that is whole, and answers the place of a bad frame.
-fn note_kinds(reader: &mut FrameReader, kinds: &mut String) -> Result<Option<u64>, Fail> {
+/// Notes the kind of each message that is whole, and answers what comes then.
+fn note_kinds(reader: &mut FrameReader, kinds: &mut String) -> Next {
     for _ in 0..9u32 {
-        match take_next(reader)? {
-            Next::Message(Message::Notification(_)) => kinds.push_str("n")?,
-            Next::Message(Message::Response(_)) => kinds.push_str("r")?,
-            Next::BadFrame(at) => return Ok(Some(at)),
-            _ => return Ok(None),
+        match take_next(reader) {
+            Next::Notification => push(kinds, "n"),
+            Next::Response => push(kinds, "r"),
+            other => return other,
         }
     }
-    Ok(None)
+    Next::Nothing
+}
+
+fn note_pieces(reader: &mut FrameReader, size: usize, kinds: &mut String) -> Next
+    requires { 0 < size }
+{
+    let mut last = Next::Nothing;
+    for piece in STREAM.chunks(size) {
+        feed(reader, piece);
+        last = note_kinds(reader, kinds);
+    }
+    last
+}
+
+/// Whether all messages come, and then the fault, where the stream comes in pieces of this size.
+fn come(alloc: Global, size: usize) -> bool
+    requires { 0 < size }
+{
+    let mut kinds = String::new(alloc);
+    let last = note_pieces(&mut FrameReader::new(alloc), size, &mut kinds);
+    matches!(last, Next::BadFrame(65)) && kinds.as_str() == "nr"
 }
 
 #[test]
-fn messages_come_in_any_pieces(rt: HostRuntime) -> Result<(), Fail> {
+fn messages_come_in_any_pieces(rt: HostRuntime) {
     for size in 1..40usize {
-        let mut reader = FrameReader::new(rt.alloc());
-        let mut kinds = String::new(rt.alloc());
-        let mut at = None;
-        for piece in STREAM.chunks(size) {
-            feed(&mut reader, piece)?;
-            at = note_kinds(&mut reader, &mut kinds)?;
-        }
-        assert_eq!(rt; kinds.as_str(), "nr", "{size}");
-        assert_eq!(rt; at, Some(65), "{size}");
+        assert!(rt; come(rt.alloc(), size), "in pieces of {size}");
     }
-    Ok(())
 }
 
-fn read_none(alloc: Global) -> Result<usize, Fail> {
-    Ok(read_pieces(alloc, &[])?.messages.len())
-}
-
-#[test]
-fn nothing_is_read_of_no_pieces(rt: HostRuntime) -> Result<(), Fail> {
-    assert_eq!(rt; read_none(rt.alloc())?, 0);
-    Ok(())
+/// How many messages come of no pieces.
+fn count_of_none(alloc: Global) -> Option<usize> {
+    match read_pieces(alloc, &[]) {
+        Ok(reading) => Some(reading.messages.len()),
+        Err(_) => None,
+    }
 }
 
 #[test]
-fn only_an_unfinished_frame_is_mid_frame(rt: HostRuntime) -> Result<(), Fail> {
+fn nothing_is_read_of_no_pieces(rt: HostRuntime) {
+    assert!(rt; count_of_none(rt.alloc()) == Some(0));
+}
+
+fn is_mid_frame(reader: &FrameReader) -> bool {
+    reader.mid_frame()
+}
+
+/// Whether an unfinished frame is held behind a piece.
+fn is_mid_frame_behind(reader: &mut FrameReader, piece: &[u8]) -> bool {
+    feed(reader, piece);
+    is_mid_frame(reader)
+}
+
+#[test]
+fn only_an_unfinished_frame_is_mid_frame(rt: HostRuntime) {
     let mut reader = FrameReader::new(rt.alloc());
-    let frame = b"Content-Length: 8\r\n\r\n{\"id\":1}";
     assert!(rt; !is_mid_frame(&reader));
-    for (piece, want) in [
-        (&frame[..5], true),
-        (&frame[5..25], true),
-        (&frame[25..], false),
-    ] {
-        feed(&mut reader, piece)?;
-        assert_eq!(rt; is_mid_frame(&reader), want);
-    }
-    assert!(rt; matches!(take_next(&mut reader)?, Next::Message(_)));
+    assert!(rt; is_mid_frame_behind(&mut reader, b"Conte"));
+    assert!(rt; is_mid_frame_behind(&mut reader, b"nt-Length: 8\r\n\r\n{\"id"));
+    assert!(rt; !is_mid_frame_behind(&mut reader, b"\":1}"));
+    assert!(rt; matches!(take_next(&mut reader), Next::Response));
     assert!(rt; !is_mid_frame(&reader));
-    feed(&mut reader, b"\r\n\r\n")?;
-    assert!(rt; !is_mid_frame(&reader));
-    Ok(())
+    assert!(rt; !is_mid_frame_behind(&mut reader, b"\r\n\r\n"));
+}
+
+fn is_at(reader: &FrameReader, place: u64, held: usize) -> bool {
+    reader.place() == place && reader.held() == held
 }
 
 #[test]
-fn faults_are_answered_again(rt: HostRuntime) -> Result<(), Fail> {
+fn faults_are_answered_again(rt: HostRuntime) {
     let mut reader = FrameReader::new(rt.alloc());
     feed(
         &mut reader,
         b"Content-Length: 8\r\n\r\n{\"id\":1}Content-Length: 3\r\n\r\n[1]",
-    )?;
-    assert!(rt; matches!(take_next(&mut reader)?, Next::Message(_)));
-    for _ in 0..2u32 {
-        assert!(rt; matches!(take_next(&mut reader)?, Next::BadMessage(29)));
-    }
+    );
+    assert!(rt; matches!(take_next(&mut reader), Next::Response));
+    assert!(rt; matches!(take_next(&mut reader), Next::BadMessage(29)));
+    assert!(rt; matches!(take_next(&mut reader), Next::BadMessage(29)));
     assert!(rt; !is_mid_frame(&reader));
-    assert_eq!(rt; reader.place(), 29);
-    assert_eq!(rt; reader.held(), 24);
-    Ok(())
+    assert!(rt; is_at(&reader, 29, 24));
+}
+
+fn is_told(alloc: Global, fault: FrameFault, want: &str) -> bool {
+    match fault.to_string(alloc) {
+        Ok(shown) => shown.as_str() == want,
+        Err(_) => false,
+    }
 }
 
 #[test]
-fn faults_are_told(rt: HostRuntime) -> Result<(), Fail> {
-    let shown = format!(in rt.alloc();
-        "{}, {}, {}",
-        FrameFault::BadFrame { at: 3 },
-        FrameFault::BadMessage { at: 4 },
-        FrameFault::NoMemory
-    )?;
-    assert_eq!(rt;
-        shown.as_str(),
-        "bad frame at byte 3, bad message at byte 4, out of memory"
-    );
-    Ok(())
+fn faults_are_told(rt: HostRuntime) {
+    let frame = FrameFault::BadFrame { at: 3 };
+    assert!(rt; is_told(rt.alloc(), frame, "bad frame at byte 3"));
+    let message = FrameFault::BadMessage { at: 4 };
+    assert!(rt; is_told(rt.alloc(), message, "bad message at byte 4"));
+    assert!(rt; is_told(rt.alloc(), FrameFault::NoMemory, "out of memory"));
 }
