@@ -1,68 +1,86 @@
-// Sessions, and turns that tell in words what they did.
-use crate::words::{event_of, loading, request, words};
+// Sessions whose events are told in words, and what comes of the last of them. Each call answers none also where memory
+// runs out.
+use crate::words::{cut, event_of, fault, is_fault, settings_text, words};
 use docs_vfs::VfsPath;
 use ra_config::Config;
-use session_model::Event;
+use session_model::{Counters, Event, TurnError};
 use session_peers::NullAnalysis;
 use session_state::{GlobalState, TurnOut};
 use std::alloc::Global;
-use std::test::Fail;
-
-/// Where a session stands when it is asked.
-#[derive(Clone, Copy, Debug, PartialEq, Eq)]
-pub struct Place {
-    pub loading: bool,
-    pub shutdown: bool,
-}
 
 /// The settings with the one workspace `/w`.
-pub fn settings(alloc: Global) -> Result<Config, Fail> {
-    let root = VfsPath::new(alloc, "/w")?.ok_or("no path")?;
-    Ok(Config::new(alloc, root, 4)?)
+fn settings(alloc: Global) -> Option<Config> {
+    Config::new(alloc, VfsPath::new(alloc, "/w").ok()??, 4).ok()
 }
 
-fn new_state(alloc: Global) -> Result<GlobalState, Fail> {
-    Ok(GlobalState::new(alloc, settings(alloc)?)?)
+fn new_state(alloc: Global) -> Option<GlobalState> {
+    GlobalState::new(alloc, settings(alloc)?).ok()
 }
 
-fn take_in(state: &mut GlobalState, event: Event, out: &mut TurnOut) -> Result<(), Fail> {
-    match state.handle_event(event, &NullAnalysis, out) {
-        Ok(()) => Ok(()),
-        Err(_) => Err(Fail::from("no turn")),
+/// A session that has used so many of each counter.
+fn state_at(alloc: Global, used: Counters) -> Option<GlobalState> {
+    if used.outgoing > 2_147_483_648 {
+        return None;
     }
+    GlobalState::new_at(alloc, settings(alloc)?, used).ok()
+}
+
+fn take_in(state: &mut GlobalState, event: Event, out: &mut TurnOut) -> Result<(), TurnError> {
+    state.handle_event(event, &NullAnalysis, out)
 }
 
 /// One turn, in words.
-pub fn turn(alloc: Global, state: &mut GlobalState, event: Event) -> Result<String, Fail> {
+fn turn(alloc: Global, state: &mut GlobalState, event: Event) -> Option<String> {
     let mut out = TurnOut::new(alloc);
-    take_in(state, event, &mut out)?;
-    words(alloc, out)
-}
-
-/// A session at a place.
-pub fn state_at(alloc: Global, place: Place) -> Result<GlobalState, Fail> {
-    let mut state = new_state(alloc)?;
-    if place.loading {
-        turn(alloc, &mut state, loading(alloc)?)?;
+    match take_in(state, event, &mut out) {
+        Ok(()) => words(alloc, &mut out),
+        Err(error) => fault(alloc, error),
     }
-    if place.shutdown {
-        turn(alloc, &mut state, request(alloc, 1, "shutdown", "null")?)?;
+}
+
+fn settings_of(alloc: Global, state: &GlobalState) -> Option<String> {
+    let snapshot = state.snapshot().ok()?;
+    settings_text(alloc, snapshot.config())
+}
+
+/// What comes of an event. The word `settings` is no event: it asks for the settings.
+fn outcome(alloc: Global, state: &mut GlobalState, event: &str) -> Option<String> {
+    if event == "settings" {
+        settings_of(alloc, state)
+    } else {
+        turn(alloc, state, event_of(alloc, event)?)
     }
-    Ok(state)
 }
 
-/// What a session does for the request with the id 5.
-pub fn asked(alloc: Global, method: &str, params: &str, place: Place) -> Result<String, Fail> {
-    let mut state = state_at(alloc, place)?;
-    turn(alloc, &mut state, request(alloc, 5, method, params)?)
-}
-
-/// The last of some turns of one session, whose events are told in words.
-pub fn last_of(alloc: Global, place: Place, events: &[&str]) -> Result<String, Fail> {
-    let mut state = state_at(alloc, place)?;
+/// What comes of the last of some events. A turn that is broken off is the last.
+fn last_of(alloc: Global, state: &mut GlobalState, events: &str) -> Option<String> {
     let mut last = String::new(alloc);
-    for event in events {
-        last = turn(alloc, &mut state, event_of(alloc, event)?)?;
+    for event in events.split(" then ") {
+        last = outcome(alloc, state, event)?;
+        if is_fault(last.as_str()) {
+            return Some(last);
+        }
     }
-    Ok(last)
+    Some(last)
+}
+
+/// The one function that owns a session.
+fn last_in(alloc: Global, mut state: GlobalState, events: &str) -> Option<String> {
+    last_of(alloc, &mut state, events)
+}
+
+/// What a new session does at the last of some events.
+pub fn done(alloc: Global, events: &str) -> Option<String> {
+    last_in(alloc, new_state(alloc)?, events)
+}
+
+/// What a session that has used so many of each counter does at the last of some events.
+pub fn done_at(alloc: Global, used: Counters, events: &str) -> Option<String> {
+    last_in(alloc, state_at(alloc, used)?, events)
+}
+
+/// Whether a new session does at the last of some events what stands behind the `>`.
+pub fn agrees(alloc: Global, line: &str) -> Option<bool> {
+    let (events, wanted) = cut(line, " > ");
+    Some(done(alloc, events)?.as_str() == wanted)
 }

@@ -1,9 +1,12 @@
-//! Tests of `session_state`: what a session does for each request, by its public calls. The calls go through wrappers
-//! that claim nothing, so that the prover carries none of their clauses.
+//! Tests of `session_state`: what a session does for each request, notification and result, by its public calls. Lines
+//! of words tell the events, and what comes of them. The calls go through wrappers that claim nothing, so that the
+//! prover carries none of their clauses, and one function alone owns a session.
 #![tactic(auto)]
 
 #[cfg(test)]
 mod asking;
+#[cfg(test)]
+mod counters;
 #[cfg(test)]
 mod methods;
 #[cfg(test)]

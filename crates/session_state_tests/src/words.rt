@@ -2,23 +2,35 @@
 use lsp_frame::{Message, Notification, Request, RequestId, Response};
 use method_table::PoolClass;
 use plain::{Items, Json, Text};
-use session_model::Event;
+use ra_config::Config;
+use session_model::{Counter, Event, TurnError};
 use session_port::{
     Command, Job, JobResult, JobValue, LoaderMsg, LoadingProgress, TaskBody, TaskMsg,
 };
 use session_state::TurnOut;
 use std::alloc::Global;
-use std::test::Fail;
 
-fn json(alloc: Global, text: &str) -> Result<Json, Fail> {
-    Ok(Json::read(alloc, text.as_bytes())?.ok_or("no JSON")?)
+/// What stands before the first mark in a text, and what stands behind it.
+pub fn cut<'a>(text: &'a str, mark: &str) -> (&'a str, &'a str) {
+    match text.split_once(mark) {
+        Some(parts) => parts,
+        None => (text, ""),
+    }
+}
+
+fn json(alloc: Global, text: &str) -> Option<Json> {
+    Json::read(alloc, text.as_bytes()).ok()?
+}
+
+fn text_of(alloc: Global, text: &str) -> Option<Text> {
+    Text::from_str(alloc, text).ok()
 }
 
 /// A request of a client.
-pub fn request(alloc: Global, id: i32, method: &str, params: &str) -> Result<Event, Fail> {
+fn request(alloc: Global, id: i32, method: &str, params: &str) -> Option<Event> {
+    let method = text_of(alloc, method)?;
     let params = json(alloc, params)?;
-    let method = Text::from_str(alloc, method)?;
-    Ok(Event::Lsp(Message::Request(Request {
+    Some(Event::Lsp(Message::Request(Request {
         id: RequestId::Number(id),
         method,
         params,
@@ -26,60 +38,77 @@ pub fn request(alloc: Global, id: i32, method: &str, params: &str) -> Result<Eve
 }
 
 /// A notification of a client.
-pub fn notification(alloc: Global, method: &str, params: &str) -> Result<Event, Fail> {
+fn notification(alloc: Global, method: &str, params: &str) -> Option<Event> {
+    let method = text_of(alloc, method)?;
     let params = json(alloc, params)?;
-    let method = Text::from_str(alloc, method)?;
-    Ok(Event::Lsp(Message::Notification(Notification { method, params })))
+    Some(Event::Lsp(Message::Notification(Notification { method, params })))
 }
 
 /// A client's response to the session's request 0.
-pub fn response(alloc: Global, text: &str) -> Result<Event, Fail> {
-    let value = json(alloc, text)?;
-    Ok(Event::Lsp(Message::Response(Response {
+fn response(alloc: Global, value: &str) -> Option<Event> {
+    let value = json(alloc, value)?;
+    Some(Event::Lsp(Message::Response(Response {
         id: Some(RequestId::Number(0)),
         result: Some(value),
         error: None,
     })))
 }
 
-/// Files begin to load.
-pub fn loading(alloc: Global) -> Result<Event, Fail> {
-    let mut messages = Items::new(alloc);
-    messages.push(LoaderMsg::Progress {
-        n_total: 1,
-        n_done: LoadingProgress::Started,
-        dir: None,
-        config_version: 1,
-    })?;
-    Ok(Event::Vfs(messages))
+fn asked(alloc: Global, words: &str) -> Option<Event> {
+    let (method, params) = cut(words, " ");
+    request(alloc, 5, method, params)
 }
 
-/// A notification that opens `/w/a.rs`.
-fn open(alloc: Global) -> Result<Event, Fail> {
-    notification(
-        alloc,
-        "textDocument/didOpen",
-        "{\"textDocument\":{\"uri\":\"file:///w/a.rs\",\"version\":1,\"text\":\"a\"}}",
-    )
+fn told(alloc: Global, words: &str) -> Option<Event> {
+    let (method, params) = cut(words, " ");
+    notification(alloc, method, params)
+}
+
+/// Files begin to load.
+fn loading(alloc: Global) -> Option<Event> {
+    let mut messages = Items::new(alloc);
+    messages
+        .push(LoaderMsg::Progress {
+            n_total: 1,
+            n_done: LoadingProgress::Started,
+            dir: None,
+            config_version: 1,
+        })
+        .ok()?;
+    Some(Event::Vfs(messages))
 }
 
 /// The final result of the first job.
-fn ended(alloc: Global, outcome: JobResult) -> Result<Event, Fail> {
+fn ended(alloc: Global, outcome: JobResult) -> Option<Event> {
     let mut batch = Items::new(alloc);
-    batch.push(TaskMsg {
-        job: 1,
-        body: TaskBody::Final(outcome),
-    })?;
-    Ok(Event::Task(batch))
+    batch
+        .push(TaskMsg {
+            job: 1,
+            body: TaskBody::Final(outcome),
+        })
+        .ok()?;
+    Some(Event::Task(batch))
 }
 
-/// `open`, `null` and `stopped` (results of the first job), or else a method that is asked with `{"a":1}`.
-pub fn event_of(alloc: Global, word: &str) -> Result<Event, Fail> {
-    match word {
-        "open" => open(alloc),
+/// `ask` and `tell` with a method and its params, `answer` with the result in the response to the session's request 0,
+/// `loading` where files begin to load, `open` where `/w/a.rs` is opened, `null` and `stopped` as results of the first
+/// job, and `shutdown` as a request.
+pub fn event_of(alloc: Global, words: &str) -> Option<Event> {
+    let (kind, rest) = cut(words, " ");
+    match kind {
+        "ask" => asked(alloc, rest),
+        "tell" => told(alloc, rest),
+        "answer" => response(alloc, rest),
+        "loading" => loading(alloc),
+        "open" => notification(
+            alloc,
+            "textDocument/didOpen",
+            r#"{"textDocument":{"uri":"file:///w/a.rs","version":1,"text":"a"}}"#,
+        ),
         "null" => ended(alloc, JobResult::Value(JobValue::Json(Json::null()))),
         "stopped" => ended(alloc, JobResult::Cancelled { saw: 1 }),
-        method => request(alloc, 5, method, "{\"a\":1}"),
+        "shutdown" => request(alloc, 1, "shutdown", "null"),
+        _ => None,
     }
 }
 
@@ -89,6 +118,10 @@ fn class_name(class: PoolClass) -> &'static str {
         PoolClass::Latency => "Latency",
         PoolClass::Formatting => "Formatting",
     }
+}
+
+fn class_of(job: &Job) -> &'static str {
+    class_name(job.class)
 }
 
 // The name of the workers that a command asks for.
@@ -102,16 +135,69 @@ fn command_name(command: &Command) -> &'static str {
     }
 }
 
-fn class_of(job: &Job) -> &'static str {
-    class_name(job.class)
+fn push_names(text: &mut String, commands: &[Command]) -> Option<()> {
+    for command in commands {
+        text.push_str(command_name(command)).ok()?;
+    }
+    Some(())
+}
+
+fn bytes_of(alloc: Global, out: &mut TurnOut) -> Option<Vec<u8>> {
+    out.take_bytes(alloc).ok()
+}
+
+/// Bytes as a text, where `\r` and `\n` stand for CR and LF.
+fn escaped(alloc: Global, bytes: &[u8]) -> Option<String> {
+    let text = str::from_utf8(bytes).ok()?;
+    text.replace(alloc, "\r\n", "\\r\\n").ok()
 }
 
 /// The bytes that a turn writes, and the names of its commands.
-pub fn words(alloc: Global, mut out: TurnOut) -> Result<String, Fail> {
-    let bytes = out.take_bytes(alloc)?;
-    let mut text = String::from_utf8(bytes).map_err(|_| Fail::from("no text"))?;
-    for command in out.commands() {
-        text.push_str(command_name(command))?;
+pub fn words(alloc: Global, out: &mut TurnOut) -> Option<String> {
+    let mut text = escaped(alloc, bytes_of(alloc, out)?.as_slice())?;
+    push_names(&mut text, out.commands())?;
+    Some(text)
+}
+
+fn counter_name(counter: Counter) -> &'static str {
+    match counter {
+        Counter::Turns => "no more turns",
+        Counter::Bytes => "no more bytes",
+        Counter::Jobs => "no more jobs",
+        Counter::Revisions => "no more revisions",
+        Counter::Outgoing => "no more outgoing",
+        Counter::Files => "no more files",
     }
-    Ok(text)
+}
+
+fn fault_name(error: TurnError) -> &'static str {
+    match error {
+        TurnError::Exhausted { counter } => counter_name(counter),
+        TurnError::NoMemory => "no more memory",
+    }
+}
+
+/// Why a turn was broken off.
+pub fn fault(alloc: Global, error: TurnError) -> Option<String> {
+    String::from_str(alloc, fault_name(error)).ok()
+}
+
+/// Whether words tell of a turn that was broken off.
+pub fn is_fault(words: &str) -> bool {
+    words.starts_with("no more ")
+}
+
+fn settings_name(is_checked: bool, folders: usize) -> &'static str {
+    match (is_checked, folders) {
+        (true, 1) => "checked, 1 folder",
+        (false, 1) => "unchecked, 1 folder",
+        (true, 2) => "checked, 2 folders",
+        _ => "other settings",
+    }
+}
+
+/// Whether checks run when a file is saved, and how many folders there are.
+pub fn settings_text(alloc: Global, config: &Config) -> Option<String> {
+    let name = settings_name(config.check_on_save(None), config.workspace_roots().len());
+    String::from_str(alloc, name).ok()
 }
