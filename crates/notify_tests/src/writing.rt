@@ -1,264 +1,90 @@
-// What is written for the server's own messages.
-use crate::written::{
-    ask, begin, end, line, no_tests, one_test, report, save, show, state, status, text, watch,
-};
-use notify::{MessageKind, Outgo, TestReport};
-use std::test::Fail;
+// What is written for the server's own messages: in each line what is written, and words that tell the message.
+use crate::written::agrees;
 
-static SAVED: &str =
-    "q client/registerCapability {\"registrations\":[{\"id\":\"textDocument/didSave\",\"method\":\"textDocument/didSave\",\"registerOptions\":{\"documentSelector\":[{\"pattern\":\"**/*.rs\"},{\"pattern\":\"**/Cargo.toml\"},{\"pattern\":\"**/Cargo.lock\"}],\"includeText\":false}}]}";
-
-static SAVED_MORE: &str =
-    "q client/registerCapability {\"registrations\":[{\"id\":\"textDocument/didSave\",\"method\":\"textDocument/didSave\",\"registerOptions\":{\"documentSelector\":[{\"pattern\":\"**/*.rs\"},{\"pattern\":\"**/Cargo.toml\"},{\"pattern\":\"**/Cargo.lock\"},{\"pattern\":\"**/a\"},{\"pattern\":\"**/b.toml\"}],\"includeText\":false}}]}";
-
-static UNWATCHED: &str =
-    "q client/registerCapability {\"registrations\":[{\"id\":\"workspace/didChangeWatchedFiles\",\"method\":\"workspace/didChangeWatchedFiles\",\"registerOptions\":{\"watchers\":[]}}]}";
-
-static WATCHED: &str =
-    "q client/registerCapability {\"registrations\":[{\"id\":\"workspace/didChangeWatchedFiles\",\"method\":\"workspace/didChangeWatchedFiles\",\"registerOptions\":{\"watchers\":[{\"globPattern\":{\"baseUri\":\"u\",\"pattern\":\"**/*.rs\"}},{\"globPattern\":\"/w/Cargo.toml\"}]}}]}";
+/// What a client is asked to tell: saved documents, by more files, and changed files, by watchers.
+const REGISTERED: &str =
+    r#"q client/registerCapability {"registrations":[{"id":"textDocument/didSave","method":"textDocument/didSave","registerOptions":{"documentSelector":[{"pattern":"**/*.rs"},{"pattern":"**/Cargo.toml"},{"pattern":"**/Cargo.lock"}],"includeText":false}}]} > save
+q client/registerCapability {"registrations":[{"id":"textDocument/didSave","method":"textDocument/didSave","registerOptions":{"documentSelector":[{"pattern":"**/*.rs"},{"pattern":"**/Cargo.toml"},{"pattern":"**/Cargo.lock"},{"pattern":"**/a"},{"pattern":"**/b.toml"}],"includeText":false}}]} > save a b.toml
+q client/registerCapability {"registrations":[{"id":"workspace/didChangeWatchedFiles","method":"workspace/didChangeWatchedFiles","registerOptions":{"watchers":[]}}]} > watch
+q client/registerCapability {"registrations":[{"id":"workspace/didChangeWatchedFiles","method":"workspace/didChangeWatchedFiles","registerOptions":{"watchers":[{"globPattern":{"baseUri":"u","pattern":"**/*.rs"}},{"globPattern":"/w/Cargo.toml"}]}}]} > watch u:**/*.rs :/w/Cargo.toml"#;
 
 #[test]
-fn saved_documents_are_asked_for(rt: HostRuntime) -> Result<(), Fail> {
-    let none: [&str; 0] = [];
-    let saved = save(rt.alloc(), none.as_slice())?;
-    assert_eq!(rt; saved.as_str(), SAVED);
-    let saved = save(rt.alloc(), ["a", "b.toml"].as_slice())?;
-    assert_eq!(rt; saved.as_str(), SAVED_MORE);
-    Ok(())
-}
-
-#[test]
-fn changed_files_are_asked_for(rt: HostRuntime) -> Result<(), Fail> {
-    let none: [(&str, &str); 0] = [];
-    let watched = watch(rt.alloc(), none.as_slice())?;
-    assert_eq!(rt; watched.as_str(), UNWATCHED);
-    let watched = watch(
-        rt.alloc(),
-        [("u", "**/*.rs"), ("", "/w/Cargo.toml")].as_slice(),
-    )?;
-    assert_eq!(rt; watched.as_str(), WATCHED);
-    Ok(())
-}
-
-#[test]
-fn messages_without_params(rt: HostRuntime) -> Result<(), Fail> {
-    let alloc = rt.alloc();
-    let tokens = line(alloc, Outgo::SemanticTokensRefresh)?;
-    assert_eq!(rt; tokens.as_str(), "q workspace/semanticTokens/refresh null");
-    let lenses = line(alloc, Outgo::CodeLensRefresh)?;
-    assert_eq!(rt; lenses.as_str(), "q workspace/codeLens/refresh null");
-    let hints = line(alloc, Outgo::InlayHintRefresh)?;
-    assert_eq!(rt; hints.as_str(), "q workspace/inlayHint/refresh null");
-    let diagnostics = line(alloc, Outgo::DiagnosticRefresh)?;
-    assert_eq!(rt; diagnostics.as_str(), "q workspace/diagnostic/refresh null");
-    let logs = line(alloc, Outgo::OpenLogs)?;
-    assert_eq!(rt; logs.as_str(), "n experimental/openServerLogs null");
-    let ended = line(alloc, Outgo::EndRunTest)?;
-    assert_eq!(rt; ended.as_str(), "n experimental/endRunTest null");
-    Ok(())
-}
-
-#[test]
-fn settings_are_asked_for(rt: HostRuntime) -> Result<(), Fail> {
-    let settings = line(rt.alloc(), Outgo::Configuration)?;
-    assert_eq!(rt;
-        settings.as_str(),
-        "q workspace/configuration {\"items\":[{\"section\":\"rust-analyzer\"}]}"
-    );
-    Ok(())
-}
-
-#[test]
-fn progress_is_created(rt: HostRuntime) -> Result<(), Fail> {
-    let token = text(rt.alloc(), "t \"1\"")?;
-    let created = line(rt.alloc(), Outgo::CreateProgress { token })?;
-    assert_eq!(rt;
-        created.as_str(),
-        "q window/workDoneProgress/create {\"token\":\"t \\\"1\\\"\"}"
-    );
-    Ok(())
-}
-
-/// Whether work can be cancelled, its message and its percentage, and the members that are written of them.
-static WORK: [(bool, Option<&str>, Option<u32>, &str, &str); 4] = [
-    (false, None, None, "\"cancellable\":false,", ""),
-    (
-        true,
-        Some("m"),
-        Some(100),
-        "\"cancellable\":true,",
-        ",\"message\":\"m\",\"percentage\":100",
-    ),
-    (
-        true,
-        None,
-        Some(0),
-        "\"cancellable\":true,",
-        ",\"percentage\":0",
-    ),
-    (
-        false,
-        Some(""),
-        None,
-        "\"cancellable\":false,",
-        ",\"message\":\"\"",
-    ),
-];
-
-#[test]
-fn work_begins(rt: HostRuntime) -> Result<(), Fail> {
-    for (cancellable, message, percentage, first, last) in WORK.iter() {
-        let begun = begin(rt.alloc(), *cancellable, *message, *percentage)?;
-        let wanted = format!(in rt.alloc();
-            "n $/progress {{\"token\":\"t\",\"value\":{{{first}\"kind\":\"begin\"{last},\"title\":\"T\"}}}}"
-        )?;
-        assert_eq!(rt; begun.as_str(), wanted.as_str());
+fn saved_documents_and_changed_files_are_asked_for(rt: HostRuntime) {
+    for line in REGISTERED.lines() {
+        assert!(rt; agrees(rt.alloc(), line) == Some(true), "at {line}");
     }
-    Ok(())
 }
 
+/// Messages without params, and the one that asks for the settings.
+const BARE: &str = r#"q workspace/semanticTokens/refresh null > bare tokens
+q workspace/codeLens/refresh null > bare lenses
+q workspace/inlayHint/refresh null > bare hints
+q workspace/diagnostic/refresh null > bare diagnostics
+n experimental/openServerLogs null > bare logs
+n experimental/endRunTest null > bare ended
+q workspace/configuration {"items":[{"section":"rust-analyzer"}]} > bare settings"#;
+
 #[test]
-fn work_goes_on(rt: HostRuntime) -> Result<(), Fail> {
-    for (cancellable, message, percentage, first, last) in WORK.iter() {
-        let reported = report(rt.alloc(), *cancellable, *message, *percentage)?;
-        let wanted = format!(in rt.alloc();
-            "n $/progress {{\"token\":\"t\",\"value\":{{{first}\"kind\":\"report\"{last}}}}}"
-        )?;
-        assert_eq!(rt; reported.as_str(), wanted.as_str());
+fn messages_without_params_and_for_settings(rt: HostRuntime) {
+    for line in BARE.lines() {
+        assert!(rt; agrees(rt.alloc(), line) == Some(true), "at {line}");
     }
-    Ok(())
 }
 
+/// A token is created by its text; work begins, goes on and ends by whether it can be cancelled, its message behind
+/// `=`, and its percentage.
+const WORK: &str = r#"q window/workDoneProgress/create {"token":"t \"1\""} > create t "1"
+n $/progress {"token":"t","value":{"cancellable":false,"kind":"begin","title":"T"}} > begin no none none
+n $/progress {"token":"t","value":{"cancellable":true,"kind":"begin","message":"m","percentage":100,"title":"T"}} > begin yes =m 100
+n $/progress {"token":"t","value":{"cancellable":true,"kind":"begin","percentage":0,"title":"T"}} > begin yes none 0
+n $/progress {"token":"t","value":{"cancellable":false,"kind":"begin","message":"","title":"T"}} > begin no = none
+n $/progress {"token":"t","value":{"cancellable":false,"kind":"report"}} > report no none none
+n $/progress {"token":"t","value":{"cancellable":true,"kind":"report","message":"m","percentage":100}} > report yes =m 100
+n $/progress {"token":"t","value":{"cancellable":true,"kind":"report","percentage":0}} > report yes none 0
+n $/progress {"token":"t","value":{"cancellable":false,"kind":"report","message":""}} > report no = none
+n $/progress {"token":"t","value":{"kind":"end"}} > end none
+n $/progress {"token":"t","value":{"kind":"end","message":"m"}} > end =m"#;
+
 #[test]
-fn work_ends(rt: HostRuntime) -> Result<(), Fail> {
-    for (message, wanted) in [
-        (
-            None,
-            "n $/progress {\"token\":\"t\",\"value\":{\"kind\":\"end\"}}",
-        ),
-        (
-            Some("m"),
-            "n $/progress {\"token\":\"t\",\"value\":{\"kind\":\"end\",\"message\":\"m\"}}",
-        ),
-    ] {
-        let ended = end(rt.alloc(), message)?;
-        assert_eq!(rt; ended.as_str(), wanted);
+fn work_is_created_and_begins_and_goes_on_and_ends(rt: HostRuntime) {
+    for line in WORK.lines() {
+        assert!(rt; agrees(rt.alloc(), line) == Some(true), "at {line}");
     }
-    Ok(())
 }
 
-static KINDS: [(MessageKind, &str); 3] = [
-    (MessageKind::Error, "1"),
-    (MessageKind::Warning, "2"),
-    (MessageKind::Info, "3"),
-];
+/// Messages that are shown, and shown with a button, by their kind; the state of the server, by its health, a message
+/// behind `=`, and whether it is quiescent.
+const SHOWN: &str = r#"n window/showMessage {"message":"m\n","type":1} > show error
+n window/showMessage {"message":"m\n","type":2} > show warning
+n window/showMessage {"message":"m\n","type":3} > show info
+q window/showMessageRequest {"actions":[{"title":"Open server logs"}],"message":"m","type":1} > ask error
+q window/showMessageRequest {"actions":[{"title":"Open server logs"}],"message":"m","type":2} > ask warning
+q window/showMessageRequest {"actions":[{"title":"Open server logs"}],"message":"m","type":3} > ask info
+n experimental/serverStatus {"health":"ok","quiescent":true} > status ok none yes
+n experimental/serverStatus {"health":"error","message":"m","quiescent":false} > status error =m no"#;
 
 #[test]
-fn messages_are_shown(rt: HostRuntime) -> Result<(), Fail> {
-    for (kind, number) in KINDS.iter() {
-        let shown = show(rt.alloc(), "m\n", *kind)?;
-        let wanted = format!(in rt.alloc();
-            "n window/showMessage {{\"message\":\"m\\n\",\"type\":{number}}}"
-        )?;
-        assert_eq!(rt; shown.as_str(), wanted.as_str());
+fn messages_and_the_state_of_the_server_are_shown(rt: HostRuntime) {
+    for line in SHOWN.lines() {
+        assert!(rt; agrees(rt.alloc(), line) == Some(true), "at {line}");
     }
-    Ok(())
 }
 
+/// Tests that were found, by the files that were searched, or by the value of one; what became of a test; the output of
+/// tests.
+const TESTS: &str =
+    r#"n experimental/discoveredTests {"scope":null,"scopeFile":[],"tests":[]} > found
+n experimental/discoveredTests {"scope":null,"scopeFile":[{"uri":"a"},{"uri":"b"}],"tests":[]} > found a b
+n experimental/discoveredTests {"scope":null,"scopeFile":[],"tests":[{"id":"a","kind":7}]} > test {"id":"a","kind":7}
+n experimental/changeTestState {"state":{"kind":"started"},"testId":"a_b::c"} > state started
+n experimental/changeTestState {"state":{"kind":"skipped"},"testId":"a_b::c"} > state skipped
+n experimental/changeTestState {"state":{"kind":"passed"},"testId":"a_b::c"} > state passed
+n experimental/changeTestState {"state":{"kind":"failed","message":"m"},"testId":"a_b::c"} > state failed m
+n experimental/appendOutputToRunTest "a\nb" > output"#;
+
 #[test]
-fn messages_are_shown_with_a_button(rt: HostRuntime) -> Result<(), Fail> {
-    for (kind, number) in KINDS.iter() {
-        let asked = ask(rt.alloc(), "m", *kind)?;
-        let wanted = format!(in rt.alloc();
-            "q window/showMessageRequest {{\"actions\":[{{\"title\":\"Open server logs\"}}],\"message\":\"m\",\"type\":{number}}}"
-        )?;
-        assert_eq!(rt; asked.as_str(), wanted.as_str());
+fn tests_are_found_and_told(rt: HostRuntime) {
+    for line in TESTS.lines() {
+        assert!(rt; agrees(rt.alloc(), line) == Some(true), "at {line}");
     }
-    Ok(())
-}
-
-#[test]
-fn the_state_of_the_server(rt: HostRuntime) -> Result<(), Fail> {
-    for (health, message, quiescent, wanted) in [
-        (
-            "ok",
-            None,
-            true,
-            "n experimental/serverStatus {\"health\":\"ok\",\"quiescent\":true}",
-        ),
-        (
-            "error",
-            Some("m"),
-            false,
-            "n experimental/serverStatus {\"health\":\"error\",\"message\":\"m\",\"quiescent\":false}",
-        ),
-    ] {
-        let told = status(rt.alloc(), health, message, quiescent)?;
-        assert_eq!(rt; told.as_str(), wanted);
-    }
-    Ok(())
-}
-
-#[test]
-fn tests_that_were_found(rt: HostRuntime) -> Result<(), Fail> {
-    let none: [&str; 0] = [];
-    let found = no_tests(rt.alloc(), none.as_slice())?;
-    assert_eq!(rt;
-        found.as_str(),
-        "n experimental/discoveredTests {\"scope\":null,\"scopeFile\":[],\"tests\":[]}"
-    );
-    let found = no_tests(rt.alloc(), ["a", "b"].as_slice())?;
-    assert_eq!(rt;
-        found.as_str(),
-        "n experimental/discoveredTests {\"scope\":null,\"scopeFile\":[{\"uri\":\"a\"},{\"uri\":\"b\"}],\"tests\":[]}"
-    );
-    Ok(())
-}
-
-#[test]
-fn a_test_with_its_value(rt: HostRuntime) -> Result<(), Fail> {
-    let found = one_test(rt.alloc(), "{\"id\":\"a\",\"kind\":7}")?;
-    assert_eq!(rt;
-        found.as_str(),
-        "n experimental/discoveredTests {\"scope\":null,\"scopeFile\":[],\"tests\":[{\"id\":\"a\",\"kind\":7}]}"
-    );
-    Ok(())
-}
-
-#[test]
-fn what_became_of_tests(rt: HostRuntime) -> Result<(), Fail> {
-    for (name, report) in [
-        ("started", TestReport::Started),
-        ("skipped", TestReport::Skipped),
-        ("passed", TestReport::Passed),
-    ] {
-        let told = state(rt.alloc(), report)?;
-        let wanted = format!(in rt.alloc();
-            "n experimental/changeTestState {{\"state\":{{\"kind\":\"{name}\"}},\"testId\":\"a_b::c\"}}"
-        )?;
-        assert_eq!(rt; told.as_str(), wanted.as_str());
-    }
-    Ok(())
-}
-
-#[test]
-fn a_test_that_failed(rt: HostRuntime) -> Result<(), Fail> {
-    let message = text(rt.alloc(), "m")?;
-    let told = state(rt.alloc(), TestReport::Failed { message })?;
-    assert_eq!(rt;
-        told.as_str(),
-        "n experimental/changeTestState {\"state\":{\"kind\":\"failed\",\"message\":\"m\"},\"testId\":\"a_b::c\"}"
-    );
-    Ok(())
-}
-
-#[test]
-fn the_output_of_tests(rt: HostRuntime) -> Result<(), Fail> {
-    let text = text(rt.alloc(), "a\nb")?;
-    let told = line(rt.alloc(), Outgo::AppendOutput { text })?;
-    assert_eq!(rt;
-        told.as_str(),
-        "n experimental/appendOutputToRunTest \"a\\nb\""
-    );
-    Ok(())
 }
