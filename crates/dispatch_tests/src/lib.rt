@@ -1,4 +1,6 @@
-//! Tests of `method_table`, `state_params` and `dispatch`, by their public calls alone.
+//! Tests of `method_table`, `state_params` and `dispatch`, by their public calls alone. Tables are lines of words. The
+//! calls go through wrappers that claim nothing, so that the prover carries none of their clauses; each answers none also
+//! where memory runs out.
 #![tactic(auto)]
 
 #[cfg(test)]
@@ -9,3 +11,5 @@ mod plans;
 mod responses;
 #[cfg(test)]
 mod rows;
+#[cfg(test)]
+mod words;
