@@ -1,168 +1,165 @@
 // What hover and matchingBrace answer.
-use crate::questions::{answer, brace, braces, hover};
+use crate::questions::{cut, is_answer, is_brace_answer, is_hover_answer};
 use method_table::HOVER;
 use small_analysis::SmallAnalysis;
 use std::alloc::Global;
-use std::test::Fail;
+
+/// Whether hover answers the last of a row: a position, a text, and the answer.
+fn is_hovered(alloc: Global, row: &str) -> Option<bool> {
+    let (place, rest) = cut(row, " > ");
+    let (text, want) = cut(rest, " > ");
+    is_hover_answer(alloc, text, place, want)
+}
+
+/// Positions in texts, and the names there. A `|` stands between two rows.
+const NAME_ROWS: &str = "0:0 > fn a() {} > {\"contents\":\"fn\"}|\
+    0:2 > fn a() {} > {\"contents\":\"fn\"}|\
+    0:3 > fn a() {} > {\"contents\":\"a\"}|\
+    0:4 > fn a() {} > {\"contents\":\"a\"}|\
+    0:5 > fn a() {} > null|\
+    0:1 > x1 1x > {\"contents\":\"x1\"}|\
+    0:4 > x1 1x > null|\
+    0:2 > _0 > {\"contents\":\"_0\"}|\
+    0:1 > é > null|\
+    0:0 >  > null|\
+    1:0 > a\nb\n > {\"contents\":\"b\"}|\
+    2:0 > a\nb\n > null";
 
 #[test]
-fn names(rt: HostRuntime) -> Result<(), Fail> {
-    for (text, line, column, value) in [
-        ("fn a() {}", 0, 0, "{\"contents\":\"fn\"}"),
-        ("fn a() {}", 0, 2, "{\"contents\":\"fn\"}"),
-        ("fn a() {}", 0, 3, "{\"contents\":\"a\"}"),
-        ("fn a() {}", 0, 4, "{\"contents\":\"a\"}"),
-        ("fn a() {}", 0, 5, "null"),
-        ("x1 1x", 0, 1, "{\"contents\":\"x1\"}"),
-        ("x1 1x", 0, 4, "null"),
-        ("_0", 0, 2, "{\"contents\":\"_0\"}"),
-        ("é", 0, 1, "null"),
-        ("", 0, 0, "null"),
-        ("a\nb\n", 1, 0, "{\"contents\":\"b\"}"),
-        ("a\nb\n", 2, 0, "null"),
-    ] {
-        let found = hover(rt.alloc(), text, line, column)?;
-        assert_eq!(rt; found.as_str(), value, "at {line}:{column} of {text:?}");
+fn names(rt: HostRuntime) {
+    for row in NAME_ROWS.split('|') {
+        assert!(rt; is_hovered(rt.alloc(), row) == Some(true), "at {row}");
     }
-    Ok(())
+}
+
+/// Positions in texts, which count in code units of UTF-16, and what is there. A `|` stands between two rows.
+const POSITION_ROWS: &str = "0:0 > 😀b > null|\
+    0:1 > 😀b > Invalid offset|\
+    0:2 > 😀b > {\"contents\":\"b\"}|\
+    0:2 > é+b > {\"contents\":\"b\"}|\
+    0:1 > \u{ffff}b > {\"contents\":\"b\"}|\
+    1:0 > a > Invalid offset|\
+    2:0 > a\n > Invalid offset|\
+    0:99 > a > {\"contents\":\"a\"}|\
+    0:99 > a\nb > {\"contents\":\"b\"}|\
+    0:2 > a\r\nb > null|\
+    1:0 > a\rb > Invalid offset";
+
+#[test]
+fn positions(rt: HostRuntime) {
+    for row in POSITION_ROWS.split('|') {
+        assert!(rt; is_hovered(rt.alloc(), row) == Some(true), "at {row}");
+    }
+}
+
+/// Params of hover, and what comes of them.
+const FAULT_ROWS: &str =
+    r#"{"textDocument":{"uri":"file:///w/b.rs"},"position":{"line":0,"character":0}} > file not found: /w/b.rs
+{"textDocument":{"uri":"file:///w/t.rs"},"position":{"line":0,"character":0}} > file not found: /w/t.rs
+{"textDocument":{"uri":"file:///w/x.rs"},"position":{"line":9,"character":0}} > null
+{"textDocument":{"uri":"http://x/a"},"position":{"line":9,"character":0}} > url is not a file
+{"textDocument":{"uri":"file:///w/a.rs"}} > invalid params
+{"textDocument":{"uri":7},"position":{"line":0,"character":0}} > invalid params
+{"textDocument":{"uri":"file:///w/a.rs"},"position":{"line":-1,"character":0}} > invalid params
+{"textDocument":{"uri":"file:///w/a.rs"},"position":{"line":0,"character":4294967296}} > invalid params
+{"textDocument":{"uri":"file:///w/a.rs"},"position":{"line":0,"character":0},"more":0.5} > invalid params
+[] > invalid params"#;
+
+fn is_fault(alloc: Global, line: &str) -> Option<bool> {
+    let (params, want) = cut(line, " > ");
+    is_answer(alloc, HOVER, "a", params, want)
 }
 
 #[test]
-fn positions(rt: HostRuntime) -> Result<(), Fail> {
-    for (text, line, column, value) in [
-        ("😀b", 0, 0, "null"),
-        ("😀b", 0, 1, "Invalid offset"),
-        ("😀b", 0, 2, "{\"contents\":\"b\"}"),
-        ("é+b", 0, 2, "{\"contents\":\"b\"}"),
-        ("\u{ffff}b", 0, 1, "{\"contents\":\"b\"}"),
-        ("a", 1, 0, "Invalid offset"),
-        ("a\n", 2, 0, "Invalid offset"),
-        ("a", 0, 99, "{\"contents\":\"a\"}"),
-        ("a\nb", 0, 99, "{\"contents\":\"b\"}"),
-        ("a\r\nb", 0, 2, "null"),
-        ("a\rb", 1, 0, "Invalid offset"),
-    ] {
-        let found = hover(rt.alloc(), text, line, column)?;
-        assert_eq!(rt; found.as_str(), value, "at {line}:{column} of {text:?}");
+fn faults(rt: HostRuntime) {
+    for line in FAULT_ROWS.lines() {
+        assert!(rt; is_fault(rt.alloc(), line) == Some(true), "on {line}");
     }
-    Ok(())
+}
+
+/// A list of one position, `LINE:COLUMN`, as it is asked.
+fn asked(alloc: Global, place: &str) -> Option<String> {
+    let (line, column) = cut(place, ":");
+    format!(in alloc; "[{{\"line\":{line},\"character\":{column}}}]").ok()
+}
+
+/// A list of one position as it is answered.
+fn answered(alloc: Global, place: &str) -> Option<String> {
+    let (line, column) = cut(place, ":");
+    format!(in alloc; "[{{\"character\":{column},\"line\":{line}}}]").ok()
+}
+
+/// Positions, what is answered to each, and texts, of which the last is empty. A `|` stands between two rows. First come
+/// brackets that match, of which the one before counts where none is there; then none, and one that is unmatched; then
+/// matches over lines, and over characters of one and two code units.
+const BRACKETS: &str = "0:7 > 0:8 > fn a() {}|\
+    0:10 > 0:1 > f(a[1]{x})|\
+    0:4 > 0:5 > f(a[1]{x})|\
+    0:6 > 0:8 > f(a[1]{x})|\
+    0:99 > 0:1 > f(a[1]{x})|\
+    0:0 > 0:0 > f(a[1]{x})|\
+    0:99 > 0:99 > ab|\
+    0:2 > 0:2 > ()]|\
+    0:3 > 0:3 > ()]|\
+    0:1 > 0:0 > ()]|\
+    0:0 > 0:0 > ([)]|\
+    0:1 > 0:3 > ([)]|\
+    0:2 > 0:2 > ([)]|\
+    0:0 > 0:4 > ([)])|\
+    0:1 > 1:4 > a{\n é😀}\n|\
+    1:4 > 0:1 > a{\n é😀}\n|\
+    1:5 > 0:1 > a{\n é😀}\n|\
+    2:0 > 0:0 > {\n\n}|\
+    0:0 > 0:0 > ";
+
+fn match_at(alloc: Global, text: &str, place: &str, other: &str) -> Option<bool> {
+    let positions = asked(alloc, place)?;
+    let want = answered(alloc, other)?;
+    is_brace_answer(
+        alloc,
+        "file:///w/a.rs",
+        text,
+        positions.as_str(),
+        want.as_str(),
+    )
+}
+
+fn is_matched(alloc: Global, row: &str) -> Option<bool> {
+    let (place, rest) = cut(row, " > ");
+    let (other, text) = cut(rest, " > ");
+    match_at(alloc, text, place, other)
 }
 
 #[test]
-fn faults(rt: HostRuntime) -> Result<(), Fail> {
-    let malformed = "invalid params";
-    for (params, message) in [
-        (
-            "{\"textDocument\":{\"uri\":\"file:///w/b.rs\"},\"position\":{\"line\":0,\"character\":0}}",
-            "file not found: /w/b.rs",
-        ),
-        (
-            "{\"textDocument\":{\"uri\":\"file:///w/t.rs\"},\"position\":{\"line\":0,\"character\":0}}",
-            "file not found: /w/t.rs",
-        ),
-        (
-            "{\"textDocument\":{\"uri\":\"file:///w/x.rs\"},\"position\":{\"line\":9,\"character\":0}}",
-            "null",
-        ),
-        (
-            "{\"textDocument\":{\"uri\":\"http://x/a\"},\"position\":{\"line\":9,\"character\":0}}",
-            "url is not a file",
-        ),
-        ("{\"textDocument\":{\"uri\":\"file:///w/a.rs\"}}", malformed),
-        (
-            "{\"textDocument\":{\"uri\":7},\"position\":{\"line\":0,\"character\":0}}",
-            malformed,
-        ),
-        (
-            "{\"textDocument\":{\"uri\":\"file:///w/a.rs\"},\"position\":{\"line\":-1,\"character\":0}}",
-            malformed,
-        ),
-        (
-            "{\"textDocument\":{\"uri\":\"file:///w/a.rs\"},\"position\":{\"line\":0,\"character\":4294967296}}",
-            malformed,
-        ),
-        (
-            "{\"textDocument\":{\"uri\":\"file:///w/a.rs\"},\"position\":{\"line\":0,\"character\":0},\"more\":0.5}",
-            malformed,
-        ),
-        ("[]", malformed),
-    ] {
-        let found = answer(rt.alloc(), HOVER, "a", params)?;
-        assert_eq!(rt; found.as_str(), message, "on {params}");
+fn brackets_that_match(rt: HostRuntime) {
+    for row in BRACKETS.split('|') {
+        assert!(rt; is_matched(rt.alloc(), row) == Some(true), "at {row}");
     }
-    Ok(())
 }
 
-/// A list of one position.
-fn position(alloc: Global, line: u32, column: u32) -> Result<String, Fail> {
-    Ok(format!(in alloc; "[{{\"character\":{column},\"line\":{line}}}]")?)
+/// Files, positions in the text `()`, and what comes of them.
+const LISTS: &str = r#"file:///w/a.rs > [] > []
+file:///w/a.rs > [{"line":0,"character":1},{"character":0,"line":0}] > [{"character":0,"line":0},{"character":1,"line":0}]
+file:///w/a.rs > [{"line":0,"character":0},{"line":1,"character":0}] > Invalid offset
+file:///w/a.rs > {"line":0,"character":0} > invalid params
+file:///w/a.rs > [{"line":9,"character":0},7] > invalid params
+file:///w/a.rs > [{"line":0,"character":-1}] > invalid params
+file:///w/b.rs > [] > file not found: /w/b.rs
+file:///w/t.rs > [] > file not found: /w/t.rs
+file:///w/x.rs > [{"line":9,"character":0}] > null
+x > [{"line":9,"character":0}] > url is not a file"#;
+
+fn is_listed(alloc: Global, line: &str) -> Option<bool> {
+    let (uri, rest) = cut(line, " > ");
+    let (positions, want) = cut(rest, " > ");
+    is_brace_answer(alloc, uri, "()", positions, want)
 }
 
 #[test]
-fn brackets_that_match(rt: HostRuntime) -> Result<(), Fail> {
-    for (text, line, column, to_line, to_column) in [
-        ("fn a() {}", 0, 7, 0, 8),
-        // The one before, where none is there.
-        ("f(a[1]{x})", 0, 10, 0, 1),
-        ("f(a[1]{x})", 0, 4, 0, 5),
-        ("f(a[1]{x})", 0, 6, 0, 8),
-        ("f(a[1]{x})", 0, 99, 0, 1),
-        // None, and one that is unmatched.
-        ("f(a[1]{x})", 0, 0, 0, 0),
-        ("ab", 0, 99, 0, 99),
-        ("()]", 0, 2, 0, 2),
-        ("()]", 0, 3, 0, 3),
-        ("()]", 0, 1, 0, 0),
-        ("([)]", 0, 0, 0, 0),
-        ("([)]", 0, 1, 0, 3),
-        ("([)]", 0, 2, 0, 2),
-        ("([)])", 0, 0, 0, 4),
-        // Over lines, and over characters of one and two code units.
-        ("a{\n é😀}\n", 0, 1, 1, 4),
-        ("a{\n é😀}\n", 1, 4, 0, 1),
-        ("a{\n é😀}\n", 1, 5, 0, 1),
-        ("{\n\n}", 2, 0, 0, 0),
-        ("", 0, 0, 0, 0),
-    ] {
-        let expected = position(rt.alloc(), to_line, to_column)?;
-        let found = brace(rt.alloc(), text, line, column)?;
-        assert_eq!(rt;
-            found.as_str(),
-            expected.as_str(),
-            "at {line}:{column} of {text:?}"
-        );
+fn positions_of_brackets(rt: HostRuntime) {
+    for line in LISTS.lines() {
+        assert!(rt; is_listed(rt.alloc(), line) == Some(true), "on {line}");
     }
-    Ok(())
-}
-
-#[test]
-fn positions_of_brackets(rt: HostRuntime) -> Result<(), Fail> {
-    let here = "file:///w/a.rs";
-    let one = "{\"line\":0,\"character\":0}";
-    for (uri, positions, value) in [
-        (here, "[]", "[]"),
-        (
-            here,
-            "[{\"line\":0,\"character\":1},{\"character\":0,\"line\":0}]",
-            "[{\"character\":0,\"line\":0},{\"character\":1,\"line\":0}]",
-        ),
-        (
-            here,
-            "[{\"line\":0,\"character\":0},{\"line\":1,\"character\":0}]",
-            "Invalid offset",
-        ),
-        (here, one, "invalid params"),
-        (here, "[{\"line\":9,\"character\":0},7]", "invalid params"),
-        (here, "[{\"line\":0,\"character\":-1}]", "invalid params"),
-        ("file:///w/b.rs", "[]", "file not found: /w/b.rs"),
-        ("file:///w/t.rs", "[]", "file not found: /w/t.rs"),
-        ("file:///w/x.rs", "[{\"line\":9,\"character\":0}]", "null"),
-        ("x", "[{\"line\":9,\"character\":0}]", "url is not a file"),
-    ] {
-        let found = braces(rt.alloc(), uri, "()", positions)?;
-        assert_eq!(rt; found.as_str(), value, "on {positions} of {uri}");
-    }
-    Ok(())
 }
 
 fn sends<T: Send + Drop>(x: T) {

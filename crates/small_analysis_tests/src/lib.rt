@@ -1,5 +1,5 @@
-//! Tests of `small_analysis`. Calls with large contracts go through wrappers that claim nothing, so that a test stays
-//! quick to prove.
+//! Tests of `small_analysis`. Tables are lines of words. Calls with large contracts go through wrappers that claim
+//! nothing, so that a test stays quick to prove; each answers none also where memory runs out.
 #![tactic(auto)]
 
 #[cfg(test)]

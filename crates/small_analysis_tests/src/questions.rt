@@ -5,72 +5,114 @@ use method_table::{HOVER, MATCHING_BRACE};
 use plain::{Json, SharedJson};
 use small_analysis::SmallAnalysis;
 use std::alloc::Global;
-use std::test::Fail;
 
-/// What an outcome says: the compact text of a value, or the message of a fault.
-fn written(alloc: Global, outcome: Outcome) -> Result<String, Fail> {
-    match outcome {
-        Outcome::Value(Answer::Json(value)) => Ok(value.as_value().to_string(alloc)?),
-        Outcome::Fault {
-            code: None,
-            message,
-        } => Ok(message.into_string()),
-        _ => Err(Fail::from("a code, or cancelled")),
+/// What stands before the first mark in a line, and what stands behind it.
+pub fn cut<'a>(line: &'a str, mark: &str) -> (&'a str, &'a str) {
+    match line.split_once(mark) {
+        Some(parts) => parts,
+        None => (line, ""),
     }
 }
 
-fn params_of(alloc: Global, params: &str) -> Result<SharedJson, Fail> {
-    let params = Json::read(alloc, params.as_bytes())?.ok_or("no JSON")?;
-    Ok(SharedJson::new(alloc, params)?)
+fn value_text(alloc: Global, value: &Json) -> Option<String> {
+    value.as_value().to_string(alloc).ok()
 }
 
-fn query(alloc: Global, snapshot: &GlobalStateSnapshot, ask: &Ask) -> Result<Outcome, Fail> {
-    Ok(SmallAnalysis::new(alloc).query(snapshot, ask, &mut Never::new())?)
+/// What an outcome says: the compact text of a value, or the message of a fault without a code.
+fn told(alloc: Global, outcome: &Outcome) -> Option<String> {
+    match outcome {
+        Outcome::Value(Answer::Json(value)) => value_text(alloc, value),
+        Outcome::Fault {
+            code: None,
+            message,
+        } => String::from_str(alloc, message.as_str()).ok(),
+        _ => None,
+    }
 }
 
-/// What a row answers on a snapshot and params.
-pub fn answer_on(
+fn json(alloc: Global, text: &str) -> Option<Json> {
+    Json::read(alloc, text.as_bytes()).ok()?
+}
+
+fn params_of(alloc: Global, params: &str) -> Option<SharedJson> {
+    SharedJson::new(alloc, json(alloc, params)?).ok()
+}
+
+fn request(alloc: Global, row: RowId, params: &str) -> Option<Ask> {
+    let params = params_of(alloc, params)?;
+    Some(Ask::Request { row, params })
+}
+
+fn query(alloc: Global, snapshot: &GlobalStateSnapshot, ask: &Ask) -> Option<Outcome> {
+    SmallAnalysis::new(alloc)
+        .query(snapshot, ask, &mut Never::new())
+        .ok()
+}
+
+/// The one function that owns an outcome.
+fn answer_to(alloc: Global, snapshot: &GlobalStateSnapshot, ask: &Ask) -> Option<String> {
+    let outcome = query(alloc, snapshot, ask)?;
+    told(alloc, &outcome)
+}
+
+/// The one function that owns a question.
+fn answer_on(
     alloc: Global,
     row: RowId,
     snapshot: &GlobalStateSnapshot,
     params: &str,
-) -> Result<String, Fail> {
-    let ask = Ask::Request {
-        row,
-        params: params_of(alloc, params)?,
-    };
-    written(alloc, query(alloc, snapshot, &ask)?)
+) -> Option<String> {
+    let ask = request(alloc, row, params)?;
+    answer_to(alloc, snapshot, &ask)
 }
 
-/// What a row answers on a text and params.
-pub fn answer(alloc: Global, row: RowId, text: &str, params: &str) -> Result<String, Fail> {
+/// What a row answers on a text and params. The one function that owns a snapshot.
+fn answer(alloc: Global, row: RowId, text: &str, params: &str) -> Option<String> {
     let snapshot = snapshot_of(alloc, text)?;
     answer_on(alloc, row, &snapshot, params)
 }
 
-/// What hover answers at a position of a text.
-pub fn hover(alloc: Global, text: &str, line: u32, column: u32) -> Result<String, Fail> {
-    let params = format!(in alloc;
+/// Whether a row answers this on a text and params.
+pub fn is_answer(alloc: Global, row: RowId, text: &str, params: &str, want: &str) -> Option<bool> {
+    Some(answer(alloc, row, text, params)?.as_str() == want)
+}
+
+/// The params of hover at a position.
+fn hover_params(alloc: Global, line: &str, column: &str) -> Option<String> {
+    format!(in alloc;
         "{{\"textDocument\":{{\"uri\":\"file:///w/a.rs\"}},\"position\":{{\"line\":{line},\"character\":{column}}},\"more\":[]}}"
-    )?;
-    answer(alloc, HOVER, text, params.as_str())
+    ).ok()
 }
 
-/// What matchingBrace answers at one position of a text.
-pub fn brace(alloc: Global, text: &str, line: u32, column: u32) -> Result<String, Fail> {
-    let positions = format!(in alloc; "[{{\"line\":{line},\"character\":{column}}}]")?;
-    braces(alloc, "file:///w/a.rs", text, positions.as_str())
+/// Whether hover answers this at a position of a text, `LINE:COLUMN`.
+pub fn is_hover_answer(alloc: Global, text: &str, place: &str, want: &str) -> Option<bool> {
+    let (line, column) = cut(place, ":");
+    let params = hover_params(alloc, line, column)?;
+    is_answer(alloc, HOVER, text, params.as_str(), want)
 }
 
-/// What matchingBrace answers at positions of a text, in the file of a URL.
-pub fn braces(alloc: Global, uri: &str, text: &str, positions: &str) -> Result<String, Fail> {
-    let params = format!(in alloc;
-        "{{\"textDocument\":{{\"uri\":\"{uri}\"}},\"positions\":{positions}}}"
-    )?;
-    answer(alloc, MATCHING_BRACE, text, params.as_str())
+/// The params of matchingBrace in the file of a URL.
+fn brace_params(alloc: Global, uri: &str, positions: &str) -> Option<String> {
+    format!(in alloc; "{{\"textDocument\":{{\"uri\":\"{uri}\"}},\"positions\":{positions}}}").ok()
 }
 
-/// Whether the params of a row are well formed.
-pub fn decodes(alloc: Global, row: RowId, params: &Json) -> bool {
+/// Whether matchingBrace answers this at positions of a text, in the file of a URL.
+pub fn is_brace_answer(
+    alloc: Global,
+    uri: &str,
+    text: &str,
+    positions: &str,
+    want: &str,
+) -> Option<bool> {
+    let params = brace_params(alloc, uri, positions)?;
+    is_answer(alloc, MATCHING_BRACE, text, params.as_str(), want)
+}
+
+fn decodes(alloc: Global, row: RowId, params: &Json) -> bool {
     SmallAnalysis::new(alloc).decodes(row, params)
+}
+
+/// Whether null is well formed as params of a row.
+pub fn decodes_null(alloc: Global, row: RowId) -> bool {
+    decodes(alloc, row, &Json::null())
 }

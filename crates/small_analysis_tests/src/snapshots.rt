@@ -12,45 +12,56 @@ use plain::{Items, Text};
 use ra_config::Config;
 use std::alloc::Global;
 use std::sync::Arc;
-use std::test::Fail;
 use text_core::LineEndings;
 
-fn path(alloc: Global, text: &str) -> Result<VfsPath, Fail> {
-    Ok(VfsPath::new(alloc, text)?.ok_or("no path")?)
+fn path(alloc: Global, text: &str) -> Option<VfsPath> {
+    VfsPath::new(alloc, text).ok()?
 }
 
-fn shared(alloc: Global, text: &str) -> Result<SharedText, Fail> {
+fn shared(alloc: Global, text: Text) -> Option<SharedText> {
     if text.len() > u32::MAX as usize {
-        return Err(Fail::from("too long"));
+        return None;
     }
-    Ok(SharedText::new(alloc, Text::from_str(alloc, text)?)?)
+    SharedText::new(alloc, text).ok()
 }
 
-fn file(alloc: Global, text: &str) -> Result<FileChange, Fail> {
-    let text = shared(alloc, text)?;
-    Ok(FileChange {
-        path: path(alloc, "/w/a.rs")?,
-        entry: Some(TextEntry {
-            text,
-            endings: LineEndings::Unix,
-        }),
+fn entry(alloc: Global, text: &str) -> Option<TextEntry> {
+    let text = shared(alloc, Text::from_str(alloc, text).ok()?)?;
+    Some(TextEntry {
+        text,
+        endings: LineEndings::Unix,
     })
 }
 
-fn change(alloc: Global, text: &str) -> Result<Change, Fail> {
+fn file(alloc: Global, text: &str) -> Option<FileChange> {
+    let path = path(alloc, "/w/a.rs")?;
+    let entry = entry(alloc, text)?;
+    Some(FileChange {
+        path,
+        entry: Some(entry),
+    })
+}
+
+fn add_file(alloc: Global, files: &mut Items<FileChange>, text: &str) -> Option<()> {
+    files.push(file(alloc, text)?).ok()
+}
+
+fn change(alloc: Global, text: &str) -> Option<Change> {
     let mut files = Items::new(alloc);
-    files.push(file(alloc, text)?)?;
-    Ok(Change { files })
+    add_file(alloc, &mut files, text)?;
+    Some(Change { files })
 }
 
-fn host(alloc: Global, text: &str) -> Result<AnalysisHost, Fail> {
-    let mut host = AnalysisHost::new(alloc)?;
-    host.apply_change(change(alloc, text)?)?;
-    Ok(host)
+fn apply(alloc: Global, host: &mut AnalysisHost, text: &str) -> Option<()> {
+    host.apply_change(change(alloc, text)?).ok()
 }
 
-fn config(alloc: Global) -> Result<Arc<Config, Global>, Fail> {
-    Ok(Arc::new(alloc, Config::new(alloc, path(alloc, "/w")?, 1)?)?)
+fn settings(alloc: Global) -> Option<Config> {
+    Config::new(alloc, path(alloc, "/w")?, 1).ok()
+}
+
+fn config(alloc: Global) -> Option<Arc<Config, Global>> {
+    Arc::new(alloc, settings(alloc)?).ok()
 }
 
 /// Whether no path but this one has the number.
@@ -63,41 +74,61 @@ fn is_free(ids: &FileIds, path: &VfsPath, file: FileId) -> bool
     }
 }
 
-/// The numbers with this one at a path, or a failed test where another path has it.
+/// The numbers with this one at a path, or none where another path has it.
 fn with_number(
     alloc: Global,
     ids: &FileIds,
     at: &str,
     file: FileId,
     excluded: FileExcluded,
-) -> Result<FileIds, Fail> {
+) -> Option<FileIds> {
     let path = path(alloc, at)?;
     if !is_free(ids, &path, file) {
-        return Err(Fail::from("taken"));
+        return None;
     }
-    Ok(ids.set(path, Some((file, excluded)))?)
+    ids.set(path, Some((file, excluded))).ok()
 }
 
-/// `/w/a.rs` with number 0, `/w/x.rs` with 1, which is excluded, and `/w/t.rs` with 2.
-fn numbers(alloc: Global) -> Result<FileIds, Fail> {
-    let mut ids = FileIds::new(alloc);
-    for (path, number, excluded) in [
-        ("/w/a.rs", 0, FileExcluded::No),
-        ("/w/x.rs", 1, FileExcluded::Yes),
-        ("/w/t.rs", 2, FileExcluded::No),
-    ] {
-        ids = with_number(alloc, &ids, path, FileId(number), excluded)?;
-    }
-    Ok(ids)
+/// `/w/a.rs` with number 0.
+fn one_number(alloc: Global) -> Option<FileIds> {
+    let none = FileIds::new(alloc);
+    with_number(alloc, &none, "/w/a.rs", FileId(0), FileExcluded::No)
 }
 
-pub fn snapshot_of(alloc: Global, text: &str) -> Result<GlobalStateSnapshot, Fail> {
-    let host = host(alloc, text)?;
-    Ok(GlobalStateSnapshot::new(SnapshotParts {
+/// The same, and `/w/x.rs` with 1, which is excluded.
+fn two_numbers(alloc: Global) -> Option<FileIds> {
+    let one = one_number(alloc)?;
+    with_number(alloc, &one, "/w/x.rs", FileId(1), FileExcluded::Yes)
+}
+
+/// The same, and `/w/t.rs` with 2.
+fn numbers(alloc: Global) -> Option<FileIds> {
+    let two = two_numbers(alloc)?;
+    with_number(alloc, &two, "/w/t.rs", FileId(2), FileExcluded::No)
+}
+
+/// A snapshot of what a host holds. What is small to let go is made first.
+fn snapshot(alloc: Global, host: &AnalysisHost) -> Option<GlobalStateSnapshot> {
+    let versions = Versions::new(alloc).ok()?;
+    let file_ids = numbers(alloc)?;
+    let config = config(alloc)?;
+    let world = host.world().ok()?;
+    Some(GlobalStateSnapshot::new(SnapshotParts {
         revision: host.revision(),
-        world: host.world()?,
-        file_ids: numbers(alloc)?,
-        versions: Versions::new(alloc)?,
-        config: config(alloc)?,
+        world,
+        file_ids,
+        versions,
+        config,
     }))
+}
+
+fn snapshot_in(alloc: Global, host: &mut AnalysisHost, text: &str) -> Option<GlobalStateSnapshot> {
+    apply(alloc, host, text)?;
+    snapshot(alloc, host)
+}
+
+/// The one function that owns a host.
+pub fn snapshot_of(alloc: Global, text: &str) -> Option<GlobalStateSnapshot> {
+    let mut host = AnalysisHost::new(alloc).ok()?;
+    snapshot_in(alloc, &mut host, text)
 }
