@@ -1,4 +1,6 @@
-//! Tests of what is agreed with a client, by its public calls.
+//! Tests of what is agreed with a client, by its public calls: lines of words that one interpreter reads. The calls go
+//! through wrappers that claim nothing, so that the prover carries none of their clauses, and one function alone owns a
+//! client.
 #![tactic(auto)]
 
 #[cfg(test)]
@@ -9,3 +11,7 @@ mod clients;
 mod folders;
 #[cfg(test)]
 mod numbers;
+#[cfg(test)]
+mod values;
+#[cfg(test)]
+mod words;
