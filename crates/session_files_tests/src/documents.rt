@@ -1,7 +1,5 @@
 // Documents, files of a loader, and the world that comes of them.
-use crate::calls::new_files;
-use crate::words::failure;
-use std::test::Fail;
+use crate::words::first_wrong;
 
 /// Runs of calls, each with what it comes to. A blank line begins new files.
 const RUNS: &str = "open /a a\\r\\nb > 
@@ -117,10 +115,9 @@ process > same
 show /a > unix two";
 
 #[test]
-fn runs(rt: HostRuntime) -> Result<(), Fail> {
-    let alloc = rt.alloc();
+fn runs(rt: HostRuntime) {
     for lines in RUNS.split("\n\n") {
-        assert_eq!(rt; failure(alloc, new_files(alloc)?, lines)?.as_str(), "");
+        let wrong = first_wrong(rt.alloc(), lines);
+        assert!(rt; wrong.is_empty(), "at {wrong}");
     }
-    Ok(())
 }

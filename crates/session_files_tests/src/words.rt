@@ -1,25 +1,15 @@
-// Lines of words: what is done, and what comes of it.
+// Lines of words: what is done, and what comes of it. Each call answers none also where memory runs out.
 use crate::calls::{
-    Told, change, close, load, message, numbered, open, path_at, process, progress, shown,
+    change, close, files_at, load, new_files, number_of, open, process, text_entry, world_of,
 };
-use docs_vfs::VfsPath;
+use crate::values::{cut, edits_of, escaped, excludes, messages_of, path_at, text_of};
+use analysis_host::{TextEntry, World};
+use docs_vfs::{FileExcluded, FileId, VfsPath};
 use session_files::SessionFiles;
-use session_port::{Command, LoadingProgress, LogCode};
+use session_port::{Command, LogCode};
 use std::alloc::Global;
-use std::test::Fail;
+use text_core::LineEndings;
 use turn_parts::{Counter, TurnError, TurnOut};
-
-/// What stands before the first mark in a text, and what stands behind it.
-pub fn cut<'a>(text: &'a str, mark: &str) -> (&'a str, &'a str) {
-    match text.split_once(mark) {
-        Some(parts) => parts,
-        None => (text, ""),
-    }
-}
-
-fn number(text: &str) -> u32 {
-    text.parse::<u32>().unwrap_or(0)
-}
 
 fn log_name(code: LogCode) -> &'static str {
     match code {
@@ -31,21 +21,12 @@ fn log_name(code: LogCode) -> &'static str {
     }
 }
 
-// What a turn ordered, in words.
-fn orders(alloc: Global, out: &TurnOut) -> Result<String, Fail> {
-    let mut text = String::new(alloc);
-    for command in out.commands() {
-        let name = match command {
-            Command::Log(code, _) => log_name(*code),
-            Command::Invalidate(_) => "read anew",
-            _ => "another",
-        };
-        if !text.is_empty() {
-            text.push_str(", ")?;
-        }
-        text.push_str(name)?;
+fn order_name(command: &Command) -> &'static str {
+    match command {
+        Command::Log(code, _) => log_name(*code),
+        Command::Invalidate(_) => "read anew",
+        _ => "another",
     }
-    Ok(text)
 }
 
 fn error_name(error: TurnError) -> &'static str {
@@ -61,122 +42,217 @@ fn error_name(error: TurnError) -> &'static str {
     }
 }
 
-// `\r` and `\n` stand for CR and LF.
-fn unescaped(alloc: Global, text: &str) -> Result<String, Fail> {
-    let lines = text.replace(alloc, "\\n", "\n")?;
-    Ok(lines.replace(alloc, "\\r", "\r")?)
-}
-
-fn escaped(alloc: Global, text: &str) -> Result<String, Fail> {
-    let lines = text.replace(alloc, "\n", "\\n")?;
-    Ok(lines.replace(alloc, "\r", "\\r")?)
-}
-
-// What a loader says of a file: its text, `-` for none, `?` for bytes that are no text.
-fn tell(
-    alloc: Global,
-    files: &mut SessionFiles,
-    told: Told,
-    path: VfsPath,
-    text: &str,
-    out: &mut TurnOut,
-) -> Result<Result<(), TurnError>, Fail> {
-    let text = unescaped(alloc, text)?;
-    let bytes: &[u8] = if text.as_str() == "?" {
-        &[255, 254]
-    } else {
-        text.as_bytes()
-    };
-    let bytes = if text.as_str() == "-" {
-        None
-    } else {
-        Some(bytes)
-    };
-    let message = message(alloc, told, path, bytes)?;
-    Ok(load(alloc, files, message, out))
-}
-
-fn edit(
-    alloc: Global,
-    files: &mut SessionFiles,
-    path: VfsPath,
-    words: &str,
-    out: &mut TurnOut,
-) -> Result<Result<(), TurnError>, Fail> {
-    let (line, rest) = cut(words, " ");
-    let (from, rest) = cut(rest, " ");
-    let (to, text) = cut(rest, " ");
-    let text = unescaped(alloc, text)?;
-    let place = (number(line), number(from), number(to));
-    Ok(change(alloc, files, path, place, text.as_str(), out))
-}
-
-fn open_at(
-    alloc: Global,
-    files: &mut SessionFiles,
-    path: VfsPath,
-    text: &str,
-    out: &mut TurnOut,
-) -> Result<Result<(), TurnError>, Fail> {
-    let text = unescaped(alloc, text)?;
-    Ok(open(alloc, files, path, text.as_str(), out))
-}
-
-fn done(alloc: Global, answer: Result<(), TurnError>, out: &TurnOut) -> Result<String, Fail> {
-    match answer {
-        Ok(()) => orders(alloc, out),
-        Err(error) => Ok(String::from_str(alloc, error_name(error))?),
-    }
-}
-
-fn processed(alloc: Global, files: &mut SessionFiles, out: &mut TurnOut) -> Result<String, Fail> {
-    let name = match process(files, out) {
+fn process_name(done: Result<bool, TurnError>) -> &'static str {
+    match done {
         Ok(true) => "changed",
         Ok(false) => "same",
         Err(error) => error_name(error),
-    };
-    Ok(String::from_str(alloc, name)?)
+    }
 }
 
-/// What comes of a call, in words.
-pub fn outcome(alloc: Global, files: &mut SessionFiles, call: &str) -> Result<String, Fail> {
-    let mut out = TurnOut::new(alloc);
-    let (name, rest) = cut(call, " ");
-    let (path, words) = cut(rest, " ");
-    let path = path_at(alloc, if path.is_empty() { "/" } else { path })?;
-    let answer = match name {
-        "open" => open_at(alloc, files, path, words, &mut out)?,
-        "edit" => edit(alloc, files, path, words, &mut out)?,
-        "close" => close(files, path, &mut out),
-        "changed" => tell(alloc, files, Told::Changed, path, words, &mut out)?,
-        "loaded" => tell(alloc, files, Told::Loaded, path, words, &mut out)?,
-        "started" => load(alloc, files, progress(LoadingProgress::Started), &mut out),
-        "going" => load(
-            alloc,
-            files,
-            progress(LoadingProgress::Progress(2)),
-            &mut out,
-        ),
-        "finished" => load(alloc, files, progress(LoadingProgress::Finished), &mut out),
-        "process" => return processed(alloc, files, &mut out),
-        "number" => return numbered(alloc, files, &path),
-        _ => {
-            let text = shown(alloc, files, &path)?;
-            return escaped(alloc, text.as_str());
+fn endings_name(endings: LineEndings) -> &'static str {
+    match endings {
+        LineEndings::Unix => "unix ",
+        LineEndings::Dos => "dos ",
+    }
+}
+
+fn named(alloc: Global, name: &str) -> Option<String> {
+    String::from_str(alloc, name).ok()
+}
+
+fn push(text: &mut String, more: &str) -> Option<()> {
+    text.push_str(more).ok()
+}
+
+fn push_orders(text: &mut String, commands: &[Command]) -> Option<()> {
+    for command in commands {
+        if !text.is_empty() {
+            push(text, ", ")?;
         }
-    };
-    done(alloc, answer, &out)
+        push(text, order_name(command))?;
+    }
+    Some(())
 }
 
-/// The first line whose call comes to something else than what stands behind the `>`, with what it came to, or an empty
-/// text.
-pub fn failure(alloc: Global, mut files: SessionFiles, lines: &str) -> Result<String, Fail> {
-    for line in lines.lines() {
-        let (call, wanted) = cut(line, " > ");
-        let made = outcome(alloc, &mut files, call)?;
-        if made.as_str() != wanted {
-            return Ok(format!(in alloc; "{line}: {made}")?);
+// What a turn ordered, in words.
+fn orders(alloc: Global, commands: &[Command]) -> Option<String> {
+    let mut text = String::new(alloc);
+    push_orders(&mut text, commands)?;
+    Some(text)
+}
+
+// The text that a world has, with the way its lines ended.
+fn text_in(alloc: Global, entry: &TextEntry) -> Option<String> {
+    let mut text = named(alloc, endings_name(entry.endings))?;
+    push(&mut text, entry.text.as_str())?;
+    Some(text)
+}
+
+// The one function that owns a world.
+fn shown_in(alloc: Global, world: World, path: &VfsPath) -> Option<String> {
+    match text_entry(&world, path) {
+        None => named(alloc, "none"),
+        Some(entry) => text_in(alloc, entry),
+    }
+}
+
+// The text that the world has of a path, or `none`.
+fn shown(alloc: Global, files: &SessionFiles, path: &str) -> Option<String> {
+    let path = path_at(alloc, path)?;
+    shown_in(alloc, world_of(files)?, &path)
+}
+
+fn shown_escaped(alloc: Global, files: &SessionFiles, path: &str) -> Option<String> {
+    escaped(alloc, shown(alloc, files, path)?.as_str())
+}
+
+fn number_text(alloc: Global, entry: Option<(FileId, FileExcluded)>) -> Option<String> {
+    match entry {
+        None => named(alloc, "none"),
+        Some((file, FileExcluded::No)) => {
+            let number = file.0;
+            format!(in alloc; "{number}").ok()
+        }
+        Some((file, FileExcluded::Yes)) => {
+            let number = file.0;
+            format!(in alloc; "{number} marked").ok()
         }
     }
-    Ok(String::new(alloc))
+}
+
+// The number of a path and whether it is marked, or `none`.
+fn numbered(alloc: Global, files: &SessionFiles, path: &str) -> Option<String> {
+    let path = path_at(alloc, path)?;
+    number_text(alloc, number_of(files, &path)?)
+}
+
+// Opens a document where `/x` is excluded.
+fn open_at(
+    alloc: Global,
+    files: &mut SessionFiles,
+    path: &str,
+    text: &str,
+    out: &mut TurnOut,
+) -> Option<Result<(), TurnError>> {
+    let excludes = excludes(alloc)?;
+    let path = path_at(alloc, path)?;
+    let text = text_of(alloc, text)?;
+    Some(open(files, excludes.as_slice(), path, text, out))
+}
+
+fn edit_at(
+    alloc: Global,
+    files: &mut SessionFiles,
+    path: &str,
+    words: &str,
+    out: &mut TurnOut,
+) -> Option<Result<(), TurnError>> {
+    let path = path_at(alloc, path)?;
+    let edits = edits_of(alloc, words)?;
+    Some(change(files, path, edits, out))
+}
+
+fn close_at(
+    alloc: Global,
+    files: &mut SessionFiles,
+    path: &str,
+    out: &mut TurnOut,
+) -> Option<Result<(), TurnError>> {
+    let path = path_at(alloc, path)?;
+    Some(close(files, path, out))
+}
+
+fn load_at(
+    alloc: Global,
+    files: &mut SessionFiles,
+    name: &str,
+    path: &str,
+    text: &str,
+    out: &mut TurnOut,
+) -> Option<Result<(), TurnError>> {
+    let messages = messages_of(alloc, name, path, text)?;
+    Some(load(files, messages, out))
+}
+
+fn take_in(
+    alloc: Global,
+    files: &mut SessionFiles,
+    name: &str,
+    words: &str,
+    out: &mut TurnOut,
+) -> Option<Result<(), TurnError>> {
+    let (path, words) = cut(words, " ");
+    match name {
+        "open" => open_at(alloc, files, path, words, out),
+        "edit" => edit_at(alloc, files, path, words, out),
+        "close" => close_at(alloc, files, path, out),
+        _ => load_at(alloc, files, name, path, words, out),
+    }
+}
+
+fn done(alloc: Global, answer: Result<(), TurnError>, out: &TurnOut) -> Option<String> {
+    match answer {
+        Ok(()) => orders(alloc, out.commands()),
+        Err(error) => named(alloc, error_name(error)),
+    }
+}
+
+fn told(alloc: Global, files: &mut SessionFiles, call: &str, out: &mut TurnOut) -> Option<String> {
+    let (name, rest) = cut(call, " ");
+    match name {
+        "process" => named(alloc, process_name(process(files, out))),
+        "number" => numbered(alloc, files, rest),
+        "show" => shown_escaped(alloc, files, rest),
+        _ => {
+            let answer = take_in(alloc, files, name, rest, out)?;
+            done(alloc, answer, out)
+        }
+    }
+}
+
+/// What comes of a call, in words. `open`, `changed` and `loaded` have a path and a text: `\r` and `\n` stand for CR and
+/// LF, and of a loader `-` for no file and `?` for bytes that are no text. `edit` has a path, a line, the columns between
+/// which a text is put, and that text; `close`, `number` and `show` have a path.
+fn outcome(alloc: Global, files: &mut SessionFiles, call: &str) -> Option<String> {
+    let mut out = TurnOut::new(alloc);
+    told(alloc, files, call, &mut out)
+}
+
+/// Whether a call comes to what stands behind the `>`. Where that is `anything`, nothing is compared.
+fn agrees(alloc: Global, files: &mut SessionFiles, line: &str) -> Option<bool> {
+    let (call, wanted) = cut(line, " > ");
+    let made = outcome(alloc, files, call)?;
+    Some(wanted == "anything" || made.as_str() == wanted)
+}
+
+fn first_wrong_of<'a>(alloc: Global, files: &mut SessionFiles, lines: &'a str) -> &'a str {
+    for line in lines.lines() {
+        if agrees(alloc, files, line) != Some(true) {
+            return line;
+        }
+    }
+    ""
+}
+
+// The one function that owns files.
+fn first_wrong_in<'a>(alloc: Global, mut files: SessionFiles, lines: &'a str) -> &'a str {
+    first_wrong_of(alloc, &mut files, lines)
+}
+
+fn first_wrong_where<'a>(alloc: Global, files: Option<SessionFiles>, lines: &'a str) -> &'a str {
+    match files {
+        Some(files) => first_wrong_in(alloc, files, lines),
+        None => "no memory",
+    }
+}
+
+/// The first line that comes to something else than it says, or an empty text.
+pub fn first_wrong(alloc: Global, lines: &str) -> &str {
+    first_wrong_where(alloc, new_files(alloc), lines)
+}
+
+/// The same where so many numbers and revisions were used.
+pub fn first_wrong_at(alloc: Global, numbers: u32, revisions: u64, lines: &str) -> &str {
+    first_wrong_where(alloc, files_at(alloc, numbers, revisions), lines)
 }
