@@ -1,16 +1,11 @@
-// Code lenses once they are resolved. `/w/a.rs` has number 0, the text `mod b;` and version 3.
-use crate::files::snapshot;
+// Code lenses once they are resolved, in words.
+use crate::words::{cut, fault_told, number, position, text_of};
 use analysis_host::{
     Annotation, GlobalStateSnapshot, LensKind, LensResolve, ProtoFault, annotation,
 };
 use plain::Text;
 use std::alloc::Global;
-use std::test::Fail;
-use text_core::{Position, Range};
-
-fn position(line: u32, character: u32) -> Position {
-    Position { line, character }
-}
+use text_core::Range;
 
 fn annotation_of(
     alloc: Global,
@@ -21,49 +16,63 @@ fn annotation_of(
     annotation(alloc, snapshot, range, lens)
 }
 
-/// What a lens shows in words, or why it shows nothing.
-fn told(alloc: Global, found: Result<Option<Annotation>, ProtoFault>) -> Result<String, Fail> {
-    Ok(match found {
-        Ok(Some(found)) => format!(in alloc;
-            "{}..{} {:?} {} {}",
-            found.start, found.end, found.kind, found.pos.file.0, found.pos.offset
-        )?,
-        Ok(None) => String::from_str(alloc, "none")?,
-        Err(fault) => format!(in alloc; "{fault:?}")?,
-    })
+fn kind_name(kind: LensKind) -> &'static str {
+    match kind {
+        LensKind::Impls => "Impls",
+        LensKind::References => "References",
+    }
 }
 
-/// What a lens of this version shows, whose position is on this line, and whose range goes from the front of the file to
-/// this line.
-fn lens(alloc: Global, url: &str, version: i32, line: u32, end: u32) -> Result<String, Fail> {
-    let lens = LensResolve {
-        version,
-        kind: LensKind::References,
-        url: Text::from_str(alloc, url)?,
-        position: position(line, 4),
-    };
+fn found_told(alloc: Global, found: Annotation) -> Option<String> {
+    let kind = kind_name(found.kind);
+    format!(in alloc;
+        "{}..{} {kind} {} {}",
+        found.start, found.end, found.pos.file.0, found.pos.offset
+    )
+    .ok()
+}
+
+/// What a lens shows in words, or why it shows nothing.
+fn told(alloc: Global, found: Result<Option<Annotation>, ProtoFault>) -> Option<String> {
+    match found {
+        Ok(Some(found)) => found_told(alloc, found),
+        Ok(None) => text_of(alloc, "none"),
+        Err(fault) => fault_told(alloc, fault),
+    }
+}
+
+/// What a lens shows whose range goes from the front of the file to this line.
+fn shown(
+    alloc: Global,
+    snapshot: &GlobalStateSnapshot,
+    end: u32,
+    lens: LensResolve,
+) -> Option<String> {
     let range = Range {
         start: position(0, 0),
         end: position(end, 3),
     };
-    told(alloc, annotation_of(alloc, &snapshot(alloc)?, range, &lens))
+    told(alloc, annotation_of(alloc, snapshot, range, &lens))
 }
 
-#[test]
-fn resolved_lenses(rt: HostRuntime) -> Result<(), Fail> {
-    let here = "file:///w/a.rs";
-    for (url, version, line, end, expected) in [
-        (here, 3, 0, 0, "0..3 References 0 4"),
-        (here, 3, 1, 2, "Offset(LinePastEnd)"),
-        (here, 3, 0, 1, "Offset(LinePastEnd)"),
-        (here, 2, 9, 9, "none"),
-        ("file:///w/x.rs", 3, 0, 0, "none"),
-        ("file:///w/t.rs", 3, 9, 9, "NotFound"),
-        ("file:///w/b.rs", 3, 0, 0, "none"),
-        ("x", 3, 0, 0, "none"),
-    ] {
-        let found = lens(rt.alloc(), url, version, line, end)?;
-        assert_eq!(rt; found.as_str(), expected, "version {version} of {url}");
-    }
-    Ok(())
+/// A lens of this version, whose position is on this line.
+fn lens_of(alloc: Global, url: &str, version: i32, line: u32) -> Option<LensResolve> {
+    let url = Text::from_str(alloc, url).ok()?;
+    Some(LensResolve {
+        version,
+        kind: LensKind::References,
+        url,
+        position: position(line, 4),
+    })
+}
+
+/// What a lens shows, by its URL, its version, the line of its position, and the line to which its range goes from the
+/// front of the file.
+pub fn lens(alloc: Global, snapshot: &GlobalStateSnapshot, words: &str) -> Option<String> {
+    let (url, rest) = cut(words, " ");
+    let (version, rest) = cut(rest, " ");
+    let (line, end) = cut(rest, " ");
+    let (line, end) = (number(line)?, number(end)?);
+    let version = version.parse::<i32>().ok()?;
+    shown(alloc, snapshot, end, lens_of(alloc, url, version, line)?)
 }

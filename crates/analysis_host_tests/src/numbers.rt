@@ -1,18 +1,18 @@
-// Files by their numbers: `/w/a.rs` has number 0, `/w/x.rs` 1, and is excluded, `/w/t.rs` 2, without a text, and `/r.rs` 3.
-use crate::files::{path_at, snapshot};
+// Files of a snapshot by their numbers, in words.
+use crate::files::path_at;
+use crate::words::{fault_told, number, text_of};
 use analysis_host::{GlobalStateSnapshot, ProtoFault};
 use docs_vfs::{FileId, VfsPath};
 use plain::Text;
 use std::alloc::Global;
-use std::test::Fail;
 
 /// A number or none in words, or why there is none.
-fn number_told(alloc: Global, found: Result<Option<FileId>, ProtoFault>) -> Result<String, Fail> {
-    Ok(match found {
-        Ok(Some(file)) => format!(in alloc; "{}", file.0)?,
-        Ok(None) => String::from_str(alloc, "excluded")?,
-        Err(fault) => format!(in alloc; "{fault:?}")?,
-    })
+fn number_told(alloc: Global, found: Result<Option<FileId>, ProtoFault>) -> Option<String> {
+    match found {
+        Ok(Some(file)) => format!(in alloc; "{}", file.0).ok(),
+        Ok(None) => text_of(alloc, "excluded"),
+        Err(fault) => fault_told(alloc, fault),
+    }
 }
 
 fn by_path(snapshot: &GlobalStateSnapshot, path: &VfsPath) -> Result<Option<FileId>, ProtoFault> {
@@ -27,136 +27,118 @@ fn by_url(
     snapshot.url_to_file_id(alloc, url)
 }
 
-#[test]
-fn numbers_of_paths(rt: HostRuntime) -> Result<(), Fail> {
-    let alloc = rt.alloc();
-    let snapshot = snapshot(alloc)?;
-    for (path, expected) in [
-        ("/w/a.rs", "0"),
-        ("/w/x.rs", "excluded"),
-        ("/w/t.rs", "NotFound"),
-        ("/w/b.rs", "NotFound"),
-    ] {
-        let found = by_path(&snapshot, &path_at(alloc, path)?);
-        assert_eq!(rt; number_told(alloc, found)?.as_str(), expected, "of {path}");
-    }
-    Ok(())
+/// The number of a path.
+pub fn number_of_path(alloc: Global, snapshot: &GlobalStateSnapshot, path: &str) -> Option<String> {
+    let path = path_at(alloc, path)?;
+    number_told(alloc, by_path(snapshot, &path))
 }
 
-#[test]
-fn numbers_of_urls(rt: HostRuntime) -> Result<(), Fail> {
-    let alloc = rt.alloc();
-    let snapshot = snapshot(alloc)?;
-    for (url, expected) in [
-        ("file:///w/a.rs", "0"),
-        ("file:///w/x.rs", "excluded"),
-        ("file:///w/t.rs", "NotFound"),
-        ("file:///w/b.rs", "NotFound"),
-        ("file://h/w/x.rs", "Url(HasHost)"),
-        ("x", "Url(NotFile)"),
-    ] {
-        let found = by_url(alloc, &snapshot, url);
-        assert_eq!(rt; number_told(alloc, found)?.as_str(), expected, "of {url}");
+/// The number of a URL.
+pub fn number_of_url(alloc: Global, snapshot: &GlobalStateSnapshot, url: &str) -> Option<String> {
+    number_told(alloc, by_url(alloc, snapshot, url))
+}
+
+fn exists_name(snapshot: &GlobalStateSnapshot, file: FileId) -> &'static str {
+    if snapshot.file_exists(file) {
+        "true"
+    } else {
+        "false"
     }
-    Ok(())
+}
+
+fn text_in<'a>(snapshot: &'a GlobalStateSnapshot, file: FileId) -> &'a str {
+    match snapshot.file_text(file) {
+        Some(text) => text,
+        None => "none",
+    }
+}
+
+fn version_in(snapshot: &GlobalStateSnapshot, file: FileId) -> Option<i32> {
+    snapshot.file_version(file)
+}
+
+fn version_told(alloc: Global, version: Option<i32>) -> Option<String> {
+    match version {
+        Some(version) => format!(in alloc; "{version}").ok(),
+        None => text_of(alloc, "none"),
+    }
+}
+
+fn held(alloc: Global, snapshot: &GlobalStateSnapshot, file: FileId) -> Option<String> {
+    let version = version_told(alloc, version_in(snapshot, file))?;
+    let (found, text) = (exists_name(snapshot, file), text_in(snapshot, file));
+    format!(in alloc; "{found} {text} {}", version.as_str()).ok()
 }
 
 /// Whether it is a number of a file that isn't excluded, and the file's text and version.
-fn held(snapshot: &GlobalStateSnapshot, file: FileId) -> (bool, Option<&str>, Option<i32>) {
-    (
-        snapshot.file_exists(file),
-        snapshot.file_text(file),
-        snapshot.file_version(file),
-    )
+pub fn file_of_number(alloc: Global, snapshot: &GlobalStateSnapshot, word: &str) -> Option<String> {
+    held(alloc, snapshot, FileId(number(word)?))
 }
 
-#[test]
-fn files_of_numbers(rt: HostRuntime) -> Result<(), Fail> {
-    let snapshot = snapshot(rt.alloc())?;
-    for (file, expected) in [
-        (0, (true, Some("mod b;"), Some(3))),
-        (1, (false, None, Some(3))),
-        (2, (true, None, Some(3))),
-        (3, (true, None, None)),
-        (4, (false, None, None)),
-    ] {
-        assert_eq!(rt; held(&snapshot, FileId(file)), expected, "of {file}");
-    }
-    Ok(())
+fn threads_of(snapshot: &GlobalStateSnapshot) -> u32 {
+    snapshot.config().num_threads()
 }
 
-fn version(alloc: Global, snapshot: &GlobalStateSnapshot, url: &str) -> Result<Option<i32>, Fail> {
-    Ok(snapshot.url_file_version(alloc, url)?)
+fn revision_of(snapshot: &GlobalStateSnapshot) -> u64 {
+    snapshot.revision()
 }
 
-#[test]
-fn versions_of_urls(rt: HostRuntime) -> Result<(), Fail> {
-    let snapshot = snapshot(rt.alloc())?;
-    for (url, expected) in [
-        ("file:///w/a.rs", Some(3)),
-        ("file:///w/t.rs", Some(3)),
-        ("file:///r.rs", None),
-        ("file://h/w/a.rs", None),
-        ("", None),
-    ] {
-        assert_eq!(rt; version(rt.alloc(), &snapshot, url)?, expected, "of {url}");
-    }
-    Ok(())
+fn parts_told(alloc: Global, snapshot: &GlobalStateSnapshot, file: FileId) -> Option<String> {
+    let version = version_told(alloc, version_in(snapshot, file))?;
+    let (threads, revision) = (threads_of(snapshot), revision_of(snapshot));
+    let text = text_in(snapshot, file);
+    format!(in alloc; "{text} {} {threads} {revision}", version.as_str()).ok()
+}
+
+/// A file's text and version by its number, the threads of the settings, and the revision.
+pub fn parts_of(alloc: Global, snapshot: &GlobalStateSnapshot, word: &str) -> Option<String> {
+    parts_told(alloc, snapshot, FileId(number(word)?))
+}
+
+fn version_by_url(alloc: Global, snapshot: &GlobalStateSnapshot, url: &str) -> Option<Option<i32>> {
+    snapshot.url_file_version(alloc, url).ok()
+}
+
+/// The version of the document that a URL names.
+pub fn version_of_url(alloc: Global, snapshot: &GlobalStateSnapshot, url: &str) -> Option<String> {
+    version_told(alloc, version_by_url(alloc, snapshot, url)?)
+}
+
+fn names(alloc: Global, snapshot: &GlobalStateSnapshot, path: &VfsPath) -> Option<String> {
+    let Ok(Some(file)) = snapshot.vfs_path_to_file_id(path) else {
+        return None;
+    };
+    let url = snapshot.file_id_to_url(alloc, file).ok()?;
+    let path = snapshot.file_id_to_file_path(file);
+    format!(in alloc; "{} {}", path.as_str(), url.as_str()).ok()
 }
 
 /// The path and the URL of the file that a path names.
-fn names(alloc: Global, snapshot: &GlobalStateSnapshot, path: &VfsPath) -> Result<String, Fail> {
-    let Ok(Some(file)) = snapshot.vfs_path_to_file_id(path) else {
-        return Err(Fail::from("no file"));
-    };
-    let url = snapshot.file_id_to_url(alloc, file)?;
-    let path = snapshot.file_id_to_file_path(file);
-    Ok(format!(in alloc; "{} {}", path.as_str(), url.as_str())?)
+pub fn names_of_path(alloc: Global, snapshot: &GlobalStateSnapshot, path: &str) -> Option<String> {
+    let path = path_at(alloc, path)?;
+    names(alloc, snapshot, &path)
 }
 
-#[test]
-fn names_of_a_file(rt: HostRuntime) -> Result<(), Fail> {
-    let alloc = rt.alloc();
-    let snapshot = snapshot(alloc)?;
-    let names = names(alloc, &snapshot, &path_at(alloc, "/w/a.rs")?)?;
-    assert_eq!(rt; names.as_str(), "/w/a.rs file:///w/a.rs");
-    Ok(())
-}
-
-/// The URL of the path beside the file that a URL names.
 fn beside(
     alloc: Global,
     snapshot: &GlobalStateSnapshot,
     url: &str,
     path: &str,
-) -> Result<Option<Text>, Fail> {
+) -> Option<Option<Text>> {
     let Ok(Some(anchor)) = snapshot.url_to_file_id(alloc, url) else {
-        return Err(Fail::from("no file"));
+        return None;
     };
-    Ok(snapshot.anchored_path(alloc, anchor, path)?)
+    snapshot.anchored_path(alloc, anchor, path).ok()
 }
 
-#[test]
-fn paths_beside_a_file(rt: HostRuntime) -> Result<(), Fail> {
-    let alloc = rt.alloc();
-    let snapshot = snapshot(alloc)?;
-    for (path, expected) in [
-        ("b.rs", "file:///w/b.rs"),
-        ("./c d//e.rs", "file:///w/c%20d/e.rs"),
-        ("../b.rs", "file:///b.rs"),
-        ("..", "file:///"),
-        ("", "file:///w"),
-        ("/b/../c", "file:///c"),
-        ("../../b.rs", "none"),
-        ("/..", "none"),
-        ("b\0", "none"),
-    ] {
-        let url = beside(alloc, &snapshot, "file:///w/a.rs", path)?;
-        let url = match &url {
-            Some(url) => url.as_str(),
-            None => "none",
-        };
-        assert_eq!(rt; url, expected, "of {path:?}");
+fn url_told(alloc: Global, url: Option<Text>) -> Option<String> {
+    match url {
+        Some(url) => Some(url.into_string()),
+        None => text_of(alloc, "none"),
     }
-    Ok(())
+}
+
+/// The URL of the path beside `/w/a.rs`.
+pub fn url_beside(alloc: Global, snapshot: &GlobalStateSnapshot, path: &str) -> Option<String> {
+    url_told(alloc, beside(alloc, snapshot, "file:///w/a.rs", path)?)
 }

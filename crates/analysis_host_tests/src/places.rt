@@ -1,16 +1,11 @@
-// The places that positions and ranges of a client name.
-use crate::files::snapshot;
+// The places that positions and ranges of a client name, in words, and the kinds of code actions.
+use crate::words::{cut, fault_told, number, position, text_of};
 use analysis_host::{
     AssistKind, FilePosition, FileRange, GlobalStateSnapshot, ProtoFault, assist_kind,
     file_position, file_range,
 };
-use std::alloc::{AllocError, Global};
-use std::test::Fail;
+use std::alloc::Global;
 use text_core::{Position, Range};
-
-fn position(line: u32, character: u32) -> Position {
-    Position { line, character }
-}
 
 fn position_in(
     alloc: Global,
@@ -22,22 +17,20 @@ fn position_in(
 }
 
 /// A place in words, or why there is none.
-fn place_told(
-    alloc: Global,
-    place: Result<Option<FilePosition>, ProtoFault>,
-) -> Result<String, AllocError> {
+fn place_told(alloc: Global, place: Result<Option<FilePosition>, ProtoFault>) -> Option<String> {
     match place {
-        Ok(Some(place)) => format!(in alloc; "{} {}", place.file.0, place.offset),
-        Ok(None) => String::from_str(alloc, "excluded"),
-        Err(fault) => format!(in alloc; "{fault:?}"),
+        Ok(Some(place)) => format!(in alloc; "{} {}", place.file.0, place.offset).ok(),
+        Ok(None) => text_of(alloc, "excluded"),
+        Err(fault) => fault_told(alloc, fault),
     }
 }
 
-/// The byte of a position in a file, or why there is none, in words.
-fn place(alloc: Global, url: &str, line: u32, character: u32) -> Result<String, Fail> {
-    let snapshot = snapshot(alloc)?;
-    let found = position_in(alloc, &snapshot, url, position(line, character));
-    Ok(place_told(alloc, found)?)
+/// The byte of a position in a file, by the file's URL, the line and the column.
+pub fn place(alloc: Global, snapshot: &GlobalStateSnapshot, words: &str) -> Option<String> {
+    let (url, rest) = cut(words, " ");
+    let (line, character) = cut(rest, " ");
+    let position = position(number(line)?, number(character)?);
+    place_told(alloc, position_in(alloc, snapshot, url, position))
 }
 
 fn range_in(
@@ -50,77 +43,56 @@ fn range_in(
 }
 
 /// Places in words, or why there are none.
-fn places_told(
-    alloc: Global,
-    places: Result<Option<FileRange>, ProtoFault>,
-) -> Result<String, AllocError> {
+fn places_told(alloc: Global, places: Result<Option<FileRange>, ProtoFault>) -> Option<String> {
     match places {
         Ok(Some(places)) => {
-            format!(in alloc; "{} {} {}", places.file.0, places.start, places.end)
+            format!(in alloc; "{} {} {}", places.file.0, places.start, places.end).ok()
         }
-        Ok(None) => String::from_str(alloc, "excluded"),
-        Err(fault) => format!(in alloc; "{fault:?}"),
+        Ok(None) => text_of(alloc, "excluded"),
+        Err(fault) => fault_told(alloc, fault),
     }
 }
 
-/// The bytes of a range of the first line of a file, or why there are none, in words.
-fn places(alloc: Global, url: &str, start: u32, end: u32) -> Result<String, Fail> {
-    let snapshot = snapshot(alloc)?;
+/// The bytes of a range of the first line of a file, by the file's URL and two columns.
+pub fn places(alloc: Global, snapshot: &GlobalStateSnapshot, words: &str) -> Option<String> {
+    let (url, rest) = cut(words, " ");
+    let (start, end) = cut(rest, " ");
     let range = Range {
-        start: position(0, start),
-        end: position(0, end),
+        start: position(0, number(start)?),
+        end: position(0, number(end)?),
     };
-    let found = range_in(alloc, &snapshot, url, range);
-    Ok(places_told(alloc, found)?)
+    places_told(alloc, range_in(alloc, snapshot, url, range))
 }
 
-#[test]
-fn places_of_positions(rt: HostRuntime) -> Result<(), Fail> {
-    let cases = [
-        ("file:///w/a.rs", 0, 0, "0 0"),
-        ("file:///w/a.rs", 0, 4, "0 4"),
-        ("file:///w/a.rs", 0, 99, "0 6"),
-        ("file:///w/a.rs", 1, 0, "Offset(LinePastEnd)"),
-        ("file:///w/x.rs", 9, 0, "excluded"),
-        ("file:///w/t.rs", 0, 0, "NotFound"),
-        ("file:///w/b.rs", 1, 0, "NotFound"),
-        ("http://w/b.rs", 1, 0, "Url(NotFile)"),
-        ("file://host/w/a.rs", 0, 0, "Url(HasHost)"),
-        ("file:///w/%FF", 0, 0, "Url(NotText)"),
-    ];
-    for (url, line, character, expected) in cases {
-        let answer = place(rt.alloc(), url, line, character)?;
-        assert_eq!(rt; answer.as_str(), expected, "at {url}");
-    }
-    Ok(())
+fn kind_of(kind: &str) -> Option<AssistKind> {
+    assist_kind(kind)
 }
 
-#[test]
-fn places_of_ranges(rt: HostRuntime) -> Result<(), Fail> {
-    let cases = [
-        ("file:///w/a.rs", 1, 3, "0 1 3"),
-        ("file:///w/a.rs", 2, 2, "0 2 2"),
-        ("file:///w/a.rs", 3, 1, "Offset(Reversed)"),
-        ("file:///w/x.rs", 1, 0, "excluded"),
-        ("file:///w/t.rs", 0, 0, "NotFound"),
-        ("file:///w/b.rs", 0, 0, "NotFound"),
-        ("http://w/b.rs", 0, 0, "Url(NotFile)"),
-        ("file://host/w/a.rs", 0, 0, "Url(HasHost)"),
-        ("file:///w/%FF", 0, 0, "Url(NotText)"),
-    ];
-    for (url, start, end, expected) in cases {
-        let answer = places(rt.alloc(), url, start, end)?;
-        assert_eq!(rt; answer.as_str(), expected, "at {url}");
+fn kind_name(kind: Option<AssistKind>) -> &'static str {
+    match kind {
+        Some(AssistKind::Generate) => "Generate",
+        Some(AssistKind::QuickFix) => "QuickFix",
+        Some(AssistKind::Refactor) => "Refactor",
+        Some(AssistKind::RefactorExtract) => "RefactorExtract",
+        Some(AssistKind::RefactorInline) => "RefactorInline",
+        Some(AssistKind::RefactorRewrite) => "RefactorRewrite",
+        None => "none",
     }
-    Ok(())
+}
+
+/// Kinds of code actions, and the assists that they stand for.
+const KINDS: &str = " > Generate
+refactor.inline > RefactorInline
+source > none";
+
+fn agrees(line: &str) -> bool {
+    let (kind, want) = cut(line, " > ");
+    kind_name(kind_of(kind)) == want
 }
 
 #[test]
 fn kinds_of_code_actions(rt: HostRuntime) {
-    assert_eq!(rt; assist_kind(""), Some(AssistKind::Generate));
-    assert_eq!(rt;
-        assist_kind("refactor.inline"),
-        Some(AssistKind::RefactorInline)
-    );
-    assert_eq!(rt; assist_kind("source"), None);
+    for line in KINDS.lines() {
+        assert!(rt; agrees(line), "at {line}");
+    }
 }

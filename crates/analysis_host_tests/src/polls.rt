@@ -1,14 +1,26 @@
 // What never stops a query.
 use analysis_host::{Cancel, Never};
 
-/// How often a poll tells to stop, of so many polls.
-fn stops<C: Cancel>(cancel: &mut C, polls: usize) -> usize {
-    (0..polls).filter(|_| cancel.poll().is_some()).count()
+/// Whether none of so many polls tells to stop.
+fn goes_on<C: Cancel>(cancel: &mut C, polls: u32) -> bool {
+    for _ in 0..polls {
+        if cancel.poll().is_some() {
+            return false;
+        }
+    }
+    true
+}
+
+fn last_seen<C: Cancel>(cancel: &C) -> Option<u64> {
+    cancel.held()
+}
+
+fn never_stops(polls: u32) -> bool {
+    let mut never = Never::new();
+    goes_on(&mut never, polls) && last_seen(&never).is_none()
 }
 
 #[test]
 fn polls_that_never_stop(rt: HostRuntime) {
-    let mut never = Never::new();
-    assert_eq!(rt; stops(&mut never, 3), 0);
-    assert_eq!(rt; never.held(), None);
+    assert!(rt; never_stops(3));
 }

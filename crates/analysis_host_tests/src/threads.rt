@@ -1,10 +1,9 @@
 // What may go to another thread, and what threads may share.
-use crate::files::{entry_of, files_of};
-use analysis_host::{
-    AnalysisHost, Answer, Ask, Never, Outcome, RowId, TextTree, Versions, World, WorldFault,
-};
+use crate::files::{entry_of, files_without, new_host};
+use crate::snapshots::no_versions;
+use analysis_host::{Answer, Ask, Never, Outcome, RowId, TextEntry, TextTree, World, WorldFault};
 use plain::{Json, SharedJson};
-use std::test::Fail;
+use std::alloc::Global;
 use text_core::LineEndings;
 
 /// Lets go of a value that may go to another thread.
@@ -17,31 +16,62 @@ fn shares<T: Sync + Drop>(x: T) {
     drop(x)
 }
 
-#[test]
-fn values_cross_threads(rt: HostRuntime) -> Result<(), Fail> {
-    let alloc = rt.alloc();
-    sends(AnalysisHost::new(alloc)?);
-    sends(World::new(alloc)?);
-    shares(World::new(alloc)?);
-    sends(Versions::new(alloc)?);
-    shares(Versions::new(alloc)?);
-    sends(files_of(alloc, "/w/a.rs", None)?);
-    sends(entry_of(alloc, "", LineEndings::Unix)?.clone()?);
+fn new_world(alloc: Global) -> Option<World> {
+    World::new(alloc).ok()
+}
+
+fn copied_entry(entry: TextEntry) -> Option<TextEntry> {
+    entry.clone().ok()
+}
+
+fn worlds_cross(alloc: Global) -> Option<()> {
+    sends(new_host(alloc)?);
+    sends(new_world(alloc)?);
+    shares(new_world(alloc)?);
+    sends(no_versions(alloc)?);
+    shares(no_versions(alloc)?);
+    Some(())
+}
+
+fn files_cross(alloc: Global) -> Option<()> {
+    sends(files_without(alloc, "/w/a.rs")?);
+    sends(copied_entry(entry_of(alloc, "", LineEndings::Unix)?)?);
     shares(entry_of(alloc, "", LineEndings::Dos)?);
-    shares(TextTree::new(alloc));
-    sends(Never::new());
-    Ok(())
+    Some(())
 }
 
 #[test]
-fn questions_cross_threads(rt: HostRuntime) -> Result<(), Fail> {
-    let params = SharedJson::new(rt.alloc(), Json::null())?;
-    let ask = Ask::Request {
+fn values_cross_threads(rt: HostRuntime) {
+    assert!(rt; worlds_cross(rt.alloc()).is_some());
+    assert!(rt; files_cross(rt.alloc()).is_some());
+    shares(TextTree::new(rt.alloc()));
+    sends(Never::new());
+}
+
+fn question(alloc: Global) -> Option<Ask> {
+    let params = SharedJson::new(alloc, Json::null()).ok()?;
+    Some(Ask::Request {
         row: RowId(1),
         params,
-    };
-    sends(ask.clone()?);
-    sends(Outcome::Value(Answer::Json(Json::null())).clone()?);
+    })
+}
+
+fn copied_ask(ask: Ask) -> Option<Ask> {
+    ask.clone().ok()
+}
+
+fn copied_outcome(outcome: Outcome) -> Option<Outcome> {
+    outcome.clone().ok()
+}
+
+fn questions_cross(alloc: Global) -> Option<()> {
+    sends(copied_ask(question(alloc)?)?);
+    sends(copied_outcome(Outcome::Value(Answer::Json(Json::null())))?);
     sends(WorldFault::Exhausted);
-    Ok(())
+    Some(())
+}
+
+#[test]
+fn questions_cross_threads(rt: HostRuntime) {
+    assert!(rt; questions_cross(rt.alloc()).is_some());
 }

@@ -1,93 +1,160 @@
 // Tables of texts that share what they have in common, and changes whose steps are counted.
 ghost use Rattle.std.specs.Prelude.{◌≡◌, ◌<◌};
 
-use crate::files::{done, entry_of, files_of, path_at, present};
-use analysis_host::{AnalysisHost, Change, TextTree};
+use crate::files::{change_with, entry_of, is_present, new_host, path_at};
+use analysis_host::{AnalysisHost, Change, TextEntry, TextTree};
 use docs_vfs::VfsPath;
 use shared_map::Steps;
 use std::alloc::Global;
 use std::marker::Brand;
 use std::sync::ledger::{Blank, Ledger};
-use std::test::Fail;
 use text_core::LineEndings;
 
-/// The table with a path set to a text, or to none.
-fn set<L: Ledger>(
+/// The table with a path set to what is kept of a file, or to none.
+fn with_entry<L: Ledger>(
+    tree: &TextTree,
+    path: VfsPath,
+    entry: Option<TextEntry>,
+    steps: &mut Steps<L>,
+) -> Option<TextTree> {
+    tree.set(path, entry, steps).ok()
+}
+
+fn with_text<L: Ledger>(
     alloc: Global,
     tree: &TextTree,
     path: &str,
-    text: Option<&str>,
+    text: &str,
     steps: &mut Steps<L>,
-) -> Result<TextTree, Fail> {
+) -> Option<TextTree> {
     let path = path_at(alloc, path)?;
-    let entry = match text {
-        Some(text) => Some(entry_of(alloc, text, LineEndings::Dos)?),
-        None => None,
-    };
-    Ok(tree.set(path, entry, steps)?)
+    let entry = entry_of(alloc, text, LineEndings::Dos)?;
+    with_entry(tree, path, Some(entry), steps)
 }
 
-/// What is left in words once `/a` is removed.
-fn rest_told<L: Ledger>(
+fn without<L: Ledger>(
     alloc: Global,
-    both: &TextTree,
+    tree: &TextTree,
+    path: &str,
     steps: &mut Steps<L>,
-) -> Result<String, Fail> {
-    let rest = set(alloc, both, "/a", None, steps)?;
-    told(alloc, &rest)
+) -> Option<TextTree> {
+    let path = path_at(alloc, path)?;
+    with_entry(tree, path, None, steps)
 }
 
-fn text_at<'a>(tree: &'a TextTree, path: &VfsPath) -> &'a str {
+fn text_in<'a>(tree: &'a TextTree, path: &VfsPath) -> &'a str {
     match tree.get(path) {
         Some(entry) => entry.text.as_str(),
         None => "none",
     }
 }
 
-/// The number of paths, and the texts at `/a` and `/b`.
-fn told(alloc: Global, tree: &TextTree) -> Result<String, Fail> {
-    let (a, b) = (path_at(alloc, "/a")?, path_at(alloc, "/b")?);
-    let (first, second) = (text_at(tree, &a), text_at(tree, &b));
-    Ok(format!(in alloc; "{} {first} {second}", tree.len())?)
+fn is_text(alloc: Global, tree: &TextTree, path: &str, text: &str) -> Option<bool> {
+    let path = path_at(alloc, path)?;
+    Some(text_in(tree, &path) == text)
 }
 
-/// What is left in words, and what was there.
-fn before_and_after<L: Ledger>(alloc: Global, blank: Blank) -> Result<(String, String), Fail>
+fn is_long(tree: &TextTree, len: u64) -> bool {
+    tree.len() == len
+}
+
+/// Whether a table has so many paths, and these texts at `/a` and `/b`.
+fn has(alloc: Global, tree: &TextTree, len: u64, first: &str, second: &str) -> Option<bool> {
+    Some(
+        is_long(tree, len)
+            && is_text(alloc, tree, "/a", first)?
+            && is_text(alloc, tree, "/b", second)?,
+    )
+}
+
+/// Whether this is what is left.
+fn is_rest(alloc: Global, rest: TextTree) -> Option<bool> {
+    has(alloc, &rest, 1, "none", "y")
+}
+
+/// Whether the rest is left once `/a` is removed.
+fn is_removed<L: Ledger>(alloc: Global, both: &TextTree, steps: &mut Steps<L>) -> Option<bool> {
+    is_rest(alloc, without(alloc, both, "/a", steps)?)
+}
+
+/// Whether the rest is left, and what was there stays.
+fn stays<L: Ledger>(alloc: Global, both: &TextTree, steps: &mut Steps<L>) -> Option<bool> {
+    Some(is_removed(alloc, both, steps)? && has(alloc, both, 2, "x", "y")?)
+}
+
+fn set<L: Ledger>(
+    alloc: Global,
+    tree: &mut TextTree,
+    path: &str,
+    text: &str,
+    steps: &mut Steps<L>,
+) -> Option<()> {
+    let next = with_text(alloc, tree, path, text, steps)?;
+    *tree = next;
+    Some(())
+}
+
+fn set_both<L: Ledger>(alloc: Global, tree: &mut TextTree, steps: &mut Steps<L>) -> Option<()> {
+    set(alloc, tree, "/a", "x", steps)?;
+    set(alloc, tree, "/b", "y", steps)
+}
+
+fn stays_once_set<L: Ledger>(
+    alloc: Global,
+    tree: &mut TextTree,
+    steps: &mut Steps<L>,
+) -> Option<bool> {
+    set_both(alloc, tree, steps)?;
+    stays(alloc, tree, steps)
+}
+
+fn stays_as_it_was<L: Ledger>(alloc: Global, blank: Blank) -> Option<bool>
     requires name { blank.name ≡ L.name }
     requires parts { blank.parts ≡ L.parts }
     requires some { 0 < L.parts }
 {
     let mut steps = Steps::<L>::new(blank);
-    let one = set(alloc, &TextTree::new(alloc), "/a", Some("x"), &mut steps)?;
-    let both = set(alloc, &one, "/b", Some("y"), &mut steps)?;
-    let rest = rest_told(alloc, &both, &mut steps)?;
-    Ok((told(alloc, &both)?, rest))
+    let mut tree = TextTree::new(alloc);
+    stays_once_set(alloc, &mut tree, &mut steps)
 }
 
 #[test]
-fn removed_path(rt: HostRuntime) -> Result<(), Fail> {
-    let (before, after) = before_and_after::<Brand>(rt.alloc(), Blank::new(1))?;
-    assert_eq!(rt; before.as_str(), "2 x y");
-    assert_eq!(rt; after.as_str(), "1 none y");
-    Ok(())
+fn removed_path(rt: HostRuntime) {
+    assert!(rt; stays_as_it_was::<Brand>(rt.alloc(), Blank::new(1)) == Some(true));
 }
 
-fn counted_host<L: Ledger>(alloc: Global, blank: Blank) -> Result<AnalysisHost, Fail>
+fn apply_counted<L: Ledger>(
+    host: &mut AnalysisHost,
+    change: Change,
+    steps: &mut Steps<L>,
+) -> Option<()> {
+    host.apply_counted(change, steps).ok()
+}
+
+fn counts<L: Ledger>(alloc: Global, host: &mut AnalysisHost, steps: &mut Steps<L>) -> Option<bool> {
+    let change = change_with(alloc, "/a", "x", LineEndings::Unix)?;
+    apply_counted(host, change, steps)?;
+    is_present(alloc, host, "/a", "x", 1)
+}
+
+fn counts_in<L: Ledger>(
+    alloc: Global,
+    mut host: AnalysisHost,
+    steps: &mut Steps<L>,
+) -> Option<bool> {
+    counts(alloc, &mut host, steps)
+}
+
+fn is_counted<L: Ledger>(alloc: Global, blank: Blank) -> Option<bool>
     requires name { blank.name ≡ L.name }
     requires parts { blank.parts ≡ L.parts }
     requires some { 0 < L.parts }
 {
     let mut steps = Steps::<L>::new(blank);
-    let mut host = AnalysisHost::new(alloc)?;
-    let files = files_of(alloc, "/a", Some("x"))?;
-    done(host.apply_counted(Change { files }, &mut steps))?;
-    Ok(host)
+    counts_in(alloc, new_host(alloc)?, &mut steps)
 }
 
 #[test]
-fn counted_change(rt: HostRuntime) -> Result<(), Fail> {
-    let alloc = rt.alloc();
-    let host = counted_host::<Brand>(alloc, Blank::new(1))?;
-    assert_eq!(rt; present(&host, &path_at(alloc, "/a")?), (Some("x"), 1));
-    Ok(())
+fn counted_change(rt: HostRuntime) {
+    assert!(rt; is_counted::<Brand>(rt.alloc(), Blank::new(1)) == Some(true));
 }

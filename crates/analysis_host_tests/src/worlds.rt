@@ -1,111 +1,184 @@
-// Worlds, versions and snapshots stay as they were.
+// Worlds and versions stay as they were.
 use crate::files::{
-    change_file, change_nothing, done, host_at, path_at, present, snapshot, version_at,
-    with_version, world_of_two,
+    apply, change_of_nothing, change_with, change_without, host_at, is_present, path_at, world_now,
+    world_of,
 };
-use analysis_host::{AnalysisHost, GlobalStateSnapshot, Versions, World, WorldFault};
-use docs_vfs::{FileId, VfsPath};
+use crate::snapshots::{no_versions, with_version};
+use crate::words::cut;
+use analysis_host::{AnalysisHost, Change, Versions, World, WorldFault};
+use docs_vfs::VfsPath;
 use std::alloc::Global;
-use std::test::Fail;
+use text_core::LineEndings;
 
-fn text_in<'a>(world: &'a World, path: &VfsPath) -> Option<&'a str> {
-    world.text(path)
+fn text_in<'a>(world: &'a World, path: &VfsPath) -> &'a str {
+    match world.text(path) {
+        Some(text) => text,
+        None => "none",
+    }
 }
 
-fn frozen(host: &AnalysisHost) -> Result<World, Fail> {
-    Ok(host.world()?.clone()?)
+/// Whether `/w/a.rs` has this text in a world, or none.
+fn is_text(alloc: Global, world: &World, text: &str) -> Option<bool> {
+    let path = path_at(alloc, "/w/a.rs")?;
+    Some(text_in(world, &path) == text)
 }
 
-/// A host where `/w/a.rs` has this text.
-fn opened(alloc: Global, used: u64, text: &str) -> Result<AnalysisHost, Fail> {
-    let mut host = host_at(alloc, used)?;
-    done(change_file(alloc, &mut host, "/w/a.rs", Some(text))?)?;
-    Ok(host)
+fn copied_world(world: World) -> Option<World> {
+    world.clone().ok()
 }
 
-/// The world from before `/w/a.rs` lost its text.
-fn world_before(alloc: Global, host: &mut AnalysisHost) -> Result<World, Fail> {
-    let world = frozen(host)?;
-    done(change_file(alloc, host, "/w/a.rs", None)?)?;
-    Ok(world)
+fn frozen(host: &AnalysisHost) -> Option<World> {
+    copied_world(world_now(host)?)
 }
 
-#[test]
-fn frozen_world(rt: HostRuntime) -> Result<(), Fail> {
-    let path = path_at(rt.alloc(), "/w/a.rs")?;
-    let mut host = opened(rt.alloc(), 0, "fn a() {}")?;
-    let world = world_before(rt.alloc(), &mut host)?;
-    assert_eq!(rt; text_in(&world, &path), Some("fn a() {}"));
-    assert_eq!(rt; present(&host, &path), (None, 2));
-    Ok(())
+/// A change by words: `set` with a text for `/w/a.rs`, `close` where that loses its text, or `nothing`.
+fn change_of(alloc: Global, words: &str) -> Option<Change> {
+    let (kind, text) = cut(words, " ");
+    match kind {
+        "set" => change_with(alloc, "/w/a.rs", text, LineEndings::Unix),
+        "close" => change_without(alloc, "/w/a.rs"),
+        "nothing" => Some(change_of_nothing(alloc)),
+        _ => None,
+    }
 }
 
-#[test]
-fn last_text_counts(rt: HostRuntime) -> Result<(), Fail> {
-    let alloc = rt.alloc();
-    let world = world_of_two(alloc, "one", "two")?;
-    assert_eq!(rt; text_in(&world, &path_at(alloc, "/w/a.rs")?), Some("two"));
-    Ok(())
+fn answer_name(answer: Result<(), WorldFault>) -> &'static str {
+    match answer {
+        Ok(()) => "done",
+        Err(WorldFault::Exhausted) => "exhausted",
+        Err(WorldFault::NoMemory) => "no memory",
+    }
 }
 
-#[test]
-fn change_of_no_file(rt: HostRuntime) -> Result<(), Fail> {
-    let path = path_at(rt.alloc(), "/w/a.rs")?;
-    let mut host = host_at(rt.alloc(), 7)?;
-    done(change_nothing(rt.alloc(), &mut host))?;
-    assert_eq!(rt; present(&host, &path), (None, 8));
-    Ok(())
+/// Whether a change is answered by this word.
+fn is_answered(alloc: Global, host: &mut AnalysisHost, words: &str, want: &str) -> Option<bool> {
+    let change = change_of(alloc, words)?;
+    Some(answer_name(apply(host, change)) == want)
 }
 
-#[test]
-fn last_revision(rt: HostRuntime) -> Result<(), Fail> {
-    let path = path_at(rt.alloc(), "/w/a.rs")?;
-    let mut host = opened(rt.alloc(), u64::MAX - 1, "one")?;
-    let refused = change_file(rt.alloc(), &mut host, "/w/a.rs", Some("two"))?;
-    assert_eq!(rt; refused, Err(WorldFault::Exhausted));
-    assert_eq!(rt; present(&host, &path), (Some("one"), u64::MAX));
-    Ok(())
+fn is_begun(alloc: Global, host: &mut AnalysisHost, words: &str) -> Option<bool> {
+    if words == "-" {
+        Some(true)
+    } else {
+        is_answered(alloc, host, words, "done")
+    }
 }
 
-/// Versions with this one at a path, and with no other.
-fn versions_with(alloc: Global, path: &VfsPath, version: i32) -> Result<Versions, Fail> {
-    let none = Versions::new(alloc)?;
-    with_version(alloc, &none, path, Some(version))
+/// Whether the host comes to this text and this revision.
+fn is_host(alloc: Global, host: &AnalysisHost, words: &str) -> Option<bool> {
+    let (text, revision) = cut(words, " > ");
+    let revision = revision.parse::<u64>().ok()?;
+    is_present(alloc, host, "/w/a.rs", text, revision)
 }
 
-/// The version of a path once it is closed.
-fn version_once_closed(
-    alloc: Global,
-    versions: &Versions,
-    path: &VfsPath,
-) -> Result<Option<i32>, Fail> {
-    let closed = with_version(alloc, versions, path, None)?;
-    Ok(version_at(&closed, path))
-}
-
-#[test]
-fn versions_at_one_moment(rt: HostRuntime) -> Result<(), Fail> {
-    let path = path_at(rt.alloc(), "/w/a.rs")?;
-    let opened = versions_with(rt.alloc(), &path, -7)?;
-    assert_eq!(rt; version_once_closed(rt.alloc(), &opened, &path)?, None);
-    assert_eq!(rt; version_at(&opened, &path), Some(-7));
-    Ok(())
-}
-
-fn held(snapshot: &GlobalStateSnapshot, file: FileId) -> (Option<&str>, Option<i32>, u32, u64) {
-    let threads = snapshot.config().num_threads();
-    (
-        snapshot.file_text(file),
-        snapshot.file_version(file),
-        threads,
-        snapshot.revision(),
+/// Whether the last change is answered so, and leaves the world from before it and the host so.
+fn ends(alloc: Global, host: &mut AnalysisHost, world: &World, words: &str) -> Option<bool> {
+    let (last, rest) = cut(words, " > ");
+    let (answer, rest) = cut(rest, " > ");
+    let (was, rest) = cut(rest, " > ");
+    Some(
+        is_answered(alloc, host, last, answer)?
+            && is_text(alloc, world, was)?
+            && is_host(alloc, host, rest)?,
     )
 }
 
+/// The one function that owns a world from before a change.
+fn ends_beside(alloc: Global, host: &mut AnalysisHost, world: World, words: &str) -> Option<bool> {
+    ends(alloc, host, &world, words)
+}
+
+fn does(alloc: Global, host: &mut AnalysisHost, words: &str) -> Option<bool> {
+    let (first, rest) = cut(words, " > ");
+    if !is_begun(alloc, host, first)? {
+        return Some(false);
+    }
+    let world = frozen(host)?;
+    ends_beside(alloc, host, world, rest)
+}
+
+/// The one function that owns a host.
+fn does_in(alloc: Global, mut host: AnalysisHost, words: &str) -> Option<bool> {
+    does(alloc, &mut host, words)
+}
+
+fn agrees(alloc: Global, line: &str) -> Option<bool> {
+    let (used, words) = cut(line, " > ");
+    let used = used.parse::<u64>().ok()?;
+    does_in(alloc, host_at(alloc, used)?, words)
+}
+
+/// How many revisions a host has used, a change that is done first, if one is, the last change, and its answer; then the
+/// text at `/w/a.rs` in a world that was frozen before the last change; then the text that the host has there, and its
+/// revision. The first line is of a frozen world, the second of a change of no file, the third of the last revision.
+const CHANGES: &str = "0 > set fn a() {} > close > done > fn a() {} > none > 2
+7 > - > nothing > done > none > none > 8
+18446744073709551614 > set one > set two > exhausted > one > one > 18446744073709551615";
+
 #[test]
-fn copied_snapshot(rt: HostRuntime) -> Result<(), Fail> {
-    let alloc = rt.alloc();
-    let copy = snapshot(alloc)?.clone()?;
-    assert_eq!(rt; held(&copy, FileId(0)), (Some("mod b;"), Some(3), 4, 9));
-    Ok(())
+fn worlds_and_hosts_by_changes(rt: HostRuntime) {
+    for line in CHANGES.lines() {
+        assert!(rt; agrees(rt.alloc(), line) == Some(true), "at {line}");
+    }
+}
+
+fn is_text_of(alloc: Global, world: World, text: &str) -> Option<bool> {
+    is_text(alloc, &world, text)
+}
+
+fn is_last_text(alloc: Global, texts: &str, last: &str) -> Option<bool> {
+    is_text_of(alloc, world_of(alloc, texts, LineEndings::Unix)?, last)
+}
+
+#[test]
+fn last_text_counts(rt: HostRuntime) {
+    assert!(rt; is_last_text(rt.alloc(), "one|two", "two") == Some(true));
+}
+
+fn version_at(versions: &Versions, path: &VfsPath) -> Option<i32> {
+    versions.get(path)
+}
+
+fn is_none_at(versions: Versions, path: &VfsPath) -> bool {
+    version_at(&versions, path).is_none()
+}
+
+/// The versions with this one at `/w/a.rs`, or with none.
+fn with_here(alloc: Global, versions: &Versions, version: Option<i32>) -> Option<Versions> {
+    let path = path_at(alloc, "/w/a.rs")?;
+    with_version(alloc, versions, path, version)
+}
+
+/// Whether the path has no version once it is closed.
+fn is_closed(alloc: Global, opened: &Versions, path: &VfsPath) -> Option<bool> {
+    Some(is_none_at(with_here(alloc, opened, None)?, path))
+}
+
+fn stays_open(alloc: Global, opened: &Versions) -> Option<bool> {
+    let path = path_at(alloc, "/w/a.rs")?;
+    Some(is_closed(alloc, opened, &path)? && version_at(opened, &path) == Some(-7))
+}
+
+fn set_here(alloc: Global, versions: &mut Versions, version: i32) -> Option<()> {
+    let next = with_here(alloc, versions, Some(version))?;
+    *versions = next;
+    Some(())
+}
+
+fn stays_once_set(alloc: Global, versions: &mut Versions) -> Option<bool> {
+    set_here(alloc, versions, -7)?;
+    stays_open(alloc, versions)
+}
+
+fn stays_as_it_was(alloc: Global, mut versions: Versions) -> Option<bool> {
+    stays_once_set(alloc, &mut versions)
+}
+
+fn are_versions_kept(alloc: Global) -> Option<bool> {
+    stays_as_it_was(alloc, no_versions(alloc)?)
+}
+
+#[test]
+fn versions_at_one_moment(rt: HostRuntime) {
+    assert!(rt; are_versions_kept(rt.alloc()) == Some(true));
 }

@@ -1,0 +1,122 @@
+// What a snapshot answers. `/w/a.rs` has number 0 and the text `mod b;`, `/w/x.rs` 1, and is excluded, `/w/t.rs` 2, without a
+// text, and `/r.rs` 3. The first three have version 3.
+use crate::questions::{agrees, agrees_by_endings, agrees_copied};
+
+/// The numbers of paths.
+const PATHS: &str = "path /w/a.rs > 0
+path /w/x.rs > excluded
+path /w/t.rs > NotFound
+path /w/b.rs > NotFound";
+
+/// The numbers of URLs.
+const URLS: &str = "url file:///w/a.rs > 0
+url file:///w/x.rs > excluded
+url file:///w/t.rs > NotFound
+url file:///w/b.rs > NotFound
+url file://h/w/x.rs > Url(HasHost)
+url x > Url(NotFile)";
+
+/// Whether it is a number of a file that isn't excluded, and the file's text and version.
+const FILES: &str = "file 0 > true mod b; 3
+file 1 > false none 3
+file 2 > true none 3
+file 3 > true none none
+file 4 > false none none";
+
+/// The versions at URLs.
+const VERSIONS: &str = "version file:///w/a.rs > 3
+version file:///w/t.rs > 3
+version file:///r.rs > none
+version file://h/w/a.rs > none
+version  > none";
+
+/// The path and the URL of a file.
+const NAMES: &str = "names /w/a.rs > /w/a.rs file:///w/a.rs";
+
+/// The URLs of paths beside `/w/a.rs`.
+const BESIDE: &str = "beside b.rs > file:///w/b.rs
+beside ./c d//e.rs > file:///w/c%20d/e.rs
+beside ../b.rs > file:///b.rs
+beside .. > file:///
+beside  > file:///w
+beside /b/../c > file:///c
+beside ../../b.rs > none
+beside /.. > none
+beside b\0 > none";
+
+#[test]
+fn files_and_their_numbers(rt: HostRuntime) {
+    for table in [PATHS, URLS, FILES, VERSIONS, NAMES, BESIDE] {
+        for line in table.lines() {
+            assert!(rt; agrees(rt.alloc(), line) == Some(true), "at {line}");
+        }
+    }
+}
+
+/// The places of positions, by lines and columns.
+const PLACES: &str = "place file:///w/a.rs 0 0 > 0 0
+place file:///w/a.rs 0 4 > 0 4
+place file:///w/a.rs 0 99 > 0 6
+place file:///w/a.rs 1 0 > Offset(LinePastEnd)
+place file:///w/x.rs 9 0 > excluded
+place file:///w/t.rs 0 0 > NotFound
+place file:///w/b.rs 1 0 > NotFound
+place http://w/b.rs 1 0 > Url(NotFile)
+place file://host/w/a.rs 0 0 > Url(HasHost)
+place file:///w/%FF 0 0 > Url(NotText)";
+
+/// The places of ranges of the first line, by columns.
+const RANGES: &str = "range file:///w/a.rs 1 3 > 0 1 3
+range file:///w/a.rs 2 2 > 0 2 2
+range file:///w/a.rs 3 1 > Offset(Reversed)
+range file:///w/x.rs 1 0 > excluded
+range file:///w/t.rs 0 0 > NotFound
+range file:///w/b.rs 0 0 > NotFound
+range http://w/b.rs 0 0 > Url(NotFile)
+range file://host/w/a.rs 0 0 > Url(HasHost)
+range file:///w/%FF 0 0 > Url(NotText)";
+
+/// What lenses show, by their versions, the lines of their positions and the lines where their ranges end.
+const LENSES: &str = "lens file:///w/a.rs 3 0 0 > 0..3 References 0 4
+lens file:///w/a.rs 3 1 2 > Offset(LinePastEnd)
+lens file:///w/a.rs 3 0 1 > Offset(LinePastEnd)
+lens file:///w/a.rs 2 9 9 > none
+lens file:///w/x.rs 3 0 0 > none
+lens file:///w/t.rs 3 9 9 > NotFound
+lens file:///w/b.rs 3 0 0 > none
+lens x 3 0 0 > none";
+
+#[test]
+fn places_and_lenses(rt: HostRuntime) {
+    for table in [PLACES, RANGES, LENSES] {
+        for line in table.lines() {
+            assert!(rt; agrees(rt.alloc(), line) == Some(true), "at {line}");
+        }
+    }
+}
+
+/// The number of lines, their endings, and what a column counts.
+const ENDINGS: &str = "Unix lines 0 > 2 Unix units
+Unix lines 2 > none
+Unix lines 7 > none
+Dos lines 0 > 2 Dos units
+Dos lines 2 > none
+Dos lines 7 > none";
+
+#[test]
+fn line_endings(rt: HostRuntime) {
+    for line in ENDINGS.lines() {
+        assert!(rt;
+            agrees_by_endings(rt.alloc(), line) == Some(true),
+            "at {line}"
+        );
+    }
+}
+
+/// The text and the version of the file, the threads, and the revision.
+const PARTS: &str = "parts 0 > mod b; 3 4 9";
+
+#[test]
+fn copied_snapshot(rt: HostRuntime) {
+    assert!(rt; agrees_copied(rt.alloc(), PARTS) == Some(true));
+}
