@@ -1,138 +1,83 @@
-// Jobs, and events in words.
-ghost use Rattle.std.specs.Prelude.{◌≡◌, IfOk};
+// Jobs, and the commands to do them. Each call answers none where memory runs out.
+ghost use Rattle.std.specs.Prelude.{◌≡◌, [], ◌∷◌, ◌++◌, IfSome};
 ghost use Rattle.session_port.specs.Record.{AreRising, spawned};
 
-use crate::loader::loader_text;
 use analysis_host::{GlobalStateSnapshot, RowId, SnapshotParts, Versions, World};
 use docs_vfs::VfsPath;
 use file_ids::FileIds;
 use method_table::PoolClass;
 use plain::{Items, Json, SharedJson};
 use ra_config::Config;
-use session_peers::{HostileHost, NullAnalysis, RecordedCall, ScriptHost};
-use session_port::{
-    Command, Host, HostError, HostEvent, Job, JobKind, JobResult, JobValue, TaskBody, TaskMsg,
-};
-use std::alloc::{AllocError, Global};
+use session_port::{Command, Job, JobKind};
+use std::alloc::Global;
 use std::sync::Arc;
-use std::test::Fail;
 
-fn snapshot(alloc: Global) -> Result<GlobalStateSnapshot, Fail>
-    ensures { IfOk result (λ snapshot. snapshot.revision ≡ 0) }
-{
-    let root = VfsPath::new(alloc, "/w")?.ok_or("no path")?;
-    Ok(GlobalStateSnapshot::new(SnapshotParts {
-        world: World::new(alloc)?,
+/// The settings with the one workspace `/w`.
+fn settings(alloc: Global) -> Option<Arc<Config>> {
+    let root = VfsPath::new(alloc, "/w").ok()??;
+    let config = Config::new(alloc, root, 4).ok()?;
+    Arc::new(alloc, config).ok()
+}
+
+/// The first revision.
+fn snapshot(alloc: Global) -> Option<GlobalStateSnapshot> {
+    let world = World::new(alloc).ok()?;
+    let versions = Versions::new(alloc).ok()?;
+    let config = settings(alloc)?;
+    Some(GlobalStateSnapshot::new(SnapshotParts {
+        world,
         file_ids: FileIds::new(alloc),
-        versions: Versions::new(alloc)?,
-        config: Arc::new(alloc, Config::new(alloc, root, 4)?)?,
+        versions,
+        config,
         revision: 0,
     }))
 }
 
 /// A job on the first revision.
-pub fn job(alloc: Global, number: u64) -> Result<Job, Fail>
-    ensures number { IfOk result (λ job. job.number ≡ number) }
-    ensures revision { IfOk result (λ job. job.snapshot.revision ≡ 0) }
+pub fn job_of(alloc: Global, number: u64) -> Option<Job>
+    ensures { IfSome result (λ job. job.number ≡ number) }
 {
-    Ok(Job {
+    let params = SharedJson::new(alloc, Json::null()).ok()?;
+    let snapshot = snapshot(alloc)?;
+    Some(Job {
         number,
         class: PoolClass::Worker,
         kind: JobKind::Request {
             ticket: 1,
             row: RowId(0),
-            params: SharedJson::new(alloc, Json::null())?,
+            params,
         },
-        snapshot: snapshot(alloc)?,
+        snapshot,
     })
 }
 
-/// The commands to do the jobs 7 and 9.
-pub fn two_jobs(alloc: Global) -> Result<Items<Command>, Fail>
-    ensures { IfOk result (λ commands. AreRising 0 (spawned commands)) }
+fn add_spawn(commands: &mut Items<Command>, job: Job) -> Option<()>
+    ensures { IfSome result (λ _. commands.new ≡ commands.old ++ Command.Spawn job ∷ []) }
 {
+    match commands.push(Command::Spawn(job)) {
+        Ok(()) => Some(()),
+        Err(_) => None,
+    }
+}
+
+/// The commands to do the jobs 7 and 9.
+fn two_jobs(alloc: Global) -> Option<Items<Command>>
+    ensures { IfSome result (λ commands. AreRising 0 (spawned commands)) }
+{
+    let first = job_of(alloc, 7)?;
     let mut commands = Items::new(alloc);
-    commands.push(Command::Spawn(job(alloc, 7)?))?;
-    commands.push(Command::Spawn(job(alloc, 9)?))?;
-    Ok(commands)
+    add_spawn(&mut commands, first)?;
+    let second = job_of(alloc, 9)?;
+    add_spawn(&mut commands, second)?;
+    Some(commands)
 }
 
-/// Numbers as a list.
-pub fn numbers(alloc: Global, numbers: &[u64]) -> Result<Items<u64>, AllocError> {
-    Ok(Items::from_vec(Vec::from_slice(alloc, numbers)?))
-}
-
-/// A result in words.
-pub fn result_text(body: TaskBody) -> &'static str {
-    match body {
-        TaskBody::Final(JobResult::Value(JobValue::Json(value))) => {
-            if value.is_null() { "null" } else { "value" }
-        }
-        TaskBody::Final(JobResult::Fault { .. }) => "fault",
-        TaskBody::Final(JobResult::Cancelled { .. }) => "cancelled",
-        TaskBody::Final(JobResult::NoMemory) => "no memory",
+/// `jobs` for the commands to do the jobs 7 and 9, else no command.
+pub fn commands_of(alloc: Global, word: &str) -> Option<Items<Command>>
+    ensures { IfSome result (λ commands. AreRising 0 (spawned commands)) }
+{
+    if word == "jobs" {
+        return two_jobs(alloc);
     }
-}
-
-fn batch_text(alloc: Global, batch: Items<TaskMsg>) -> Result<String, Fail> {
-    let mut text = String::new(alloc);
-    for message in batch.into_vec() {
-        let TaskMsg { job, body } = message;
-        let one = format!(in alloc; "{job}: {};", result_text(body))?;
-        text.push_str(one.as_str())?;
-    }
-    Ok(text)
-}
-
-/// An event in words, or that a call failed.
-pub fn event_text(alloc: Global, event: Result<HostEvent, HostError>) -> Result<String, Fail> {
-    match event {
-        Ok(HostEvent::Bytes(bytes)) => match String::from_utf8(bytes.into_vec()) {
-            Ok(text) => Ok(text),
-            Err(_) => Err(Fail::from("no UTF-8")),
-        },
-        Ok(HostEvent::Ended) => Ok(String::from_str(alloc, "ended")?),
-        Ok(HostEvent::Tasks(batch)) => batch_text(alloc, batch),
-        Ok(HostEvent::Vfs(messages)) => loader_text(alloc, messages),
-        Err(_) => Ok(String::from_str(alloc, "failed")?),
-    }
-}
-
-/// A host that may be called again after it failed and after the end. The call claims nothing here.
-pub trait Tireless {
-    fn give(&mut self) -> Result<HostEvent, HostError>;
-}
-
-impl Tireless for ScriptHost<'_, NullAnalysis> {
-    fn give(&mut self) -> Result<HostEvent, HostError> {
-        self.next()
-    }
-}
-
-impl Tireless for HostileHost {
-    fn give(&mut self) -> Result<HostEvent, HostError> {
-        Host::<NullAnalysis>::next(self)
-    }
-}
-
-/// So many events of a host, in words.
-pub fn told<H: Tireless>(alloc: Global, host: &mut H, count: u32) -> Result<String, Fail> {
-    let mut all = String::new(alloc);
-    for _ in 0..count {
-        all.push_str(event_text(alloc, host.give())?.as_str())?;
-        all.push('|')?;
-    }
-    Ok(all)
-}
-
-/// The calls of a host, in words: that it gave an event, or how many commands it took.
-pub fn calls_text(alloc: Global, calls: &[RecordedCall]) -> Result<String, AllocError> {
-    let mut text = String::new(alloc);
-    for call in calls {
-        match call.commands() {
-            Some(commands) => text.push_str(format!(in alloc; "{}|", commands.len())?.as_str())?,
-            None => text.push_str("event|")?,
-        }
-    }
-    Ok(text)
+    Some(Items::new(alloc))
 }

@@ -1,115 +1,156 @@
 // The host that runs everything on one thread.
-ghost use Rattle.std.specs.Prelude.{◌≡◌, false, IfOk};
+ghost use Rattle.std.specs.Prelude.{◌≡◌, false, IfOk, IfSome};
+ghost use Rattle.session_port.specs.Record.{AreRising, spawned};
 
-use crate::fixtures::{event_text, two_jobs};
+use crate::fixtures::commands_of;
 use crate::memory::{Small, source};
+use crate::words::{add, add_event, add_number, cut};
+use plain::Items;
 use session_peers::{InlineHost, NullAnalysis};
-use session_port::Host;
+use session_port::{Command, Host, HostError, HostEvent};
 use std::alloc::Global;
-use std::test::Fail;
 
-/// A host on these bytes, which has the jobs 7 and 9 if `busy` says so.
-fn host<'a>(
-    alloc: Global,
-    text: &str,
-    fails: &[u64],
-    analysis: &'a NullAnalysis,
-    busy: bool,
-) -> Result<InlineHost<'a, Small, NullAnalysis>, Fail>
-    ensures { IfOk result (λ host. host.spent ≡ false) }
+/// The next event. The call claims only that one more may be made after it.
+fn next_of(host: &mut InlineHost<'_, Small, NullAnalysis>) -> Result<HostEvent, HostError>
+    requires { host.old.spent ≡ false }
+    ensures { IfOk result (λ _. host.new.spent ≡ false) }
 {
-    let source: Small = source(alloc, text, fails)?;
-    let mut host = InlineHost::new(alloc, source, analysis, busy)?;
-    if busy {
-        host.order(two_jobs(alloc)?)?;
+    host.next()
+}
+
+/// Adds the next event. Where the call fails, that is added, and the answer is none.
+fn add_next(
+    alloc: Global,
+    text: &mut String,
+    host: &mut InlineHost<'_, Small, NullAnalysis>,
+) -> Option<()>
+    requires { host.old.spent ≡ false }
+    ensures { IfSome result (λ _. host.new.spent ≡ false) }
+{
+    match next_of(host) {
+        Ok(event) => {
+            add_event(alloc, text, Ok(event))?;
+            Some(())
+        }
+        Err(_) => {
+            add(text, "failed|")?;
+            None
+        }
     }
-    Ok(host)
 }
 
 /// So many events of a host in words, or fewer where a call fails, after which none may be made.
-fn told(
-    alloc: Global,
-    host: &mut InlineHost<'_, Small, NullAnalysis>,
-    count: u32,
-) -> Result<String, Fail>
+fn told(alloc: Global, host: &mut InlineHost<'_, Small, NullAnalysis>, count: u32) -> String
     requires { host.old.spent ≡ false }
 {
-    let mut all = String::new(alloc);
+    let mut text = String::new(alloc);
     'events: for _ in 0..count {
-        let event = host.next();
-        let failed = event.is_err();
-        all.push_str(event_text(alloc, event)?.as_str())?;
-        all.push('|')?;
-        if failed {
-            break;
+        match add_next(alloc, &mut text, host) {
+            Some(()) => {}
+            None => break,
         }
     }
-    Ok(all)
+    text
 }
 
-/// So many events of a host on these bytes, and how many calls it recorded.
-fn events(
+/// Hands commands over, if there are some.
+fn begin(host: &mut InlineHost<'_, Small, NullAnalysis>, commands: Items<Command>) -> Option<()>
+    requires fresh { host.old.spent ≡ false }
+    requires rising { AreRising host.old.handed (spawned commands) }
+    ensures { IfSome result (λ _. host.new.spent ≡ false) }
+{
+    if commands.is_empty() {
+        return Some(());
+    }
+    match host.order(commands) {
+        Ok(()) => Some(()),
+        Err(_) => None,
+    }
+}
+
+/// How many calls are recorded, if a record is kept.
+fn recorded(host: &InlineHost<'_, Small, NullAnalysis>) -> Option<usize> {
+    match host.calls() {
+        Some(calls) => Some(calls.len()),
+        None => None,
+    }
+}
+
+fn add_recorded(alloc: Global, text: &mut String, recorded: Option<usize>) -> Option<()> {
+    add(text, " > ")?;
+    match recorded {
+        Some(count) => add_number(alloc, text, count as u64),
+        None => add(text, "no record"),
+    }
+}
+
+/// What a host does behind its first commands: so many events, and how many calls it recorded.
+fn run(
     alloc: Global,
-    text: &str,
-    fails: &[u64],
-    busy: bool,
+    host: &mut InlineHost<'_, Small, NullAnalysis>,
+    commands: Items<Command>,
     count: u32,
-) -> Result<(String, Option<usize>), Fail> {
-    let mut host = host(alloc, text, fails, &NullAnalysis, busy)?;
-    let told = told(alloc, &mut host, count)?;
-    Ok((told, host.calls().map(|calls| calls.len())))
+) -> Option<String>
+    requires fresh { host.old.spent ≡ false }
+    requires rising { AreRising host.old.handed (spawned commands) }
+{
+    begin(host, commands)?;
+    let mut text = told(alloc, host, count);
+    add_recorded(alloc, &mut text, recorded(host))?;
+    Some(text)
+}
+
+/// The one function that owns a host.
+fn run_in(
+    alloc: Global,
+    mut host: InlineHost<'_, Small, NullAnalysis>,
+    commands: Items<Command>,
+    count: u32,
+) -> Option<String>
+    requires fresh { host.spent ≡ false }
+    requires rising { AreRising host.handed (spawned commands) }
+{
+    run(alloc, &mut host, commands, count)
+}
+
+/// What a host on this source does. It keeps a record where it has commands.
+fn run_on(alloc: Global, source: Small, commands: Items<Command>, count: u32) -> Option<String>
+    requires { AreRising 0 (spawned commands) }
+{
+    let keep = !commands.is_empty();
+    match InlineHost::new(alloc, source, &NullAnalysis, keep) {
+        Ok(host) => run_in(alloc, host, commands, count),
+        Err(_) => None,
+    }
+}
+
+/// The bytes of a stream; the number of the read that fails, or 0; whether the host has the jobs 7 and 9; how many
+/// events are asked for. Then the events, each before a `|`, and how many calls were recorded. A `~` stands between two
+/// cases.
+///
+/// Two frames, of 48 bytes that come in three pieces; a bad header; half a frame. In the last two, results come before
+/// bytes, and before any read, of which the first fails in the very last.
+const STREAMS: &str = "Content-Length: 2\r\n\r\n{}Content-Length: 4\r\n\r\nnull > 0 > idle > 3 > \
+    Content-Length: 2\r\n\r\n{}|Content-Length: 4\r\n\r\nnull|ended| > no record~\
+    Content-Length: x\r\n\r\n{} > 0 > idle > 2 > Content-Length: x\r\n\r\n{}|ended| > no record~\
+    Content-Length: 20\r\n\r\n{} > 0 > idle > 2 > Content-Length: 20\r\n\r\n{}|ended| > no record~\
+    Content-Length: 2\r\n\r\n{} > 0 > jobs > 3 > 7: null;9: null;|Content-Length: 2\r\n\r\n{}|ended| > 4~\
+    Content-Length: 2\r\n\r\n{} > 1 > jobs > 3 > 7: null;9: null;|failed| > 2";
+
+fn agrees(alloc: Global, line: &str) -> Option<bool> {
+    let (text, rest) = cut(line, " > ");
+    let (fails, rest) = cut(rest, " > ");
+    let (orders, rest) = cut(rest, " > ");
+    let (count, wanted) = cut(rest, " > ");
+    let count = count.parse::<u32>().ok()?;
+    let source = source(alloc, text, fails)?;
+    let commands = commands_of(alloc, orders)?;
+    Some(run_on(alloc, source, commands, count)?.as_str() == wanted)
 }
 
 #[test]
-fn events_of_a_stream(rt: HostRuntime) -> Result<(), Fail> {
-    for (text, fails, busy, count, want, calls) in [
-        // Two frames, of 48 bytes that come in three pieces.
-        (
-            "Content-Length: 2\r\n\r\n{}Content-Length: 4\r\n\r\nnull",
-            0,
-            false,
-            3,
-            "Content-Length: 2\r\n\r\n{}|Content-Length: 4\r\n\r\nnull|ended|",
-            None,
-        ),
-        // A bad header, and half a frame.
-        (
-            "Content-Length: x\r\n\r\n{}",
-            0,
-            false,
-            2,
-            "Content-Length: x\r\n\r\n{}|ended|",
-            None,
-        ),
-        (
-            "Content-Length: 20\r\n\r\n{}",
-            0,
-            false,
-            2,
-            "Content-Length: 20\r\n\r\n{}|ended|",
-            None,
-        ),
-        // Results come before bytes, and before any read, of which the first fails here.
-        (
-            "Content-Length: 2\r\n\r\n{}",
-            0,
-            true,
-            3,
-            "7: null;9: null;|Content-Length: 2\r\n\r\n{}|ended|",
-            Some(4),
-        ),
-        (
-            "Content-Length: 2\r\n\r\n{}",
-            1,
-            true,
-            3,
-            "7: null;9: null;|failed|",
-            Some(2),
-        ),
-    ] {
-        let (told, recorded) = events(rt.alloc(), text, &[fails], busy, count)?;
-        assert_eq!(rt; told.as_str(), want, "on {text}");
-        assert!(rt; recorded == calls, "on {text}");
+fn events_of_a_stream(rt: HostRuntime) {
+    for line in STREAMS.split('~') {
+        assert!(rt; agrees(rt.alloc(), line) == Some(true), "at {line}");
     }
-    Ok(())
 }

@@ -1,5 +1,6 @@
-//! Tests of `session_port` and `session_peers`. Calls with large contracts go through wrappers that claim nothing, so that
-//! a test stays quick to prove.
+//! Tests of `session_port` and `session_peers`. Lines of words tell the cases, and what comes of them. Calls with large
+//! contracts go through wrappers that claim nothing, or one fact, and one function alone owns a host, so that a test
+//! stays quick to prove.
 #![tactic(auto)]
 
 #[cfg(test)]
@@ -14,3 +15,5 @@ mod loader;
 mod memory;
 #[cfg(test)]
 mod scripts;
+#[cfg(test)]
+mod words;

@@ -1,12 +1,11 @@
 // Peers in memory that fail at listed calls.
 ghost use Rattle.std.specs.Prelude.{◌≡◌, false};
 
-use crate::fixtures::numbers;
+use crate::words::{cut, numbers};
 use plain::{Bytes, Items};
 use session_peers::{MemorySink, MemorySource};
 use session_port::{HostError, Sink, Source};
-use std::alloc::{AllocError, Global};
-use std::test::Fail;
+use std::alloc::Global;
 
 /// Gives at most 16 bytes at once.
 #[derive(Drop)]
@@ -29,49 +28,104 @@ impl Source for Small {
 }
 
 /// A source of these bytes, which fails at the reads with these numbers.
-pub fn source(alloc: Global, text: &str, fails: &[u64]) -> Result<Small, AllocError> {
-    let bytes = Bytes::from_slice(alloc, text.as_bytes())?;
-    Ok(Small {
-        source: MemorySource::new(alloc, bytes, numbers(alloc, fails)?),
+pub fn source(alloc: Global, text: &str, fails: &str) -> Option<Small> {
+    let bytes = Bytes::from_slice(alloc, text.as_bytes()).ok()?;
+    let fails = numbers(alloc, fails)?;
+    Some(Small {
+        source: MemorySource::new(alloc, bytes, fails),
     })
+}
+
+fn sink_of(alloc: Global, fails: &str) -> Option<MemorySink> {
+    Some(MemorySink::new(alloc, numbers(alloc, fails)?))
 }
 
 // These calls claim nothing here.
 
-/// Whether a turn was written.
-fn put(sink: &mut MemorySink, bytes: &[u8]) -> bool {
-    sink.put_turn(bytes).is_ok()
+/// Whether a turn was written, in a word.
+fn put(sink: &mut MemorySink, bytes: &[u8]) -> &'static str {
+    if sink.put_turn(bytes).is_ok() {
+        "written"
+    } else {
+        "failed"
+    }
 }
 
-/// How long the next piece of two bytes at most is, and how much is left.
-fn read(small: &mut Small) -> (Option<usize>, usize) {
-    let piece = match small.read_piece(2) {
+/// How long the next piece of two bytes at most is, or none where the read fails.
+fn read(small: &mut Small) -> Option<usize> {
+    match small.read_piece(2) {
         Ok(Some(piece)) => Some(piece.len()),
         Ok(None) => Some(0),
         Err(_) => None,
-    };
-    (piece, small.source.left().len())
+    }
+}
+
+fn left_in(small: &Small) -> usize {
+    small.source.left().len()
+}
+
+/// Turns, and what comes of each where the second call fails.
+const TURNS: &str = "ab > written
+cd > failed
+ef > written";
+
+fn put_agree(sink: &mut MemorySink) -> bool {
+    for line in TURNS.lines() {
+        let (turn, wanted) = cut(line, " > ");
+        if put(sink, turn.as_bytes()) != wanted {
+            return false;
+        }
+    }
+    true
+}
+
+/// Whether two turns are kept, of which the second is `ef`.
+fn are_kept(turns: &[Bytes]) -> bool {
+    turns.len() == 2 && turns[1].as_slice() == b"ef".as_slice()
+}
+
+/// The one function that owns this sink.
+fn fails_as_listed(mut sink: MemorySink) -> bool {
+    put_agree(&mut sink) && are_kept(sink.turns())
+}
+
+fn sink_agrees(alloc: Global) -> Option<bool> {
+    Some(fails_as_listed(sink_of(alloc, "2")?))
 }
 
 #[test]
-fn a_sink_fails_at_listed_calls(rt: HostRuntime) -> Result<(), Fail> {
-    let alloc = rt.alloc();
-    let mut sink = MemorySink::new(alloc, Items::from_vec(vec![in alloc; 2]?));
-    for (bytes, written) in [("ab", true), ("cd", false), ("ef", true)] {
-        assert!(rt; put(&mut sink, bytes.as_bytes()) == written, "{bytes}");
+fn a_sink_fails_at_listed_calls(rt: HostRuntime) {
+    assert!(rt; sink_agrees(rt.alloc()) == Some(true));
+}
+
+/// How long each piece of `abc` is where the first read fails, and how much is left then.
+const PIECES: &str = "none > 3
+2 > 1
+1 > 0
+0 > 0";
+
+fn reads_as(small: &mut Small, line: &str) -> bool {
+    let (piece, rest) = cut(line, " > ");
+    read(small) == piece.parse::<usize>().ok() && rest.parse::<usize>().ok() == Some(left_in(small))
+}
+
+/// The one function that owns this source.
+fn reads_agree(mut small: Small) -> bool {
+    for line in PIECES.lines() {
+        if !reads_as(&mut small, line) {
+            return false;
+        }
     }
-    assert_eq!(rt; sink.turns().len(), 2);
-    assert!(rt; sink.turns()[1].as_slice() == b"ef".as_slice());
-    Ok(())
+    true
+}
+
+fn source_agrees(alloc: Global) -> Option<bool> {
+    Some(reads_agree(source(alloc, "abc", "1")?))
 }
 
 #[test]
-fn a_source_fails_at_listed_calls(rt: HostRuntime) -> Result<(), Fail> {
-    let mut small = source(rt.alloc(), "abc", &[1])?;
-    for (piece, left) in [(None, 3), (Some(2), 1), (Some(1), 0), (Some(0), 0)] {
-        assert!(rt; read(&mut small) == (piece, left), "{left} left");
-    }
-    Ok(())
+fn a_source_fails_at_listed_calls(rt: HostRuntime) {
+    assert!(rt; source_agrees(rt.alloc()) == Some(true));
 }
 
 /// Whether a sink that is handed over takes a turn.
@@ -88,14 +142,20 @@ fn gives<S: Source>(mut source: S) -> bool
     matches!(source.read_piece(2), Ok(Some(_)))
 }
 
+fn lent_sink_takes(mut sink: MemorySink) -> bool {
+    put_to(&mut sink, b"ab") && sink.turns().len() == 1
+}
+
+fn lent_source_gives(mut small: Small) -> bool {
+    gives(&mut small) && left_in(&small) == 1
+}
+
+fn lent_peers_agree(alloc: Global) -> Option<bool> {
+    let small = source(alloc, "abc", "-")?;
+    Some(lent_source_gives(small) && lent_sink_takes(MemorySink::new(alloc, Items::new(alloc))))
+}
+
 #[test]
-fn lent_peers_are_peers(rt: HostRuntime) -> Result<(), Fail> {
-    let alloc = rt.alloc();
-    let mut sink = MemorySink::new(alloc, Items::new(alloc));
-    assert!(rt; put_to(&mut sink, b"ab"));
-    assert_eq!(rt; sink.turns().len(), 1);
-    let mut small = source(alloc, "abc", &[])?;
-    assert!(rt; gives(&mut small));
-    assert_eq!(rt; small.source.left().len(), 1);
-    Ok(())
+fn lent_peers_are_peers(rt: HostRuntime) {
+    assert!(rt; lent_peers_agree(rt.alloc()) == Some(true));
 }

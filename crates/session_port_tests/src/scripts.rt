@@ -1,123 +1,231 @@
-// Hosts that follow a script, and hosts that give whatever they were told to give.
+// Hosts that follow a script, and hosts that give whatever they were told to give. Each call answers none also where
+// memory runs out.
 ghost use Rattle.std.specs.Prelude.{◌≡◌, false};
+ghost use Rattle.session_port.specs.Record.{AreRising, spawned};
 
-use crate::fixtures::{calls_text, event_text, numbers, told, two_jobs};
+use crate::fixtures::commands_of;
+use crate::words::{add, add_event, add_run, cut, numbers};
 use plain::{Bytes, Items, Json};
 use session_peers::{HostileHost, NullAnalysis, ScriptHost, ScriptStep};
-use session_port::{Host, HostError, HostEvent, JobResult, JobValue, TaskBody, TaskMsg};
-use std::alloc::{AllocError, Global};
-use std::test::Fail;
+use session_port::{Command, Host, HostError, HostEvent, JobResult, JobValue, TaskBody, TaskMsg};
+use std::alloc::Global;
 
 /// A message that a job has this result.
-fn one_message(alloc: Global, job: u64, end: JobResult) -> Result<HostEvent, Fail> {
+fn one_message(alloc: Global, job: u64, end: JobResult) -> Option<HostEvent> {
     let mut batch = Items::new(alloc);
-    batch.push(TaskMsg {
-        job,
-        body: TaskBody::Final(end),
-    })?;
-    Ok(HostEvent::Tasks(batch))
+    batch
+        .push(TaskMsg {
+            job,
+            body: TaskBody::Final(end),
+        })
+        .ok()?;
+    Some(HostEvent::Tasks(batch))
 }
 
-fn bytes(alloc: Global, text: &str) -> Result<HostEvent, AllocError> {
-    Ok(HostEvent::Bytes(Bytes::from_slice(alloc, text.as_bytes())?))
+fn bytes(alloc: Global, text: &str) -> Option<HostEvent> {
+    let bytes = Bytes::from_slice(alloc, text.as_bytes()).ok()?;
+    Some(HostEvent::Bytes(bytes))
 }
 
-/// So many events of a host with these steps, which has the jobs 7 and 9, and its calls.
-fn script_told(
+fn stop(words: &str) -> Option<ScriptStep> {
+    let (job, saw) = cut(words, " ");
+    Some(ScriptStep::Cancel(job.parse::<u64>().ok()?, saw.parse::<u64>().ok()?))
+}
+
+fn full(alloc: Global, job: &str) -> Option<HostEvent> {
+    one_message(alloc, job.parse::<u64>().ok()?, JobResult::NoMemory)
+}
+
+/// `finish` with the numbers of jobs, `stop` with a job and the revision that it saw; `bytes`, `end` and `full` are
+/// given, the last as the message that a job has no memory.
+fn step(alloc: Global, words: &str) -> Option<ScriptStep> {
+    let (word, rest) = cut(words, " ");
+    match word {
+        "finish" => Some(ScriptStep::Finish(numbers(alloc, rest)?)),
+        "stop" => stop(rest),
+        "bytes" => Some(ScriptStep::Give(bytes(alloc, rest)?)),
+        "end" => Some(ScriptStep::Give(HostEvent::Ended)),
+        "full" => Some(ScriptStep::Give(full(alloc, rest)?)),
+        _ => None,
+    }
+}
+
+fn push_step(alloc: Global, steps: &mut Items<ScriptStep>, words: &str) -> Option<()> {
+    steps.push(step(alloc, words)?).ok()
+}
+
+fn steps(alloc: Global, words: &str) -> Option<Items<ScriptStep>> {
+    let mut steps = Items::new(alloc);
+    for one in words.split(", ") {
+        push_step(alloc, &mut steps, one)?;
+    }
+    Some(steps)
+}
+
+/// What an order comes to.
+fn order_name(outcome: Result<(), HostError>) -> &'static str {
+    match outcome {
+        Ok(()) => "taken",
+        Err(HostError::Failed) => "failed",
+        Err(HostError::NoMemory) => "no memory",
+    }
+}
+
+fn order(host: &mut ScriptHost<'_, NullAnalysis>, commands: Items<Command>) -> &'static str
+    requires { AreRising host.old.handed (spawned commands) }
+{
+    order_name(host.order(commands))
+}
+
+/// What a first order comes to, so many events then, and the calls.
+fn run(
+    alloc: Global,
+    host: &mut ScriptHost<'_, NullAnalysis>,
+    commands: Items<Command>,
+    count: u32,
+) -> Option<String>
+    requires { AreRising host.old.handed (spawned commands) }
+{
+    let mut text = String::new(alloc);
+    add(&mut text, order(host, commands))?;
+    add(&mut text, " > ")?;
+    add_run(alloc, &mut text, host, count)?;
+    Some(text)
+}
+
+/// The one function that owns a host with a script and commands.
+fn run_in(
+    alloc: Global,
+    mut host: ScriptHost<'_, NullAnalysis>,
+    commands: Items<Command>,
+    count: u32,
+) -> Option<String>
+    requires { AreRising host.handed (spawned commands) }
+{
+    run(alloc, &mut host, commands, count)
+}
+
+fn run_script(
     alloc: Global,
     steps: Items<ScriptStep>,
-    fails: &[u64],
+    fails: Items<u64>,
+    commands: Items<Command>,
     count: u32,
-) -> Result<(String, String), Fail> {
-    let mut host = ScriptHost::new(alloc, &NullAnalysis, steps, numbers(alloc, fails)?)?;
-    host.order(two_jobs(alloc)?)?;
-    let told = told(alloc, &mut host, count)?;
-    Ok((told, calls_text(alloc, host.calls())?))
-}
-
-/// Steps that finish jobs, with numbers that name none.
-fn finishing(alloc: Global) -> Result<Items<ScriptStep>, Fail> {
-    let mut steps = Items::new(alloc);
-    steps.push(ScriptStep::Give(bytes(alloc, "ab")?))?;
-    steps.push(ScriptStep::Finish(numbers(alloc, &[9, 8, 9])?))?;
-    steps.push(ScriptStep::Finish(numbers(alloc, &[9])?))?;
-    steps.push(ScriptStep::Give(HostEvent::Ended))?;
-    steps.push(ScriptStep::Finish(numbers(alloc, &[9, 7])?))?;
-    Ok(steps)
-}
-
-/// Steps that stop job 7, of which most give nothing.
-fn stopping(alloc: Global) -> Result<Items<ScriptStep>, Fail> {
-    let mut steps = Items::new(alloc);
-    steps.push(ScriptStep::Give(one_message(alloc, 7, JobResult::NoMemory)?))?;
-    for (job, saw) in [(7, 0), (8, 5), (7, 1), (7, 2)] {
-        steps.push(ScriptStep::Cancel(job, saw))?;
+) -> Option<String>
+    requires { AreRising 0 (spawned commands) }
+{
+    match ScriptHost::new(alloc, &NullAnalysis, steps, fails) {
+        Ok(host) => run_in(alloc, host, commands, count),
+        Err(_) => None,
     }
-    steps.push(ScriptStep::Finish(numbers(alloc, &[7, 9])?))?;
-    Ok(steps)
 }
+
+fn agrees(alloc: Global, line: &str) -> Option<bool> {
+    let (orders, rest) = cut(line, " > ");
+    let (fails, rest) = cut(rest, " > ");
+    let (script, rest) = cut(rest, " > ");
+    let (count, wanted) = cut(rest, " > ");
+    let count = count.parse::<u32>().ok()?;
+    let fails = numbers(alloc, fails)?;
+    let steps = steps(alloc, script)?;
+    let commands = commands_of(alloc, orders)?;
+    Some(run_script(alloc, steps, fails, commands, count)?.as_str() == wanted)
+}
+
+// Each script: whether the jobs 7 and 9 are ordered first, or nothing; the numbers of the calls that fail; the steps; how
+// many events are asked for. Then what comes of the order, the events, each before a `|`, and the calls that were
+// recorded: how many commands were taken, or an event.
+
+/// Jobs are finished, by numbers of which some name none. The order is the first call, and so the second event is the
+/// third.
+const FINISHING: &str =
+    "jobs > 3 4 > bytes ab, finish 9 8 9, finish 9, end, finish 9 7 > 8 > taken > ab|failed|failed|9: null;||ended|7: null;|ended| > 2|event|event|event|event|event|event|";
 
 #[test]
-fn a_script_finishes_jobs(rt: HostRuntime) -> Result<(), Fail> {
-    // The order is the first call, and so the second event is the third.
-    let alloc = rt.alloc();
-    let (told, calls) = script_told(alloc, finishing(alloc)?, &[3, 4], 8)?;
-    assert_eq!(rt;
-        told.as_str(),
-        "ab|failed|failed|9: null;||ended|7: null;|ended|"
-    );
-    assert_eq!(rt; calls.as_str(), "2|event|event|event|event|event|event|");
-    Ok(())
+fn a_script_finishes_jobs(rt: HostRuntime) {
+    assert!(rt; agrees(rt.alloc(), FINISHING) == Some(true));
 }
+
+/// Job 7 is stopped by steps of which most give nothing.
+const STOPPING: &str =
+    "jobs > - > full 7, stop 7 0, stop 8 5, stop 7 1, stop 7 2, finish 7 9 > 4 > taken > 7: cancelled;|9: null;|ended|ended| > 2|event|event|event|event|";
 
 #[test]
-fn a_script_stops_jobs(rt: HostRuntime) -> Result<(), Fail> {
-    let alloc = rt.alloc();
-    let (told, _) = script_told(alloc, stopping(alloc)?, &[], 4)?;
-    assert_eq!(rt; told.as_str(), "7: cancelled;|9: null;|ended|ended|");
-    Ok(())
+fn a_script_stops_jobs(rt: HostRuntime) {
+    assert!(rt; agrees(rt.alloc(), STOPPING) == Some(true));
 }
 
-/// Whether the first order of a host fails, and what it gives then.
-fn first_order(alloc: Global, fails: &[u64]) -> Result<(bool, String), Fail> {
-    let steps = finishing(alloc)?;
-    let mut host = ScriptHost::new(alloc, &NullAnalysis, steps, numbers(alloc, fails)?)?;
-    let failed = host.order(Items::new(alloc)) == Err(HostError::Failed);
-    Ok((failed, told(alloc, &mut host, 2)?))
-}
+/// The first order fails.
+const FAILING: &str =
+    "nothing > 1 1 > bytes ab, finish 9 8 9, finish 9, end, finish 9 7 > 2 > failed > ab|| > event|event|";
 
 #[test]
-fn a_script_fails_an_order(rt: HostRuntime) -> Result<(), Fail> {
-    let (failed, told) = first_order(rt.alloc(), &[1, 1])?;
-    assert!(rt; failed);
-    assert_eq!(rt; told.as_str(), "ab||");
-    Ok(())
+fn a_script_fails_an_order(rt: HostRuntime) {
+    assert!(rt; agrees(rt.alloc(), FAILING) == Some(true));
+}
+
+fn push_event(events: &mut Items<HostEvent>, event: HostEvent) -> Option<()> {
+    events.push(event).ok()
+}
+
+fn push_bytes(alloc: Global, events: &mut Items<HostEvent>, text: &str) -> Option<()> {
+    push_event(events, bytes(alloc, text)?)
+}
+
+fn push_end(alloc: Global, events: &mut Items<HostEvent>, job: u64, end: JobResult) -> Option<()> {
+    push_event(events, one_message(alloc, job, end)?)
+}
+
+fn null() -> JobResult {
+    JobResult::Value(JobValue::Json(Json::null()))
 }
 
 /// Events that no honest host gives.
-fn made_up(alloc: Global) -> Result<Items<HostEvent>, Fail> {
-    let null = JobResult::Value(JobValue::Json(Json::null()));
+fn made_up(alloc: Global) -> Option<Items<HostEvent>> {
     let mut events = Items::new(alloc);
-    events.push(one_message(alloc, 5, null)?)?;
-    events.push(bytes(alloc, "x")?)?;
-    events.push(one_message(alloc, 7, JobResult::Cancelled { saw: 0 })?)?;
-    Ok(events)
+    push_end(alloc, &mut events, 5, null())?;
+    push_bytes(alloc, &mut events, "x")?;
+    push_end(alloc, &mut events, 7, JobResult::Cancelled { saw: 0 })?;
+    Some(events)
 }
 
-/// So many events of a host with the jobs 7 and 9 that makes results up, and its calls.
-fn hostile_told(alloc: Global, count: u32) -> Result<(String, String), Fail> {
-    let mut host = HostileHost::new(alloc, made_up(alloc)?);
-    Host::<NullAnalysis>::order(&mut host, two_jobs(alloc)?)?;
-    let told = told(alloc, &mut host, count)?;
-    Ok((told, calls_text(alloc, host.calls())?))
+fn order_hostile(host: &mut HostileHost, commands: Items<Command>) -> &'static str
+    requires { AreRising host.old.handed (spawned commands) }
+{
+    order_name(Host::<NullAnalysis>::order(host, commands))
 }
+
+/// What a first order comes to, five events then, and the calls.
+fn run_hostile(alloc: Global, host: &mut HostileHost, commands: Items<Command>) -> Option<String>
+    requires { AreRising host.old.handed (spawned commands) }
+{
+    let mut text = String::new(alloc);
+    add(&mut text, order_hostile(host, commands))?;
+    add(&mut text, " > ")?;
+    add_run(alloc, &mut text, host, 5)?;
+    Some(text)
+}
+
+/// The one function that owns a host that makes results up.
+fn run_made_up(alloc: Global, events: Items<HostEvent>, commands: Items<Command>) -> Option<String>
+    requires { AreRising 0 (spawned commands) }
+{
+    let mut host = HostileHost::new(alloc, events);
+    run_hostile(alloc, &mut host, commands)
+}
+
+fn made_up_agrees(alloc: Global, wanted: &str) -> Option<bool> {
+    let events = made_up(alloc)?;
+    let commands = commands_of(alloc, "jobs")?;
+    Some(run_made_up(alloc, events, commands)?.as_str() == wanted)
+}
+
+const MADE_UP: &str =
+    "taken > 5: null;|x|7: cancelled;|ended|ended| > 2|event|event|event|event|event|";
 
 #[test]
-fn made_up_results(rt: HostRuntime) -> Result<(), Fail> {
-    let (told, calls) = hostile_told(rt.alloc(), 5)?;
-    assert_eq!(rt; told.as_str(), "5: null;|x|7: cancelled;|ended|ended|");
-    assert_eq!(rt; calls.as_str(), "2|event|event|event|event|event|");
-    Ok(())
+fn made_up_results(rt: HostRuntime) {
+    assert!(rt; made_up_agrees(rt.alloc(), MADE_UP) == Some(true));
 }
 
 /// The next event of a host that is handed over.
@@ -127,17 +235,24 @@ fn next_of<H: Host<NullAnalysis> + Drop>(mut host: H) -> Result<HostEvent, HostE
     host.next()
 }
 
+fn is_first(alloc: Global, event: Result<HostEvent, HostError>) -> Option<bool> {
+    let mut text = String::new(alloc);
+    add_event(alloc, &mut text, event)?;
+    Some(text.as_str() == "ab|")
+}
+
+/// Whether a host that is lent gives its first event, and records it.
+fn lent_gives(alloc: Global, mut host: ScriptHost<'_, NullAnalysis>) -> bool {
+    is_first(alloc, next_of(&mut host)) == Some(true) && host.calls().len() == 1
+}
+
+fn lent_host_agrees(alloc: Global) -> Option<bool> {
+    let steps = steps(alloc, "bytes ab, finish 9 8 9, finish 9, end, finish 9 7")?;
+    let host = ScriptHost::new(alloc, &NullAnalysis, steps, Items::new(alloc)).ok()?;
+    Some(lent_gives(alloc, host))
+}
+
 #[test]
-fn a_lent_host_is_one(rt: HostRuntime) -> Result<(), Fail> {
-    let alloc = rt.alloc();
-    let mut host = ScriptHost::new(
-        alloc,
-        &NullAnalysis,
-        finishing(alloc)?,
-        numbers(alloc, &[])?,
-    )?;
-    let event = next_of(&mut host);
-    assert_eq!(rt; event_text(alloc, event)?.as_str(), "ab");
-    assert_eq!(rt; host.calls().len(), 1);
-    Ok(())
+fn a_lent_host_is_one(rt: HostRuntime) {
+    assert!(rt; lent_host_agrees(rt.alloc()) == Some(true));
 }
