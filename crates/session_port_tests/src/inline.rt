@@ -29,11 +29,11 @@ fn add_next(
 {
     match next_of(host) {
         Ok(event) => {
-            add_event(alloc, text, Ok(event))?;
+            add_event(alloc, text, Ok(event));
             Some(())
         }
         Err(_) => {
-            add(text, "failed|")?;
+            add(text, "failed|");
             None
         }
     }
@@ -68,18 +68,11 @@ fn begin(host: &mut InlineHost<'_, Small, NullAnalysis>, commands: Items<Command
     }
 }
 
-/// How many calls are recorded, if a record is kept.
-fn recorded(host: &InlineHost<'_, Small, NullAnalysis>) -> Option<usize> {
+/// Adds how many calls are recorded, if a record is kept.
+fn add_recorded(alloc: Global, text: &mut String, host: &InlineHost<'_, Small, NullAnalysis>) {
+    add(text, " > ");
     match host.calls() {
-        Some(calls) => Some(calls.len()),
-        None => None,
-    }
-}
-
-fn add_recorded(alloc: Global, text: &mut String, recorded: Option<usize>) -> Option<()> {
-    add(text, " > ")?;
-    match recorded {
-        Some(count) => add_number(alloc, text, count as u64),
+        Some(calls) => add_number(alloc, text, calls.len() as u64),
         None => add(text, "no record"),
     }
 }
@@ -96,7 +89,7 @@ fn run(
 {
     begin(host, commands)?;
     let mut text = told(alloc, host, count);
-    add_recorded(alloc, &mut text, recorded(host))?;
+    add_recorded(alloc, &mut text, host);
     Some(text)
 }
 
@@ -118,10 +111,11 @@ fn run_on(alloc: Global, source: Small, commands: Items<Command>, count: u32) ->
     requires { AreRising 0 (spawned commands) }
 {
     let keep = !commands.is_empty();
-    match InlineHost::new(alloc, source, &NullAnalysis, keep) {
-        Ok(host) => run_in(alloc, host, commands, count),
-        Err(_) => None,
-    }
+    let analysis = NullAnalysis;
+    let Ok(host) = InlineHost::new(alloc, source, &analysis, keep) else {
+        return None;
+    };
+    run_in(alloc, host, commands, count)
 }
 
 /// The bytes of a stream; the number of the read that fails, or 0; whether the host has the jobs 7 and 9; how many

@@ -1,5 +1,5 @@
-// Hosts that follow a script, and hosts that give whatever they were told to give. Each call answers none also where
-// memory runs out.
+// Hosts that follow a script, and hosts that give whatever they were told to give. Where memory runs
+// out, a call answers none, or less comes than a test wants.
 ghost use Rattle.std.specs.Prelude.{◌≡◌, false};
 ghost use Rattle.session_port.specs.Record.{AreRising, spawned};
 
@@ -11,20 +11,21 @@ use session_port::{Command, Host, HostError, HostEvent, JobResult, JobValue, Tas
 use std::alloc::Global;
 
 /// A message that a job has this result.
-fn one_message(alloc: Global, job: u64, end: JobResult) -> Option<HostEvent> {
+fn one_message(alloc: Global, job: u64, end: JobResult) -> HostEvent {
     let mut batch = Items::new(alloc);
-    batch
-        .push(TaskMsg {
-            job,
-            body: TaskBody::Final(end),
-        })
-        .ok()?;
-    Some(HostEvent::Tasks(batch))
+    let _ = batch.push(TaskMsg {
+        job,
+        body: TaskBody::Final(end),
+    });
+    HostEvent::Tasks(batch)
 }
 
-fn bytes(alloc: Global, text: &str) -> Option<HostEvent> {
-    let bytes = Bytes::from_slice(alloc, text.as_bytes()).ok()?;
-    Some(HostEvent::Bytes(bytes))
+/// These bytes, or the end where memory runs out.
+fn bytes(alloc: Global, text: &str) -> HostEvent {
+    match Bytes::from_slice(alloc, text.as_bytes()) {
+        Ok(bytes) => HostEvent::Bytes(bytes),
+        Err(_) => HostEvent::Ended,
+    }
 }
 
 fn stop(words: &str) -> Option<ScriptStep> {
@@ -33,7 +34,7 @@ fn stop(words: &str) -> Option<ScriptStep> {
 }
 
 fn full(alloc: Global, job: &str) -> Option<HostEvent> {
-    one_message(alloc, job.parse::<u64>().ok()?, JobResult::NoMemory)
+    Some(one_message(alloc, job.parse::<u64>().ok()?, JobResult::NoMemory))
 }
 
 /// `finish` with the numbers of jobs, `stop` with a job and the revision that it saw; `bytes`, `end` and `full` are
@@ -43,7 +44,7 @@ fn step(alloc: Global, words: &str) -> Option<ScriptStep> {
     match word {
         "finish" => Some(ScriptStep::Finish(numbers(alloc, rest)?)),
         "stop" => stop(rest),
-        "bytes" => Some(ScriptStep::Give(bytes(alloc, rest)?)),
+        "bytes" => Some(ScriptStep::Give(bytes(alloc, rest))),
         "end" => Some(ScriptStep::Give(HostEvent::Ended)),
         "full" => Some(ScriptStep::Give(full(alloc, rest)?)),
         _ => None,
@@ -83,14 +84,14 @@ fn run(
     host: &mut ScriptHost<'_, NullAnalysis>,
     commands: Items<Command>,
     count: u32,
-) -> Option<String>
+) -> String
     requires { AreRising host.old.handed (spawned commands) }
 {
     let mut text = String::new(alloc);
-    add(&mut text, order(host, commands))?;
-    add(&mut text, " > ")?;
-    add_run(alloc, &mut text, host, count)?;
-    Some(text)
+    add(&mut text, order(host, commands));
+    add(&mut text, " > ");
+    add_run(alloc, &mut text, host, count);
+    text
 }
 
 /// The one function that owns a host with a script and commands.
@@ -99,7 +100,7 @@ fn run_in(
     mut host: ScriptHost<'_, NullAnalysis>,
     commands: Items<Command>,
     count: u32,
-) -> Option<String>
+) -> String
     requires { AreRising host.handed (spawned commands) }
 {
     run(alloc, &mut host, commands, count)
@@ -111,13 +112,14 @@ fn run_script(
     fails: Items<u64>,
     commands: Items<Command>,
     count: u32,
-) -> Option<String>
+) -> String
     requires { AreRising 0 (spawned commands) }
 {
-    match ScriptHost::new(alloc, &NullAnalysis, steps, fails) {
-        Ok(host) => run_in(alloc, host, commands, count),
-        Err(_) => None,
-    }
+    let analysis = NullAnalysis;
+    let Ok(host) = ScriptHost::new(alloc, &analysis, steps, fails) else {
+        return String::new(alloc);
+    };
+    run_in(alloc, host, commands, count)
 }
 
 fn agrees(alloc: Global, line: &str) -> Option<bool> {
@@ -129,7 +131,7 @@ fn agrees(alloc: Global, line: &str) -> Option<bool> {
     let fails = numbers(alloc, fails)?;
     let steps = steps(alloc, script)?;
     let commands = commands_of(alloc, orders)?;
-    Some(run_script(alloc, steps, fails, commands, count)?.as_str() == wanted)
+    Some(run_script(alloc, steps, fails, commands, count).as_str() == wanted)
 }
 
 // Each script: whether the jobs 7 and 9 are ordered first, or nothing; the numbers of the calls that fail; the steps; how
@@ -164,16 +166,8 @@ fn a_script_fails_an_order(rt: HostRuntime) {
     assert!(rt; agrees(rt.alloc(), FAILING) == Some(true));
 }
 
-fn push_event(events: &mut Items<HostEvent>, event: HostEvent) -> Option<()> {
-    events.push(event).ok()
-}
-
-fn push_bytes(alloc: Global, events: &mut Items<HostEvent>, text: &str) -> Option<()> {
-    push_event(events, bytes(alloc, text)?)
-}
-
-fn push_end(alloc: Global, events: &mut Items<HostEvent>, job: u64, end: JobResult) -> Option<()> {
-    push_event(events, one_message(alloc, job, end)?)
+fn push(events: &mut Items<HostEvent>, event: HostEvent) {
+    let _ = events.push(event);
 }
 
 fn null() -> JobResult {
@@ -181,12 +175,15 @@ fn null() -> JobResult {
 }
 
 /// Events that no honest host gives.
-fn made_up(alloc: Global) -> Option<Items<HostEvent>> {
+fn made_up(alloc: Global) -> Items<HostEvent> {
     let mut events = Items::new(alloc);
-    push_end(alloc, &mut events, 5, null())?;
-    push_bytes(alloc, &mut events, "x")?;
-    push_end(alloc, &mut events, 7, JobResult::Cancelled { saw: 0 })?;
-    Some(events)
+    push(&mut events, one_message(alloc, 5, null()));
+    push(&mut events, bytes(alloc, "x"));
+    push(
+        &mut events,
+        one_message(alloc, 7, JobResult::Cancelled { saw: 0 }),
+    );
+    events
 }
 
 fn order_hostile(host: &mut HostileHost, commands: Items<Command>) -> &'static str
@@ -196,18 +193,18 @@ fn order_hostile(host: &mut HostileHost, commands: Items<Command>) -> &'static s
 }
 
 /// What a first order comes to, five events then, and the calls.
-fn run_hostile(alloc: Global, host: &mut HostileHost, commands: Items<Command>) -> Option<String>
+fn run_hostile(alloc: Global, host: &mut HostileHost, commands: Items<Command>) -> String
     requires { AreRising host.old.handed (spawned commands) }
 {
     let mut text = String::new(alloc);
-    add(&mut text, order_hostile(host, commands))?;
-    add(&mut text, " > ")?;
-    add_run(alloc, &mut text, host, 5)?;
-    Some(text)
+    add(&mut text, order_hostile(host, commands));
+    add(&mut text, " > ");
+    add_run(alloc, &mut text, host, 5);
+    text
 }
 
 /// The one function that owns a host that makes results up.
-fn run_made_up(alloc: Global, events: Items<HostEvent>, commands: Items<Command>) -> Option<String>
+fn run_made_up(alloc: Global, events: Items<HostEvent>, commands: Items<Command>) -> String
     requires { AreRising 0 (spawned commands) }
 {
     let mut host = HostileHost::new(alloc, events);
@@ -215,9 +212,8 @@ fn run_made_up(alloc: Global, events: Items<HostEvent>, commands: Items<Command>
 }
 
 fn made_up_agrees(alloc: Global, wanted: &str) -> Option<bool> {
-    let events = made_up(alloc)?;
     let commands = commands_of(alloc, "jobs")?;
-    Some(run_made_up(alloc, events, commands)?.as_str() == wanted)
+    Some(run_made_up(alloc, made_up(alloc), commands).as_str() == wanted)
 }
 
 const MADE_UP: &str =
@@ -235,15 +231,15 @@ fn next_of<H: Host<NullAnalysis> + Drop>(mut host: H) -> Result<HostEvent, HostE
     host.next()
 }
 
-fn is_first(alloc: Global, event: Result<HostEvent, HostError>) -> Option<bool> {
+fn is_first(alloc: Global, event: Result<HostEvent, HostError>) -> bool {
     let mut text = String::new(alloc);
-    add_event(alloc, &mut text, event)?;
-    Some(text.as_str() == "ab|")
+    add_event(alloc, &mut text, event);
+    text.as_str() == "ab|"
 }
 
 /// Whether a host that is lent gives its first event, and records it.
 fn lent_gives(alloc: Global, mut host: ScriptHost<'_, NullAnalysis>) -> bool {
-    is_first(alloc, next_of(&mut host)) == Some(true) && host.calls().len() == 1
+    is_first(alloc, next_of(&mut host)) && host.calls().len() == 1
 }
 
 fn lent_host_agrees(alloc: Global) -> Option<bool> {

@@ -1,4 +1,4 @@
-// Events and calls in words. Each call answers none also where memory runs out.
+// Events and calls in words. Where memory runs out, less is told than a test wants.
 use crate::loader::add_loader;
 use plain::Items;
 use session_peers::{HostileHost, NullAnalysis, RecordedCall, ScriptHost};
@@ -30,17 +30,21 @@ pub fn numbers(alloc: Global, words: &str) -> Option<Items<u64>> {
 }
 
 /// Adds words to a text.
-pub fn add(text: &mut String, more: &str) -> Option<()> {
-    text.push_str(more).ok()
+pub fn add(text: &mut String, more: &str) {
+    let _ = text.push_str(more);
 }
 
-pub fn add_number(alloc: Global, text: &mut String, number: u64) -> Option<()> {
-    let digits = format!(in alloc; "{number}").ok()?;
-    add(text, digits.as_str())
+pub fn add_number(alloc: Global, text: &mut String, number: u64) {
+    if let Ok(digits) = format!(in alloc; "{number}") {
+        add(text, digits.as_str());
+    }
 }
 
-pub fn add_bytes(text: &mut String, bytes: &[u8]) -> Option<()> {
-    add(text, str::from_utf8(bytes).ok()?)
+pub fn add_bytes(text: &mut String, bytes: &[u8]) {
+    match str::from_utf8(bytes) {
+        Ok(read) => add(text, read),
+        Err(_) => add(text, "no UTF-8"),
+    }
 }
 
 /// A result in words.
@@ -55,28 +59,22 @@ pub fn result_text(outcome: &JobResult) -> &'static str {
     }
 }
 
-fn body_text(body: &TaskBody) -> &'static str {
-    match body {
-        TaskBody::Final(outcome) => result_text(outcome),
-    }
+fn add_message(alloc: Global, text: &mut String, message: &TaskMsg) {
+    let TaskBody::Final(outcome) = &message.body;
+    add_number(alloc, text, message.job);
+    add(text, ": ");
+    add(text, result_text(outcome));
+    add(text, ";");
 }
 
-fn add_message(alloc: Global, text: &mut String, message: &TaskMsg) -> Option<()> {
-    add_number(alloc, text, message.job)?;
-    add(text, ": ")?;
-    add(text, body_text(&message.body))?;
-    add(text, ";")
-}
-
-fn add_batch(alloc: Global, text: &mut String, batch: &[TaskMsg]) -> Option<()> {
+fn add_batch(alloc: Global, text: &mut String, batch: &[TaskMsg]) {
     for message in batch {
-        add_message(alloc, text, message)?;
+        add_message(alloc, text, message);
     }
-    Some(())
 }
 
 /// Adds an event.
-pub fn add_given(alloc: Global, text: &mut String, event: &HostEvent) -> Option<()> {
+pub fn add_given(alloc: Global, text: &mut String, event: &HostEvent) {
     match event {
         HostEvent::Bytes(bytes) => add_bytes(text, bytes.as_slice()),
         HostEvent::Ended => add(text, "ended"),
@@ -85,90 +83,64 @@ pub fn add_given(alloc: Global, text: &mut String, event: &HostEvent) -> Option<
     }
 }
 
-fn add_outcome(
-    alloc: Global,
-    text: &mut String,
-    event: &Result<HostEvent, HostError>,
-) -> Option<()> {
-    match event {
-        Ok(event) => add_given(alloc, text, event)?,
-        Err(_) => add(text, "failed")?,
-    }
-    add(text, "|")
-}
-
 /// Adds what a call gave, or that it failed. The one function that owns an event.
-pub fn add_event(
-    alloc: Global,
-    text: &mut String,
-    event: Result<HostEvent, HostError>,
-) -> Option<()> {
-    add_outcome(alloc, text, &event)
+pub fn add_event(alloc: Global, text: &mut String, event: Result<HostEvent, HostError>) {
+    match &event {
+        Ok(event) => add_given(alloc, text, event),
+        Err(_) => add(text, "failed"),
+    }
+    add(text, "|");
 }
 
-/// How many commands a call took, if it took some.
-fn taken(call: &RecordedCall) -> Option<usize> {
+fn add_call(alloc: Global, text: &mut String, call: &RecordedCall) {
     match call.commands() {
-        Some(commands) => Some(commands.len()),
-        None => None,
+        Some(commands) => add_number(alloc, text, commands.len() as u64),
+        None => add(text, "event"),
     }
-}
-
-fn add_call(alloc: Global, text: &mut String, call: &RecordedCall) -> Option<()> {
-    match taken(call) {
-        Some(count) => add_number(alloc, text, count as u64)?,
-        None => add(text, "event")?,
-    }
-    add(text, "|")
+    add(text, "|");
 }
 
 /// Adds of each call that it gave an event, or how many commands it took.
-fn add_calls(alloc: Global, text: &mut String, calls: &[RecordedCall]) -> Option<()> {
+fn add_calls(alloc: Global, text: &mut String, calls: &[RecordedCall]) {
     for call in calls {
-        add_call(alloc, text, call)?;
+        add_call(alloc, text, call);
     }
-    Some(())
 }
 
 /// A host that may be called again after it failed and after the end. The calls claim nothing here.
 pub trait Tireless {
     /// Adds the next event, or that the call failed.
-    fn add_next(&mut self, alloc: Global, text: &mut String) -> Option<()>;
+    fn add_next(&mut self, alloc: Global, text: &mut String);
 
     /// Adds the calls so far.
-    fn add_record(&self, alloc: Global, text: &mut String) -> Option<()>;
+    fn add_record(&self, alloc: Global, text: &mut String);
 }
 
 impl Tireless for ScriptHost<'_, NullAnalysis> {
-    fn add_next(&mut self, alloc: Global, text: &mut String) -> Option<()> {
-        add_event(alloc, text, self.next())
+    fn add_next(&mut self, alloc: Global, text: &mut String) {
+        add_event(alloc, text, self.next());
     }
 
-    fn add_record(&self, alloc: Global, text: &mut String) -> Option<()> {
-        add_calls(alloc, text, self.calls())
+    fn add_record(&self, alloc: Global, text: &mut String) {
+        add_calls(alloc, text, self.calls());
     }
 }
 
 impl Tireless for HostileHost {
-    fn add_next(&mut self, alloc: Global, text: &mut String) -> Option<()> {
-        add_event(alloc, text, Host::<NullAnalysis>::next(self))
+    fn add_next(&mut self, alloc: Global, text: &mut String) {
+        add_event(alloc, text, Host::<NullAnalysis>::next(self));
     }
 
-    fn add_record(&self, alloc: Global, text: &mut String) -> Option<()> {
-        add_calls(alloc, text, self.calls())
+    fn add_record(&self, alloc: Global, text: &mut String) {
+        add_calls(alloc, text, self.calls());
     }
 }
 
 /// Adds so many events of a host, and its calls behind a ` > `.
-pub fn add_run<H: Tireless>(
-    alloc: Global,
-    text: &mut String,
-    host: &mut H,
-    count: u32,
-) -> Option<()> {
+pub fn add_run<H: Tireless>(alloc: Global, text: &mut String, host: &mut H, count: u32) {
     for _ in 0..count {
-        host.add_next(alloc, text)?;
+        host.add_next(alloc, text);
     }
-    add(text, " > ")?;
-    host.add_record(alloc, text)
+    add(text, " > ");
+    host.add_record(alloc, text);
 }
