@@ -1,7 +1,7 @@
 use Rattle.std.proofs.Common.{rules, arith, refl}
 use Rattle.session_model.specs.Run.{told_of}
 use Rattle.initialization.specs.Talking.{first_talk}
-use Rattle.initialization.proofs.Openings.{opens-begun, opens-broken}
+use Rattle.initialization.proofs.Openings.{opens-begun, opens-left, opens-broken}
 use Rattle.initialization.proofs.Stretches.{stretch-none, stretch-on}
 use Rattle.initialization.proofs.opening.initialize.Goals as goal
 
@@ -40,6 +40,11 @@ messages-preserved g c =
 pub returns-in-Ok-Started-clause-opens : goal.returns-in-Ok-Started-clause-opens
 returns-in-Ok-Started-clause-opens g c =
     opens-begun _ _ _ _ _ c.messages.invariant.so_far _ c.in-Ok-Started.config (rw c.in-Ok-Started.field-0-is at c.in-Ok-Started.ensures.turn)
+
+pub returns-in-Ok-Gone-clause-opens : goal.returns-in-Ok-Gone-clause-opens
+returns-in-Ok-Gone-clause-opens g c =
+    let gone = rw c.in-Ok-Gone.field-0-is at c.in-Ok-Gone.ensures.turn in
+    opens-left _ _ _ _ _ c.messages.invariant.so_far gone.0 gone.1
 
 pub returns-in-Err-clause-opens : goal.returns-in-Err-clause-opens
 returns-in-Err-clause-opens g c = opens-broken _ _ _ _ _ c.messages.invariant.so_far c.in-Err.error c.in-Err.ensures.turn
