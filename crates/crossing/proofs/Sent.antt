@@ -1,5 +1,5 @@
 -- Which types may go to another thread, and which ones threads may share, from the lowest up. The tree in a world,
--- in the numbers and in the versions leads back to itself, so the check doesn't find the types above it. It finds all others by itself.
+-- in the numbers, in the versions and in the settings leads back to itself, so the check doesn't find the types above it. It finds all others by itself.
 use denote.Param.Send.{IsSend, IsSync, view_send, view_sync, sendable}
 use denote.Param.SendFields.{declared_send, declared_sync, variants_send}
 use Rattle.std.proofs.Crossing as heap
@@ -7,7 +7,15 @@ use Rattle.shared_map.proofs.tree.Tree.TheLaws.TheKnot as knot
 use Rattle.plain.proofs.text.Text.TheSendSync as Text
 use Rattle.docs_vfs.proofs.path.VfsPath.TheSendSync as VfsPath
 use Rattle.file_ids.specs.contracts.FileIds as FileIds
-use Rattle.ra_config.proofs.config.Config.TheSendSync as Config
+use Rattle.plain.proofs.by_number.ByNumber.TheSendSync as ByNumber
+use Rattle.plain.proofs.items.Items.TheSendSync as Items
+use Rattle.ra_settings.proofs.layer.Layer.TheSendSync as Layer
+use Rattle.ra_settings.proofs.defaults.Defaults.TheSendSync as Defaults
+use Rattle.layered_settings.specs.contracts.settings.Settings as Settings
+use Rattle.ra_config.proofs.capabilities.Capabilities.TheSendSync as Capabilities
+use Rattle.ra_config.proofs.projects.Discovered.TheSendSync as Discovered
+use Rattle.ra_config.specs.contracts.config.Config as Config
+use Rattle.ra_config.specs.contracts.config.Config.TheInside as ConfigInside
 use Rattle.analysis_host.proofs.text_entry.TextEntry.TheSendSync as TextEntry
 use Rattle.analysis_host.specs.contracts.snapshot.GlobalStateSnapshot as Snapshot
 use Rattle.analysis_host.specs.contracts.snapshot.GlobalStateSnapshot.TheInside as SnapshotInside
@@ -21,6 +29,40 @@ use Rattle.session_port.specs.contracts.command.Command as Command
 use Rattle.session_port.specs.contracts.job.Job as Job
 
 ruleset trees = (TextEntry.the_send, TextEntry.the_sync, VfsPath.the_send, VfsPath.the_sync, heap.crosses, knot.crosses, sendable)
+
+ruleset layers = (Layer.the_send, Layer.the_sync, Defaults.the_send, Defaults.the_sync, ByNumber.the_send, ByNumber.the_sync, heap.crosses, knot.crosses, sendable)
+
+pub settings_send : IsSend Settings.the_row
+settings_send = search layers depth 60 fits 20000
+
+pub settings_sync : IsSync Settings.the_row
+settings_sync = search layers depth 60 fits 20000
+
+ruleset found = (Discovered.the_send, Discovered.the_sync, Items.the_send, Items.the_sync, heap.crosses, sendable)
+
+pub config_send : IsSend Config.the_row
+config_send = view_send ConfigInside.the_row _ _ _ _ (declared_send ConfigInside.the_type (
+  VfsPath.the_send,
+  (
+    search (VfsPath.the_send, heap.crosses, sendable) depth 20 fits 20000,
+    (
+      search (sendable) depth 20 fits 20000,
+      (Capabilities.the_send, (settings_send, (search found depth 20 fits 20000, tt))),
+    ),
+  ),
+))
+
+pub config_sync : IsSync Config.the_row
+config_sync = view_sync ConfigInside.the_row _ _ _ _ (declared_sync ConfigInside.the_type (
+  VfsPath.the_sync,
+  (
+    search (VfsPath.the_sync, heap.crosses, sendable) depth 20 fits 20000,
+    (
+      search (sendable) depth 20 fits 20000,
+      (Capabilities.the_sync, (settings_sync, (search found depth 20 fits 20000, tt))),
+    ),
+  ),
+))
 
 pub world_send : IsSend World.the_row
 world_send = search trees depth 60 fits 20000
@@ -41,10 +83,10 @@ pub versions_sync : IsSync Versions.the_row
 versions_sync = search trees depth 60 fits 20000
 
 pub parts_send : IsSend SnapshotParts.the_row
-parts_send = declared_send SnapshotParts.the_type (search (world_send, file_ids_send, versions_send, Config.the_send, Config.the_sync, heap.Arc-send, sendable) depth 20 fits 20000)
+parts_send = declared_send SnapshotParts.the_type (search (world_send, file_ids_send, versions_send, config_send, config_sync, heap.Arc-send, sendable) depth 20 fits 20000)
 
 pub parts_sync : IsSync SnapshotParts.the_row
-parts_sync = declared_sync SnapshotParts.the_type (search (world_sync, file_ids_sync, versions_sync, Config.the_send, Config.the_sync, heap.Arc-sync, sendable) depth 20 fits 20000)
+parts_sync = declared_sync SnapshotParts.the_type (search (world_sync, file_ids_sync, versions_sync, config_send, config_sync, heap.Arc-sync, sendable) depth 20 fits 20000)
 
 pub snapshot_send : IsSend Snapshot.the_row
 snapshot_send = view_send SnapshotInside.the_row _ _ _ _ (declared_send SnapshotInside.the_type (search (parts_send, sendable) depth 20 fits 20000))
@@ -62,6 +104,6 @@ pub command_send : IsSend Command.the_row
 command_send = variants_send Command.enum (search (job_send, LogCode.the_send, Text.the_send, VfsPath.the_send, sendable) depth 20 fits 20000)
 
 -- for a type or a closure that holds one of these
-pub ruleset sends = (world_send, file_ids_send, versions_send, snapshot_send, job_send, command_send, heap.Arc-send)
+pub ruleset sends = (world_send, file_ids_send, versions_send, config_send, snapshot_send, job_send, command_send, heap.Arc-send)
 
-pub ruleset syncs = (world_sync, file_ids_sync, versions_sync, snapshot_sync, job_sync, heap.Arc-sync)
+pub ruleset syncs = (world_sync, file_ids_sync, versions_sync, config_sync, snapshot_sync, job_sync, heap.Arc-sync)
