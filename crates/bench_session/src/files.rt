@@ -66,10 +66,10 @@ fn load(
     Ok(())
 }
 
-/// The message that puts one letter in the place of the first one of `/w/a.rs`.
-fn letter(alloc: Global) -> Result<String, AllocError> {
+/// The message that puts this letter in the place of the first one of `/w/a.rs`.
+fn letter(alloc: Global, letter: &str) -> Result<String, AllocError> {
     let body = format!(in alloc;
-        "{{\"jsonrpc\":\"2.0\",\"method\":\"textDocument/didChange\",\"params\":{{\"textDocument\":{{\"uri\":\"file:///w/a.rs\",\"version\":2}},\"contentChanges\":[{{\"range\":{{\"start\":{{\"line\":0,\"character\":0}},\"end\":{{\"line\":0,\"character\":1}}}},\"text\":\"f\"}}]}}}}"
+        "{{\"jsonrpc\":\"2.0\",\"method\":\"textDocument/didChange\",\"params\":{{\"textDocument\":{{\"uri\":\"file:///w/a.rs\",\"version\":2}},\"contentChanges\":[{{\"range\":{{\"start\":{{\"line\":0,\"character\":0}},\"end\":{{\"line\":0,\"character\":1}}}},\"text\":\"{letter}\"}}]}}}}"
     )?;
     frame(alloc, body.as_str())
 }
@@ -107,7 +107,8 @@ fn typed(
     letters: u32,
 ) -> Result<Items<HostEvent>, AllocError> {
     let opened = open(alloc, "fn a() {}\\n")?;
-    let letters = repeated(alloc, letter(alloc)?.as_str(), "", letters)?;
+    let (first, second) = (letter(alloc, "g")?, letter(alloc, "f")?);
+    let letters = repeated(alloc, first.as_str(), second.as_str(), letters / 2)?;
     let mut events = Items::new(alloc);
     load(alloc, &mut events, batches, count)?;
     events.push(bytes(alloc, opened.as_str())?)?;
