@@ -1,7 +1,7 @@
 //! The numbers of files by path, as a snapshot freezes them.
 #![tactic(auto)]
 
-ghost use Rattle.std.specs.Prelude.{◌≡◌, ◌↔◌, ◌<◌, ℕ, List, Some, IfOk, IfSome, option_copied};
+ghost use Rattle.std.specs.Prelude.{◌≡◌, ◌↔◌, ◌<◌, ℕ, List, Some, IfOk, OnOk, OnErr, IfSome, option_copied};
 ghost use Rattle.std.specs.FinMap as map;
 ghost use Rattle.shared_map.specs.AsMap.{set_in_map};
 ghost use Rattle.file_ids.specs.Numbers.{IsFree, number_of, file_of, path_of, with_number, without_number};
@@ -13,9 +13,8 @@ use std::alloc::Global;
 use std::marker::{Brand, Model};
 use std::sync::ledger::{Blank, Ledger};
 
-/// The number of each path, and whether its file is excluded. No two paths have one number. The table never changes:
-/// `set` answers another one, which shares with this one all nodes but those on the way to what differs, and a clone
-/// is the same table.
+/// The number of each path, and whether its file is excluded. No two paths have one number. A clone
+/// is the same table, and what is set later in one of them makes anew the nodes on the way to what differs alone.
 #[derive(Drop)]
 pub struct FileIds {
     files: SharedMap<VfsPath, (FileId, FileExcluded)>,
@@ -42,24 +41,23 @@ impl Model for FileIds {
 
 type Paths = SharedMap<u32, VfsPath>;
 
-/// The paths by number where a path has lost its old number and has got a new one.
+/// In the paths by number a path loses its old number and gets a new one.
 fn renumber<L: Ledger>(
-    paths: &Paths,
+    paths: &mut Paths,
     path: &VfsPath,
     old: Option<FileId>,
     new: Option<FileId>,
     steps: &mut Steps<L>,
-) -> Result<Paths, NoMemory>
-    ensures { IfOk result (λ paths_now. paths_now ≡ with_number new path.now (without_number old paths.now)) }
+) -> Result<(), NoMemory>
+    ensures { OnOk result (paths.new ≡ with_number new path.now (without_number old paths.old)) }
 {
-    let paths = match old {
-        Some(file) => paths.set(file.0, None, steps)?,
-        None => paths.clone()?,
-    };
-    match new {
-        Some(file) => paths.set(file.0, Some(path.clone()?), steps),
-        None => Ok(paths),
+    if let Some(file) = old {
+        paths.put(file.0, None, steps)?;
     }
+    if let Some(file) = new {
+        paths.put(file.0, Some(path.clone()?), steps)?;
+    }
+    Ok(())
 }
 
 impl FileIds {
@@ -89,7 +87,7 @@ impl FileIds {
         self.paths.get(&file.0)
     }
 
-    /// The table with that path set, or without it.
+    /// The table with that path set, or without it. This one stays as it is.
     pub fn set(
         &self,
         path: VfsPath,
@@ -98,28 +96,49 @@ impl FileIds {
         requires { IsFree path (file_of entry) self.now }
         ensures { IfOk result (λ new. new ≡ set_in_map self.now path entry) }
     {
-        self.set_uncounted::<Brand>(path, entry, Blank::new(1))
+        let mut ids = self.clone()?;
+        ids.put(path, entry)?;
+        Ok(ids)
+    }
+
+    /// Sets that path, or takes it away. Nodes that other tables share are copied, all others stay this table's own.
+    /// Without memory the table is empty.
+    pub fn put(
+        &mut self,
+        path: VfsPath,
+        entry: Option<(FileId, FileExcluded)>,
+    ) -> Result<(), NoMemory>
+        requires { IsFree path (file_of entry) self.old }
+        ensures ok { OnOk result (self.new ≡ set_in_map self.old path entry) }
+        ensures err { OnErr result (self.new ≡ map.empty) }
+    {
+        self.put_uncounted::<Brand>(path, entry, Blank::new(1))
     }
 
     /// The same where nobody counts the steps.
-    fn set_uncounted<L: Ledger>(
-        &self,
+    fn put_uncounted<L: Ledger>(
+        &mut self,
         path: VfsPath,
         entry: Option<(FileId, FileExcluded)>,
         blank: Blank,
-    ) -> Result<FileIds, NoMemory>
+    ) -> Result<(), NoMemory>
         requires name { blank.name ≡ L.name }
         requires parts { blank.parts ≡ L.parts }
         requires some { 0 < L.parts }
-        requires free { IsFree path (file_of entry) self.now }
-        ensures { IfOk result (λ new. new ≡ set_in_map self.now path entry) }
+        requires free { IsFree path (file_of entry) self.old }
+        ensures ok { OnOk result (self.new ≡ set_in_map self.old path entry) }
+        ensures err { OnErr result (self.new ≡ map.empty) }
     {
         let mut steps = Steps::<L>::new(blank);
         let _in_order = (self.files.len(), self.paths.len());
         let old = number(self.get(&path));
-        let paths = renumber(&self.paths, &path, old, number(entry), &mut steps)?;
-        let files = self.files.set(path, entry, &mut steps)?;
-        Ok(FileIds { files, paths })
+        let mut files = self.files.take();
+        let mut paths = self.paths.take();
+        renumber(&mut paths, &path, old, number(entry), &mut steps)?;
+        files.put(path, entry, &mut steps)?;
+        self.files = files;
+        self.paths = paths;
+        Ok(())
     }
 }
 

@@ -1,7 +1,7 @@
 //! A map whose copies share what they have in common.
 #![tactic(auto)]
 
-ghost use Rattle.std.specs.Prelude.{◌≡◌, [], length, map, IfOk, option_copied, ◌↔◌, true};
+ghost use Rattle.std.specs.Prelude.{◌≡◌, [], length, map, IfOk, OnOk, OnErr, option_copied, ◌↔◌, true};
 ghost use Rattle.std.specs.Map.Iter.{deref};
 ghost use Rattle.std.specs.FinMap.Entries.{find};
 ghost use Rattle.shared_map.specs.Costs.{IsQuick};
@@ -10,6 +10,7 @@ ghost use Rattle.shared_map.specs.Entries.{IsInOrder, set_entry};
 use crate::tree::Tree;
 use std::alloc::{AllocError, Global};
 use std::marker::Model;
+use std::mem;
 use std::sync::ledger::Ledger;
 
 mod change;
@@ -72,7 +73,6 @@ impl<K: Ord, V> SharedMap<K, V> {
         self.tree.get(key)
     }
 
-    #[tactic(auto, using(crate::proofs::Depth::shallow))]
     /// The map with the value at the key, or with none at it. This one stays as it is, and the new one shares all
     /// nodes with it but those on the way to the key. Each step is one node that is read. A map of
     /// 18,446,744,073,709,551,615 entries is as one that memory has no room for.
@@ -88,18 +88,47 @@ impl<K: Ord, V> SharedMap<K, V> {
         ensures ok { IfOk result (λ map. map ≡ set_entry K.cmp key value self.now) }
         ensures cost { IsQuick (length self.now) steps.old steps.new }
     {
-        if self.len == u64::MAX {
+        let mut map = self.clone()?;
+        map.put(key, value, steps)?;
+        Ok(map)
+    }
+
+    /// The map itself, which leaves an empty one.
+    pub fn take(&mut self) -> SharedMap<K, V>
+        ensures value { result ≡ self.old }
+        ensures after { self.new ≡ [] }
+    {
+        mem::replace(self, SharedMap::new(self.alloc))
+    }
+
+    /// Sets the value at the key, or none at it, in this map. Nodes that other maps share are copied on the way to
+    /// the key, all others stay this map's own. Each step is one node that is read. Without memory, which a map of
+    /// 18,446,744,073,709,551,615 entries counts as, the map is empty.
+    #[tactic(auto, using(crate::proofs::Depth::shallow))]
+    pub fn put<L: Ledger>(
+        &mut self,
+        key: K,
+        value: Option<V>,
+        steps: &mut Steps<L>,
+    ) -> Result<(), AllocError>
+    where
+        K: Drop,
+        V: Drop,
+        ensures ok { OnOk result (self.new ≡ set_entry K.cmp key value self.old) }
+        ensures err { OnErr result (self.new ≡ []) }
+        ensures cost { IsQuick (length self.old) steps.old steps.new }
+    {
+        let SharedMap { tree, len, alloc } = self.take();
+        if len == u64::MAX {
             return Err(AllocError);
         }
-        let _height = self.tree.height();
+        let _height = tree.height();
         let given = value.is_some();
-        let (tree, found) = change::set(&self.tree, self.alloc, key, value, steps)?;
-        let len = self.len + u64::from(given) - u64::from(found);
-        Ok(SharedMap {
-            tree,
-            len,
-            alloc: self.alloc,
-        })
+        let (tree, found) = change::put(tree, alloc, key, value, steps)?;
+        let len = len + u64::from(given) - u64::from(found);
+        let changed = SharedMap { tree, len, alloc };
+        *self = changed;
+        Ok(())
     }
 
     /// The entries in the order of their keys.
