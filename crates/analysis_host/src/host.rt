@@ -1,5 +1,5 @@
 // The world that changes: each change makes a new one, and those that were given out stay as they are.
-ghost use Rattle.std.specs.Prelude.{◌≡◌, ◌<◌, ◌+◌, length, IfOk, OnErr, option_copied};
+ghost use Rattle.std.specs.Prelude.{◌≡◌, ◌<◌, ◌+◌, length, IfOk, option_copied};
 ghost use Rattle.std.specs.FinMap as map;
 ghost use Rattle.analysis_host.specs.SnapshotData.{text_at};
 ghost use Rattle.analysis_host.specs.HostData.{new_host, new_host_at, changed, Changes};
@@ -34,6 +34,7 @@ pub struct Change {
 pub enum WorldFault {
     /// The last revision was reached. Nothing changed.
     Exhausted,
+    /// The world is empty, and its revision as it was.
     NoMemory,
 }
 
@@ -120,7 +121,6 @@ impl AnalysisHost {
     /// Makes one change, and so a new revision.
     pub fn apply_change(&mut self, change: Change) -> Result<(), WorldFault>
         ensures ok { Changes result (changed change.files self.old) self.old self.new }
-        ensures err { OnErr result (self.new ≡ self.old) }
     {
         self.apply_uncounted::<Brand>(change, Blank::new(1))
     }
@@ -131,7 +131,6 @@ impl AnalysisHost {
         requires parts { blank.parts ≡ L.parts }
         requires some { 0 < L.parts }
         ensures ok { Changes result (changed change.files self.old) self.old self.new }
-        ensures err { OnErr result (self.new ≡ self.old) }
     {
         let mut steps = Steps::<L>::new(blank);
         self.apply_counted(change, &mut steps)
@@ -145,14 +144,13 @@ impl AnalysisHost {
         steps: &mut Steps<L>,
     ) -> Result<(), WorldFault>
         ensures ok { Changes result (changed change.files self.old) self.old self.new }
-        ensures err { OnErr result (self.new ≡ self.old) }
         ensures cost { let count = length change.files in
             AreQuick count (map.len self.old.world.texts + count) steps.old steps.new }
     {
         if self.revision == u64::MAX {
             return Err(WorldFault::Exhausted);
         }
-        self.world = self.world.with_files(change.files, steps)?;
+        self.world.put_files(change.files, steps)?;
         self.revision += 1;
         Ok(())
     }

@@ -1,5 +1,5 @@
 // Maps by path that share what they have in common.
-ghost use Rattle.std.specs.Prelude.{◌≡◌, IfOk, option_copied};
+ghost use Rattle.std.specs.Prelude.{◌≡◌, IfOk, OnOk, OnErr, option_copied};
 ghost use Rattle.std.specs.FinMap as map;
 ghost use Rattle.shared_map.specs.AsMap.{set_in_map};
 ghost use Rattle.shared_map.specs.Costs.{IsQuick};
@@ -12,8 +12,8 @@ use std::alloc::{AllocError, Global};
 use std::marker::Model;
 use std::sync::ledger::Ledger;
 
-/// Values by path, which contracts see as a finite map. It never changes: `set` answers another map, which shares all
-/// nodes with this one but those on the way to the path, and a clone is the same tree.
+/// Values by path, which contracts see as a finite map. A clone is the same tree, and what is set later in one of them
+/// makes anew the nodes on the way to the path alone.
 #[derive(Drop)]
 pub struct PathMap<V> {
     rows: SharedMap<VfsPath, V>,
@@ -56,7 +56,7 @@ impl<V> PathMap<V> {
         self.rows.get(path)
     }
 
-    /// The map with the value at the path, or with none at it. Each step is one node that is read.
+    /// The map with the value at the path, or with none at it. This one stays as it is. Each step is one node that is read.
     pub fn set<L: Ledger>(
         &self,
         path: VfsPath,
@@ -68,10 +68,37 @@ impl<V> PathMap<V> {
         ensures ok { IfOk result (λ new. new ≡ set_in_map self.now path value) }
         ensures cost { IsQuick (map.len self.now) steps.old steps.new }
     {
+        let mut map = self.clone()?;
+        map.put(path, value, steps)?;
+        Ok(map)
+    }
+
+    /// The map itself, which leaves an empty one.
+    pub fn take(&mut self) -> PathMap<V>
+        ensures value { result ≡ self.old }
+        ensures after { self.new ≡ map.empty }
+    {
+        PathMap {
+            rows: self.rows.take(),
+        }
+    }
+
+    /// Sets the value at the path, or none at it. Nodes that other maps share are copied, all others stay this map's
+    /// own. Each step is one node that is read. Without memory the map is empty.
+    pub fn put<L: Ledger>(
+        &mut self,
+        path: VfsPath,
+        value: Option<V>,
+        steps: &mut Steps<L>,
+    ) -> Result<(), AllocError>
+    where
+        V: Drop,
+        ensures ok { OnOk result (self.new ≡ set_in_map self.old path value) }
+        ensures err { OnErr result (self.new ≡ map.empty) }
+        ensures cost { IsQuick (map.len self.old) steps.old steps.new }
+    {
         let _in_order = self.rows.len();
-        Ok(PathMap {
-            rows: self.rows.set(path, value, steps)?,
-        })
+        self.rows.put(path, value, steps)
     }
 }
 

@@ -1,5 +1,5 @@
 // The texts of a workspace at one moment.
-ghost use Rattle.std.specs.Prelude.{◌≡◌, ◌+◌, length, IfOk, option_copied};
+ghost use Rattle.std.specs.Prelude.{◌≡◌, ◌+◌, length, IfOk, OnOk, OnErr, option_copied};
 ghost use Rattle.std.specs.FinMap as map;
 ghost use Rattle.shared_map.specs.Costs.{IsQuick};
 ghost use Rattle.analysis_host.specs.SnapshotData.{empty_world, text_at};
@@ -17,7 +17,7 @@ use std::marker::Model;
 use std::sync::ledger::Ledger;
 use text_core::TextIndex;
 
-/// A world, which never changes. Its clones share all texts.
+/// A world. Its clones share all texts, and stay as they are when it changes.
 #[derive(Drop)]
 pub struct World {
     texts: TextTree,
@@ -35,18 +35,18 @@ impl Model for World {
     ghost view = { λ w. record { texts = w.texts } };
 }
 
-/// The texts with one file's text and line endings set, or taken away.
+/// In the texts one file's text and line endings are set, or taken away.
 #[tactic(auto, using(crate::proofs::Counting::at_rest))]
-fn set_entry<L: Ledger>(
-    texts: &TextTree,
+fn put_entry<L: Ledger>(
+    texts: &mut TextTree,
     file: FileChange,
     steps: &mut Steps<L>,
-) -> Result<TextTree, AllocError>
-    ensures ok { IfOk result (λ new. new ≡ with_entry file.path file.entry texts.now) }
-    ensures cost { IsQuick (map.len texts.now) steps.old steps.new }
+) -> Result<(), AllocError>
+    ensures ok { OnOk result (texts.new ≡ with_entry file.path file.entry texts.old) }
+    ensures cost { IsQuick (map.len texts.old) steps.old steps.new }
 {
     let FileChange { path, entry } = file;
-    texts.set(path, entry, steps)
+    texts.put(path, entry, steps)
 }
 
 impl World {
@@ -86,21 +86,24 @@ impl World {
         }
     }
 
-    /// The world with these files set or taken away, one after another. It shares with this one all texts and all of
-    /// the table of their paths but the nodes on the way to these files. Each step is one such node that is read.
-    pub fn with_files<L: Ledger>(
-        &self,
+    /// These files are set or taken away, one after another. What other worlds share of the table of paths is copied
+    /// on the way to these files, all else stays this world's own. Each step is one node of that table that is read.
+    /// Without memory the world is empty.
+    pub fn put_files<L: Ledger>(
+        &mut self,
         files: Items<FileChange>,
         steps: &mut Steps<L>,
-    ) -> Result<World, AllocError>
-        ensures ok { IfOk result (λ world. world ≡ record { texts = with_files files self.now.texts }) }
-        ensures cost { AreQuick (length files) (map.len self.now.texts + length files) steps.old steps.new }
+    ) -> Result<(), AllocError>
+        ensures ok { OnOk result (self.new ≡ record { texts = with_files files self.old.texts }) }
+        ensures err { OnErr result (self.new ≡ empty_world) }
+        ensures cost { AreQuick (length files) (map.len self.old.texts + length files) steps.old steps.new }
     {
-        let mut texts = self.texts.clone()?;
+        let mut texts = self.texts.take();
         for file in files.into_vec() {
-            texts = set_entry(&texts, file, steps)?;
+            put_entry(&mut texts, file, steps)?;
         }
-        Ok(World { texts })
+        self.texts = texts;
+        Ok(())
     }
 }
 

@@ -1,5 +1,5 @@
 // Feeds streams of messages to a reader in pieces and counts what comes out, writes answers with large results, and times
-// both on standard error.
+// both on standard error. With the word `read` it reads the messages of standard input and does nothing else.
 #![tactic(auto)]
 
 ghost use Rattle.std.specs.Prelude.{◌<◌, IfOk, IfSome};
@@ -8,7 +8,8 @@ ghost use Rattle.lsp_frame.specs.Written.{AreWritable};
 use lsp_frame::{FrameReader, Message, Notification, RequestId, Response, write_message};
 use plain::{Json, Text};
 use std::alloc::{AllocError, Global};
-use std::io;
+use std::env;
+use std::io::{self, Read};
 use std::time::{Duration, Instant};
 
 /// A notification whose params are a text of this many bytes.
@@ -143,7 +144,26 @@ fn large_results(rt: &HostRuntime) -> io::Result<()> {
     }
 }
 
+/// Reads the messages of standard input, and counts them.
+fn read_all(rt: &HostRuntime) -> io::Result<()> {
+    let mut stream = Vec::new(rt.alloc());
+    rt.stdin().read_to_end(&mut stream)?;
+    let count = run(rt.alloc(), stream.as_slice(), 65536)?;
+    println!(rt; "{count} messages")
+}
+
+/// Whether the first word is `read`.
+fn asks_to_read(rt: &HostRuntime) -> io::Result<bool> {
+    for word in env::args(rt)?.skip(1) {
+        return Ok(word.as_str() == "read");
+    }
+    Ok(false)
+}
+
 fn main(rt: HostRuntime) -> io::Result<()> {
+    if asks_to_read(&rt)? {
+        return read_all(&rt);
+    }
     let small = stream_of(rt.alloc(), 20_000, 235)?;
     both(&rt, "20,000 messages of about 300 bytes", &small)?;
     let large = stream_of(rt.alloc(), 1, 8_000_000)?;

@@ -42,14 +42,10 @@ fn put_number(
     if are_same(ids.get(&path), entry) {
         return Ok(());
     }
-    match ids.set(path, entry) {
-        Ok(set) => {
-            *ids = set;
-            Ok(())
-        }
+    match ids.put(path, entry) {
+        Ok(()) => Ok(()),
         Err(_) => {
             *table = FileTable::new(alloc);
-            *ids = FileIds::new(alloc);
             Err(AllocError)
         }
     }

@@ -3,7 +3,7 @@ use Rattle.std.specs.Vec.Iter.{into_iter_items}
 use Rattle.std.specs.FinMap as map
 use Rattle.analysis_host.specs.HostData.{with_files}
 use Rattle.analysis_host.specs.Costs.{AreQuick}
-use Rattle.analysis_host.proofs.world.World.with_files.Given as goal
+use Rattle.analysis_host.proofs.world.World.put_files.Given as goal
 
 abbrev pub invariant-loop-file : goal.invariant-loop-file
 invariant-loop-file g l = record {

@@ -3,7 +3,7 @@ use Rattle.std.specs.Vec.Iter.{into_iter_items}
 use Rattle.std.specs.FinMap as map
 use Rattle.analysis_host.specs.HostData.{with_entry}
 use Rattle.analysis_host.proofs.Counting.{nothing_done, not_all, one_more, len_with}
-use Rattle.analysis_host.proofs.world.World.with_files.Goals as goal
+use Rattle.analysis_host.proofs.world.World.put_files.Goals as goal
 
 pub loop-file-init : goal.loop-file-init
 loop-file-init g c =
@@ -18,7 +18,7 @@ returns-in_err-texts-2-clause-cost g c =
     let so_far = c.loop-file.invariant in
     let left : into_iter_items c.loop-file.file-iterator ≡ c.in-Some.file ∷ into_iter_items c.next.new.self = search rules in
     let many = ap length left in
-    not_all (one_more so_far.quick c.set_entry.ensures.cost (omega arith)) (omega arith)
+    not_all (one_more so_far.quick c.put_entry.ensures.cost (omega arith)) (omega arith)
 
 pub loop-file-preserved : goal.loop-file-preserved
 loop-file-preserved g c =
@@ -28,4 +28,4 @@ loop-file-preserved g c =
     let new : c.in_ok-texts-2.texts ≡ with_entry c.in-Some.file.path c.in-Some.file.entry c.loop-file.texts = c.in_ok-texts-2.ensures.ok in
     let long = ap map.len new in
     let most = len_with c.in-Some.file.path c.in-Some.file.entry c.loop-file.texts in
-    record { same = search rules; done = so_far.done + 1; of_all = omega arith; grown = omega arith; quick = one_more so_far.quick c.set_entry.ensures.cost (omega arith) }
+    record { same = search rules; done = so_far.done + 1; of_all = omega arith; grown = omega arith; quick = one_more so_far.quick c.put_entry.ensures.cost (omega arith) }
