@@ -98,7 +98,8 @@ impl<V> PathMap<V> {
         ensures cost { IsQuick (map.len self.old) steps.old steps.new }
     {
         let _in_order = self.rows.len();
-        self.rows.put(path, value, steps)
+        self.rows.put(path, value, steps)?;
+        Ok(())
     }
 }
 

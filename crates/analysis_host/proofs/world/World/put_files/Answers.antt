@@ -8,13 +8,13 @@ use Rattle.analysis_host.proofs.world.World.put_files.Goals as goal
 pub loop-file-init : goal.loop-file-init
 loop-file-init g c =
     let all : into_iter_items c.into_iter-file-iterator.result ≡ c.args.files = search rules in
-    let old : c.in_ok-texts.texts ≡ c.args.self.now.texts = search rules in
+    let old : c.take-texts.result ≡ c.args.self.now.texts = search rules in
     let many = ap length all in
     let long = ap map.len old in
     record { same = search rules; done = 0; of_all = omega arith; grown = omega arith; quick = nothing_done _ _ _ }
 
-pub returns-in_err-texts-2-clause-cost : goal.returns-in_err-texts-2-clause-cost
-returns-in_err-texts-2-clause-cost g c =
+pub returns-in_err-put_entry-clause-cost : goal.returns-in_err-put_entry-clause-cost
+returns-in_err-put_entry-clause-cost g c =
     let so_far = c.loop-file.invariant in
     let left : into_iter_items c.loop-file.file-iterator ≡ c.in-Some.file ∷ into_iter_items c.next.new.self = search rules in
     let many = ap length left in
@@ -25,7 +25,7 @@ loop-file-preserved g c =
     let so_far = c.loop-file.invariant in
     let left : into_iter_items c.loop-file.file-iterator ≡ c.in-Some.file ∷ into_iter_items c.next.new.self = search rules in
     let many = ap length left in
-    let new : c.in_ok-texts-2.texts ≡ with_entry c.in-Some.file.path c.in-Some.file.entry c.loop-file.texts = c.in_ok-texts-2.ensures.ok in
+    let new : c.put_entry.new.texts ≡ with_entry c.in-Some.file.path c.in-Some.file.entry c.loop-file.texts = c.in_ok-put_entry.ensures.ok in
     let long = ap map.len new in
     let most = len_with c.in-Some.file.path c.in-Some.file.entry c.loop-file.texts in
     record { same = search rules; done = so_far.done + 1; of_all = omega arith; grown = omega arith; quick = one_more so_far.quick c.put_entry.ensures.cost (omega arith) }
