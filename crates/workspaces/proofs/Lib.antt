@@ -1,0 +1,3 @@
+pub mod FetchLaws
+pub mod Entries
+pub mod Pushed

@@ -1,0 +1,6 @@
+pub mod Builds
+pub mod FetchRuns
+pub mod Fetches
+pub mod Loads
+pub mod Switching
+pub mod Workspaces

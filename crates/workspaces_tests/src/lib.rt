@@ -1,0 +1,2 @@
+//! Tests of the workspaces of a session, by their public calls.
+#![tactic(auto)]
