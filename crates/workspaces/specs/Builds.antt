@@ -20,13 +20,11 @@ abbrev pub after_build_start : ℕ → Builds → Builds
 after_build_start version b = record { queue = after_start b.queue; version = starts_on version b.version (starts b.queue) }
 
 -- the version that the run is on that is to start; none starts while a fetch is in progress
-abbrev pub build_to_start : Workspaces → Option ℕ
-build_to_start w =
-    if w.fetches.queue.in_progress then None
-    else option_map (λ (request : List ℕ × Unit {0}). w.version) (starts w.builds.queue)
+abbrev pub build_to_start : Bool → ℕ → Builds → Option ℕ
+build_to_start fetching version b = if fetching then None else option_map (λ (request : List ℕ × Unit {0}). version) (starts b.queue)
 
-abbrev pub start_build : Workspaces → Builds
-start_build w = if w.fetches.queue.in_progress then w.builds else after_build_start w.version w.builds
+abbrev pub start_build : Bool → ℕ → Builds → Builds
+start_build fetching version b = if fetching then b else after_build_start version b
 
 -- one run for each workspace, in order; the error stands for those that are missing
 abbrev pub one_each : List ℕ → List ProjectWorkspace → Runs → Runs

@@ -12,7 +12,7 @@ use Rattle.project_model.specs.declared.crates.MacroState.TheVariants.{Failed}
 use Rattle.workspaces.specs.declared.requests.LoadRequest.{LoadRequest}
 use Rattle.workspaces.specs.declared.requests.WaitingCrates.{WaitingCrates}
 use Rattle.workspaces.specs.Builds.{missing}
-use Rattle.workspaces.specs.Workspaces.{Loads, Workspaces}
+use Rattle.workspaces.specs.Workspaces.{Loads}
 
 -- the crates of these lists, in order
 abbrev pub listed_in : List (List (ℕ × MacroPath)) → List ℕ
@@ -34,13 +34,11 @@ abbrev pub after_load_start : Loads → Loads
 after_load_start l = record { queue = after_start l.queue; waiting = starts_with l.waiting (starts l.queue) }
 
 -- the libraries that are to be loaded; none are while a fetch is in progress
-abbrev pub load_to_start : Workspaces → Option (List (List (ℕ × MacroPath)))
-load_to_start w =
-    if w.fetches.queue.in_progress then None
-    else option_map (λ (request : List ℕ × LoadRequest). request.1.paths) (starts w.loads.queue)
+abbrev pub load_to_start : Bool → Loads → Option (List (List (ℕ × MacroPath)))
+load_to_start fetching l = if fetching then None else option_map (λ (request : List ℕ × LoadRequest). request.1.paths) (starts l.queue)
 
-abbrev pub start_load : Workspaces → Loads
-start_load w = if w.fetches.queue.in_progress then w.loads else after_load_start w.loads
+abbrev pub start_load : Bool → Loads → Loads
+start_load fetching l = if fetching then l else after_load_start l
 
 -- what became of a crate's macros, where this was told of it
 abbrev pub state_or_missing : Option MacroState → MacroState

@@ -1,7 +1,7 @@
 // What a session knows of its workspaces.
-ghost use Rattle.std.specs.Prelude.{◌≡◌, ◌&&◌, not, is_some, is_none, option_map, IfOk, OnOk, OnErr};
+ghost use Rattle.std.specs.Prelude.{◌≡◌, is_some, IfOk};
 ghost use Rattle.std.specs.FinMap as map;
-ghost use Rattle.std.specs.Option.{option_copied};
+ghost use Rattle.workspaces.specs.Roots.{loader_roots};
 ghost use Rattle.workspaces.specs.Workspaces.{no_workspaces, no_workspaces_at, is_idle};
 
 mod building;
@@ -11,7 +11,8 @@ mod switching;
 
 use crate::outputs::{BuildOutput, FetchOutput};
 use crate::requests::{FetchRequest, LoadRequest, WaitingCrates, WaitingFetch};
-use docs_vfs::{ByPath, VfsPath};
+use crate::roots::loader_roots;
+use docs_vfs::{ByPath, Root, VfsPath};
 use op_board::OpQueue;
 use plain::{Items, NoMemory};
 use project_model::ProjectWorkspace;
@@ -122,6 +123,13 @@ impl Workspaces {
         ensures { result.now ≡ self.now.present }
     {
         self.present.as_slice()
+    }
+
+    /// Their roots, each of which excludes these paths too.
+    pub fn loader_roots(&self, exclude: &[VfsPath]) -> Result<Items<Root>, NoMemory>
+        ensures { IfOk result (λ roots. roots ≡ loader_roots exclude.now self.now.present) }
+    {
+        loader_roots(self.alloc, exclude, self.present.as_slice())
     }
 
     /// Their version.

@@ -1,13 +1,16 @@
 // Runs of build data.
-ghost use Rattle.std.specs.Prelude.{◌≡◌, true, is_some, OnOk, OnErr};
+ghost use Rattle.std.specs.Prelude.{◌≡◌, true, is_some, IfOk, OnOk, OnErr};
 ghost use Rattle.std.specs.Option.{option_copied};
+ghost use Rattle.reload.specs.Errors.{build_error};
 ghost use Rattle.workspaces.specs.Builds.{ask_build, build_to_start, start_build, end_build, rebuild};
+ghost use Rattle.workspaces.specs.Switching.{runs_built};
 
-use crate::outputs::BuildOutput;
+use crate::outputs::{BuildOutput, runs_built};
 use crate::runs::runs_of;
 use crate::state::Workspaces;
 use plain::{Items, NoMemory, Text};
 use project_model::BuildScripts;
+use reload::fetch_build_data_error;
 
 impl Workspaces {
     /// Asks for build data, for this cause.
@@ -47,8 +50,8 @@ impl Workspaces {
     /// Starts the run of build data that waits, where neither a fetch nor another run is in progress. Answers the version
     /// of the workspaces that it is on.
     pub fn start_build(&mut self) -> Option<u64>
-        ensures value { result ≡ build_to_start self.old }
-        ensures after { self.new ≡ record self.old { builds = start_build self.old } }
+        ensures value { result ≡ build_to_start self.old.fetches.queue.in_progress self.old.version self.old.builds }
+        ensures after { self.new ≡ record self.old { builds = start_build self.old.fetches.queue.in_progress self.old.version self.old.builds } }
     {
         if self.fetches.op_in_progress() {
             return None;
@@ -79,6 +82,13 @@ impl Workspaces {
         });
         self.switch_wanted = true;
         Ok(())
+    }
+
+    /// What is told of the last run of build data, where some of it failed: a line for each error.
+    pub fn build_error(&self) -> Result<Option<Text>, NoMemory>
+        ensures { IfOk result (λ error. error ≡ build_error (runs_built self.now.builds.queue.last)) }
+    {
+        fetch_build_data_error(self.alloc, runs_built(self.builds.last_op_result()))
     }
 
     /// What the last run of build data made.

@@ -1,13 +1,16 @@
 // Fetches of workspaces.
 ghost use Rattle.std.specs.Prelude.{◌≡◌, true, is_some, IfOk, OnOk, OnErr};
 ghost use Rattle.std.specs.Option.{option_copied};
+ghost use Rattle.reload.specs.Errors.{fetch_error};
 ghost use Rattle.workspaces.specs.Fetches.{requested, is_forced, waits_forced, ask_fetch, start_up, fetch_to_start, start_fetch, fetched_of, end_fetch, is_served, plan_fetch, planned_timer, renew_timer, renewed_timer, fires, fire};
+ghost use Rattle.workspaces.specs.Switching.{list_fetched};
 
-use crate::outputs::FetchOutput;
+use crate::outputs::{FetchOutput, list_fetched};
 use crate::requests::{FetchRequest, WaitingFetch};
 use crate::state::Workspaces;
 use plain::{Items, NoMemory, Text};
 use project_model::ProjectWorkspace;
+use reload::fetch_workspace_error;
 use std::alloc::Global;
 
 /// A workspace that was fetched, or why it wasn't.
@@ -169,6 +172,17 @@ impl Workspaces {
         });
         self.switch_wanted = true;
         Ok(())
+    }
+
+    /// What is told of the last fetch, where it failed.
+    pub fn fetch_error(&self, discover: bool) -> Result<Option<Text>, NoMemory>
+        ensures { IfOk result (λ error. error ≡ fetch_error (list_fetched self.now.fetches.queue.last) discover) }
+    {
+        fetch_workspace_error(
+            self.alloc,
+            list_fetched(self.fetches.last_op_result()),
+            discover,
+        )
     }
 
     /// What the last fetch found.

@@ -64,8 +64,8 @@ impl Workspaces {
 
     /// Starts the load of macros that waits, where neither a fetch nor another load is in progress. Answers the libraries.
     pub fn start_load(&mut self) -> Option<Items<Items<(u32, MacroPath)>>>
-        ensures value { result ≡ load_to_start self.old }
-        ensures after { self.new ≡ record self.old { loads = start_load self.old } }
+        ensures value { result ≡ load_to_start self.old.fetches.queue.in_progress self.old.loads }
+        ensures after { self.new ≡ record self.old { loads = start_load self.old.fetches.queue.in_progress self.old.loads } }
     {
         if self.fetches.op_in_progress() {
             return None;

@@ -1,5 +1,5 @@
 // Switches to what was fetched and built.
-ghost use Rattle.std.specs.Prelude.{◌≡◌, ◌+◌, ◌<◌, ◌^◌, IfOk, MatchResult};
+ghost use Rattle.std.specs.Prelude.{◌≡◌, ◌+◌, ◌<◌, ◌^◌, ◌↔◌, IsTrue, IfOk, MatchResult};
 ghost use Rattle.reload.specs.Switch.{is_empty};
 ghost use Rattle.workspaces.specs.Switching.{Decides, new_workspaces_cause, asks_build, presents, next_version, followed, renewed_by, switch_to, Gives, SwitchesFrom};
 ghost use Rattle.workspaces.specs.declared.follows.SwitchFault.TheVariants.{Exhausted};
@@ -129,6 +129,13 @@ impl Workspaces {
                 go_on,
             } => self.renew(workspaces, msrv, ask_build, go_on),
         }
+    }
+
+    /// Whether the workspaces can get a further version.
+    pub fn has_next_version(&self) -> bool
+        ensures { IsTrue result ↔ (self.now.version + 1 < 2 ^ 64) }
+    {
+        self.version < u64::MAX
     }
 
     /// Makes a switch, by the last fetch and the last build data, the settings that projects are discovered and that build
