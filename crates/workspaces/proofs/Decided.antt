@@ -18,7 +18,8 @@ one_to : (fetched : Fetched) (present : List ProjectWorkspace) (runs : Option Ru
 one_to fetched present runs forced build_scripts one two a b =
     a.2 ∙ ap (λ same. switched_to fetched present same runs forced build_scripts) (one_truth (AreSame (taken fetched) present) a.0 b.0 a.1 b.1) ∙ sym b.2
 
-pub one_switch : (fetched : Option Fetched) (forced discover : Bool) (present : List ProjectWorkspace) (runs : Option Runs) (build_scripts : Bool) (one two : Switch)
+pub one_switch : (fetched : Option Fetched) (forced discover : Bool) (present : List ProjectWorkspace) (runs : Option Runs) (build_scripts : Bool)
+    (one two : Switch)
     → Switches fetched forced discover present runs build_scripts one → Switches fetched forced discover present runs build_scripts two → one ≡ two
 one_switch None forced discover present runs build_scripts one two a b = a ∙ sym b
 one_switch (Some fetched) forced discover present runs build_scripts one two a b =

@@ -1,7 +1,7 @@
 -- What is kept has one entry for each.
 use Prim.Native.Nat.{suc}
-use Rattle.std.proofs.Common.{◌≡◌, ℕ, List, [], ◌∷◌, length, map, refl, sym, ap, subst, ◌∙◌}
-use Rattle.std.specs.Prelude.{Option, Some, Result, Ok, Err, IfOk}
+use Rattle.std.proofs.Common.{◌≡◌, ℕ, List, [], ◌∷◌, length, map, refl, sym, ap, ◌∙◌}
+use Rattle.std.specs.Prelude.{Option, Some, Result, Ok, Err}
 use Rattle.std.specs.Cmp.{nat_cmp_total}
 use Rattle.std.specs.FinMap as by_key
 use Rattle.std.specs.Ordering.{nat_cmp}
@@ -25,12 +25,14 @@ numbers_kept : (told : ℕ → Option MacroState) (listed : List ℕ) → map (�
 numbers_kept told [] = refl
 numbers_kept told (number ∷ rest) = ap (λ l. number ∷ l) (numbers_kept told rest)
 
-pub numbers_of : (told : Result (List (ℕ × MacroState)) (List ℕ)) (listed : List ℕ) → map (λ (entry : ℕ × MacroState). entry.0) (macros_of told listed) ≡ listed
+pub numbers_of : (told : Result (List (ℕ × MacroState)) (List ℕ)) (listed : List ℕ) → map (λ (entry : ℕ × MacroState). entry.0) (macros_of told listed)
+    ≡ listed
 numbers_of (Ok entries) listed = numbers_kept (told_of entries) listed
 numbers_of (Err error) listed = numbers_kept (λ number. Some (Failed error)) listed
 
 -- what was told of a crate is found by its number
-pub told_by_number : (told : Result (List (ℕ × MacroState)) (List ℕ)) (entries given : List (ℕ × MacroState)) (rows : by_key.FinMap nat_cmp MacroState) (listed : List ℕ)
+pub told_by_number : (told : Result (List (ℕ × MacroState)) (List ℕ)) (entries given : List (ℕ × MacroState)) (rows : by_key.FinMap nat_cmp MacroState)
+    (listed : List ℕ)
     → told ≡ Ok entries → given ≡ entries → rows ≡ by_key.from_entries given → map (numbered (by_key.get rows)) listed ≡ macros_of told listed
 told_by_number told entries given rows listed is are from =
     ap (λ f. map (numbered f) listed)

@@ -1,5 +1,5 @@
 -- What runs of fetches come to.
-use Rattle.std.proofs.Common.{◌≡◌, ◌≢◌, ◌⊎◌, ℕ, ◌+◌, Bool, true, false, ◌||◌, cond, eqb, List, [], ◌∷◌, ◌++◌, length, refl, sym, ap, ◌∙◌, ⊎_elim, arith}
+use Rattle.std.proofs.Common.{◌≡◌, ℕ, ◌+◌, Bool, true, false, ◌||◌, cond, eqb, List, [], ◌∷◌, ◌++◌, length, refl, ap, ◌∙◌, ⊎_elim, arith}
 use Rattle.std.specs.Prelude.{Option, Some, None, option_map, option_to_list}
 use Rattle.std.proofs.lemmas.Bool.{cases_Bool, cond-true, cond-false, eqb-true}
 use Rattle.op_board.specs.Queue.{Queue, starts, after_start}
@@ -7,15 +7,18 @@ use Rattle.op_board.specs.QueueRuns.{running}
 use Rattle.workspaces.specs.declared.outputs.FetchOutput.{FetchOutput}
 use Rattle.workspaces.specs.declared.requests.FetchRequest.{FetchRequest}
 use Rattle.workspaces.specs.declared.requests.WaitingFetch.{WaitingFetch}
-use Rattle.workspaces.specs.Fetches.{requested, is_forced, waits_forced, keeping, ask_fetch, is_served, waits_from, plan_fetch, planned_timer, renewed, renew_timer, renewed_timer, fires, ask_waiting, fire, project_change, after_fetch_start, starts_forced, fetch_to_start, start_fetch}
-use Rattle.workspaces.specs.FetchRuns.{FetchAct, fetch_step, fetches_after, IsFetchRun, fetches_started, fetches_ended, newer, last_ordered, asks_force, StartsNone, last_forced}
+use Rattle.workspaces.specs.Fetches.{requested, is_forced, waits_forced, is_served, waits_from, renewed, fires, ask_waiting, fire, starts_forced}
+use Rattle.workspaces.specs.Fetches.{fetch_to_start, start_fetch}
+use Rattle.workspaces.specs.FetchRuns.{FetchAct, fetches_after, IsFetchRun, fetches_started, fetches_ended, newer, last_ordered, asks_force, StartsNone}
+use Rattle.workspaces.specs.FetchRuns.{last_forced}
 use Rattle.workspaces.specs.FetchRuns.FetchAct.{Asks, Plans, Renews, Fires, Starts, Ends}
 use Rattle.workspaces.specs.Workspaces.{Fetches}
 
 -- ---- one fetch runs
 
 started : (w : Option (List ℕ × FetchRequest)) (b : Bool) (o : Option FetchOutput) (hs : List (List ℕ × FetchRequest)) (n : ℕ) → length hs ≡ n + cond b 1 0
-    → length (option_to_list (starts {O = FetchOutput} (record { waiting = w; in_progress = b; last = o })) ++ hs) ≡ n + running (after_start {O = FetchOutput} (record { waiting = w; in_progress = b; last = o }))
+    → length (option_to_list (starts {O = FetchOutput} (record { waiting = w; in_progress = b; last = o })) ++ hs) ≡ n + running
+    (after_start {O = FetchOutput} (record { waiting = w; in_progress = b; last = o }))
 started w true o hs n is = is
 started None false o hs n is = is
 started (Some r) false o hs n is = omega (arith, is)
@@ -25,7 +28,8 @@ started_or_not : (may : Bool) (f : Fetches) (hs : List (List ℕ × FetchRequest
 started_or_not true f hs n is = started f.queue.waiting f.queue.in_progress f.queue.last hs n is
 started_or_not false f hs n is = is
 
-planned_running : (served : Bool) (turn : ℕ) (request : FetchRequest) (f : Fetches) → running f.queue ≡ running (cond served f (waits_from turn request f)).queue
+planned_running : (served : Bool) (turn : ℕ) (request : FetchRequest) (f : Fetches) → running f.queue ≡ running
+    (cond served f (waits_from turn request f)).queue
 planned_running true turn request f = refl
 planned_running false turn request f = refl
 
@@ -90,7 +94,8 @@ waits_for (Fires ticket ∷ before) =
 waits_for (Starts may ∷ before) = started_waits may (fetches_after before) (last_ordered before) (waits_for before)
 waits_for (Ends result ∷ before) = waits_for before
 
-not_due : (ordered : Option ℕ) (ticket : ℕ) (waiting : Option WaitingFetch) → WaitsFor ordered waiting → (ordered ≡ Some ticket → ⊥) → fires ticket waiting ≡ false
+not_due : (ordered : Option ℕ) (ticket : ℕ) (waiting : Option WaitingFetch) → WaitsFor ordered waiting → (ordered ≡ Some ticket → ⊥) → fires ticket waiting
+    ≡ false
 not_due ordered ticket None is other = refl
 not_due ordered ticket (Some fetch) is other =
     ⊎_elim (λ same. absurd (other (is ∙ ap Some (eqb-true fetch.ticket ticket same)))) (λ differs. differs) (cases_Bool (eqb fetch.ticket ticket))
@@ -122,7 +127,8 @@ planned_force : (served : Bool) (turn : ℕ) (request : FetchRequest) (f : Fetch
 planned_force true turn request f is = is
 planned_force false turn request f is = waits_more (is_forced (requested f)) (waits_forced f.waiting) request.force is
 
-renewed_force : (turn : ℕ) (a : Bool) (waiting : Option WaitingFetch) → (a || waits_forced waiting) ≡ true → (a || waits_forced (option_map (renewed turn) waiting)) ≡ true
+renewed_force : (turn : ℕ) (a : Bool) (waiting : Option WaitingFetch) → (a || waits_forced waiting) ≡ true →
+    (a || waits_forced (option_map (renewed turn) waiting)) ≡ true
 renewed_force turn a None is = is
 renewed_force turn a (Some fetch) is = is
 
@@ -130,10 +136,12 @@ fired_force : (due : Bool) (queue : Queue FetchRequest FetchOutput) (forced : Bo
     → asks_force (record { queue = queue; forced = forced; waiting = waiting }) ≡ true
     → asks_force (cond due (ask_waiting waiting (record { queue = queue; forced = forced; waiting = waiting })) (record { queue = queue; forced = forced; waiting = waiting })) ≡ true
 fired_force true queue forced None is = is
-fired_force true queue forced (Some fetch) is = moves (is_forced (option_map (λ (request : List ℕ × FetchRequest). request.1) queue.waiting)) fetch.request.force is
+fired_force true queue forced (Some fetch) is = moves
+    (is_forced (option_map (λ (request : List ℕ × FetchRequest). request.1) queue.waiting)) fetch.request.force is
 fired_force false queue forced waiting is = is
 
-pub stays_forced : (since before : List FetchAct) → StartsNone since → asks_force (fetches_after before) ≡ true → asks_force (fetches_after (since ++ before)) ≡ true
+pub stays_forced : (since before : List FetchAct) → StartsNone since → asks_force (fetches_after before) ≡ true → asks_force
+    (fetches_after (since ++ before)) ≡ true
 stays_forced [] before none is = is
 stays_forced (Asks cause request ∷ since) before none is =
     let f = fetches_after (since ++ before) in

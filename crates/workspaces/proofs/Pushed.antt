@@ -1,5 +1,6 @@
 -- Loops over a list from its front and from its end.
-use Rattle.std.proofs.Common.{◌≡◌, ℕ, ◌+◌, ◌<◌, get_or, List, [], ◌∷◌, ◌++◌, length, take, drop, take-append-drop, take_at, drop_at, refl, sym, ap, ◌∙◌, append_assoc}
+use Rattle.std.proofs.Common.{◌≡◌, ℕ, ◌+◌, ◌<◌, get_or, List, [], ◌∷◌, ◌++◌, length, take, drop, take-append-drop, take_at, drop_at, refl, sym, ap, ◌∙◌}
+use Rattle.std.proofs.Common.{append_assoc}
 use Rattle.std.proofs.lemmas.List.{at_drop_more}
 
 -- the last item of a front, and what stands before it
@@ -14,7 +15,8 @@ cut_last whole rest front last is cut =
     )
 
 -- a list that is made of each item is added behind those of the items before it
-pub behind : {X Y : Type 0} (g : X → List Y) (f : List X → List Y) → ((x : X) (xs : List X) → f (x ∷ xs) ≡ g x ++ f xs) → (xs : List X) (at : ℕ) (list new : List Y) (x : X)
+pub behind : {X Y : Type 0} (g : X → List Y) (f : List X → List Y) → ((x : X) (xs : List X) → f (x ∷ xs) ≡ g x ++ f xs) → (xs : List X) (at : ℕ)
+    (list new : List Y) (x : X)
     → at < length xs → x ≡ get_or xs at x → new ≡ list ++ g x → new ++ f (drop (at + 1) xs) ≡ list ++ f (drop at xs)
 behind g f step xs at list new x some is grows =
     let later = f (drop (at + 1) xs) in

@@ -2,19 +2,21 @@
 use Rattle.std.proofs.Common.{◌≡◌, ℕ, ◌+◌, Bool, true, false, cond, List, [], ◌∷◌, ◌++◌, length, refl, ap, ◌∙◌, arith}
 use Rattle.std.specs.Prelude.{Option, Some, None, option_map, option_to_list}
 use Rattle.std.proofs.lemmas.Bool.{cond-true}
-use Rattle.op_board.specs.Queue.{Queue, starts, after_start}
+use Rattle.op_board.specs.Queue.{starts, after_start}
 use Rattle.op_board.specs.QueueRuns.{running}
 use Rattle.project_model.specs.declared.build.MacroPath.{MacroPath}
 use Rattle.workspaces.specs.Builds.{starts_on, build_to_start, start_build}
 use Rattle.workspaces.specs.Loads.{load_to_start, start_load}
-use Rattle.workspaces.specs.QueueRuns.{BuildAct, builds_after, IsBuildRun, builds_started, builds_ended, last_started, LoadAct, loads_after, IsLoadRun, loads_started, loads_ended}
+use Rattle.workspaces.specs.QueueRuns.{BuildAct, builds_after, IsBuildRun, builds_started, builds_ended, last_started, LoadAct, loads_after, IsLoadRun}
+use Rattle.workspaces.specs.QueueRuns.{loads_started, loads_ended}
 use Rattle.workspaces.specs.QueueRuns.BuildAct.{AsksBuild, StartsBuild, EndsBuild}
 use Rattle.workspaces.specs.QueueRuns.LoadAct.{AsksLoad, StartsLoad, EndsLoad}
 use Rattle.workspaces.specs.Workspaces.{Builds, Loads}
 
 module _ {A O S : Type 0} (made : List ℕ × A → S) where
   pub started : (w : Option (List ℕ × A)) (b : Bool) (o : Option O) (hs : List S) (n : ℕ) → length hs ≡ n + cond b 1 0
-      → length (option_to_list (option_map made (starts {O = O} (record { waiting = w; in_progress = b; last = o }))) ++ hs) ≡ n + running (after_start {O = O} (record { waiting = w; in_progress = b; last = o }))
+      → length (option_to_list (option_map made (starts {O = O} (record { waiting = w; in_progress = b; last = o }))) ++ hs) ≡ n + running
+      (after_start {O = O} (record { waiting = w; in_progress = b; last = o }))
   started w true o hs n is = is
   started None false o hs n is = is
   started (Some r) false o hs n is = omega (arith, is)

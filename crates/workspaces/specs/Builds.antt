@@ -1,5 +1,5 @@
 -- How runs of build data are asked for, start and end.
-use Rattle.std.specs.Prelude.{ℕ, Bool, true, false, if◌then◌else◌, List, [], ◌∷◌, codes, Option, None, Some, option_map, Result, Ok, Err}
+use Rattle.std.specs.Prelude.{ℕ, Bool, false, if◌then◌else◌, List, [], ◌∷◌, codes, Option, None, Some, option_map, Result, Ok, Err}
 use Rattle.op_board.specs.Queue.{starts, after_start}
 use Rattle.op_board.specs.QueueRuns.{queue_step}
 use Rattle.op_board.specs.QueueRuns.QueueAct.{Requests, Ends}

@@ -2,7 +2,8 @@
 use Rattle.std.specs.Prelude.{◌≡◌, ℕ, ◌+◌, Bool, true, false, ◌||◌, List, [], ◌∷◌, ◌++◌, Option, None, Some, option_to_list, Result}
 use Rattle.reload.specs.Switch.{Fetched}
 use Rattle.workspaces.specs.declared.requests.FetchRequest.{FetchRequest}
-use Rattle.workspaces.specs.Fetches.{requested, is_forced, waits_forced, ask_fetch, plan_fetch, planned_timer, renew_timer, renewed_timer, fire, fetch_to_start, start_fetch, end_fetch}
+use Rattle.workspaces.specs.Fetches.{requested, is_forced, waits_forced, ask_fetch, plan_fetch, planned_timer, renew_timer, renewed_timer, fire}
+use Rattle.workspaces.specs.Fetches.{fetch_to_start, start_fetch, end_fetch}
 use Rattle.workspaces.specs.Workspaces.{Fetches, no_fetches}
 
 pub data FetchAct : Type 0 where

@@ -1,5 +1,6 @@
 -- How fetches of workspaces are asked for, wait for a timer, start and end.
-use Rattle.std.specs.Prelude.{ℕ, Bool, true, false, not, ◌&&◌, ◌||◌, ◌==◌, if◌then◌else◌, List, [], ◌∷◌, codes, Option, None, Some, is_some, is_none, option_map, Result, Ok, Err}
+use Rattle.std.specs.Prelude.{ℕ, Bool, false, not, ◌&&◌, ◌||◌, ◌==◌, if◌then◌else◌, List, [], ◌∷◌, codes, Option, None, Some, is_some, is_none, option_map}
+use Rattle.std.specs.Prelude.{Result, Ok, Err}
 use Rattle.op_board.specs.Queue.{starts, after_start}
 use Rattle.op_board.specs.QueueRuns.{queue_step}
 use Rattle.op_board.specs.QueueRuns.QueueAct.{Requests, Ends}

@@ -1,5 +1,5 @@
 -- How loads of macros are asked for, start and end.
-use Rattle.std.specs.Prelude.{ℕ, Bool, false, if◌then◌else◌, List, [], ◌∷◌, ◌++◌, map, codes, Option, None, Some, option_map, unwrap_or, Result, Ok, Err, is_ok}
+use Rattle.std.specs.Prelude.{ℕ, Bool, false, if◌then◌else◌, List, [], ◌∷◌, ◌++◌, map, Option, None, Some, option_map, unwrap_or, Result, Ok, Err, is_ok}
 use Rattle.std.specs.FinMap as by_key
 use Rattle.std.specs.Ordering.{nat_cmp}
 use Rattle.op_board.specs.Queue.{starts, after_start}

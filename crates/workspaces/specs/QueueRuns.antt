@@ -1,5 +1,5 @@
 -- Runs of the calls on build data and on macros: what they did, one act after another. A run has its last act first.
-use Rattle.std.specs.Prelude.{◌≡◌, ℕ, ◌+◌, Bool, true, List, [], ◌∷◌, ◌++◌, Option, option_to_list, Result}
+use Rattle.std.specs.Prelude.{◌≡◌, ℕ, ◌+◌, Bool, true, List, [], ◌∷◌, ◌++◌, option_to_list, Result}
 use Rattle.project_model.specs.declared.build.MacroPath.{MacroPath}
 use Rattle.project_model.specs.declared.crates.CrateData.{CrateData}
 use Rattle.project_model.specs.declared.crates.MacroState.{MacroState}

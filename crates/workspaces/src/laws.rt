@@ -1,5 +1,5 @@
 // What the calls come to.
-ghost use Rattle.std.specs.Prelude.{◌≡◌, ◌≢◌, ◌⊎◌, ℕ, ◌+◌, Bool, true, false, List, ◌++◌, Option, Some, None, Result, length, map};
+ghost use Rattle.std.specs.Prelude.{◌≡◌, ◌≢◌, ◌⊎◌, ℕ, ◌+◌, Bool, true, false, List, ◌++◌, Some, None, Result, length, map};
 ghost use Rattle.op_board.specs.QueueRuns.{running};
 ghost use Rattle.project_model.specs.declared.crates.MacroState.{MacroState};
 ghost use Rattle.project_model.specs.declared.workspace.ProjectWorkspace.{ProjectWorkspace};
@@ -7,10 +7,12 @@ ghost use Rattle.reload.specs.Switch.{Fetched, Runs, joined};
 ghost use Rattle.reload.specs.declared.switch.Switch.{Switch};
 ghost use Rattle.reload.specs.declared.switch.Switch.TheVariants.{Join};
 ghost use Rattle.workspaces.specs.Builds.{build_to_start, end_build, runs_of};
-ghost use Rattle.workspaces.specs.FetchRuns.{FetchAct, fetches_after, IsFetchRun, fetches_started, fetches_ended, last_ordered, asks_force, StartsNone, last_forced};
+ghost use Rattle.workspaces.specs.FetchRuns.{FetchAct, fetches_after, IsFetchRun, fetches_started, fetches_ended, last_ordered, asks_force, StartsNone};
+ghost use Rattle.workspaces.specs.FetchRuns.{last_forced};
 ghost use Rattle.workspaces.specs.Fetches.{fetch_to_start, start_fetch, end_fetch, starts_forced, fire};
 ghost use Rattle.workspaces.specs.Loads.{load_to_start, macros_of};
-ghost use Rattle.workspaces.specs.QueueRuns.{BuildAct, builds_after, IsBuildRun, builds_started, builds_ended, last_started, LoadAct, loads_after, IsLoadRun, loads_started, loads_ended};
+ghost use Rattle.workspaces.specs.QueueRuns.{BuildAct, builds_after, IsBuildRun, builds_started, builds_ended, last_started, LoadAct, loads_after, IsLoadRun};
+ghost use Rattle.workspaces.specs.QueueRuns.{loads_started, loads_ended};
 ghost use Rattle.workspaces.specs.Switching.{was_forced, version_built, Decides};
 ghost use Rattle.workspaces.specs.Workspaces.{Builds, Fetches, Loads, Workspaces};
 ghost use Rattle.workspaces.specs.declared.outputs.BuildOutput.{BuildOutput};

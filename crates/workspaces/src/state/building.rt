@@ -40,6 +40,13 @@ impl Workspaces {
         Ok(())
     }
 
+    /// Whether a run of build data is in progress.
+    pub fn is_building(&self) -> bool
+        ensures { result ≡ self.now.builds.queue.in_progress }
+    {
+        self.builds.op_in_progress()
+    }
+
     /// Whether a run of build data waits.
     pub fn is_build_requested(&self) -> bool
         ensures { result ≡ is_some self.now.builds.queue.waiting }

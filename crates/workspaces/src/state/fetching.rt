@@ -2,7 +2,8 @@
 ghost use Rattle.std.specs.Prelude.{◌≡◌, true, is_some, IfOk, OnOk, OnErr};
 ghost use Rattle.std.specs.Option.{option_copied};
 ghost use Rattle.reload.specs.Errors.{fetch_error};
-ghost use Rattle.workspaces.specs.Fetches.{requested, is_forced, waits_forced, ask_fetch, start_up, fetch_to_start, start_fetch, fetched_of, end_fetch, is_served, plan_fetch, planned_timer, renew_timer, renewed_timer, fires, fire};
+ghost use Rattle.workspaces.specs.Fetches.{requested, is_forced, waits_forced, ask_fetch, start_up, fetch_to_start, start_fetch, fetched_of, end_fetch};
+ghost use Rattle.workspaces.specs.Fetches.{is_served, plan_fetch, planned_timer, renew_timer, renewed_timer, fires, fire};
 ghost use Rattle.workspaces.specs.Switching.{list_fetched};
 
 use crate::outputs::{FetchOutput, list_fetched};
@@ -135,6 +136,13 @@ impl Workspaces {
             self.ask_fetch(cause, fetch.request);
         }
         Ok(())
+    }
+
+    /// Whether a fetch is in progress.
+    pub fn is_fetching(&self) -> bool
+        ensures { result ≡ self.now.fetches.queue.in_progress }
+    {
+        self.fetches.op_in_progress()
     }
 
     /// Whether a fetch waits in the queue.

@@ -1,6 +1,5 @@
 // Loads of macros.
 ghost use Rattle.std.specs.Prelude.{◌≡◌, true, Some, option_map, IfOk, OnOk, OnErr};
-ghost use Rattle.std.specs.Option.{option_copied};
 ghost use Rattle.workspaces.specs.Loads.{ask_load, load_to_start, start_load, end_load, loaded_crates, listed_for, macros_of, macros_put, was_loaded};
 
 use crate::macros::{listed_in, macros_of};
@@ -89,6 +88,13 @@ impl Workspaces {
         let macros = macros_for(self.alloc, &told, &self.loading)?;
         self.loads.op_completed(told.is_ok());
         Ok(put_macros(self.loading.take(), macros))
+    }
+
+    /// Whether a load of macros is in progress.
+    pub fn is_loading(&self) -> bool
+        ensures { result ≡ self.now.loads.queue.in_progress }
+    {
+        self.loads.op_in_progress()
     }
 
     /// Whether the last load of macros succeeded.

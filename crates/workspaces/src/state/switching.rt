@@ -1,7 +1,8 @@
 // Switches to what was fetched and built.
 ghost use Rattle.std.specs.Prelude.{◌≡◌, ◌+◌, ◌<◌, ◌^◌, ◌↔◌, IsTrue, IfOk, MatchResult};
 ghost use Rattle.reload.specs.Switch.{is_empty};
-ghost use Rattle.workspaces.specs.Switching.{Decides, new_workspaces_cause, asks_build, presents, next_version, followed, renewed_by, switch_to, Gives, SwitchesFrom};
+ghost use Rattle.workspaces.specs.Switching.{Decides, new_workspaces_cause, asks_build, presents, next_version, followed, renewed_by, switch_to, Gives};
+ghost use Rattle.workspaces.specs.Switching.{SwitchesFrom};
 ghost use Rattle.workspaces.specs.declared.follows.SwitchFault.TheVariants.{Exhausted};
 
 use crate::follows::{Follows, SwitchFault};

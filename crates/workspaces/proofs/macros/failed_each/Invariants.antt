@@ -1,4 +1,4 @@
-use Rattle.std.proofs.Common.{◌≡◌, ℕ, ◌++◌, drop, map}
+use Rattle.std.proofs.Common.{◌≡◌, ◌++◌, drop, map}
 use Rattle.std.specs.Prelude.{Some}
 use Rattle.project_model.specs.declared.crates.MacroState.TheVariants.{Failed}
 use Rattle.workspaces.specs.Loads.{numbered}
