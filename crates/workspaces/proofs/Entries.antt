@@ -36,5 +36,6 @@ pub told_by_number : (told : Result (List (ℕ × MacroState)) (List ℕ)) (entr
     → told ≡ Ok entries → given ≡ entries → rows ≡ by_key.from_entries given → map (numbered (by_key.get rows)) listed ≡ macros_of told listed
 told_by_number told entries given rows listed is are from =
     ap (λ f. map (numbered f) listed)
-    (ap by_key.get (from ∙ ap (λ (es : List (ℕ × MacroState)). by_key.from_entries {R = nat_cmp} es) are) ∙ (λ i number. by_key.get-from_entries nat_cmp_total entries number i))
+    (ap by_key.get (from ∙ ap (λ (es : List (ℕ × MacroState)). by_key.from_entries {R = nat_cmp} es) are)
+    ∙ (λ i number. by_key.get-from_entries nat_cmp_total entries number i))
     ∙ ap (λ t. macros_of t listed) (sym is)

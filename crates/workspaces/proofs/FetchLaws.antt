@@ -133,8 +133,8 @@ renewed_force turn a None is = is
 renewed_force turn a (Some fetch) is = is
 
 fired_force : (due : Bool) (queue : Queue FetchRequest FetchOutput) (forced : Bool) (waiting : Option WaitingFetch)
-    → asks_force (record { queue = queue; forced = forced; waiting = waiting }) ≡ true
-    → asks_force (cond due (ask_waiting waiting (record { queue = queue; forced = forced; waiting = waiting })) (record { queue = queue; forced = forced; waiting = waiting })) ≡ true
+    → let f : Fetches = record { queue = queue; forced = forced; waiting = waiting } in
+    asks_force f ≡ true → asks_force (cond due (ask_waiting waiting f) f) ≡ true
 fired_force true queue forced None is = is
 fired_force true queue forced (Some fetch) is = moves
     (is_forced (option_map (λ (request : List ℕ × FetchRequest). request.1) queue.waiting)) fetch.request.force is

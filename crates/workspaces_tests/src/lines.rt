@@ -29,7 +29,7 @@ const SWITCHES: &str = "switch version > nothing version 0
 up start found:/w switch present version build wanted > startup on 1 initial /w version 1 build 1 no
 up start found:/w switch build made:one switch present version > startup on 1 initial build 1 on 2 /w=one version 2
 up start found:/w switch:off build > startup on 1 initial no build
-up start found:/w switch build ask:more start build made:old found:/w,/v switch switch present build > startup on 1 initial build 1 more no build wait 0 nothing /w /v build 2
+up start found:/w switch build ask:b start build made:a found:/w,/v switch switch present > startup on 1 initial build 1 b no build wait 0 nothing /w /v
 up start found:/w,/v switch build made:one switch present build-error > startup on 1 initial build 1 on 2 /w=one /v= one missing
 up start found:/w switch build made:!cancelled build-error > startup on 1 initial build 1 cancelled
 up start found:/w switch ask:again! start found:/w switch > startup on 1 initial again! crates
