@@ -5,6 +5,7 @@ use Rattle.op_board.specs.QueueRuns.{queue_step}
 use Rattle.op_board.specs.QueueRuns.QueueAct.{Requests, Ends}
 use Rattle.project_model.specs.declared.workspace.ProjectWorkspace.{ProjectWorkspace}
 use Rattle.reload.specs.Switch.{Runs}
+use Rattle.workspaces.specs.Fetches.{unforced, ask_fetch}
 use Rattle.workspaces.specs.Workspaces.{Builds, Workspaces}
 
 abbrev pub ask_build : List ℕ → Builds → Builds
@@ -50,3 +51,11 @@ rebuild w =
     if w.build_deps_changed
     then record w { builds = ask_build (codes "build_deps_changed - save notification") w.builds; build_deps_changed = false }
     else w
+
+-- a client asks for its workspaces anew
+abbrev pub reload : Workspaces → Workspaces
+reload w = record w { fetches = ask_fetch (codes "reload workspace request") unforced w.fetches; build_deps_changed = false }
+
+-- a client asks for its macros anew
+abbrev pub rebuild_macros : Workspaces → Workspaces
+rebuild_macros w = record w { builds = ask_build (codes "rebuild proc macros request") w.builds; build_deps_changed = false }

@@ -1,14 +1,16 @@
 -- How loads of macros are asked for, start and end.
 use Rattle.std.specs.Prelude.{ℕ, Bool, false, if◌then◌else◌, List, [], ◌∷◌, ◌++◌, map, Option, None, Some, option_map, unwrap_or, Result, Ok, Err, is_ok}
 use Rattle.std.specs.FinMap as by_key
+use Rattle.std.specs.List.{enumerate_from}
 use Rattle.std.specs.Ordering.{nat_cmp}
 use Rattle.op_board.specs.Queue.{starts, after_start}
 use Rattle.op_board.specs.QueueRuns.{queue_step}
 use Rattle.op_board.specs.QueueRuns.QueueAct.{Requests, Ends}
 use Rattle.project_model.specs.declared.build.MacroPath.{MacroPath}
 use Rattle.project_model.specs.declared.crates.CrateData.{CrateData}
+use Rattle.project_model.specs.declared.crates.CrateInfo.{CrateInfo}
 use Rattle.project_model.specs.declared.crates.MacroState.{MacroState}
-use Rattle.project_model.specs.declared.crates.MacroState.TheVariants.{Failed}
+use Rattle.project_model.specs.declared.crates.MacroState.TheVariants.{NotYetBuilt, Disabled, Failed}
 use Rattle.workspaces.specs.declared.requests.LoadRequest.{LoadRequest}
 use Rattle.workspaces.specs.declared.requests.WaitingCrates.{WaitingCrates}
 use Rattle.workspaces.specs.Builds.{missing}
@@ -55,6 +57,18 @@ numbered told number = (number, state_or_missing (told number))
 abbrev pub macros_of : Result (List (ℕ × MacroState)) (List ℕ) → List ℕ → List (ℕ × MacroState)
 macros_of (Ok entries) listed = map (numbered (told_of entries)) listed
 macros_of (Err error) listed = map (numbered (λ number. Some (Failed error))) listed
+
+-- each crate by its number, in this state
+abbrev pub all_in : MacroState → List CrateInfo → List (ℕ × MacroState)
+all_in state crates = map (λ (entry : ℕ × CrateInfo). (entry.0, state)) (enumerate_from 0 crates)
+
+-- macros that aren't loaded: not yet, or not at all
+abbrev pub unloaded : Bool → MacroState
+unloaded enabled = if enabled then NotYetBuilt else Disabled
+
+-- crate data that doesn't wait for its macros
+abbrev pub without_macros : Bool → CrateData → CrateData
+without_macros enabled graph = record { crates = graph.crates; env = graph.env; macros = all_in (unloaded enabled) graph.crates }
 
 -- the crates whose macros crate data waits for
 abbrev pub listed_for : Option WaitingCrates → List ℕ

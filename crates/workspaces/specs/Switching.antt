@@ -53,7 +53,7 @@ abbrev pub presents : List ProjectWorkspace → Workspaces → Workspaces
 presents new w = record (settled w) { present = new; version = w.version + 1 }
 
 abbrev pub new_workspaces_cause : List ℕ
-new_workspaces_cause = codes "cargo.buildScripts.enable"
+new_workspaces_cause = codes "workspace updated"
 
 -- the new workspaces ask for their build data
 abbrev pub asks_build : Bool → Workspaces → Workspaces

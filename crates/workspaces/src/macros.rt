@@ -1,13 +1,13 @@
 //! What became of the macros of each crate that was listed.
-ghost use Rattle.std.specs.Prelude.{◌≡◌, ◌++◌, map, Some, IfOk, OnOk};
+ghost use Rattle.std.specs.Prelude.{◌≡◌, ◌<◌, ◌^◌, ◌++◌, length, map, Some, IfOk, OnOk};
 ghost use Rattle.std.specs.FinMap as by_key;
 ghost use Rattle.std.specs.Option.{option_copied};
 ghost use Rattle.project_model.specs.declared.build.MacroPath.{MacroPath};
 ghost use Rattle.project_model.specs.declared.crates.MacroState.TheVariants.{Failed};
-ghost use Rattle.workspaces.specs.Loads.{listed_in, state_or_missing, numbered, macros_of};
+ghost use Rattle.workspaces.specs.Loads.{listed_in, state_or_missing, numbered, macros_of, all_in, unloaded, without_macros};
 
 use plain::{ByNumber, Items, NoMemory, Text};
-use project_model::{MacroPath, MacroState};
+use project_model::{CrateData, CrateInfo, MacroPath, MacroState};
 use std::alloc::Global;
 
 fn push_listed(listed: &mut Items<u32>, paths: &[(u32, MacroPath)]) -> Result<(), NoMemory>
@@ -98,4 +98,43 @@ pub(crate) fn macros_of(
         }
         Err(error) => failed_each(alloc, error, listed),
     }
+}
+
+/// Each crate by its number, in this state.
+fn all_in(
+    alloc: Global,
+    state: &MacroState,
+    crates: &[CrateInfo],
+) -> Result<Items<(u32, MacroState)>, NoMemory>
+    requires { length crates.now < 2 ^ 32 }
+    ensures { IfOk result (λ macros. macros ≡ all_in state.now crates.now) }
+{
+    let mut macros = Items::new(alloc);
+    for (index, _info) in crates.iter().enumerate() {
+        macros.push((index as u32, state.clone()?))?;
+    }
+    Ok(macros)
+}
+
+fn unloaded(enabled: bool) -> MacroState
+    ensures { result ≡ unloaded enabled }
+{
+    if enabled {
+        MacroState::NotYetBuilt
+    } else {
+        MacroState::Disabled
+    }
+}
+
+/// Crate data that doesn't wait for its macros: those of each crate are not yet built, or disabled where macros are off.
+pub fn without_macros(alloc: Global, graph: CrateData, enabled: bool) -> Result<CrateData, NoMemory>
+    requires { length graph.crates < 2 ^ 32 }
+    ensures { IfOk result (λ made. made ≡ without_macros enabled graph) }
+{
+    let macros = all_in(alloc, &unloaded(enabled), graph.crates.as_slice())?;
+    Ok(CrateData {
+        crates: graph.crates,
+        env: graph.env,
+        macros,
+    })
 }

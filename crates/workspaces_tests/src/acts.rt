@@ -1,10 +1,12 @@
 // What is done with workspaces, word by word, and what is answered.
-use crate::values::{crates, cut, found, made, only, path_at, paths, request, text_of, told};
+use crate::values::{
+    crates, cut, found, made, only, path_at, paths, request, text_of, told, two_crates,
+};
 use plain::Text;
 use project_model::{BuildScripts, CrateData, MacroState, ProjectWorkspace};
 use std::alloc::Global;
 use std::fmt::Write;
-use workspaces::{FetchRequest, Follows, SwitchFault, Workspaces};
+use workspaces::{FetchRequest, Follows, SwitchFault, Workspaces, without_macros};
 
 fn push(out: &mut String, more: &str) -> Option<()> {
     out.push_str(more).ok()
@@ -101,7 +103,9 @@ fn push_state(out: &mut String, number: u32, state: &MacroState) -> Option<()> {
     push_number(out, "", number as u64)?;
     match state {
         MacroState::Failed(error) => push(out, error.as_str())?,
-        _ => push(out, "loaded")?,
+        MacroState::NotYetBuilt => push(out, "not yet")?,
+        MacroState::Disabled => push(out, "disabled")?,
+        MacroState::Loaded(_) => push(out, "loaded")?,
     }
     push(out, " ")
 }
@@ -116,6 +120,15 @@ fn push_crates(out: &mut String, crates: &Option<CrateData>) -> Option<()> {
             Some(())
         }
     }
+}
+
+/// What becomes of two crates that don't wait for their macros.
+fn push_unloaded(alloc: Global, out: &mut String, enabled: bool) -> Option<()> {
+    let graph = two_crates(alloc)?;
+    if graph.crates.len() > 2 {
+        return None;
+    }
+    push_crates(out, &without_macros(alloc, graph, enabled).ok())
 }
 
 fn end_load(alloc: Global, all: &mut Workspaces, out: &mut String, word: &str) -> Option<()> {
@@ -234,6 +247,9 @@ fn act(alloc: Global, all: &mut Workspaces, out: &mut String, word: &str) -> Opt
             Some(())
         }
         "saved" => all.rebuild().ok(),
+        "reload" => all.reload().ok(),
+        "rebuild" => all.rebuild_macros().ok(),
+        "unloaded" => push_unloaded(alloc, out, rest == "on"),
         "ask-load" => ask_load(alloc, all, rest),
         "load" => start_load(all, out),
         "told" => end_load(alloc, all, out, rest),

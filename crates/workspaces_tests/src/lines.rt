@@ -36,6 +36,9 @@ up start found:/w switch ask:again! start found:/w switch > startup on 1 initial
 up start found:/w switch ask:again start found:!broken switch present > startup on 1 initial again nothing /w
 changed requested saved requested saved build > no yes build 0
 saved build > no build
+changed reload saved build start > no build reload workspace request
+changed rebuild saved build > build 0
+unloaded:on unloaded:off > 0 not yet 1 not yet 0 disabled 1 disabled
 ask-load:4,7 load told:7=a,7=b,9=c succeeded > load 1 4 missing 7 a yes
 ask-load:4 load told:!broken succeeded idle > load 1 4 broken no yes
 ask-load:4 up start load found:/a load > startup no load load 1

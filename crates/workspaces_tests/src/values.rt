@@ -1,8 +1,8 @@
 // Values that tests are made of. No call here claims anything, and each answers none also where memory runs out.
-use docs_vfs::{ByPath, VfsPath};
+use docs_vfs::{ByPath, FileId, VfsPath};
 use plain::{Items, Text};
 use project_model::{
-    BuildScripts, CrateData, MacroPath, MacroState, ProjectWorkspace, WorkspaceKind,
+    BuildScripts, CrateData, CrateInfo, MacroPath, MacroState, ProjectWorkspace, WorkspaceKind,
 };
 use std::alloc::Global;
 use workspaces::FetchRequest;
@@ -134,6 +134,28 @@ pub(crate) fn crates(alloc: Global) -> CrateData {
         env: Items::new(alloc),
         macros: Items::new(alloc),
     }
+}
+
+fn push_crate(alloc: Global, list: &mut Items<CrateInfo>, file: u32) -> Option<()> {
+    let info = CrateInfo {
+        root: FileId(file),
+        name: None,
+        deps: Items::new(alloc),
+        is_proc_macro: false,
+    };
+    list.push(info).ok()
+}
+
+fn push_two(alloc: Global, list: &mut Items<CrateInfo>) -> Option<()> {
+    push_crate(alloc, list, 7)?;
+    push_crate(alloc, list, 9)
+}
+
+/// A graph of two crates.
+pub(crate) fn two_crates(alloc: Global) -> Option<CrateData> {
+    let mut graph = crates(alloc);
+    push_two(alloc, &mut graph.crates)?;
+    Some(graph)
 }
 
 fn push_path(alloc: Global, list: &mut Items<(u32, MacroPath)>, number: u32) -> Option<()> {

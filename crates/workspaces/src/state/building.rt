@@ -2,10 +2,11 @@
 ghost use Rattle.std.specs.Prelude.{◌≡◌, true, is_some, IfOk, OnOk, OnErr};
 ghost use Rattle.std.specs.Option.{option_copied};
 ghost use Rattle.reload.specs.Errors.{build_error};
-ghost use Rattle.workspaces.specs.Builds.{ask_build, build_to_start, start_build, end_build, rebuild};
+ghost use Rattle.workspaces.specs.Builds.{ask_build, build_to_start, start_build, end_build, rebuild, rebuild_macros, reload};
 ghost use Rattle.workspaces.specs.Switching.{runs_built};
 
 use crate::outputs::{BuildOutput, runs_built};
+use crate::requests::FetchRequest;
 use crate::runs::runs_of;
 use crate::state::Workspaces;
 use plain::{Items, NoMemory, Text};
@@ -37,6 +38,28 @@ impl Workspaces {
             self.ask_build(cause);
             self.build_deps_changed = false;
         }
+        Ok(())
+    }
+
+    /// A client asks for its workspaces anew.
+    pub fn reload(&mut self) -> Result<(), NoMemory>
+        ensures ok { OnOk result (self.new ≡ reload self.old) }
+        ensures err { OnErr result (self.new ≡ self.old) }
+    {
+        let cause = Text::from_str(self.alloc, "reload workspace request")?;
+        self.ask_fetch(cause, FetchRequest::unforced());
+        self.build_deps_changed = false;
+        Ok(())
+    }
+
+    /// A client asks for its macros anew.
+    pub fn rebuild_macros(&mut self) -> Result<(), NoMemory>
+        ensures ok { OnOk result (self.new ≡ rebuild_macros self.old) }
+        ensures err { OnErr result (self.new ≡ self.old) }
+    {
+        let cause = Text::from_str(self.alloc, "rebuild proc macros request")?;
+        self.ask_build(cause);
+        self.build_deps_changed = false;
         Ok(())
     }
 

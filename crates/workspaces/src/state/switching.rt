@@ -100,7 +100,7 @@ impl Workspaces {
         ensures { Gives (renewed_by workspaces msrv ask_build go_on self.old) self.old result self.new }
     {
         let loader_version = next_version(go_on, self.loader_version)?;
-        let cause = Text::from_str(self.alloc, "cargo.buildScripts.enable")?;
+        let cause = Text::from_str(self.alloc, "workspace updated")?;
         let initial = is_empty(self.present.as_slice());
         self.put_present(workspaces);
         self.ask_build_if(ask_build, cause);
