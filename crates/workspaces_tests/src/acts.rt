@@ -33,13 +33,9 @@ fn push_request(out: &mut String, cause: &Text, request: &FetchRequest) -> Optio
 }
 
 fn ask(alloc: Global, all: &mut Workspaces, word: &str) -> Option<()> {
-    let (cause, rest) = cut(word, "/");
-    let request = if rest.is_empty() {
-        request(alloc, word)?
-    } else {
-        request(alloc, &word[cause.len()..])?
-    };
-    let cause = text_of(alloc, cut(cause, "!").0)?;
+    let (cause, rest) = cut(word, "=");
+    let request = request(alloc, rest)?;
+    let cause = text_of(alloc, cause)?;
     all.ask_fetch(cause, request);
     Some(())
 }

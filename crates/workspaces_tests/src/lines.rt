@@ -5,9 +5,9 @@ use crate::acts::agrees;
 const FETCHES: &str = "up start start idle > startup no fetch no
 up:discover start idle > no fetch yes
 ask:one ask:two start > two
-ask:one! ask:two/w start > two /w!
+ask:one=! ask:two=/w start > two /w!
 ask:one start:off start > no fetch one
-ask:one! start ask:two start found:/a start > one! no fetch two
+ask:one=! start ask:two start found:/a start > one! no fetch two
 plan:3=/a start fire:3 start > timer 3 no fetch project structure change /a
 plan:3=! plan:5=/b fire:3 start fire:5 start > timer 3 timer 5 no fetch project structure change /b!
 plan:3= renew:4 fire:3 start fire:4 fire:4 start idle > timer 3 timer 4 no fetch project structure change no
@@ -32,7 +32,7 @@ up start found:/w switch:off build > startup on 1 initial no build
 up start found:/w switch build ask:b start build made:a found:/w,/v switch switch present > startup on 1 initial build 1 b no build wait 0 nothing /w /v
 up start found:/w,/v switch build made:one switch present build-error > startup on 1 initial build 1 on 2 /w=one /v= one missing
 up start found:/w switch build made:!cancelled build-error > startup on 1 initial build 1 cancelled
-up start found:/w switch ask:again! start found:/w switch > startup on 1 initial again! crates
+up start found:/w switch ask:again=! start found:/w switch > startup on 1 initial again! crates
 up start found:/w switch ask:again start found:!broken switch present > startup on 1 initial again nothing /w
 changed requested saved requested saved build > no yes build 0
 saved build > no build
