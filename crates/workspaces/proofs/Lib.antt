@@ -1,0 +1,5 @@
+pub mod Decided
+pub mod FetchLaws
+pub mod Entries
+pub mod Pushed
+pub mod QueueLaws

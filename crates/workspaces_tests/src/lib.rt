@@ -1,0 +1,10 @@
+//! Tests of the workspaces of a session, by their public calls: lines of words that one interpreter reads. The calls go
+//! through wrappers that claim nothing, and one function alone owns workspaces.
+#![tactic(auto)]
+
+#[cfg(test)]
+mod acts;
+#[cfg(test)]
+mod lines;
+#[cfg(test)]
+mod values;
