@@ -1,7 +1,7 @@
 // The projects that a session works on, and the roots of its workspaces.
 use crate::words::first_wrong;
 
-/// Runs of calls. `roots` tells the root and then the roots of the workspaces. `apart` adds some and takes one out, of equal ones
+/// Runs of calls. `roots` tells the root and then the roots of the workspaces. `apart` adds some or takes one out, of equal ones
 /// the first, and tells the roots of a copy that was made before. `compare` tells whether checks on save and the projects are the
 /// same as in other settings, which a change at the start makes.
 const RUNS: &str = r#"change client {} > same
@@ -19,9 +19,11 @@ projects > /w/a;{"k":1};
 discover 1 a > done
 projects > /w/a;{"k":1};1a;;
 
-apart / /w, /w > done, done, copy at /w with /w;
+apart add / /w > done, copy at /w with /w;
+roots > /w with /w;/;/w;
+apart remove /w > done, copy at /w with /w;/;/w;
 roots > /w with /;/w;
-remove /none > done
+apart remove /none > done, copy at /w with /;/w;
 roots > /w with /;/w;
 projects > /Cargo.toml;/w/Cargo.toml;
 

@@ -118,17 +118,19 @@ fn copy_of(config: &Config) -> Option<Config> {
     config.clone().ok()
 }
 
-fn add_and_remove(alloc: Global, config: &mut Config, words: &str, out: &mut String) {
-    let (added, removed) = cut(words, ", ");
-    push_done(out, add_roots(alloc, config, added));
-    push(out, ", ");
-    push_done(out, remove_root(alloc, config, removed));
+/// Adds roots, or takes the first that is equal out.
+fn edit_roots(alloc: Global, config: &mut Config, words: &str) -> Option<()> {
+    let (name, words) = cut(words, " ");
+    match name {
+        "add" => add_roots(alloc, config, words),
+        _ => remove_root(alloc, config, words),
+    }
 }
 
-/// The roots of a copy, where roots are added to the settings and one is taken out.
+/// Edits the roots, and tells those of a copy that was made before.
 fn change_apart(alloc: Global, config: &mut Config, words: &str, out: &mut String) {
     if let Some(copy) = copy_of(config) {
-        add_and_remove(alloc, config, words, out);
+        push_done(out, edit_roots(alloc, config, words));
         push(out, ", copy at ");
         push_roots(&copy, out);
     }
@@ -188,7 +190,6 @@ fn tell(alloc: Global, config: &mut Config, call: &str, out: &mut String) {
         "can" => can(alloc, config, words, out),
         "discover" => push_done(out, discover(alloc, config, words)),
         "apart" => change_apart(alloc, config, words, out),
-        "remove" => push_done(out, remove_root(alloc, config, words)),
         _ => ask(alloc, config, name, words, out),
     }
 }
