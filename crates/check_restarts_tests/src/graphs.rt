@@ -1,97 +1,127 @@
-use crate::made::path_at;
+// Crates by words, and those that depend on others.
+use crate::calls::{cut, path, paths, push};
 use check_restarts::affected_roots;
 use docs_vfs::{FileId, VfsPath};
 use plain::Items;
 use project_model::CrateInfo;
 use std::alloc::Global;
-use std::test::Fail;
 
-/// Crates: of each its root, and the numbers of its dependencies.
-pub(crate) type Graph = &'static [(&'static str, &'static [u32])];
-
-fn crate_of(alloc: Global, number: u32, deps: &[u32]) -> Result<CrateInfo, Fail> {
-    let mut list = Items::new(alloc);
-    for dep in deps {
-        list.push(*dep)?;
+fn push_dep(deps: &mut Items<u32>, word: &str) {
+    if let Ok(number) = word.parse() {
+        let _ = deps.push(number);
     }
-    Ok(CrateInfo {
+}
+
+fn deps_of(alloc: Global, words: &str) -> Items<u32> {
+    let mut deps = Items::new(alloc);
+    for word in words.split_whitespace() {
+        push_dep(&mut deps, word);
+    }
+    deps
+}
+
+fn crate_of(alloc: Global, number: u32, deps: &str) -> CrateInfo {
+    CrateInfo {
         root: FileId(number),
         name: None,
-        deps: list,
+        deps: deps_of(alloc, deps),
         is_proc_macro: false,
-    })
+    }
 }
 
-/// The crates of a graph.
-pub(crate) fn crates_of(alloc: Global, graph: Graph) -> Result<Vec<CrateInfo>, Fail> {
-    let mut crates = Vec::new(alloc);
+/// The crates of a graph: between commas each with its root and the numbers of those that it depends on.
+pub(crate) fn crates_of(alloc: Global, graph: &str) -> Items<CrateInfo> {
+    let mut crates = Items::new(alloc);
     let mut number = 0u32;
-    for (_root, deps) in graph {
-        crates.push(crate_of(alloc, number, deps)?)?;
-        number = number.wrapping_add(1);
+    for one in graph.split(", ") {
+        if one.starts_with('/') {
+            let _ = crates.push(crate_of(alloc, number, cut(one, " ").1));
+            number = number.wrapping_add(1);
+        }
     }
-    Ok(crates)
+    crates
 }
 
-/// The paths of their roots.
-pub(crate) fn paths_of(alloc: Global, graph: Graph) -> Result<Vec<VfsPath>, Fail> {
-    let mut paths = Vec::new(alloc);
-    for (root, _deps) in graph {
-        paths.push(path_at(alloc, root)?)?;
+fn push_root(alloc: Global, roots: &mut Items<VfsPath>, one: &str) {
+    if let Some(root) = path(alloc, cut(one, " ").0) {
+        let _ = roots.push(root);
     }
-    Ok(paths)
+}
+
+/// The paths of the crates' roots.
+pub(crate) fn roots_of(alloc: Global, graph: &str) -> Items<VfsPath> {
+    let mut roots = Items::new(alloc);
+    for one in graph.split(", ") {
+        push_root(alloc, &mut roots, one);
+    }
+    roots
+}
+
+fn affected_among(
+    alloc: Global,
+    crates: &[CrateInfo],
+    paths: &[VfsPath],
+    roots: &[VfsPath],
+) -> Option<Items<VfsPath>> {
+    if paths.len() == crates.len() {
+        affected_roots(alloc, crates, paths, roots).ok()
+    } else {
+        None
+    }
+}
+
+fn affected_of(alloc: Global, graph: &str, roots: &str) -> Option<Items<VfsPath>> {
+    let crates = crates_of(alloc, graph);
+    let paths_of_roots = roots_of(alloc, graph);
+    let roots = paths(alloc, roots);
+    affected_among(
+        alloc,
+        crates.as_slice(),
+        paths_of_roots.as_slice(),
+        roots.as_slice(),
+    )
+}
+
+fn push_paths(out: &mut String, paths: &[VfsPath]) {
+    for path in paths {
+        push(out, " ");
+        push(out, path.as_str());
+    }
+}
+
+/// The roots of the crates that are affected, each behind a space.
+fn affected(alloc: Global, graph: &str, roots: &str) -> String {
+    let mut text = String::new(alloc);
+    match affected_of(alloc, graph, roots) {
+        Some(list) => push_paths(&mut text, list.as_slice()),
+        None => push(&mut text, "no memory"),
+    }
+    text
 }
 
 /// Six crates: three in a row, one that depends on itself, and two that depend on each other and on the third. One
 /// names a crate that there isn't.
-const SIX: Graph = &[
-    ("/a", &[]),
-    ("/b", &[0]),
-    ("/c", &[1, 9]),
-    ("/d", &[3]),
-    ("/e", &[2, 5]),
-    ("/f", &[4]),
-];
+const SIX: &str = "/a, /b 0, /c 1 9, /d 3, /e 2 5, /f 4";
 
-/// The roots of the crates that are affected, each behind a space.
-fn affected(alloc: Global, roots: &str) -> Result<String, Fail> {
-    let mut text = String::new(alloc);
-    for root in &affected_of(alloc, roots)? {
-        text.push_str(" ")?;
-        text.push_str(root.as_str())?;
-    }
-    Ok(text)
-}
+/// Roots, and those of the crates among the six that are affected.
+const AFFECTED: &str = "/a > /a /b /c /e /f
+/b > /b /c /e /f
+/c > /c /e /f
+/d > /d
+/e > /e /f
+/f > /e /f
+/d /f /x > /d /e /f
+/x >
+ >";
 
-fn affected_of(alloc: Global, roots: &str) -> Result<Items<VfsPath>, Fail> {
-    let crates = crates_of(alloc, SIX)?;
-    let paths = paths_of(alloc, SIX)?;
-    let mut list = Vec::new(alloc);
-    for root in roots.split_whitespace() {
-        list.push(path_at(alloc, root)?)?;
-    }
-    if paths.len() != crates.len() {
-        return Err(Fail::from("no path for each crate"));
-    }
-    Ok(affected_roots(alloc, crates.as_slice(), paths.as_slice(), list.as_slice())?)
+fn agrees(alloc: Global, line: &str) -> bool {
+    let (roots, wanted) = cut(line, " >");
+    affected(alloc, SIX, roots).as_str() == wanted
 }
 
 #[test]
-fn all_that_depend_are_affected(rt: HostRuntime) -> Result<(), Fail> {
-    let cases = [
-        ("/a", " /a /b /c /e /f"),
-        ("/b", " /b /c /e /f"),
-        ("/c", " /c /e /f"),
-        ("/d", " /d"),
-        ("/e", " /e /f"),
-        ("/f", " /e /f"),
-        ("/d /f /x", " /d /e /f"),
-        ("/x", ""),
-        ("", ""),
-    ];
-    for (roots, wanted) in cases {
-        let text = affected(rt.alloc(), roots)?;
-        assert_eq!(rt; text.as_str(), wanted, "{roots}");
+fn all_that_depend_are_affected(rt: HostRuntime) {
+    for line in AFFECTED.lines() {
+        assert!(rt; agrees(rt.alloc(), line), "at {line}");
     }
-    Ok(())
 }

@@ -1,178 +1,211 @@
-use crate::made::{entry, package, path_at, root_at, target, text_of, texts_of, workspace};
+// The targets of files, the members that a package depends on, and workspaces that are compared.
+use crate::calls::{cut, path, push, text};
+use crate::workspaces::{workspace, workspaces};
 use plain::Items;
 use project_model::{
-    PackageSpecifier, ProjectWorkspace, TargetKind, TargetSpec, WorkspaceKind,
-    all_workspace_dependencies_for_package, target_spec_for_file,
+    PackageSpecifier, ProjectWorkspace, TargetSpec, all_workspace_dependencies_for_package,
+    target_spec_for_file,
 };
 use std::alloc::Global;
-use std::test::Fail;
-
-/// A workspace with one package, which has one target.
-fn with_package(
-    alloc: Global,
-    kind: WorkspaceKind,
-    root: &str,
-    id: &str,
-    file: &str,
-) -> Result<ProjectWorkspace, Fail> {
-    let mut made = workspace(alloc, kind, root)?;
-    let target = target(alloc, id, TargetKind::Bin, file)?;
-    made.packages.push(package(alloc, id, target)?)?;
-    Ok(made)
-}
 
 /// Workspaces of each kind; the first and the third have a target with the same root.
-fn three_kinds(alloc: Global) -> Result<Vec<ProjectWorkspace>, Fail> {
-    let mut list = Vec::new(alloc);
-    list.push(with_package(alloc, WorkspaceKind::Cargo, "/w", "one", "/a.rs")?)?;
-    list.push(with_package(alloc, WorkspaceKind::Json, "/v", "two", "/b.rs")?)?;
-    list.push(with_package(alloc, WorkspaceKind::DetachedFile, "/u", "three", "/a.rs")?)?;
-    list.push(with_package(alloc, WorkspaceKind::DetachedFile, "/u", "four", "/c.rs")?)?;
-    Ok(list)
-}
+const KINDS: &str = "cargo /w one bin /a.rs
+json /v two bin /b.rs
+detached /u three bin /a.rs
+detached /u four bin /c.rs";
 
-/// What is told of the target with this root, in words.
-fn spec_at(alloc: Global, file: &str) -> Result<String, Fail> {
-    let list = three_kinds(alloc)?;
-    match target_spec_for_file(list.as_slice(), &path_at(alloc, file)?)? {
-        None => Ok(String::from_str(alloc, "none")?),
-        Some(
-            TargetSpec::Cargo {
-                workspace_root,
-                package_id,
-                ..
-            },
-        ) => Ok(format!(in alloc; "cargo {} {package_id}", workspace_root.as_str())?),
-        Some(
-            TargetSpec::ProjectJson {
-                label,
-                project_root,
-                ..
-            },
-        ) => Ok(format!(in alloc; "json {} {label}", project_root.as_str())?),
-    }
-}
-
-#[test]
-fn files_have_the_first_target(rt: HostRuntime) -> Result<(), Fail> {
-    let cases = [
-        ("/a.rs", "cargo /w one"),
-        ("/b.rs", "json /v two"),
-        ("/c.rs", "cargo /u four"),
-        ("/d.rs", "none"),
-    ];
-    for (file, wanted) in cases {
-        let text = spec_at(rt.alloc(), file)?;
-        assert_eq!(rt; text.as_str(), wanted);
-    }
-    Ok(())
-}
-
-/// A workspace with one package that names what depends on it, or names nothing where the text is empty.
-fn naming(alloc: Global, kind: WorkspaceKind, deps: &str) -> Result<ProjectWorkspace, Fail> {
-    let mut made = workspace(alloc, kind, "/w")?;
-    let target = target(alloc, "id", TargetKind::Lib, "/a.rs")?;
-    let mut package = package(alloc, "id", target)?;
-    if !deps.is_empty() {
-        package.member_deps = Some(texts_of(alloc, deps)?);
-    }
-    made.packages.push(package)?;
-    Ok(made)
-}
-
-fn four_workspaces(alloc: Global) -> Result<Vec<ProjectWorkspace>, Fail> {
-    let mut list = Vec::new(alloc);
-    list.push(naming(alloc, WorkspaceKind::Cargo, "")?)?;
-    list.push(naming(alloc, WorkspaceKind::Json, "x y")?)?;
-    list.push(naming(alloc, WorkspaceKind::DetachedFile, "p q")?)?;
-    list.push(naming(alloc, WorkspaceKind::Cargo, "r")?)?;
-    Ok(list)
-}
-
-/// The members that a package depends on, in words.
-fn deps_of(alloc: Global, specifier: &PackageSpecifier) -> Result<String, Fail> {
-    let list = four_workspaces(alloc)?;
-    let mut text = String::new(alloc);
-    match all_workspace_dependencies_for_package(alloc, list.as_slice(), specifier)? {
-        None => text.push_str("none")?,
-        Some(deps) => {
-            for dep in &deps {
-                let kind = match dep {
-                    PackageSpecifier::Cargo { .. } => "cargo",
-                    PackageSpecifier::BuildInfo { .. } => "label",
-                };
-                text.push_str(format!(in alloc; "{kind} {} ", dep.id())?.as_str())?;
-            }
+fn push_spec(out: &mut String, spec: &TargetSpec) {
+    match spec {
+        TargetSpec::Cargo {
+            workspace_root,
+            package_id,
+            ..
+        } => {
+            push(out, "cargo ");
+            push(out, workspace_root.as_str());
+            push(out, " ");
+            push(out, package_id.as_str());
+        }
+        TargetSpec::ProjectJson {
+            label,
+            project_root,
+            ..
+        } => {
+            push(out, "json ");
+            push(out, project_root.as_str());
+            push(out, " ");
+            push(out, label.as_str());
         }
     }
-    Ok(text)
 }
 
-fn cargo(alloc: Global, id: &str) -> Result<PackageSpecifier, Fail> {
-    Ok(PackageSpecifier::Cargo {
-        package_id: text_of(alloc, id)?,
-    })
+fn spec_of(alloc: Global, list: &[ProjectWorkspace], file: &str) -> Option<Option<TargetSpec>> {
+    target_spec_for_file(list, &path(alloc, file)?).ok()
 }
+
+fn push_spec_of(alloc: Global, list: &[ProjectWorkspace], file: &str, out: &mut String) {
+    match spec_of(alloc, list, file) {
+        Some(Some(spec)) => push_spec(out, &spec),
+        Some(None) => push(out, "none"),
+        None => push(out, "no memory"),
+    }
+}
+
+/// Whose members a package depends on.
+const NAMING: &str = "cargo /w id lib /a.rs
+json /w id lib /a.rs: x y
+detached /w id lib /a.rs: p q
+cargo /w id lib /a.rs: r";
+
+fn specifier(alloc: Global, kind: &str, id: &str) -> PackageSpecifier {
+    match kind {
+        "cargo" => PackageSpecifier::Cargo {
+            package_id: text(alloc, id),
+        },
+        _ => PackageSpecifier::BuildInfo {
+            label: text(alloc, id),
+        },
+    }
+}
+
+fn kind_text(specifier: &PackageSpecifier) -> &'static str {
+    match specifier {
+        PackageSpecifier::Cargo { .. } => "cargo ",
+        PackageSpecifier::BuildInfo { .. } => "label ",
+    }
+}
+
+fn push_deps(out: &mut String, deps: &[PackageSpecifier]) {
+    for dep in deps {
+        push(out, kind_text(dep));
+        push(out, dep.id().as_str());
+        push(out, ";");
+    }
+}
+
+fn deps_of(
+    alloc: Global,
+    list: &[ProjectWorkspace],
+    specifier: &PackageSpecifier,
+) -> Option<Option<Items<PackageSpecifier>>> {
+    all_workspace_dependencies_for_package(alloc, list, specifier).ok()
+}
+
+fn push_deps_of(
+    alloc: Global,
+    list: &[ProjectWorkspace],
+    specifier: &PackageSpecifier,
+    out: &mut String,
+) {
+    match deps_of(alloc, list, specifier) {
+        Some(Some(deps)) => push_deps(out, deps.as_slice()),
+        Some(None) => push(out, "none"),
+        None => push(out, "no memory"),
+    }
+}
+
+fn ask(alloc: Global, list: &[ProjectWorkspace], call: &str, out: &mut String) {
+    let (name, words) = cut(call, " ");
+    match name {
+        "target" => push_spec_of(alloc, list, words, out),
+        _ => push_deps_of(alloc, list, &specifier(alloc, name, words), out),
+    }
+}
+
+/// What is told of some workspaces, in words.
+fn told(alloc: Global, lines: &str, call: &str) -> String {
+    let mut text = String::new(alloc);
+    let list = workspaces(alloc, lines);
+    ask(alloc, list.as_slice(), call, &mut text);
+    text
+}
+
+fn agrees(alloc: Global, workspaces: &str, line: &str) -> bool {
+    let (call, wanted) = cut(line, " > ");
+    told(alloc, workspaces, call).as_str() == wanted
+}
+
+/// Files, and the first target whose root each is.
+const TARGETS: &str = "target /a.rs > cargo /w one
+target /b.rs > json /v two
+target /c.rs > cargo /u four
+target /d.rs > none";
 
 #[test]
-fn the_first_workspace_that_names_them_tells_dependencies(rt: HostRuntime) -> Result<(), Fail> {
-    let text = deps_of(rt.alloc(), &cargo(rt.alloc(), "id")?)?;
-    assert_eq!(rt; text.as_str(), "cargo p cargo q ");
-    let text = deps_of(rt.alloc(), &cargo(rt.alloc(), "other")?)?;
-    assert_eq!(rt; text.as_str(), "none");
-    let label = text_of(rt.alloc(), "id")?;
-    let text = deps_of(rt.alloc(), &PackageSpecifier::BuildInfo { label })?;
-    assert_eq!(rt; text.as_str(), "label x label y ");
-    Ok(())
+fn files_have_the_first_target(rt: HostRuntime) {
+    for line in TARGETS.lines() {
+        assert!(rt; agrees(rt.alloc(), KINDS, line), "at {line}");
+    }
 }
 
-/// Changes one field.
-fn change(alloc: Global, made: &mut ProjectWorkspace, field: u32) -> Result<(), Fail> {
-    match field {
-        1 => made.manifest = Some(path_at(alloc, "/w/Cargo.toml")?),
-        2 => made.roots.push(root_at(alloc, "/w", true)?)?,
-        3 => made.packages = Items::new(alloc),
-        4 => made.crates.push(entry(alloc, "/a.rs", &[0], true)?)?,
-        5 => made.build_files = texts_of(alloc, "BUCK")?,
-        6 => made.toolchain = Some(text_of(alloc, "error")?),
-        7 => made.error = Some(text_of(alloc, "error")?),
-        8 => made.sysroot_root = Some(path_at(alloc, "/s")?),
-        9 => made.sysroot_error = Some(text_of(alloc, "error")?),
-        10 => made.sysroot_metadata_error = Some(text_of(alloc, "error")?),
-        11 => made.rustc_error = Some(text_of(alloc, "error")?),
-        _ => {}
+/// Packages, by the names of the tools that build them, and the members that each depends on.
+const DEPENDENCIES: &str = "cargo id > cargo p;cargo q;
+cargo other > none
+label id > label x;label y;";
+
+#[test]
+fn the_first_workspace_that_names_them_tells_dependencies(rt: HostRuntime) {
+    for line in DEPENDENCIES.lines() {
+        assert!(rt; agrees(rt.alloc(), NAMING, line), "at {line}");
     }
-    Ok(())
 }
+
+/// The fields of a workspace, and whether one that has another value there is the same.
+const FIELDS: &str = "none > same
+manifest > other
+roots > other
+packages > other
+crates > other
+build_files > other
+toolchain > other
+error > other
+sysroot_root > other
+sysroot_error > other
+sysroot_metadata_error > other
+rustc_error > other
+build > same";
 
 /// A workspace in which one field isn't what it is in the others.
-fn changed(alloc: Global, field: u32) -> Result<ProjectWorkspace, Fail> {
-    let mut made = with_package(alloc, WorkspaceKind::Cargo, "/w", "one", "/a.rs")?;
-    change(alloc, &mut made, field)?;
-    Ok(made)
+fn changed(alloc: Global, field: &str) -> Option<ProjectWorkspace> {
+    workspace(alloc, "cargo /w one bin /a.rs", field)
 }
 
-fn copy_of(workspace: &ProjectWorkspace) -> Result<ProjectWorkspace, Fail> {
-    Ok(workspace.clone()?)
+fn copy_of(workspace: &ProjectWorkspace) -> Option<ProjectWorkspace> {
+    workspace.clone().ok()
 }
 
-fn equals_its_copy(alloc: Global, field: u32) -> Result<bool, Fail> {
-    let other = changed(alloc, field)?;
-    let copy = copy_of(&other)?;
-    Ok(other.eq_ignore_build_data(&copy))
+fn is_same(one: &ProjectWorkspace, other: &ProjectWorkspace) -> bool {
+    one.eq_ignore_build_data(other)
 }
 
-fn is_unchanged(alloc: Global, field: u32) -> Result<bool, Fail> {
-    let first = changed(alloc, 0)?;
-    let other = changed(alloc, field)?;
-    Ok(first.eq_ignore_build_data(&other))
+fn equals_its_copy(workspace: &ProjectWorkspace) -> bool {
+    match copy_of(workspace) {
+        Some(copy) => is_same(workspace, &copy),
+        None => false,
+    }
+}
+
+fn is_unchanged(alloc: Global, workspace: &ProjectWorkspace) -> Option<bool> {
+    match changed(alloc, "none") {
+        Some(first) => Some(is_same(&first, workspace)),
+        None => None,
+    }
+}
+
+/// Whether a workspace with another value in a field equals its copy, and is the same as one without or not.
+fn is_told(alloc: Global, line: &str) -> bool {
+    let (field, wanted) = cut(line, " > ");
+    match changed(alloc, field) {
+        Some(other) => {
+            equals_its_copy(&other) && is_unchanged(alloc, &other) == Some(wanted == "same")
+        }
+        None => false,
+    }
 }
 
 #[test]
-fn every_field_but_the_build_counts(rt: HostRuntime) -> Result<(), Fail> {
-    for field in 0..12u32 {
-        assert!(rt; equals_its_copy(rt.alloc(), field)?);
-        assert_eq!(rt; is_unchanged(rt.alloc(), field)?, field == 0, "{field}");
+fn every_field_but_the_build_counts(rt: HostRuntime) {
+    for line in FIELDS.lines() {
+        assert!(rt; is_told(rt.alloc(), line), "at {line}");
     }
-    Ok(())
 }

@@ -1,86 +1,41 @@
-use crate::graphs::{Graph, crates_of, paths_of};
-use crate::made::{package, path_at, target, workspace};
+// The checks that restart for a saved file.
+use crate::calls::{cut, path, paths, push, push_number};
+use crate::graphs::{crates_of, roots_of};
+use crate::workspaces::workspaces;
 use check_restarts::{CheckScope, Restart, check_restarts};
 use docs_vfs::VfsPath;
 use plain::Items;
-use project_model::{CrateInfo, ProjectWorkspace, TargetKind, WorkspaceKind};
+use project_model::{CrateInfo, ProjectWorkspace};
 use std::alloc::Global;
-use std::test::Fail;
-
-/// A workspace with one package, which has one target.
-fn with_target(
-    alloc: Global,
-    kind: WorkspaceKind,
-    root: &str,
-    id: &str,
-    target_kind: TargetKind,
-    file: &str,
-) -> Result<ProjectWorkspace, Fail> {
-    let mut made = workspace(alloc, kind, root)?;
-    let target = target(alloc, id, target_kind, file)?;
-    made.packages.push(package(alloc, id, target)?)?;
-    Ok(made)
-}
 
 /// A program, a project that is described as JSON, and a library.
-fn three_workspaces(alloc: Global) -> Result<Vec<ProjectWorkspace>, Fail> {
-    let mut list = Vec::new(alloc);
-    list.push(with_target(
-        alloc,
-        WorkspaceKind::Cargo,
-        "/w",
-        "one",
-        TargetKind::Bin,
-        "/a",
-    )?)?;
-    list.push(with_target(
-        alloc,
-        WorkspaceKind::Json,
-        "/v",
-        "two",
-        TargetKind::Lib,
-        "/b",
-    )?)?;
-    list.push(with_target(
-        alloc,
-        WorkspaceKind::Cargo,
-        "/u",
-        "three",
-        TargetKind::Lib,
-        "/c",
-    )?)?;
-    Ok(list)
-}
+const WORKSPACES: &str = "cargo /w one bin /a
+json /v two lib /b
+cargo /u three lib /c";
 
-/// Paths, which are parted by spaces.
-fn paths_at(alloc: Global, words: &str) -> Result<Vec<VfsPath>, Fail> {
-    let mut paths = Vec::new(alloc);
-    for word in words.split_whitespace() {
-        paths.push(path_at(alloc, word)?)?;
-    }
-    Ok(paths)
-}
-
-/// Restarts in words.
-fn told(alloc: Global, list: &[Restart]) -> Result<String, Fail> {
-    let mut text = String::new(alloc);
-    for restart in list {
-        let id = restart.id;
-        match &restart.scope {
-            CheckScope::Workspace { .. } => {
-                text.push_str(format!(in alloc; "{id} ")?.as_str())?;
-            }
-            CheckScope::Package {
-                package,
-                target,
-                ..
-            } => {
-                let named = target.is_some();
-                text.push_str(format!(in alloc; "{id}:{}:{named} ", package.id())?.as_str())?;
-            }
+fn push_scope(out: &mut String, scope: &CheckScope) {
+    match scope {
+        CheckScope::Workspace { .. } => {}
+        CheckScope::Package {
+            package,
+            target,
+            ..
+        } => {
+            push(out, ":");
+            push(out, package.id().as_str());
+            push(out, if target.is_some() { ":true" } else { ":false" });
         }
     }
-    Ok(text)
+}
+
+/// Adds restarts in words, each behind a space: the number of the check, and of a package its name and whether its target is
+/// checked alone.
+fn push_restarts(alloc: Global, out: &mut String, list: &[Restart]) {
+    for restart in list {
+        push(out, " ");
+        push_number(alloc, out, restart.id);
+        push_scope(out, &restart.scope);
+    }
 }
 
 /// What restarts for roots, where the crates and the paths of their roots are these.
@@ -88,105 +43,98 @@ fn restarts_among(
     alloc: Global,
     crates: &[CrateInfo],
     paths: &[VfsPath],
-    roots: &str,
+    roots: &[VfsPath],
     workspaces: &[ProjectWorkspace],
     check_workspace: bool,
-) -> Result<Items<Restart>, Fail> {
-    if paths.len() != crates.len() {
-        return Err(Fail::from("no path for each crate"));
+) -> Option<Items<Restart>> {
+    let saved = path(alloc, "/saved")?;
+    if paths.len() == crates.len() {
+        check_restarts(
+            alloc,
+            crates,
+            paths,
+            roots,
+            &saved,
+            workspaces,
+            &[0, 1, 2, 9],
+            check_workspace,
+        )
+        .ok()
+    } else {
+        None
     }
-    let roots = paths_at(alloc, roots)?;
-    let saved = path_at(alloc, "/saved")?;
-    Ok(check_restarts(
-        alloc,
-        crates,
-        paths,
-        roots.as_slice(),
-        &saved,
-        workspaces,
-        &[0, 1, 2, 9],
-        check_workspace,
-    )?)
 }
 
 fn restarts_in(
     alloc: Global,
-    graph: Graph,
+    graph: &str,
     roots: &str,
     workspaces: &[ProjectWorkspace],
     check_workspace: bool,
-) -> Result<Items<Restart>, Fail> {
-    let crates = crates_of(alloc, graph)?;
-    let paths = paths_of(alloc, graph)?;
+) -> Option<Items<Restart>> {
+    let crates = crates_of(alloc, graph);
+    let roots_of_crates = roots_of(alloc, graph);
+    let roots = paths(alloc, roots);
     restarts_among(
         alloc,
         crates.as_slice(),
-        paths.as_slice(),
-        roots,
+        roots_of_crates.as_slice(),
+        roots.as_slice(),
         workspaces,
         check_workspace,
     )
 }
 
-fn told_restarts(
-    alloc: Global,
-    graph: Graph,
-    roots: &str,
-    workspaces: &[ProjectWorkspace],
-    check_workspace: bool,
-) -> Result<String, Fail> {
-    let list = restarts_in(alloc, graph, roots, workspaces, check_workspace)?;
-    told(alloc, list.as_slice())
+/// The one function that owns restarts.
+fn told(alloc: Global, list: Option<Items<Restart>>) -> String {
+    let mut text = String::new(alloc);
+    match list {
+        Some(list) => push_restarts(alloc, &mut text, list.as_slice()),
+        None => push(&mut text, "no memory"),
+    }
+    text
 }
 
 /// What restarts for these roots in a graph of crates.
-fn restarted(
-    alloc: Global,
-    graph: Graph,
-    roots: &str,
-    check_workspace: bool,
-) -> Result<String, Fail> {
-    let workspaces = three_workspaces(alloc)?;
-    told_restarts(alloc, graph, roots, workspaces.as_slice(), check_workspace)
+fn restarted(alloc: Global, graph: &str, roots: &str, check_workspace: bool) -> String {
+    let workspaces = workspaces(alloc, WORKSPACES);
+    told(
+        alloc,
+        restarts_in(alloc, graph, roots, workspaces.as_slice(), check_workspace),
+    )
 }
 
-/// The crates of the three workspaces, of which none depends on another.
-const APART: Graph = &[("/a", &[]), ("/b", &[]), ("/c", &[])];
+/// The crates, the roots of the saved file, whether whole workspaces are checked or packages alone, and what restarts.
+///
+/// First the library depends on the program. Then none of the three depends on another. Then the program and the library
+/// depend on each other. Where `/x` is, the program depends on that crate of no workspace, and that on the project that is
+/// described as JSON. At the end all depend on the library, over two steps.
+const RESTARTS: &str = "/a, /b, /c 0 > /a > workspaces > 0:one:true 2
+/a, /b, /c 0 > /a > packages > 0:one:true
+/a, /b, /c > /a > workspaces > 0:one:true
+/a, /b, /c > /c > workspaces > 2
+/a, /b, /c > /c > packages > 2:three:false
+/a 1, /c 0 > /c > packages > 2:three:false
+/a 1, /c 0 > /c > workspaces > 0 2
+/a, /b, /c > /b > workspaces > 1:two:false
+none > /b > workspaces > 1:two:false
+/x 2, /a 0, /b > /b > workspaces > 1:two:false 0
+/a, /b, /c >  > workspaces > 0 1 2 9
+/a, /b, /c >  > packages >
+/x 2, /a 0, /b > /y > workspaces > 0 1 2 9
+/a 1, /b 2, /c > /c > workspaces > 0 1 2
+/a 1, /b 2, /c > /c /a > workspaces > 0 1 2";
 
-/// The library depends on the program.
-const ON_PROGRAM: Graph = &[("/a", &[]), ("/b", &[]), ("/c", &[0])];
-
-/// The program depends on a crate of no workspace, and that on the project that is described as JSON.
-const ON_JSON: Graph = &[("/x", &[2]), ("/a", &[0]), ("/b", &[])];
-
-/// All depend on the library, over two steps.
-const ON_LIBRARY: Graph = &[("/a", &[1]), ("/b", &[2]), ("/c", &[])];
-
-/// The program and the library depend on each other.
-const CIRCLE: Graph = &[("/a", &[1]), ("/c", &[0])];
+fn agrees(alloc: Global, line: &str) -> bool {
+    let (graph, rest) = cut(line, " > ");
+    let (roots, rest) = cut(rest, " > ");
+    let (what, wanted) = cut(rest, " >");
+    restarted(alloc, graph, roots, what == "workspaces").as_str() == wanted
+}
 
 #[test]
-fn checks_restart(rt: HostRuntime) -> Result<(), Fail> {
-    let cases: [(Graph, &str, bool, &str); 15] = [
-        (ON_PROGRAM, "/a", true, "0:one:true 2 "),
-        (ON_PROGRAM, "/a", false, "0:one:true "),
-        (APART, "/a", true, "0:one:true "),
-        (APART, "/c", true, "2 "),
-        (APART, "/c", false, "2:three:false "),
-        (CIRCLE, "/c", false, "2:three:false "),
-        (CIRCLE, "/c", true, "0 2 "),
-        (APART, "/b", true, "1:two:false "),
-        (&[], "/b", true, "1:two:false "),
-        (ON_JSON, "/b", true, "1:two:false 0 "),
-        (APART, "", true, "0 1 2 9 "),
-        (APART, "", false, ""),
-        (ON_JSON, "/y", true, "0 1 2 9 "),
-        (ON_LIBRARY, "/c", true, "0 1 2 "),
-        (ON_LIBRARY, "/c /a", true, "0 1 2 "),
-    ];
-    for (graph, roots, check_workspace, wanted) in cases {
-        let text = restarted(rt.alloc(), graph, roots, check_workspace)?;
-        assert_eq!(rt; text.as_str(), wanted, "{roots}");
+fn checks_restart(rt: HostRuntime) {
+    for line in RESTARTS.lines() {
+        assert!(rt; agrees(rt.alloc(), line), "at {line}");
     }
-    Ok(())
 }

@@ -1,10 +1,8 @@
 // The value of each row, where nothing, the client or a file of a root sets it.
-use crate::calls::{at_start, cut, joined, with, with_client};
-use crate::texts::{
-    push, push_discover, push_env, push_features, push_lists, push_paths, push_projects,
-    push_texts_or_null,
-};
-use ra_config::{Config, FilesWatcher, InvocationStrategy, Row};
+use crate::calls::{cut, push};
+use crate::change::{at_start, made};
+use crate::values::push_value;
+use ra_config::Row;
 use ra_settings::ROWS;
 use std::alloc::Global;
 
@@ -37,144 +35,90 @@ true > {"procMacro":{"attributes":{"enable":false}}} > false > procMacro.attribu
 4 > {"numThreads":64} > 64 > numThreads = 3 > 4
 null > {"workspace":{"discoverConfig":{"command":["c"],"progressLabel":"l","filesToWatch":["f"]}}} > c;lf; > workspace.discoverConfig = 1 > null"#;
 
-fn truth_text(truth: bool) -> &'static str {
-    if truth { "true" } else { "false" }
+/// Texts, one after another.
+fn joined(alloc: Global, front: &str, middle: &str, end: &str) -> String {
+    let mut text = String::new(alloc);
+    push(&mut text, front);
+    push(&mut text, middle);
+    push(&mut text, end);
+    text
 }
 
-fn push_number(alloc: Global, out: &mut String, n: u32) -> Option<()> {
-    let text = n.to_string(alloc).ok()?;
-    push(out, text.as_str())
-}
-
-/// The value of a row of the session that is a truth.
-fn global_truth(config: &Config, row: Row) -> bool {
-    match row {
-        Row::CargoAutoreload => config.cargo_autoreload(),
-        Row::CachePrimingEnable => config.cache_priming_enable(),
-        Row::ProcMacroEnable => config.proc_macro_enable(),
-        _ => config.proc_macro_attributes_enable(),
+fn push_default(alloc: Global, row: Row, out: &mut String) {
+    if let Some(config) = at_start(alloc) {
+        push_value(alloc, out, &config, row, None);
     }
 }
 
-/// The value at a root of a row that is a truth, if it is one.
-pub(crate) fn truth(config: &Config, row: Row, root: Option<u32>) -> Option<bool> {
-    match row {
-        Row::CargoBuildScriptsEnable => Some(config.cargo_build_scripts_enable(root)),
-        Row::CargoBuildScriptsRebuildOnSave => {
-            Some(config.cargo_build_scripts_rebuild_on_save(root))
-        }
-        Row::CargoAllTargets => Some(config.cargo_all_targets(root)),
-        Row::CfgSetTest => Some(config.cfg_set_test(root)),
-        Row::CheckOnSave => Some(config.check_on_save(root)),
-        Row::CheckWorkspace => Some(config.check_workspace(root)),
-        Row::DiagnosticsEnable => Some(config.diagnostics_enable(root)),
-        Row::CargoAutoreload
-        | Row::CachePrimingEnable
-        | Row::ProcMacroEnable
-        | Row::ProcMacroAttributesEnable => Some(global_truth(config, row)),
-        _ => None,
-    }
-}
-
-/// The value at a root of a row that is a word, or `none` where it is no word.
-fn word(config: &Config, row: Row, root: Option<u32>) -> &str {
-    match row {
-        Row::FilesWatcher => match config.files_watcher() {
-            FilesWatcher::Client => "client",
-            FilesWatcher::Server => "server",
-        },
-        Row::CheckInvocationStrategy => match config.check_invocation_strategy(root) {
-            InvocationStrategy::PerWorkspace => "per_workspace",
-            InvocationStrategy::Once => "once",
-        },
-        Row::CargoTarget => config.cargo_target(root).unwrap_or("null"),
-        Row::CheckCommand => config.check_command(root),
-        _ => "none",
-    }
-}
-
-/// Adds the value of a row that is a list, a number, or an object.
-fn push_other(
-    alloc: Global,
-    out: &mut String,
-    config: &Config,
-    row: Row,
-    root: Option<u32>,
-) -> Option<()> {
-    match row {
-        Row::LinkedProjects => push_projects(alloc, out, config.linked_projects()),
-        Row::DetachedFiles => push_paths(out, config.detached_files()),
-        Row::FilesExclude => push_paths(out, config.files_exclude()),
-        Row::CargoExtraEnv => push_env(out, config.cargo_extra_env(root)),
-        Row::CargoFeatures => push_features(out, config.cargo_features(root)),
-        Row::CheckOverrideCommand => push_texts_or_null(out, config.check_override_command(root)),
-        Row::ProcMacroIgnored => push_lists(out, config.proc_macro_ignored(root)),
-        Row::WorkspaceDiscoverConfig => push_discover(out, config.workspace_discover_config()),
-        Row::CachePrimingNumThreads => {
-            push_number(alloc, out, u32::from(config.cache_priming_num_threads()))
-        }
-        _ => push_number(alloc, out, config.num_threads()),
-    }
-}
-
-/// Adds what the accessor of a row answers at a root.
-fn push_value(
-    alloc: Global,
-    out: &mut String,
-    config: &Config,
-    row: Row,
-    root: Option<u32>,
-) -> Option<()> {
-    match (truth(config, row, root), word(config, row, root)) {
-        (Some(truth), _) => push(out, truth_text(truth)),
-        (None, "none") => push_other(alloc, out, config, row, root),
-        (None, word) => push(out, word),
-    }
-}
-
-/// Whether the accessor of a row answers this at a root.
-fn has(alloc: Global, config: &Config, row: Row, root: Option<u32>, want: &str) -> Option<bool> {
+/// The value of a row where nothing is set, in words.
+fn default_of(alloc: Global, row: Row) -> String {
     let mut out = String::new(alloc);
-    push_value(alloc, &mut out, config, row, root)?;
-    Some(out.as_str() == want)
+    push_default(alloc, row, &mut out);
+    out
 }
 
-/// The settings where root 0 has a workspace file, and is the parent of root 1.
-fn with_file(alloc: Global, toml: &str) -> Option<Config> {
-    let parts = ["workspace 0 /w/rust-analyzer.toml ", toml, "\nparents 1 0"];
-    with(alloc, joined(alloc, &parts)?.as_str())
+fn push_after(alloc: Global, words: &str, row: Row, root: u32, out: &mut String) {
+    if let Some(config) = made(alloc, words, out) {
+        push(out, ": ");
+        push_value(alloc, out, &config, row, Some(root));
+    }
 }
 
-fn is_default(alloc: Global, row: Row, want: &str) -> Option<bool> {
-    has(alloc, &at_start(alloc)?, row, None, want)
+/// What a change tells, and the value of a row at a root after it.
+fn told_after(alloc: Global, words: &str, row: Row, root: u32) -> String {
+    let mut out = String::new(alloc);
+    push_after(alloc, words, row, root, &mut out);
+    out
 }
 
-fn is_set_by_client(alloc: Global, row: Row, client: &str, want: &str) -> Option<bool> {
-    has(alloc, &with_client(alloc, client)?, row, Some(7), want)
+fn is_set(alloc: Global, words: &str, row: Row, root: u32, told: &str, want: &str) -> bool {
+    let after = told_after(alloc, words, row, root);
+    let (first, value) = cut(after.as_str(), ": ");
+    first == told && value == want
 }
 
-fn is_set_by_file(alloc: Global, row: Row, toml: &str, want: &str) -> Option<bool> {
-    let config = with_file(alloc, toml)?;
-    Some(has(alloc, &config, row, Some(0), want)? && has(alloc, &config, row, Some(1), want)?)
+/// Whether a row has a value where the client sets it.
+fn is_set_by_client(alloc: Global, row: Row, client: &str, want: &str) -> bool {
+    let words = joined(alloc, "client ", client, "");
+    is_set(alloc, words.as_str(), row, 7, "changed", want)
+}
+
+/// Whether a row has a value where the workspace file of root 0, the parent of root 1, sets it.
+fn is_set_by_file(alloc: Global, row: Row, toml: &str, want: &str) -> bool {
+    let words = joined(
+        alloc,
+        "workspace 0 /w/rust-analyzer.toml ",
+        toml,
+        " ; parents 1 0",
+    );
+    is_set(alloc, words.as_str(), row, 0, "same", want)
+        && is_set(alloc, words.as_str(), row, 1, "same", want)
 }
 
 /// Whether a row has the values of a line.
-fn agrees(alloc: Global, row: Row, line: &str) -> Option<bool> {
+fn agrees(alloc: Global, row: Row, line: &str) -> bool {
     let (default, rest) = cut(line, " > ");
     let (client, rest) = cut(rest, " > ");
     let (at_client, rest) = cut(rest, " > ");
     let (toml, at_file) = cut(rest, " >");
-    Some(
-        is_default(alloc, row, default)?
-            && is_set_by_client(alloc, row, client, at_client)?
-            && is_set_by_file(alloc, row, toml, at_file.trim_ascii())?,
-    )
+    default_of(alloc, row).as_str() == default
+        && is_set_by_client(alloc, row, client, at_client)
+        && is_set_by_file(alloc, row, toml, at_file.trim_ascii())
+}
+
+/// The first line that a row doesn't agree with, or an empty text.
+fn first_wrong(alloc: Global, lines: &str) -> &str {
+    for (line, row) in lines.lines().zip(ROWS) {
+        if !agrees(alloc, row, line) {
+            return line;
+        }
+    }
+    ""
 }
 
 #[test]
 fn values_along_the_path(rt: HostRuntime) {
-    for (line, row) in CASES.lines().zip(ROWS) {
-        assert!(rt; agrees(rt.alloc(), row, line) == Some(true), "at {line}");
-    }
-    assert_eq!(rt; CASES.lines().count(), ROWS.len());
+    let wrong = first_wrong(rt.alloc(), CASES);
+    assert!(rt; wrong.is_empty(), "at {wrong}");
+    assert!(rt; CASES.lines().count() == ROWS.len());
 }
