@@ -1,9 +1,9 @@
 -- The timer that is kept is the newest, if none was given since it was set.
-use Rattle.std.proofs.Common.{◌≡◌, ℕ, ◌+◌, ◌≤◌, List, [], ◌∷◌, ◌++◌, length, length-append, Option, None, Some, refl, sym, ap, subst, ◌∙◌, ◌↔◌, append-nil, arith}
+use Rattle.std.proofs.Common.{◌≡◌, ℕ, ◌≤◌, List, [], ◌∷◌, ◌++◌, length, length-append, Option, None, Some, refl, sym, ap, subst, ◌∙◌, ◌↔◌, append-nil, arith}
 use Rattle.std.specs.Prelude.{option_to_list}
 use Rattle.host_orders.specs.declared.kept.Kept.{Kept}
 use Rattle.host_orders.specs.declared.kept.Kept.TheVariants.{Loaders, Deferred, Timer}
-use Rattle.host_orders.specs.HostOrders.{HostOrders, next, after_next}
+use Rattle.host_orders.specs.HostOrders.{next, after_next}
 use Rattle.host_orders.specs.Runs.{Act, kept_after, given, tickets_in, HasNoTimer, IsNewestTimer}
 use Rattle.host_orders.specs.Runs.Act.{SetsLoader, Defers, SetsTimer, Gives}
 use Rattle.host_orders.proofs.Given.{of_three, before_timer}

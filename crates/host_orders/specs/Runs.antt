@@ -1,5 +1,5 @@
 -- Runs of the calls: what was ordered and what was given, told by the calls alone. A run has its last act first.
-use Rattle.std.specs.Prelude.{◌≡◌, ℕ, List, [], ◌∷◌, ◌++◌, Option, Some, option_to_list}
+use Rattle.std.specs.Prelude.{◌≡◌, ℕ, List, [], ◌∷◌, ◌++◌, Some, option_to_list}
 use Rattle.host_orders.specs.declared.kept.Kept.{Kept}
 use Rattle.host_orders.specs.declared.kept.Kept.TheVariants.{Loaders, Deferred, Timer}
 use Rattle.host_orders.specs.HostOrders.{HostOrders, none_kept, set_loader, defer, set_timer, next, after_next}

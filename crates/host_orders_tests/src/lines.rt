@@ -45,10 +45,8 @@ fn are_versions(versions: &[u32], digits: &[u8]) -> bool {
 
 fn are_tasks(tasks: &[Text], digits: &[u8]) -> bool {
     tasks.len() == digits.len()
-        && tasks
-            .iter()
-            .zip(digits)
-            .all(|(task, digit)| task.as_str().as_bytes().first() == Some(digit))
+        && tasks.iter().zip(digits).all(|(task, digit)| task.as_str().as_bytes().first()
+            == Some(digit))
 }
 
 /// Whether this is what is given.

@@ -1,7 +1,8 @@
 -- Of projects that are alike the first stays.
-use Rattle.std.proofs.Common.{◌≡◌, ◌≢◌, ℕ, ◌+◌, ◌<◌, Bool, true, false, cond, not, ◌||◌, ◌&&◌, List, [], ◌∷◌, ◌++◌, map, length, get_or, Option, Some, None, refl, sym, ap, ◌∙◌, ◌↔◌, map-append, arith}
-use Rattle.std.specs.Prelude.{if◌then◌else◌, bytes_eq, IsTrue, Any, AllPairs, Contains}
+use Rattle.std.proofs.Common.{◌≡◌, ◌≢◌, ℕ, Bool, true, false, cond, not, ◌||◌, List, [], ◌∷◌, ◌++◌, map, get_or, Some, None, refl, sym, ap, ◌∙◌, ◌↔◌, zero, suc, arith}
+use Rattle.std.specs.Prelude.{if◌then◌else◌, IsTrue, Any, AllPairs, Contains}
 use Rattle.std.specs.List.{filter, list_any}
+use Rattle.std.proofs.lemmas.List.{map-append}
 use Rattle.std.proofs.lemmas.Slice.Eq.{bytes_eq-Decides}
 use Rattle.std.proofs.lemmas.List.Elements.{All-map, filter-append, filter_passes}
 use Rattle.std.proofs.lemmas.List.Folds.{list_any_at}
@@ -26,8 +27,8 @@ bool_from false true f g = g refl
 bool_from false false f g = refl
 
 not_true : (b : Bool) → (b ≡ true → ⊥) → not b ≡ true
-not_true true no = absurd (no refl)
-not_true false no = refl
+not_true true never = absurd (never refl)
+not_true false never = refl
 
 not_is_true : (b : Bool) → not b ≡ true → b ≡ false
 not_is_true true e = sym e
@@ -61,16 +62,17 @@ unlike project other = not (are_alike project other)
 any-firsts : (project : LinkedProject) (projects : List LinkedProject)
     → list_any (are_alike project) (firsts projects) ≡ list_any (are_alike project) projects
 any-firsts project [] = refl
-any-firsts project (x ∷ xs) = by (are_alike project x) refl
+any-firsts project (x ∷ xs) = by (any-firsts project xs) (are_alike project x) refl
   where
-    by : (b : Bool) → are_alike project x ≡ b
+    by : list_any (are_alike project) (firsts xs) ≡ list_any (are_alike project) xs
+        → (b : Bool) → are_alike project x ≡ b
         → (b || list_any (are_alike project) (filter (unlike x) (firsts xs))) ≡ (b || list_any (are_alike project) xs)
-    by true is = refl
-    by false is =
+    by rest true is = refl
+    by rest false is =
         any-filter_same (are_alike project) (unlike x) true
         (λ k same. not_true (are_alike x k) (λ also. true_not_false (sym (told project x (equal project k same ∙ sym (equal x k also))) ∙ is)))
         (firsts xs)
-        ∙ any-firsts project xs
+        ∙ rest
 
 last : (project x : LinkedProject) (c b : Bool) → are_alike x project ≡ c
     → filter (unlike x) (if b then [] else project ∷ []) ≡ (if c || b then [] else project ∷ [])
@@ -105,12 +107,13 @@ workspaces-more projects project =
 is_listed : (project : LinkedProject) (projects : List LinkedProject) → list_any (are_alike project) projects ≡ true
     → Contains (map workspace_of projects) (workspace_of project)
 is_listed project [] found = absurd (true_not_false (sym found))
-is_listed project (x ∷ xs) found = by (are_alike project x) refl found
+is_listed project (x ∷ xs) found = by (λ more. is_listed project xs more) (are_alike project x) refl found
   where
-    by : (b : Bool) → are_alike project x ≡ b → (b || list_any (are_alike project) xs) ≡ true
+    by : (list_any (are_alike project) xs ≡ true → Contains (map workspace_of xs) (workspace_of project))
+        → (b : Bool) → are_alike project x ≡ b → (b || list_any (are_alike project) xs) ≡ true
         → Contains (workspace_of x ∷ map workspace_of xs) (workspace_of project)
-    by true is found = (0, omega arith, sym (tells project x is))
-    by false is found = let rest = is_listed project xs found in (suc rest.0, omega (arith, rest.1), rest.2)
+    by further true is found = (0, omega arith, sym (tells project x is))
+    by further false is found = let rest = further found in (suc rest.0, omega (arith, rest.1), rest.2)
 
 or-true : (b : Bool) → (b || true) ≡ true
 or-true true = refl
@@ -154,7 +157,7 @@ differ [] apart = λ i j d lt within. absurd (omega (arith, within))
 differ (x ∷ xs) apart =
     AllPairs-cons Differ (workspace_of x) (map workspace_of xs)
     (All-map (Differ (workspace_of x)) workspace_of xs
-        (λ k d within same. true_not_false (sym (told x (get_or xs k d) same) ∙ apart zero (suc k) d (omega arith) (omega arith))))
+    (λ k d within same. true_not_false (sym (told x (get_or xs k d) same) ∙ apart zero (suc k) d (omega arith) (omega arith))))
     (differ xs (λ i j d lt within. apart (suc i) (suc j) d (omega arith) (omega arith)))
 
 pub none_equal : (projects : List LinkedProject) → AllPairs (λ one other. without_build one ≢ without_build other) (workspaces_of projects)

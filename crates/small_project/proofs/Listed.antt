@@ -1,11 +1,10 @@
 -- A project more in the loop.
-use Rattle.std.proofs.Common.{◌≡◌, ℕ, Bool, true, false, List, [], ◌∷◌, ◌++◌, refl, sym, ap, subst, ◌∙◌, ◌↔◌, append-nil}
+use Rattle.std.proofs.Common.{◌≡◌, Bool, true, false, List, [], ◌∷◌, ◌++◌, sym, ap, subst, ◌∙◌, ◌↔◌, append-nil}
 use Rattle.std.specs.Prelude.{if◌then◌else◌, IsTrue, Any}
-use Rattle.std.specs.List.{list_any}
 use Rattle.project_model.specs.declared.workspace.ProjectWorkspace.{ProjectWorkspace}
 use Rattle.project_model.specs.Workspaces.{without_build}
 use Rattle.ra_settings.specs.declared.value.LinkedProject.{LinkedProject}
-use Rattle.small_project.specs.Workspaces.{workspace_of, are_alike, workspaces_of}
+use Rattle.small_project.specs.Workspaces.{workspace_of, workspaces_of}
 use Rattle.small_project.proofs.Firsts.{workspaces-more, found_is}
 
 -- `all` are the projects before and this one; `listed` was listed before, `lent` is how the test saw it, and `new` is listed now
@@ -15,8 +14,8 @@ module _ (before all : List LinkedProject) (project : LinkedProject) (listed len
   listed_so : (b : Bool) → found ≡ b → workspaces_of all ≡ listed ++ (if b then [] else workspace ∷ [])
   listed_so b is =
       let tells : IsTrue found ↔ Any (λ other. without_build other ≡ without_build (workspace_of project)) (workspaces_of before) =
-          subst (λ w. IsTrue found ↔ Any (λ other. without_build other ≡ without_build w) (workspaces_of before)) made
-          (subst (λ l. IsTrue found ↔ Any (λ other. without_build other ≡ without_build workspace) l) (sees ∙ was) tests) in
+      subst (λ w. IsTrue found ↔ Any (λ other. without_build other ≡ without_build w) (workspaces_of before)) made
+      (subst (λ l. IsTrue found ↔ Any (λ other. without_build other ≡ without_build workspace) l) (sees ∙ was) tests) in
       ap workspaces_of more
       ∙ workspaces-more before project
       ∙ ap (λ b. workspaces_of before ++ (if b then [] else workspace_of project ∷ [])) (found_is before project found tells ∙ is)

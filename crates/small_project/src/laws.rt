@@ -19,5 +19,5 @@ pub fn the_first_of_equal_workspaces_stays()
         → Contains (workspaces_of projects) (workspace_of project) }
     ensures first { (projects : List LinkedProject) (project : LinkedProject)
         → workspaces_of (projects ++ project ∷ [])
-          ≡ workspaces_of projects ++ (if list_any (are_alike project) projects then [] else workspace_of project ∷ []) }
+        ≡ workspaces_of projects ++ (if list_any (are_alike project) projects then [] else workspace_of project ∷ []) }
 {}

@@ -23,9 +23,7 @@ fn project(alloc: Global, word: &str) -> Option<LinkedProject> {
             buildfiles: Items::new(alloc),
         });
     }
-    Some(LinkedProject::ProjectManifest(
-        VfsPath::new(alloc, word).ok()??,
-    ))
+    Some(LinkedProject::ProjectManifest(VfsPath::new(alloc, word).ok()??))
 }
 
 fn projects(alloc: Global, words: &str) -> Option<Items<LinkedProject>> {
