@@ -37,7 +37,13 @@ module _ {D : Type 0} where
   newest_is ticket [] is = absurd cc
   newest_is ticket (SetsLoader version ∷ before) is =
       let k = newest_is ticket before is in
-      record { since = SetsLoader version ∷ k.since; before = k.before; split = ap (λ run. SetsLoader version ∷ run) k.split; newest = k.newest; waits = k.waits }
+      record {
+        since = SetsLoader version ∷ k.since;
+        before = k.before;
+        split = ap (λ run. SetsLoader version ∷ run) k.split;
+        newest = k.newest;
+        waits = k.waits;
+      }
   newest_is ticket (Defers task ∷ before) is =
       let k = newest_is ticket before is in
       record { since = Defers task ∷ k.since; before = k.before; split = ap (λ run. Defers task ∷ run) k.split; newest = k.newest; waits = k.waits }

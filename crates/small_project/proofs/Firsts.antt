@@ -1,5 +1,6 @@
 -- Of projects that are alike the first stays.
-use Rattle.std.proofs.Common.{◌≡◌, ◌≢◌, ℕ, Bool, true, false, cond, not, ◌||◌, List, [], ◌∷◌, ◌++◌, map, get_or, Some, None, refl, sym, ap, ◌∙◌, ◌↔◌, zero, suc, arith}
+use Rattle.std.proofs.Common.{◌≡◌, ◌≢◌, ℕ, Bool, true, false, cond, not, ◌||◌, List, [], ◌∷◌, ◌++◌, map, get_or, Some, None}
+use Rattle.std.proofs.Common.{refl, sym, ap, ◌∙◌, ◌↔◌, zero, suc, arith}
 use Rattle.std.specs.Prelude.{if◌then◌else◌, IsTrue, Any, AllPairs, Contains}
 use Rattle.std.specs.List.{filter, list_any}
 use Rattle.std.proofs.lemmas.List.{map-append}
@@ -128,7 +129,8 @@ is_found project (x ∷ xs) (zero, w, within, is, same) =
 is_found project (x ∷ xs) (suc k, w, within, is, same) =
     ap (λ b. are_alike project x || b) (is_found project xs (k, w, omega (arith, within), is, same)) ∙ or-true (are_alike project x)
 
-pub each_listed : (projects : List LinkedProject) (project : LinkedProject) → Contains projects project → Contains (workspaces_of projects) (workspace_of project)
+pub each_listed : (projects : List LinkedProject) (project : LinkedProject) → Contains projects project
+    → Contains (workspaces_of projects) (workspace_of project)
 each_listed projects project (k, within, is) =
     is_listed project (firsts projects)
     (any-firsts project projects ∙ list_any_at (are_alike project) projects k project within (ap (are_alike project) is ∙ told project project refl))
