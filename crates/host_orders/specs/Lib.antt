@@ -1,0 +1,2 @@
+pub mod HostOrders
+pub mod Runs

@@ -1,0 +1,6 @@
+use Rattle.std.proofs.Common.{◌≡◌, take}
+use Rattle.small_project.specs.Workspaces.{workspaces_of}
+use Rattle.small_project.proofs.answers.workspaces_of.Given as goal
+
+abbrev pub invariant-loop-project : goal.invariant-loop-project
+invariant-loop-project l = l.workspaces ≡ workspaces_of (take l.project-index l.projects)
