@@ -61,10 +61,7 @@ fn push_settings(list: &mut Items<SettingsFile>, change: &ChangedFile) -> Result
     Ok(())
 }
 
-fn settings_among(
-    alloc: Global,
-    changes: &[ChangedFile],
-) -> Result<Items<SettingsFile>, NoMemory>
+fn settings_among(alloc: Global, changes: &[ChangedFile]) -> Result<Items<SettingsFile>, NoMemory>
     ensures { IfOk result (λ list. list ≡ settings_among changes.now) }
 {
     let mut list = Items::new(alloc);
@@ -111,9 +108,7 @@ fn macro_sources_of(
 fn first_asking<'a>(additional: &[Text], changes: &'a [ChangedFile]) -> Option<&'a ChangedFile>
     ensures { option_copied result ≡ find (asks_fetch additional.now) changes.now }
 {
-    changes
-        .iter()
-        .find(|change| asks_fetch(additional, change))
+    changes.iter().find(|change| asks_fetch(additional, change))
 }
 
 /// The fetch that the changes ask for.
