@@ -122,7 +122,8 @@ next_file : (files : Files) (path : List ℕ) (is_settings : Bool) (rest : List 
 next_file files path true rest all = All-cons (HasContentsOf files) (record { path = path; contents = contents_at files path }) rest refl all
 next_file files path false rest all = all
 
-next_change : (files : Files) (file : FileId) (path : List ℕ) (kind : Option ChangeKind) (rest : List ChangedFile) → All (HasContentsOf files) (settings_among rest)
+next_change : (files : Files) (file : FileId) (path : List ℕ) (kind : Option ChangeKind) (rest : List ChangedFile)
+    → All (HasContentsOf files) (settings_among rest)
     → All (HasContentsOf files) (settings_among (cons_option (change_with file path (contents_at files path) kind) rest))
 next_change files file path None rest all = all
 next_change files file path (Some kind) rest all = next_file files path (is_settings_file path) (settings_among rest) all
@@ -130,7 +131,8 @@ next_change files file path (Some kind) rest all = next_file files path (is_sett
 told_of : (files : Files) (before : List (List ℕ × FileWas)) → All (HasContentsOf files) (settings_among (filter_map (change_of files.rows) before))
 told_of files [] = All-nil (HasContentsOf files)
 told_of files (first ∷ rest) =
-    next_change files first.1.file first.0 (kind_between first.1.contents (contents_at files first.0)) (filter_map (change_of files.rows) rest) (told_of files rest)
+    let kind = kind_between first.1.contents (contents_at files first.0) in
+    next_change files first.1.file first.0 kind (filter_map (change_of files.rows) rest) (told_of files rest)
 
 pub settings_told : (files : Files) → All (HasContentsOf files) (settings_among (changes files))
 settings_told files = told_of files (map.entries files.before)
