@@ -17,7 +17,7 @@ use Rattle.reload.specs.Refresh.{is_modify}
 use Rattle.workspaces.specs.Fetches.{is_forced}
 use Rattle.workspaces.specs.Workspaces.{Paths}
 use Rattle.change_effects.specs.declared.effects.SettingsFile.{SettingsFile}
-use Rattle.change_effects.specs.Changes.{came_or_went, is_awaited, asks_fetch, settings_of, is_settings_file}
+use Rattle.change_effects.specs.Changes.{came_or_went, is_awaited, asks_fetch, is_settings_file}
 use Rattle.change_effects.specs.Effects.{are_awaited, have_come_or_gone, request_for, fetch_for, macro_sources_of, settings_among}
 use Rattle.change_effects.specs.EffectLaws.{IsCause, IsModified, HasContentsOf}
 
