@@ -1,0 +1,10 @@
+//! Tests of what follows from changes of files: lines of words that one interpreter reads. The call goes through a wrapper
+//! that claims nothing.
+#![tactic(auto)]
+
+#[cfg(test)]
+mod given;
+#[cfg(test)]
+mod lines;
+#[cfg(test)]
+mod told;
