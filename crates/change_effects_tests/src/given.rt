@@ -72,7 +72,7 @@ fn push_name(alloc: Global, names: &mut Items<Text>, name: &str) -> Option<()> {
 }
 
 fn push_change(alloc: Global, list: &mut Items<ChangedFile>, sign: &str, rest: &str) -> Option<()> {
-    let file = list.len() as u32;
+    let file = u32::try_from(list.len()).ok()?;
     list.push(change_of(alloc, file, kind_of(sign)?, rest)?)
         .ok()
 }
