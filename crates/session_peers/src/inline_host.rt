@@ -83,8 +83,7 @@ fn let_go<S: Source>(source: &mut FramedSource<S>, jobs: &mut JobsOut, event: &H
 {
     match event {
         HostEvent::Bytes(piece) => source.advance(piece.len()),
-        HostEvent::Ended | HostEvent::Vfs(_) | HostEvent::DeferredTask(_) | HostEvent::Timer(_) =>
-            {}
+        HostEvent::Ended | HostEvent::Vfs(_) => {}
         HostEvent::Tasks(_) => jobs.clear(),
     }
 }

@@ -51,11 +51,7 @@ impl NumberedJobs {
         ensures { self.new ≡ record self.old { out = after_event event.now self.old.out } }
     {
         match event {
-            HostEvent::Bytes(_)
-            | HostEvent::Ended
-            | HostEvent::Vfs(_)
-            | HostEvent::DeferredTask(_)
-            | HostEvent::Timer(_) => {}
+            HostEvent::Bytes(_) | HostEvent::Ended | HostEvent::Vfs(_) => {}
             HostEvent::Tasks(batch) => end_jobs(&mut self.out, batch.as_slice()),
         }
     }
@@ -79,13 +75,7 @@ impl NumberedJobs {
         for command in commands {
             match command {
                 Command::Spawn(job) => self.push(job.clone()?)?,
-                Command::Revise(_)
-                | Command::Invalidate(_)
-                | Command::Log(..)
-                | Command::Defer(_)
-                | Command::SetLoader { .. }
-                | Command::Timer(_)
-                | Command::Stop => {}
+                Command::Revise(_) | Command::Invalidate(_) | Command::Log(..) | Command::Stop => {}
             }
         }
         Ok(())
