@@ -22,8 +22,8 @@ pub use laws::{
 };
 pub use plain::Steps;
 
-/// Values by key, seen as the entries in the order of their keys. It never changes: `set` answers another map, and a
-/// clone is the same tree.
+/// Values by key, seen as the entries in the order of their keys. A clone is the same tree, and no change of a map is
+/// seen in its clones: `set` answers another map, `put` and `take` change this one.
 #[derive(Drop)]
 pub struct SharedMap<K: Ord, V> {
     tree: Tree<K, V>,
