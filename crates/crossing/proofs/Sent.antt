@@ -22,6 +22,8 @@ use Rattle.analysis_host.specs.contracts.snapshot.GlobalStateSnapshot.TheInside 
 use Rattle.analysis_host.specs.contracts.snapshot.SnapshotParts as SnapshotParts
 use Rattle.analysis_host.specs.contracts.versions.Versions as Versions
 use Rattle.analysis_host.specs.contracts.world.World as World
+use Rattle.docs_vfs.proofs.source_roots.Root.TheSendSync as Root
+use Rattle.session_port.proofs.command.DeferredTask.TheSendSync as DeferredTask
 use Rattle.session_port.proofs.command.LogCode.TheSendSync as LogCode
 use Rattle.session_port.proofs.job.JobKind.TheSendSync as JobKind
 use Rattle.method_table.proofs.class.PoolClass.TheSendSync as PoolClass
@@ -101,7 +103,7 @@ pub job_sync : IsSync Job.the_row
 job_sync = declared_sync Job.the_type (search (PoolClass.the_sync, JobKind.the_sync, snapshot_sync, sendable) depth 20 fits 20000)
 
 pub command_send : IsSend Command.the_row
-command_send = variants_send Command.enum (search (job_send, LogCode.the_send, Text.the_send, VfsPath.the_send, sendable) depth 20 fits 20000)
+command_send = variants_send Command.enum (search (job_send, LogCode.the_send, DeferredTask.the_send, Root.the_send, Items.the_send, Text.the_send, VfsPath.the_send, sendable) depth 20 fits 20000)
 
 -- for a type or a closure that holds one of these
 pub ruleset sends = (world_send, file_ids_send, versions_send, config_send, snapshot_send, job_send, command_send, heap.Arc-send)

@@ -1,4 +1,6 @@
-//! A worker: a thread that answers one job.
+//! A worker: a thread that answers one request's job.
+ghost use Rattle.std.specs.Prelude.{◌≡◌, true};
+ghost use Rattle.session_port.specs.Jobs.{is_request};
 ghost use Rattle.crossing.specs.Workers.{IsMessageOf, IsStarted};
 
 use analysis_host::{Analysis, Never};
@@ -34,6 +36,7 @@ pub enum Worker<A: Analysis> {
 }
 
 fn work<A: Analysis>(analysis: Arc<A, Global>, job: Job) -> TaskMsg
+    requires asked { is_request job.kind ≡ true }
     ensures { IsMessageOf A.answer job result }
 {
     // A revision fits 64 bits.
@@ -45,12 +48,13 @@ fn work<A: Analysis>(analysis: Arc<A, Global>, job: Job) -> TaskMsg
     }
 }
 
-/// Starts a worker.
+/// Starts a worker on a request's job.
 pub fn start<R: Threads, A: Analysis + Send + Sync + 'static>(
     rt: &R,
     analysis: Arc<A, Global>,
     job: Job,
 ) -> Worker<A>
+    requires asked { is_request job.kind ≡ true }
     ensures { IsStarted A.answer job result }
 {
     let promise = Promised {

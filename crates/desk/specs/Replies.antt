@@ -11,7 +11,7 @@ use Rattle.session_port.specs.Jobs.{value_of}
 use Rattle.session_port.specs.declared.job.JobResult.{JobResult}
 use Rattle.session_port.specs.declared.job.JobResult.TheVariants.{Value, Fault, Cancelled, NoMemory}
 use Rattle.session_port.specs.declared.job.JobValue.{JobValue}
-use Rattle.session_port.specs.declared.job.JobValue.TheVariants.{Json}
+use Rattle.session_port.specs.declared.job.JobValue.TheVariants.{Json, Workspaces, BuildData, ProcMacros}
 
 -- -32600
 abbrev pub already_pending : RequestId → Response
@@ -66,8 +66,16 @@ stopped_reply Identity id = content_modified id
 abbrev pub fault_reply : RequestId → Option ℤ → List ℕ → Response
 fault_reply id code message = refusal id (fault_code code) message
 
+-- -32603
+abbrev pub no_answer : RequestId → Response
+no_answer id = refusal id (negsuc 32602) (codes "no answer")
+
+-- only JSON fits a request's job
 abbrev pub value_reply : RequestId → JobValue → Response
 value_reply id (Json value) = response_with id value
+value_reply id (Workspaces results) = no_answer id
+value_reply id (BuildData results) = no_answer id
+value_reply id (ProcMacros macros) = no_answer id
 
 -- what a question comes to
 abbrev pub finding_reply : RequestId → Finding → Response

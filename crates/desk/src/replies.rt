@@ -129,6 +129,7 @@ pub fn finished_reply(
 {
     match outcome {
         JobResult::Value(JobValue::Json(value)) => Ok(Some(response_with(id, value))),
+        JobResult::Value(_) => unreachable!(),
         JobResult::Fault { code, message } => Ok(Some(fault_reply(id, code, message))),
         JobResult::Cancelled { .. } => Ok(None),
         JobResult::NoMemory => {

@@ -30,10 +30,10 @@ use Rattle.session_port.specs.declared.command.LogCode.TheVariants.{UnknownReque
 use Rattle.session_port.specs.declared.event.TaskMsg.{TaskMsg}
 use Rattle.session_port.specs.declared.job.Job.{Job}
 use Rattle.session_port.specs.declared.job.JobKind.{JobKind}
-use Rattle.session_port.specs.declared.job.JobKind.TheVariants.{Request as RequestJob}
+use Rattle.session_port.specs.declared.job.JobKind.TheVariants.{Request as RequestJob, FetchWorkspaces, FetchBuildData, LoadProcMacros}
 use Rattle.session_port.specs.declared.job.JobResult.{JobResult}
 use Rattle.session_port.specs.declared.job.JobResult.TheVariants.{Value, Fault, Cancelled, NoMemory}
-use Rattle.session_port.specs.declared.job.JobValue.TheVariants.{Json}
+use Rattle.session_port.specs.declared.job.JobValue.TheVariants.{Json, Workspaces, BuildData, ProcMacros}
 use Rattle.turn_parts.specs.Working.{Working, logged, ordered, replied}
 use Rattle.turn_parts.specs.Written.{responses_in}
 use Rattle.turn_parts.specs.declared.fault.Counter.{Counter}
@@ -86,6 +86,9 @@ finding-id id (fault code message) = refl
 
 pub finished-id : (id : RequestId) (result : JobResult) (response : Response) → finished_reply id result ≡ Some response → response.id ≡ Some id
 finished-id id (Value (Json value)) response is = sym (ap (λ (r : Response). r.id) (some-same _ response is))
+finished-id id (Value (Workspaces results)) response is = sym (ap (λ (r : Response). r.id) (some-same _ response is))
+finished-id id (Value (BuildData results)) response is = sym (ap (λ (r : Response). r.id) (some-same _ response is))
+finished-id id (Value (ProcMacros macros)) response is = sym (ap (λ (r : Response). r.id) (some-same _ response is))
 finished-id id (Fault code message) response is = sym (ap (λ (r : Response). r.id) (some-same _ response is))
 finished-id id (Cancelled saw) response is = absurd cc
 finished-id id NoMemory response is = sym (ap (λ (r : Response). r.id) (some-same _ response is))
@@ -335,6 +338,9 @@ stop-settles : (meaning : Meaning) (scene : Scene) (id : RequestId) (revision : 
     → IfOk (stopped meaning scene revision kind w) (λ v. Settled None w v (stopped_row meaning scene w.state id revision kind) w.state.jobs)
 unfolding stopped
 stop-settles meaning scene id revision (RequestJob ticket row params) w waits = stop-cases meaning scene ticket id row params w (ltb revision scene.snapshot.revision && not (retries row)) waits
+stop-settles meaning scene id revision (FetchWorkspaces projects detached path force) w waits = nothing-settles w
+stop-settles meaning scene id revision (FetchBuildData version) w waits = nothing-settles w
+stop-settles meaning scene id revision (LoadProcMacros paths ignored) w waits = nothing-settles w
 
 result-settles : (meaning : Meaning) (scene : Scene) (id : RequestId) (job : Job) (result : JobResult) (o : Option Response) (w : Working Desk) → finished_reply id result ≡ o → waiting_for job w.state ≡ Some id
     → IfOk (settled meaning scene o id job w) (λ v. Settled None w v (result_row meaning scene w.state o id job) w.state.jobs)
@@ -364,6 +370,9 @@ row-without meaning scene desk jobs (Some result) job = by_request (waiting_for 
   where
     by_kind : (id : RequestId) (revision : ℕ) (kind : JobKind) → stopped_row meaning scene (record desk { jobs = jobs }) id revision kind ≡ stopped_row meaning scene desk id revision kind
     by_kind id revision (RequestJob ticket row params) = refl
+    by_kind id revision (FetchWorkspaces projects detached path force) = refl
+    by_kind id revision (FetchBuildData version) = refl
+    by_kind id revision (LoadProcMacros paths ignored) = refl
 
     by_reply : (o : Option Response) (id : RequestId) → result_row meaning scene (record desk { jobs = jobs }) o id job ≡ result_row meaning scene desk o id job
     by_reply (Some response) id = refl
@@ -421,6 +430,9 @@ message-turns meaning scene desk turns message = by_job (fitting_job message des
   where
     by_kind : (id : RequestId) (revision : ℕ) (kind : JobKind) → stopped_row meaning scene (record desk { turns = turns }) id revision kind ≡ stopped_row meaning scene desk id revision kind
     by_kind id revision (RequestJob ticket row params) = refl
+    by_kind id revision (FetchWorkspaces projects detached path force) = refl
+    by_kind id revision (FetchBuildData version) = refl
+    by_kind id revision (LoadProcMacros paths ignored) = refl
 
     by_reply : (o : Option Response) (id : RequestId) (job : Job) → result_row meaning scene (record desk { turns = turns }) o id job ≡ result_row meaning scene desk o id job
     by_reply (Some response) id job = refl

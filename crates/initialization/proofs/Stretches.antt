@@ -6,14 +6,15 @@ use Rattle.lsp_frame.specs.Reader.{Reader}
 use Rattle.lsp_frame.specs.declared.frame.Cut.TheVariants.{NeedMore}
 use Rattle.lsp_frame.specs.declared.message.Message.{Message}
 use Rattle.lsp_frame.specs.declared.message.Response.{Response}
-use Rattle.session_port.specs.declared.event.HostEvent.TheVariants.{Bytes, Tasks, Vfs as Files}
+use Rattle.session_port.specs.declared.command.DeferredTask.{DeferredTask}
+use Rattle.session_port.specs.declared.event.HostEvent.TheVariants.{Bytes, Tasks, Vfs as Files, DeferredTask as Given, Timer as TimerEvent}
 use Rattle.session_port.specs.declared.event.LoaderMsg.{LoaderMsg}
 use Rattle.session_port.specs.declared.event.TaskMsg.{TaskMsg}
 use Rattle.session_model.specs.Course.{is_exit, course_of}
 use Rattle.session_model.specs.Run.{Told, fed_bytes}
 use Rattle.session_model.specs.declared.fault.SessionError.{SessionError}
 use Rattle.session_model.specs.declared.fault.SessionError.TheVariants.{ClientExited, BadFrame, BadMessage, HostFault, WriteFault, Exhausted, NoMemory}
-use Rattle.session_model.specs.declared.input.Event.TheVariants.{Lsp, Task, Vfs}
+use Rattle.session_model.specs.declared.input.Event.TheVariants.{Lsp, Task, Vfs, Deferred, Timer}
 use Rattle.session_model.specs.declared.input.Input.TheVariants.{Next}
 use Rattle.session_laws.proofs.Courses.{course-event, course-fed, course-empty, message-takes}
 use Rattle.session_laws.proofs.Stretches.{bytes-append}
@@ -108,6 +109,42 @@ module _ (threads : ℕ) (before : Talk) (old new : Told) (partial : cut_of befo
       events = Files messages ∷ [];
       inputs = Next (Vfs messages) ∷ [];
       course = λ more. course-event before.reader.place before.reader.held (Files messages) more partial;
+      stage = refl;
+      told = told;
+      fed = omega arith;
+      counted = refl;
+    };
+    fewer = omega (arith, room);
+    in_step = in_step;
+    sound = sound;
+    fits = fits;
+  })
+
+  -- deferred tasks are passed over
+  pub goes-deferred : (tasks : List DeferredTask) (now : Talk) → now ≡ counted before → new ≡ telling (Given tasks ∷ []) [] old → Goes threads before now old new
+  goes-deferred tasks now is told = rw is (record {
+    stretch = record {
+      events = Given tasks ∷ [];
+      inputs = Next (Deferred tasks) ∷ [];
+      course = λ more. course-event before.reader.place before.reader.held (Given tasks) more partial;
+      stage = refl;
+      told = told;
+      fed = omega arith;
+      counted = refl;
+    };
+    fewer = omega (arith, room);
+    in_step = in_step;
+    sound = sound;
+    fits = fits;
+  })
+
+  -- the end of a timer is passed over
+  pub goes-timer : (ticket : ℕ) (now : Talk) → now ≡ counted before → new ≡ telling (TimerEvent ticket ∷ []) [] old → Goes threads before now old new
+  goes-timer ticket now is told = rw is (record {
+    stretch = record {
+      events = TimerEvent ticket ∷ [];
+      inputs = Next (Timer ticket) ∷ [];
+      course = λ more. course-event before.reader.place before.reader.held (TimerEvent ticket) more partial;
       stage = refl;
       told = told;
       fed = omega arith;

@@ -10,7 +10,7 @@ use Rattle.ra_config.specs.Config.{ConfigData}
 use Rattle.ra_config.specs.Initialize.{initial_config}
 use Rattle.ra_config.specs.declared.initialize.ConfigFault.{ConfigFault}
 use Rattle.ra_config.specs.declared.initialize.ConfigFault.TheVariants.{NoRoot}
-use Rattle.session_model.specs.declared.input.Event.TheVariants.{Lsp, Task, Vfs}
+use Rattle.session_model.specs.declared.input.Event.TheVariants.{Lsp, Task, Vfs, Deferred, Timer}
 use Rattle.session_model.specs.declared.input.Input.{Input}
 use Rattle.session_model.specs.declared.input.Input.TheVariants.{Start, Next}
 use Rattle.initialization.specs.Replies.{welcome, no_workspace}
@@ -64,6 +64,8 @@ by_input threads stage Start = quiet stage
 by_input threads stage (Next (Lsp message)) = by_message threads stage message
 by_input threads stage (Next (Task batch)) = quiet stage
 by_input threads stage (Next (Vfs messages)) = quiet stage
+by_input threads stage (Next (Deferred tasks)) = quiet stage
+by_input threads stage (Next (Timer ticket)) = quiet stage
 
 -- what the handshake waits for after inputs, each on what those before it leave
 abbrev pub stage_after : ℕ → Stage → List Input → Stage

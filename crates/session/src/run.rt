@@ -159,6 +159,14 @@ fn take_event<H: Host<A>, S: Sink, A: Analysis>(
             let input = Input::Next(Event::Vfs(messages));
             run_turn(alloc, input, state, host, sink, analysis)
         }
+        HostEvent::DeferredTask(tasks) => {
+            let input = Input::Next(Event::Deferred(tasks));
+            run_turn(alloc, input, state, host, sink, analysis)
+        }
+        HostEvent::Timer(ticket) => {
+            let input = Input::Next(Event::Timer(ticket));
+            run_turn(alloc, input, state, host, sink, analysis)
+        }
         HostEvent::Bytes(bytes) => {
             if bytes.len() == 0 {
                 let batch = Items::new(alloc);

@@ -29,7 +29,7 @@ use Rattle.session_model.specs.Headline.{Place, reaction_of, row, notice_row, ba
 use Rattle.session_model.specs.Inputs.{cancelled_by, request_in}
 use Rattle.session_model.specs.Hearing.{heard_of, told_by}
 use Rattle.session_model.specs.Run.{Turn, after_input}
-use Rattle.session_model.specs.declared.input.Event.TheVariants.{Lsp, Task, Vfs}
+use Rattle.session_model.specs.declared.input.Event.TheVariants.{Lsp, Task, Vfs, Deferred, Timer}
 use Rattle.session_model.specs.declared.input.Input.{Input}
 use Rattle.session_model.specs.declared.input.Input.TheVariants.{Start, Next}
 use Rattle.session_laws.specs.Answering.{answered_by, answered_by_turn, AreAccountedFor}
@@ -113,6 +113,8 @@ row-ready meaning (Next (Lsp (RequestMessage r))) place = request-ready meaning 
 row-ready meaning (Next (Lsp (NotificationMessage n))) place = notice-ready n (cancelled_by (told_by (heard_of n))) place
 row-ready meaning (Next (Lsp (ResponseMessage r))) place = tt
 row-ready meaning (Next (Vfs messages)) place = tt
+row-ready meaning (Next (Deferred tasks)) place = tt
+row-ready meaning (Next (Timer ticket)) place = tt
 row-ready meaning (Next (Task batch)) place = each-weaker (IsAwaited place.desk.pending) _ _ (λ job h ticket its. inl (h ticket its)) (batch-awaited meaning batch place)
 
 -- ---- turns

@@ -45,7 +45,7 @@ use Rattle.session_model.specs.Hearing.{heard_of}
 use Rattle.session_model.specs.Run.{begun}
 use Rattle.session_model.specs.declared.facts.Facts.{Facts}
 use Rattle.session_model.specs.declared.input.Event.{Event}
-use Rattle.session_model.specs.declared.input.Event.TheVariants.{Lsp, Task, Vfs}
+use Rattle.session_model.specs.declared.input.Event.TheVariants.{Lsp, Task, Vfs, Deferred, Timer}
 use Rattle.session_model.specs.declared.input.Input.{Input}
 use Rattle.session_model.specs.declared.input.Input.TheVariants.{Start, Next}
 use Rattle.session_model.specs.declared.heard.Heard.{Heard}
@@ -176,6 +176,8 @@ event-errs meaning s (Task batch) =
     err-weaker _ (TooMany s.desk.handed done) _ (batch-errs meaning s.desk.turns batch (counted_turn s)) (λ c h. needs-jobs meaning s (Next (Task batch)) done c refl h)
 event-errs meaning s (Vfs messages) =
     files-errs meaning s (Next (Vfs messages)) (loaded messages) (after_messages messages s.files) refl (loaded-errs-by messages (record { state = s.files; out = nothing_done }))
+event-errs meaning s (Deferred tasks) = tt
+event-errs meaning s (Timer ticket) = tt
 
 turns-errs : (meaning : Meaning) (s : State) (event : Event) → IfErr (counted (begun s)) (Needs meaning s (Next event))
 unfolding counted

@@ -26,7 +26,7 @@ use Rattle.session_model.specs.Hearing.{heard_of, told_by}
 use Rattle.session_model.specs.Headline.{Place, reaction_of, row, notice_row, batch_row, place_past, next_turn, scene_at, snapshot_at, beginning, place_after, place_after_all, WasHandedOver, AreHandedOver}
 use Rattle.session_model.specs.Inputs.{batch_of, cancelled_by}
 use Rattle.session_model.specs.Run.{Turn, after_input}
-use Rattle.session_model.specs.declared.input.Event.TheVariants.{Lsp, Task, Vfs}
+use Rattle.session_model.specs.declared.input.Event.TheVariants.{Lsp, Task, Vfs, Deferred, Timer}
 use Rattle.session_model.specs.declared.input.Input.{Input}
 use Rattle.session_model.specs.declared.input.Input.TheVariants.{Start, Next}
 use Rattle.session_laws.specs.Invariant.{SoundAt}
@@ -125,6 +125,8 @@ row-due meaning (Next (Lsp (RequestMessage r))) place s =
 row-due meaning (Next (Lsp (NotificationMessage n))) place s = notice-due (cancelled_by (told_by (heard_of n))) place
 row-due meaning (Next (Lsp (ResponseMessage r))) place s = tt
 row-due meaning (Next (Vfs messages)) place s = tt
+row-due meaning (Next (Deferred tasks)) place s = tt
+row-due meaning (Next (Timer ticket)) place s = tt
 row-due meaning (Next (Task batch)) place s = batch-due meaning batch place s.below
 
 -- a job out after jobs were handed over was out before, or is one of these

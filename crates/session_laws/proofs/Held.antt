@@ -12,8 +12,6 @@ use Rattle.session_port.specs.Jobs.{Jobs, after_message, after_batch, ticket_of}
 use Rattle.session_port.specs.Record.{spawned, with_jobs}
 use Rattle.session_port.specs.declared.event.TaskMsg.{TaskMsg}
 use Rattle.session_port.specs.declared.job.Job.{Job}
-use Rattle.session_port.specs.declared.job.JobKind.{JobKind}
-use Rattle.session_port.specs.declared.job.JobKind.TheVariants.{Request as RequestJob}
 use Rattle.turn_parts.specs.Written.{responses_in}
 use Rattle.desk.specs.Folds.{AreAnswers, AnswersOnce, asked_among, closed_by, is_asked}
 use Rattle.desk.specs.Meaning.{Meaning}
@@ -25,7 +23,7 @@ use Rattle.session_model.specs.Headline.{Place, reaction_of, row, notice_row, ba
 use Rattle.session_model.specs.Inputs.{cancelled_by, request_in, turns_after}
 use Rattle.session_model.specs.Hearing.{heard_of, told_by}
 use Rattle.session_model.specs.Run.{Turn, after_input}
-use Rattle.session_model.specs.declared.input.Event.TheVariants.{Lsp, Task, Vfs}
+use Rattle.session_model.specs.declared.input.Event.TheVariants.{Lsp, Task, Vfs, Deferred, Timer}
 use Rattle.session_model.specs.declared.input.Input.{Input}
 use Rattle.session_model.specs.declared.input.Input.TheVariants.{Start, Next}
 use Rattle.session_laws.specs.Invariant.{SoundAt}
@@ -85,6 +83,8 @@ row-kept meaning (Next (Lsp (RequestMessage r))) place s = request-kept meaning 
 row-kept meaning (Next (Lsp (NotificationMessage n))) place s = notice-kept n (cancelled_by (told_by (heard_of n))) place s
 row-kept meaning (Next (Lsp (ResponseMessage r))) place s = idle-kept _ _ place.desk place.revision (omega arith) s
 row-kept meaning (Next (Vfs messages)) place s = idle-kept _ _ place.desk place.revision (omega arith) s
+row-kept meaning (Next (Deferred tasks)) place s = idle-kept _ _ place.desk place.revision (omega arith) s
+row-kept meaning (Next (Timer ticket)) place s = idle-kept _ _ place.desk place.revision (omega arith) s
 row-kept meaning (Next (Task batch)) place s = batch-kept meaning batch place s
 
 -- ---- jobs that are for no request, among those that are
@@ -167,20 +167,6 @@ numbered-sound meaning turn place does numbered rises s =
   where
     kept : RowKeeps turn.input place (reaction_of turn)
     kept = subst (RowKeeps turn.input place) (sym does) (row-kept meaning turn.input place s)
-
--- each job is for a request
-kind-asked : (kind : JobKind) → is_some (ticket_of kind) ≡ true
-kind-asked (RequestJob ticket row params) = refl
-
-all-asked : (jobs : List Job) → asked_among jobs ≡ jobs
-all-asked [] = refl
-all-asked (job ∷ jobs) = asked-here job jobs (kind-asked job.kind) ∙ ap (λ (js : List Job). job ∷ js) (all-asked jobs)
-
--- a turn that is its row keeps the lists sound
-pub turn-sound : (meaning : Meaning) (turn : Turn) (place : Place) → reaction_of turn ≡ row meaning turn.input place → place.revision ≤ (place_after turn place).revision → SoundAt place → SoundAt (place_after turn place)
-turn-sound meaning turn place does rises s =
-    let jobs : (row meaning turn.input place).jobs ≡ spawned turn.commands = sym (ap (λ (r : Reaction). r.jobs) does) ∙ all-asked (spawned turn.commands) in
-    numbered-sound meaning turn place does (subst (AreNumbered place.desk.handed) jobs (row-numbered meaning turn.input place)) rises s
 
 -- and each response that it writes answers one request
 pub turn-once : (meaning : Meaning) (turn : Turn) (place : Place) → reaction_of turn ≡ row meaning turn.input place → SoundAt place → AnswersOnce (next_turn place) (request_in turn.input) (responses_in turn.messages) place.desk.pending

@@ -12,7 +12,7 @@ use Rattle.desk_laws.proofs.Numbered.{cancel-numbered, message-numbered, numbere
 use Rattle.session_model.specs.Hearing.{heard_of, told_by}
 use Rattle.session_model.specs.Headline.{Place, notice_row, place_past, batch_row, row, scene_at, next_turn}
 use Rattle.session_model.specs.Inputs.{cancelled_by}
-use Rattle.session_model.specs.declared.input.Event.TheVariants.{Lsp, Task, Vfs}
+use Rattle.session_model.specs.declared.input.Event.TheVariants.{Lsp, Task, Vfs, Deferred, Timer}
 use Rattle.session_model.specs.declared.input.Input.{Input}
 use Rattle.session_model.specs.declared.input.Input.TheVariants.{Start, Next}
 
@@ -34,4 +34,6 @@ row-numbered meaning (Next (Lsp (RequestMessage r))) place = request-numbered me
 row-numbered meaning (Next (Lsp (NotificationMessage n))) place = notice-numbered (cancelled_by (told_by (heard_of n))) place.desk
 row-numbered meaning (Next (Lsp (ResponseMessage r))) place = tt
 row-numbered meaning (Next (Vfs messages)) place = tt
+row-numbered meaning (Next (Deferred tasks)) place = tt
+row-numbered meaning (Next (Timer ticket)) place = tt
 row-numbered meaning (Next (Task batch)) place = batch-numbered meaning batch place

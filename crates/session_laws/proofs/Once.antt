@@ -11,7 +11,7 @@ use Rattle.desk_laws.proofs.Once.{IsNew, Turns, among-cases, differ-append, turn
 use Rattle.session_model.specs.Headline.{Place, beginning, next_turn, place_after}
 use Rattle.session_model.specs.Inputs.{request_in, turns_after}
 use Rattle.session_model.specs.Run.{Turn}
-use Rattle.session_model.specs.declared.input.Event.TheVariants.{Lsp, Task, Vfs}
+use Rattle.session_model.specs.declared.input.Event.TheVariants.{Lsp, Task, Vfs, Deferred, Timer}
 use Rattle.session_model.specs.declared.input.Input.{Input}
 use Rattle.session_model.specs.declared.input.Input.TheVariants.{Start, Next}
 use Rattle.session_laws.specs.Answering.{answered_by, answered_by_turn}
@@ -31,6 +31,8 @@ new-counted (Next (Lsp (NotificationMessage n))) turns t h = absurd h
 new-counted (Next (Lsp (ResponseMessage r))) turns t h = absurd h
 new-counted (Next (Task batch)) turns t h = absurd h
 new-counted (Next (Vfs messages)) turns t h = absurd h
+new-counted (Next (Deferred tasks)) turns t h = absurd h
+new-counted (Next (Timer ticket)) turns t h = absurd h
 
 turns-rise : (input : Input) (turns : ℕ) → turns ≤ turns_after input turns
 turns-rise Start turns = omega arith

@@ -59,7 +59,7 @@ use Rattle.session_model.specs.Run.{Turn, Steps, begun, after_input, out_after}
 use Rattle.session_model.specs.State.{State, columns_in, excludes_in, scene_of}
 use Rattle.session_model.specs.declared.facts.Facts.{Facts}
 use Rattle.session_model.specs.declared.input.Event.{Event}
-use Rattle.session_model.specs.declared.input.Event.TheVariants.{Lsp, Task, Vfs}
+use Rattle.session_model.specs.declared.input.Event.TheVariants.{Lsp, Task, Vfs, Deferred, Timer}
 use Rattle.session_model.specs.declared.input.Input.{Input}
 use Rattle.session_model.specs.declared.input.Input.TheVariants.{Start, Next}
 use Rattle.session_model.specs.declared.heard.Heard.{Heard}
@@ -421,6 +421,8 @@ unfolding happened
 event-mid meaning s (Lsp message) = message-mid meaning s message
 event-mid meaning s (Task batch) = batch-mid meaning s batch
 event-mid meaning s (Vfs messages) = loaded-mid meaning s messages
+event-mid meaning s (Deferred tasks) = desk-mid meaning s (Next (Deferred tasks)) silent (counted_desk s.desk) refl refl (record { client = refl; files = refl }) (nothing-settles (counted_desk s.desk))
+event-mid meaning s (Timer ticket) = desk-mid meaning s (Next (Timer ticket)) silent (counted_desk s.desk) refl refl (record { client = refl; files = refl }) (nothing-settles (counted_desk s.desk))
 
 pub counted-is : (s : State) → IfOk (counted (begun s)) (λ v. v ≡ counted_turn s)
 unfolding counted counted_at_desk

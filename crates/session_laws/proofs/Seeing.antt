@@ -26,7 +26,7 @@ use Rattle.session_model.specs.Run.{Turn}
 use Rattle.session_laws.proofs.Filing.{ok-from}
 use Rattle.session_model.specs.State.{columns_in, excludes_in}
 use Rattle.session_model.specs.declared.input.Event.{Event}
-use Rattle.session_model.specs.declared.input.Event.TheVariants.{Lsp, Task, Vfs}
+use Rattle.session_model.specs.declared.input.Event.TheVariants.{Lsp, Task, Vfs, Deferred, Timer}
 use Rattle.session_model.specs.declared.input.Input.{Input}
 use Rattle.session_model.specs.declared.input.Input.TheVariants.{Start, Next}
 
@@ -67,6 +67,8 @@ told-sound : (settings : ConfigData) (event : Event) (files : SessionFiles) → 
 told-sound settings (Lsp message) files sound = documents-sound settings (notice_in (Next (Lsp message))) files sound
 told-sound settings (Task batch) files sound = sound
 told-sound settings (Vfs messages) files sound = ok-from _ IsSound (λ now is. (messages_keep messages files now is).sound sound)
+told-sound settings (Deferred tasks) files sound = sound
+told-sound settings (Timer ticket) files sound = sound
 
 made-seen : (settings : ConfigData) (input : Input) (files : SessionFiles) → AreSeen files → IfOk (files_made settings input files) AreSeen
 made-seen settings Start files seen = seen

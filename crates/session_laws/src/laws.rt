@@ -5,6 +5,7 @@ ghost use Rattle.lsp_frame.specs.declared.message.Message.{Message};
 ghost use Rattle.lsp_frame.specs.declared.message.Response.{Response};
 ghost use Rattle.ra_config.specs.Config.{ConfigData};
 ghost use Rattle.session_port.specs.Jobs.{Jobs};
+ghost use Rattle.session_port.specs.Record.{spawned};
 ghost use Rattle.session_port.specs.declared.event.HostEvent.{HostEvent};
 ghost use Rattle.session_port.specs.declared.event.HostEvent.TheVariants.{Bytes};
 ghost use Rattle.turn_parts.specs.Working.{Working};
@@ -12,6 +13,7 @@ ghost use Rattle.turn_parts.specs.Written.{AreRead, AreShort, frames_for, messag
 ghost use Rattle.desk.specs.Folds.{AreAnswers};
 ghost use Rattle.desk.specs.Meaning.{Meaning};
 ghost use Rattle.desk_laws.specs.Answering.{AllDiffer, answered_in};
+ghost use Rattle.desk_laws.specs.Numbers.{AreNumbered};
 ghost use Rattle.session_model.specs.Course.{course_of};
 ghost use Rattle.session_model.specs.Headline.{Place, beginning, place_after, reaction_of, row};
 ghost use Rattle.session_model.specs.Run.{Turn, Runs, Steps};
@@ -44,11 +46,13 @@ pub fn parts_beside_keep_the_answers()
         → Beside before after → Serves meaning old input jobs before → Serves meaning old input jobs after }
 {}
 
-/// The turn invariant holds at the beginning, and each turn that is its row, and in which the revision doesn't fall, keeps it.
+/// The turn invariant holds at the beginning. Each turn that is its row, gives the jobs that it hands over the next numbers, and in
+/// which the revision doesn't fall, keeps it.
 pub fn rows_keep_the_invariant()
     ensures beginning { (settings : ConfigData) → SoundAt (beginning settings) }
     ensures kept { (meaning : Meaning) (turn : Turn) (place : Place)
-        → reaction_of turn ≡ row meaning turn.input place → place.revision ≤ (place_after turn place).revision
+        → reaction_of turn ≡ row meaning turn.input place → AreNumbered place.desk.handed (spawned turn.commands)
+        → place.revision ≤ (place_after turn place).revision
         → SoundAt place → SoundAt (place_after turn place) }
 {}
 

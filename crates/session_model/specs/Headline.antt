@@ -46,7 +46,7 @@ use Rattle.session_model.specs.State.{columns_in, excludes_in}
 use Rattle.session_model.specs.Run.{Turn, Told, AllRead, AsksLast, IsHonestInput, commands_of, fed_bytes, out_after, taking, telling}
 use Rattle.session_model.specs.declared.fault.SessionError.{SessionError}
 use Rattle.session_model.specs.declared.fault.SessionError.TheVariants.{ClientExited, BadFrame, BadMessage, HostFault, WriteFault, Exhausted, NoMemory}
-use Rattle.session_model.specs.declared.input.Event.TheVariants.{Lsp, Task, Vfs}
+use Rattle.session_model.specs.declared.input.Event.TheVariants.{Lsp, Task, Vfs, Deferred, Timer}
 use Rattle.session_model.specs.declared.input.Input.{Input}
 use Rattle.session_model.specs.declared.input.Input.TheVariants.{Start, Next}
 
@@ -114,6 +114,8 @@ files_told settings Start files = Ok files
 files_told settings (Next (Lsp message)) files = documents_told settings (notice_in (Next (Lsp message))) files
 files_told settings (Next (Task batch)) files = Ok files
 files_told settings (Next (Vfs messages)) files = after_messages messages files
+files_told settings (Next (Deferred tasks)) files = Ok files
+files_told settings (Next (Timer ticket)) files = Ok files
 
 -- behind the event of a turn what has changed goes into the world, unless files are loading; the start has no event
 abbrev pub files_turned : Input → SessionFiles → Result SessionFiles Counter
@@ -206,6 +208,8 @@ row meaning (Next (Lsp (NotificationMessage n))) place = notice_row (cancelled_b
 row meaning (Next (Lsp (ResponseMessage r))) place = silent
 row meaning (Next (Task batch)) place = batch_row meaning batch place
 row meaning (Next (Vfs messages)) place = silent
+row meaning (Next (Deferred tasks)) place = silent
+row meaning (Next (Timer ticket)) place = silent
 
 -- ---- what holds between turns
 

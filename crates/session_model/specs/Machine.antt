@@ -30,7 +30,7 @@ use Rattle.session_model.specs.Hearing.{heard_of}
 use Rattle.session_model.specs.State.{State, columns_in, excludes_in, scene_of}
 use Rattle.session_model.specs.declared.facts.Facts.{Facts}
 use Rattle.session_model.specs.declared.input.Event.{Event}
-use Rattle.session_model.specs.declared.input.Event.TheVariants.{Lsp, Task, Vfs}
+use Rattle.session_model.specs.declared.input.Event.TheVariants.{Lsp, Task, Vfs, Deferred, Timer}
 use Rattle.session_model.specs.declared.input.Input.{Input}
 use Rattle.session_model.specs.declared.input.Input.TheVariants.{Start, Next}
 use Rattle.session_model.specs.declared.heard.Heard.{Heard}
@@ -139,10 +139,13 @@ batched meaning (message ∷ messages) w = and_then (taken meaning message w) (b
 
 -- ---- the turn
 
+-- nothing is done yet for a deferred task, nor where a timer ends
 unfoldable pub happened : Meaning → Event → Working State → Result (Working State) Counter
 happened meaning (Lsp message) w = received meaning message w
 happened meaning (Task batch) w = batched meaning batch w
 happened meaning (Vfs messages) w = at_files (loaded messages) w
+happened meaning (Deferred tasks) w = Ok w
+happened meaning (Timer ticket) w = Ok w
 
 -- the turn is counted, and its event is taken in
 unfoldable pub counted : Working State → Result (Working State) Counter

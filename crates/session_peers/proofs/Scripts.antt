@@ -1,6 +1,6 @@
 -- What a script gives is honest, and how its results are made one by one.
 use Rattle.std.proofs.Common.{◌≡◌, ℕ, Bool, true, false, cond, List, [], ◌∷◌, ◌++◌, refl, sym, ap, subst, ◌∙◌}
-use Rattle.std.specs.Prelude.{Option, None, Some, is_some, not}
+use Rattle.std.specs.Prelude.{Option, None, Some, is_some, not, option_and_then, if◌then◌else◌, ◌&&◌}
 use Rattle.std.specs.FinMap as map
 use Rattle.std.specs.List.{AllZip}
 use Rattle.std.specs.Option.{option_map, option_to_list, unwrap_or}
@@ -10,16 +10,20 @@ use Rattle.std.proofs.lemmas.Bool.{eqb-true, ltb-true}
 use Rattle.analysis_host.specs.Answers.{Finding}
 use Rattle.analysis_host.specs.SnapshotData.{SnapshotData}
 use Rattle.analysis_host.specs.declared.ask.Ask.{Ask}
-use Rattle.session_port.specs.Honest.{AreHonest, IsHonest}
-use Rattle.session_port.specs.Jobs.{Jobs, after_message}
+use Rattle.session_port.specs.Honest.{AreHonest, IsHonest, IsResultOf}
+use Rattle.session_port.specs.Jobs.{Jobs, after_message, fits_kind, is_request}
 use Rattle.session_peers.proofs.Fitting.{after_fitting}
-use Rattle.session_peers.specs.Script.{Gift, event, results, named, left_out, can_see, stopped, gift_of, next_gift, FinishesAt, IsGift}
+use Rattle.session_peers.specs.Script.{Gift, event, results, named, left_out, can_see, can_end, sees_later, ended, asked_at, if_request, without_found, gift_of, next_gift, FinishesAt, IsGift}
 use Rattle.session_port.specs.declared.event.HostEvent.{HostEvent}
-use Rattle.session_port.specs.declared.event.HostEvent.TheVariants.{Bytes, Ended, Tasks, Vfs}
+use Rattle.session_port.specs.declared.event.HostEvent.TheVariants.{Bytes, Ended, Tasks, Vfs, DeferredTask, Timer}
 use Rattle.session_port.specs.declared.event.TaskMsg.{TaskMsg}
 use Rattle.session_port.specs.declared.job.Job.{Job}
+use Rattle.session_port.specs.declared.job.JobKind.{JobKind}
+use Rattle.session_port.specs.declared.job.JobKind.TheVariants.{Request, FetchWorkspaces, FetchBuildData, LoadProcMacros}
+use Rattle.session_port.specs.declared.job.JobResult.{JobResult}
+use Rattle.session_port.specs.declared.job.JobResult.TheVariants.{Value, Fault, Cancelled, NoMemory}
 use Rattle.session_peers.specs.declared.script.ScriptStep.{ScriptStep}
-use Rattle.session_peers.specs.declared.script.ScriptStep.TheVariants.{Give, Finish, Cancel}
+use Rattle.session_peers.specs.declared.script.ScriptStep.TheVariants.{Give, Finish, Cancel, Supply}
 
 turned : {X : Type 0} (b : Bool) (x : Option X) → cond (not b) x None ≡ cond b None x
 turned true x = refl
@@ -57,6 +61,40 @@ remove_absent out number none = map.same_map nat_cmp_total map.nat_cmp-IsAntisym
     same q true tied = sym (ap (map.get out) (eqb-true q number (sym (unsigned_tied q number) ∙ tied)) ∙ none)
     same q false tied = refl
 
+-- a request's job is left out unless it is done
+pub left_asked : (out : Jobs) (done : map.FinMap nat_cmp Bool) (number : ℕ) → asked_at number (left_out out done) ≡ cond (is_some (map.get done number)) None (asked_at number out)
+left_asked out done number = ap (option_and_then if_request) (get_left out done number) ∙ by_mark (is_some (map.get done number)) (map.get out number)
+  where
+    by_mark : (b : Bool) (found : Option Job) → option_and_then if_request (cond b None found) ≡ cond b None (option_and_then if_request found)
+    by_mark true found = refl
+    by_mark false found = refl
+
+cond_same : {X : Type 0} (b : Bool) (x : X) → cond b x x ≡ x
+cond_same true x = refl
+cond_same false x = refl
+
+-- no request's job is there, so none is left
+pub asked_none : (out : Jobs) (done : map.FinMap nat_cmp Bool) (number : ℕ) → asked_at number out ≡ None → asked_at number (left_out out done) ≡ None
+asked_none out done number none =
+    left_asked out done number ∙ ap (λ (found : Option Job). cond (is_some (map.get done number)) None found) none ∙ cond_same (is_some (map.get done number)) None
+
+-- what is done already is not left, and one that is done again changes nothing
+pub done_again : (out : Jobs) (done : map.FinMap nat_cmp Bool) (number : ℕ) (mark : Bool) → map.get done number ≡ Some mark → left_out out (map.insert done number true) ≡ left_out out done
+done_again out done number mark is =
+    left_done out done number ∙ remove_absent (left_out out done) number (get_left out done number ∙ ap (λ found. cond (is_some found) None (map.get out number)) is)
+
+-- a request's job that is found is out
+pub asked_is : (number : ℕ) (out : Jobs) (job : Job) → asked_at number out ≡ Some job → map.get out number ≡ Some job
+asked_is number out job is = by_job (map.get out number) is
+  where
+    by_job : (found : Option Job) → option_and_then if_request found ≡ Some job → found ≡ Some job
+    by_job None is = absurd cc
+    by_job (Some other) is = by_kind (is_request other.kind) is
+      where
+        by_kind : (b : Bool) → (if b then Some other else None) ≡ Some job → Some other ≡ Some job
+        by_kind true is = is
+        by_kind false is = absurd cc
+
 module _ (answer : SnapshotData → Ask → Finding) where
   -- results of the numbers that are left make the results of all
   abbrev pub Continues : List ℕ → Jobs → List TaskMsg → List ℕ → Jobs → Type 0
@@ -69,22 +107,51 @@ module _ (answer : SnapshotData → Ask → Finding) where
   honest_named : (numbers : List ℕ) (out : Jobs) (batch : List TaskMsg) → AllZip (FinishesAt answer) (named numbers out) batch → AreHonest answer out batch
   honest_named [] out [] zip = tt
   honest_named [] out (message ∷ batch) zip = absurd zip
-  honest_named (number ∷ numbers) out batch zip = by_job (honest_named numbers (map.remove out number)) (map.get out number) refl batch zip
+  honest_named (number ∷ numbers) out batch zip = by_job (asked_at number out) refl (honest_named numbers (without_found (asked_at number out) number out)) batch zip
     where
-      by_job : ((batch : List TaskMsg) → AllZip (FinishesAt answer) (named numbers (map.remove out number)) batch → AreHonest answer (map.remove out number) batch) → (found : Option Job) → map.get out number ≡ found → (batch : List TaskMsg)
-          → AllZip (FinishesAt answer) (option_to_list (option_map (λ job. (number, job)) found) ++ named numbers (map.remove out number)) batch → AreHonest answer out batch
-      by_job others None none batch zip = subst (λ o. AreHonest answer o batch) (remove_absent out number none) (others batch zip)
-      by_job others (Some job) some [] zip = absurd zip
-      by_job others (Some job) some (message ∷ batch) zip =
-          let there : map.get out message.job ≡ Some job = ap (map.get out) zip.0.number ∙ some in
+      by_job : (found : Option Job) → asked_at number out ≡ found
+          → ((batch : List TaskMsg) → AllZip (FinishesAt answer) (named numbers (without_found found number out)) batch → AreHonest answer (without_found found number out) batch) → (batch : List TaskMsg)
+          → AllZip (FinishesAt answer) (option_to_list (option_map (λ job. (number, job)) found) ++ named numbers (without_found found number out)) batch → AreHonest answer out batch
+      by_job None none others batch zip = others batch zip
+      by_job (Some job) some others [] zip = absurd zip
+      by_job (Some job) some others (message ∷ batch) zip =
+          let there : map.get out message.job ≡ Some job = ap (map.get out) zip.0.number ∙ asked_is number out job some in
           let off : after_message message out ≡ map.remove out number = after_fitting message out job there zip.0.fits ∙ ap (map.remove out) zip.0.number in (
             record { job = job; is_out = there; is_result = zip.0.result },
             subst (λ o. AreHonest answer o batch) (sym off) (others batch zip.1),
           )
 
-  honest_stop : (found : Option Job) (out : Jobs) (number saw : ℕ) → map.get out number ≡ found → can_see found saw ≡ true → AreHonest answer out (stopped number saw ∷ [])
+  honest_stop : (found : Option Job) (out : Jobs) (number saw : ℕ) → map.get out number ≡ found → can_see found saw ≡ true → AreHonest answer out (ended number (Cancelled saw) ∷ [])
   honest_stop None out number saw is sees = cc
   honest_stop (Some job) out number saw is sees = (record { job = job; is_out = is; is_result = ltb-true _ _ sees }, tt)
+
+  -- a job of the host's own may end with each result that fits it, and with a revision that is later
+  host_result : (kind : JobKind) (job : Job) (result : JobResult) → job.kind ≡ kind → is_request kind ≡ false → fits_kind kind result ≡ true → sees_later job.snapshot.revision result ≡ true → IsResultOf answer job result
+  host_result (Request ticket row params) job result is own fits later = absurd cc
+  host_result (FetchWorkspaces projects detached path force) job (Value value) is own fits later = rw is fits
+  host_result (FetchWorkspaces projects detached path force) job (Fault code message) is own fits later = rw is refl
+  host_result (FetchWorkspaces projects detached path force) job (Cancelled saw) is own fits later = ltb-true _ _ later
+  host_result (FetchWorkspaces projects detached path force) job NoMemory is own fits later = tt
+  host_result (FetchBuildData version) job (Value value) is own fits later = rw is fits
+  host_result (FetchBuildData version) job (Fault code message) is own fits later = rw is refl
+  host_result (FetchBuildData version) job (Cancelled saw) is own fits later = ltb-true _ _ later
+  host_result (FetchBuildData version) job NoMemory is own fits later = tt
+  host_result (LoadProcMacros paths ignored) job (Value value) is own fits later = rw is fits
+  host_result (LoadProcMacros paths ignored) job (Fault code message) is own fits later = rw is refl
+  host_result (LoadProcMacros paths ignored) job (Cancelled saw) is own fits later = ltb-true _ _ later
+  host_result (LoadProcMacros paths ignored) job NoMemory is own fits later = tt
+
+  all_three : (a b c : Bool) → (not a && (b && c)) ≡ true → (a ≡ false) × (b ≡ true) × (c ≡ true)
+  all_three true b c is = absurd cc
+  all_three false true true is = (refl, refl, refl)
+  all_three false true false is = absurd cc
+  all_three false false c is = absurd cc
+
+  honest_end : (found : Option Job) (out : Jobs) (number : ℕ) (result : JobResult) → map.get out number ≡ found → can_end found result ≡ true → AreHonest answer out (ended number result ∷ [])
+  honest_end None out number result is may = absurd cc
+  honest_end (Some job) out number result is may =
+      let k = all_three (is_request job.kind) (fits_kind job.kind result) (sees_later job.snapshot.revision result) may in
+      (record { job = job; is_out = is; is_result = host_result job.kind job result refl k.0 k.1 k.2 }, tt)
 
   honest_event : (given coming : HostEvent) (out : Jobs) → IsHonest answer out given → coming ≡ given → IsHonest answer out coming
   honest_event given coming out honest is = subst (IsHonest answer out) (sym is) honest
@@ -97,15 +164,23 @@ module _ (answer : SnapshotData → Ask → Finding) where
   honest_gift out (Give Ended) gift coming is comes = honest_event Ended coming out tt (subst (λ g. IsGift answer g coming) (sym (some_gift _ _ is)) comes)
   honest_gift out (Give (Tasks batch)) gift coming is comes = cc
   honest_gift out (Give (Vfs messages)) gift coming is comes = honest_event (Vfs messages) coming out tt (subst (λ g. IsGift answer g coming) (sym (some_gift _ _ is)) comes)
+  honest_gift out (Give (DeferredTask tasks)) gift coming is comes = honest_event (DeferredTask tasks) coming out tt (subst (λ g. IsGift answer g coming) (sym (some_gift _ _ is)) comes)
+  honest_gift out (Give (Timer ticket)) gift coming is comes = honest_event (Timer ticket) coming out tt (subst (λ g. IsGift answer g coming) (sym (some_gift _ _ is)) comes)
   honest_gift out (Finish numbers) gift coming is comes =
       let given : IsGift answer (results (named numbers out)) coming = subst (λ g. IsGift answer g coming) (sym (some_gift _ _ is)) comes in
       subst (IsHonest answer out) (sym given.1) (honest_named numbers out given.0 given.2)
   honest_gift out (Cancel number saw) gift coming is comes = by_test (can_see (map.get out number) saw) refl is
     where
-      by_test : (b : Bool) → can_see (map.get out number) saw ≡ b → cond b (Some (event (Tasks (stopped number saw ∷ [])))) None ≡ Some gift → IsHonest answer out coming
+      by_test : (b : Bool) → can_see (map.get out number) saw ≡ b → cond b (Some (event (Tasks (ended number (Cancelled saw) ∷ [])))) None ≡ Some gift → IsHonest answer out coming
       by_test true sees is =
-          honest_event (Tasks (stopped number saw ∷ [])) coming out (honest_stop (map.get out number) out number saw refl sees) (subst (λ g. IsGift answer g coming) (sym (some_gift _ _ is)) comes)
+          honest_event (Tasks (ended number (Cancelled saw) ∷ [])) coming out (honest_stop (map.get out number) out number saw refl sees) (subst (λ g. IsGift answer g coming) (sym (some_gift _ _ is)) comes)
       by_test false sees is = cc
+  honest_gift out (Supply number result) gift coming is comes = by_test (can_end (map.get out number) result) refl is
+    where
+      by_test : (b : Bool) → can_end (map.get out number) result ≡ b → cond b (Some (event (Tasks (ended number result ∷ [])))) None ≡ Some gift → IsHonest answer out coming
+      by_test true may is =
+          honest_event (Tasks (ended number result ∷ [])) coming out (honest_end (map.get out number) out number result refl may) (subst (λ g. IsGift answer g coming) (sym (some_gift _ _ is)) comes)
+      by_test false may is = cc
 
   pub honest_next : (out : Jobs) (steps : List ScriptStep) (coming : HostEvent) → IsGift answer (next_gift out steps).0 coming → IsHonest answer out coming
   honest_next out [] coming comes = honest_event Ended coming out tt comes

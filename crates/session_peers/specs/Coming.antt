@@ -14,7 +14,7 @@ use Rattle.session_port.specs.Jobs.{Jobs, after_batch}
 use Rattle.session_port.specs.Runs.{AreUncancelled}
 use Rattle.session_peers.specs.Results.{JobsData}
 use Rattle.session_port.specs.declared.event.HostEvent.{HostEvent}
-use Rattle.session_port.specs.declared.event.HostEvent.TheVariants.{Bytes, Ended, Tasks, Vfs}
+use Rattle.session_port.specs.declared.event.HostEvent.TheVariants.{Bytes, Ended, Tasks, Vfs, DeferredTask, Timer}
 use Rattle.session_port.specs.declared.event.TaskMsg.{TaskMsg}
 
 -- no job is out, and this is the next piece of the bytes held, of which more were read only where more were needed
@@ -41,12 +41,14 @@ pub record ComesAsResults (answer : SnapshotData → Ask → Finding) (out : Job
   pub uncancelled : AreUncancelled batch
   pub unread : source ≡ before
 
--- no loader's messages come
+-- no loader's messages, deferred tasks and timers come
 abbrev pub Comes : (SnapshotData → Ask → Finding) → Jobs → FramedData → FramedData → HostEvent → Type 0
 Comes answer out before source (Bytes piece) = ComesAsBytes out before source piece
 Comes answer out before source Ended = ComesAsEnd out source
 Comes answer out before source (Tasks batch) = ComesAsResults answer out before source batch
 Comes answer out before source (Vfs messages) = ⊥
+Comes answer out before source (DeferredTask tasks) = ⊥
+Comes answer out before source (Timer ticket) = ⊥
 
 -- no job is out, and the bytes held don't show the next piece
 pub record NeedsRead (out : Jobs) (source : FramedData) : Type 0 where
@@ -66,3 +68,5 @@ jobs_after (Bytes piece) jobs = jobs
 jobs_after Ended jobs = jobs
 jobs_after (Tasks batch) jobs = record jobs { out = map.empty }
 jobs_after (Vfs messages) jobs = jobs
+jobs_after (DeferredTask tasks) jobs = jobs
+jobs_after (Timer ticket) jobs = jobs

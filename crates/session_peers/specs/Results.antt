@@ -1,5 +1,5 @@
 -- The jobs that a host holds, and their results.
-use Rattle.std.specs.Prelude.{◌≡◌, ℕ, true}
+use Rattle.std.specs.Prelude.{◌≡◌, ℕ, true, codes, None}
 use Rattle.analysis_host.specs.Answers.{Finding}
 use Rattle.analysis_host.specs.SnapshotData.{SnapshotData}
 use Rattle.analysis_host.specs.declared.ask.Ask.{Ask}
@@ -8,6 +8,8 @@ use Rattle.session_port.specs.Honest.{IsFinalOf}
 use Rattle.session_port.specs.Runs.{IsFinal, IsUncancelled}
 use Rattle.session_port.specs.declared.event.TaskMsg.{TaskMsg}
 use Rattle.session_port.specs.declared.job.Job.{Job}
+use Rattle.session_port.specs.declared.job.JobResult.{JobResult}
+use Rattle.session_port.specs.declared.job.JobResult.TheVariants.{Value, Fault, Cancelled, NoMemory}
 
 -- the jobs out, and the number of the last one that came
 pub record JobsData : Type 0 where
@@ -20,3 +22,10 @@ pub record Finishes (answer : SnapshotData → Ask → Finding) (job : Job) (mes
   pub result : IsFinalOf answer job (final_of message.body)
   pub uncancelled : IsFinal (final_of message.body) IsUncancelled
   pub fits : fits job message.body ≡ true
+
+-- there is no project, or no memory to say so
+abbrev pub IsWithoutProject : JobResult → Type 0
+IsWithoutProject (Value value) = ⊥
+IsWithoutProject (Fault code message) = (code ≡ None) × (message ≡ codes "no project")
+IsWithoutProject (Cancelled saw) = ⊥
+IsWithoutProject NoMemory = Unit {0}

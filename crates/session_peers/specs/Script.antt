@@ -1,5 +1,5 @@
 -- What a script comes to.
-use Rattle.std.specs.Prelude.{◌≡◌, ℕ, ◌++◌, Bool, true, false, not, nat_lt, List, [], ◌∷◌, Option, None, Some, if◌then◌else◌}
+use Rattle.std.specs.Prelude.{◌≡◌, ℕ, ◌++◌, Bool, true, false, not, nat_lt, ◌&&◌, List, [], ◌∷◌, Option, None, Some, option_and_then, if◌then◌else◌}
 use Rattle.std.specs.FinMap as map
 use Rattle.std.specs.Ordering.{nat_cmp}
 use Rattle.std.specs.List.{AllZip}
@@ -8,29 +8,42 @@ use Rattle.analysis_host.specs.Answers.{Finding}
 use Rattle.analysis_host.specs.SnapshotData.{SnapshotData}
 use Rattle.analysis_host.specs.declared.ask.Ask.{Ask}
 use Rattle.session_port.specs.Honest.{IsFinalOf}
-use Rattle.session_port.specs.Jobs.{Jobs, final_of, fits}
+use Rattle.session_port.specs.Jobs.{Jobs, final_of, fits, fits_kind, is_request}
 use Rattle.session_peers.specs.Memory.{PlanData, no_calls}
 use Rattle.session_port.specs.Record.{HostCall}
 use Rattle.session_port.specs.Runs.{IsFinal, IsUncancelled}
 use Rattle.session_port.specs.declared.event.HostEvent.{HostEvent}
-use Rattle.session_port.specs.declared.event.HostEvent.TheVariants.{Bytes, Ended, Tasks, Vfs}
+use Rattle.session_port.specs.declared.event.HostEvent.TheVariants.{Bytes, Ended, Tasks, Vfs, DeferredTask, Timer}
 use Rattle.session_port.specs.declared.event.TaskBody.TheVariants.{Final}
 use Rattle.session_port.specs.declared.event.TaskMsg.{TaskMsg}
 use Rattle.session_port.specs.declared.job.Job.{Job}
-use Rattle.session_port.specs.declared.job.JobResult.TheVariants.{Cancelled}
+use Rattle.session_port.specs.declared.job.JobResult.{JobResult}
+use Rattle.session_port.specs.declared.job.JobResult.TheVariants.{Value, Fault, Cancelled, NoMemory}
 use Rattle.session_peers.specs.declared.script.ScriptStep.{ScriptStep}
-use Rattle.session_peers.specs.declared.script.ScriptStep.TheVariants.{Give, Finish, Cancel}
+use Rattle.session_peers.specs.declared.script.ScriptStep.TheVariants.{Give, Finish, Cancel, Supply}
 
 -- what comes next: an event as it stands, or the results of jobs, each with the number that it is out at
 pub data Gift : Type 0 where
   event : HostEvent → Gift
   results : List (ℕ × Job) → Gift
 
--- the jobs out with these numbers, each once
+abbrev pub if_request : Job → Option Job
+if_request job = if is_request job.kind then Some job else None
+
+-- the job out with this number, where it is a request's
+abbrev pub asked_at : ℕ → Jobs → Option Job
+asked_at number out = option_and_then if_request (map.get out number)
+
+-- the jobs out without the one that was found
+abbrev pub without_found : Option Job → ℕ → Jobs → Jobs
+without_found None number out = out
+without_found (Some job) number out = map.remove out number
+
+-- the requests' jobs out with these numbers, each once
 abbrev pub named : List ℕ → Jobs → List (ℕ × Job)
 named [] out = []
 named (number ∷ numbers) out =
-    option_to_list (option_map (λ job. (number, job)) (map.get out number)) ++ named numbers (map.remove out number)
+    option_to_list (option_map (λ job. (number, job)) (asked_at number out)) ++ named numbers (without_found (asked_at number out) number out)
 
 -- the jobs out but for those that are done
 abbrev pub left_out : Jobs → map.FinMap nat_cmp Bool → Jobs
@@ -41,9 +54,21 @@ abbrev pub can_see : Option Job → ℕ → Bool
 can_see None saw = false
 can_see (Some job) saw = nat_lt job.snapshot.revision saw
 
--- the message that a job stopped
-abbrev pub stopped : ℕ → ℕ → TaskMsg
-stopped number saw = record { job = number; body = Final (Cancelled saw) }
+-- a result that says that a job stopped says that it saw a later revision
+abbrev pub sees_later : ℕ → JobResult → Bool
+sees_later revision (Value value) = true
+sees_later revision (Fault code message) = true
+sees_later revision (Cancelled saw) = nat_lt revision saw
+sees_later revision NoMemory = true
+
+-- a job of the host's own that is out may end so
+abbrev pub can_end : Option Job → JobResult → Bool
+can_end None result = false
+can_end (Some job) result = not (is_request job.kind) && (fits_kind job.kind result && sees_later job.snapshot.revision result)
+
+-- the message that a job has ended so
+abbrev pub ended : ℕ → JobResult → TaskMsg
+ended number result = record { job = number; body = Final result }
 
 -- what a step gives, if anything. A made-up message of a job is never given
 abbrev pub gift_of : Jobs → ScriptStep → Option Gift
@@ -51,8 +76,11 @@ gift_of out (Give (Bytes bytes)) = Some (event (Bytes bytes))
 gift_of out (Give Ended) = Some (event Ended)
 gift_of out (Give (Tasks batch)) = None
 gift_of out (Give (Vfs messages)) = Some (event (Vfs messages))
+gift_of out (Give (DeferredTask tasks)) = Some (event (DeferredTask tasks))
+gift_of out (Give (Timer ticket)) = Some (event (Timer ticket))
 gift_of out (Finish numbers) = Some (results (named numbers out))
-gift_of out (Cancel number saw) = if can_see (map.get out number) saw then Some (event (Tasks (stopped number saw ∷ []))) else None
+gift_of out (Cancel number saw) = if can_see (map.get out number) saw then Some (event (Tasks (ended number (Cancelled saw) ∷ []))) else None
+gift_of out (Supply number result) = if can_end (map.get out number) result then Some (event (Tasks (ended number result ∷ []))) else None
 
 -- the first that a script gives, with the steps after it. After its last step the end comes
 abbrev pub next_gift : Jobs → List ScriptStep → Gift × List ScriptStep

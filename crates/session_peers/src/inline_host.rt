@@ -83,7 +83,8 @@ fn let_go<S: Source>(source: &mut FramedSource<S>, jobs: &mut JobsOut, event: &H
 {
     match event {
         HostEvent::Bytes(piece) => source.advance(piece.len()),
-        HostEvent::Ended | HostEvent::Vfs(_) => {}
+        HostEvent::Ended | HostEvent::Vfs(_) | HostEvent::DeferredTask(_) | HostEvent::Timer(_) =>
+            {}
         HostEvent::Tasks(_) => jobs.clear(),
     }
 }

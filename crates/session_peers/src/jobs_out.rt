@@ -53,7 +53,7 @@ fn results_of<A: Analysis>(
     for job in jobs {
         batch.push(TaskMsg {
             job: job.number,
-            body: TaskBody::Final(result_of(job, analysis)),
+            body: TaskBody::Final(result_of(alloc, job, analysis)),
         })?;
     }
     Ok(batch)
@@ -104,7 +104,13 @@ impl JobsOut {
         for command in commands {
             match command {
                 Command::Spawn(job) => self.push(job.clone()?)?,
-                Command::Revise(_) | Command::Invalidate(_) | Command::Log(..) | Command::Stop => {}
+                Command::Revise(_)
+                | Command::Invalidate(_)
+                | Command::Log(..)
+                | Command::Defer(_)
+                | Command::SetLoader { .. }
+                | Command::Timer(_)
+                | Command::Stop => {}
             }
         }
         Ok(())

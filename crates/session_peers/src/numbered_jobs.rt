@@ -51,7 +51,11 @@ impl NumberedJobs {
         ensures { self.new ≡ record self.old { out = after_event event.now self.old.out } }
     {
         match event {
-            HostEvent::Bytes(_) | HostEvent::Ended | HostEvent::Vfs(_) => {}
+            HostEvent::Bytes(_)
+            | HostEvent::Ended
+            | HostEvent::Vfs(_)
+            | HostEvent::DeferredTask(_)
+            | HostEvent::Timer(_) => {}
             HostEvent::Tasks(batch) => end_jobs(&mut self.out, batch.as_slice()),
         }
     }
@@ -75,7 +79,13 @@ impl NumberedJobs {
         for command in commands {
             match command {
                 Command::Spawn(job) => self.push(job.clone()?)?,
-                Command::Revise(_) | Command::Invalidate(_) | Command::Log(..) | Command::Stop => {}
+                Command::Revise(_)
+                | Command::Invalidate(_)
+                | Command::Log(..)
+                | Command::Defer(_)
+                | Command::SetLoader { .. }
+                | Command::Timer(_)
+                | Command::Stop => {}
             }
         }
         Ok(())

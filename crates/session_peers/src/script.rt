@@ -2,7 +2,7 @@
 ghost use Rattle.std.specs.Prelude.{◌≡◌, [], ◌∷◌, IfOk, option_copied};
 ghost use Rattle.std.specs.FinMap as map;
 ghost use Rattle.std.specs.List.{AllZip};
-ghost use Rattle.session_peers.specs.Script.{FinishesAt, IsGiven, IsNext, can_see, gift_of, left_out, named, next_gift, stopped};
+ghost use Rattle.session_peers.specs.Script.{FinishesAt, IsGiven, IsNext, asked_at, can_end, can_see, ended, gift_of, left_out, named, next_gift, without_found};
 
 use crate::queue::Queue;
 use crate::results::result_of;
@@ -11,37 +11,55 @@ use plain::{ByNumber, Items};
 use session_port::{HostEvent, Job, JobResult, TaskBody, TaskMsg};
 use std::alloc::{AllocError, Global};
 
-/// A step of a script. There are no jobs but those of requests, so no step hands in the result of a host's own job.
+/// A step of a script.
 #[derive(Drop)]
 pub enum ScriptStep {
     /// Gives this event, a loader's messages too. Messages of jobs are not given so, since a script is honest: the
     /// step gives nothing then.
     Give(HostEvent),
-    /// Gives one batch, with the results of those jobs out that have these numbers, in this order and each once. It
-    /// is empty where none has.
+    /// Gives one batch, with the results of those requests' jobs out that have these numbers, in this order and each
+    /// once. It is empty where none has.
     Finish(Items<u64>),
     /// Gives the message that the job with the first number stopped, since it saw the second one. It gives nothing
     /// where the job isn't out, or that revision isn't above its snapshot's.
     Cancel(u64, u64),
+    /// Gives the message that the host's own job with this number has ended so. It gives nothing where no such job is
+    /// out, where the result doesn't fit it, or says that it saw a revision that isn't above its snapshot's.
+    Supply(u64, JobResult),
 }
 
-/// Finds a job out that was not done, and notes that it is.
+/// Finds a job out, where it is a request's.
+fn asked_at(out: &ByNumber<Job>, number: u64) -> Option<&Job>
+    ensures { option_copied result ≡ asked_at number out.now }
+{
+    let job = out.get(number)?;
+    if job.kind.is_request() {
+        Some(job)
+    } else {
+        None
+    }
+}
+
+/// Finds a request's job out that was not done, and notes that it is.
 fn job_to_do<'a>(
     out: &'a ByNumber<Job>,
     done: &mut ByNumber<bool>,
     number: u64,
 ) -> Result<Option<&'a Job>, AllocError>
-    ensures found { IfOk result (λ job. option_copied job ≡ map.get (left_out out.now done.old) number) }
-    ensures done { IfOk result (λ _. left_out out.now done.new
-        ≡ map.remove (left_out out.now done.old) number) }
+    ensures found { IfOk result (λ job. option_copied job ≡ asked_at number (left_out out.now done.old)) }
+    ensures done { IfOk result (λ job. left_out out.now done.new
+        ≡ without_found (option_copied job) number (left_out out.now done.old)) }
 {
+    let Some(job) = asked_at(out, number) else {
+        return Ok(None);
+    };
     match done.insert(number, true)? {
         Some(_) => Ok(None),
-        None => Ok(out.get(number)),
+        None => Ok(Some(job)),
     }
 }
 
-/// The results of the jobs out with these numbers.
+/// The results of the requests' jobs out with these numbers.
 fn results_at<A: Analysis>(
     alloc: Global,
     numbers: &[u64],
@@ -56,7 +74,7 @@ fn results_at<A: Analysis>(
         if let Some(job) = job_to_do(out, &mut done, *number)? {
             batch.push(TaskMsg {
                 job: *number,
-                body: TaskBody::Final(result_of(job, analysis)),
+                body: TaskBody::Final(result_of(alloc, job, analysis)),
             })?;
         }
     }
@@ -73,14 +91,30 @@ fn can_see(job: Option<&Job>, saw: u64) -> bool
     }
 }
 
-/// The message that a job stopped.
-fn stopped(alloc: Global, number: u64, saw: u64) -> Result<HostEvent, AllocError>
-    ensures { IfOk result (λ event. event ≡ HostEvent.Tasks (stopped number saw ∷ [])) }
+/// Whether a job of the host's own that is out may end so.
+fn can_end(job: Option<&Job>, outcome: &JobResult) -> bool
+    ensures { result ≡ can_end (option_copied job.entry) outcome.now }
+{
+    let Some(job) = job else {
+        return false;
+    };
+    if job.kind.is_request() || !outcome.fits(&job.kind) {
+        return false;
+    }
+    match outcome {
+        JobResult::Cancelled { saw } => job.snapshot.revision() < *saw,
+        JobResult::Value(_) | JobResult::Fault { .. } | JobResult::NoMemory => true,
+    }
+}
+
+/// The message that a job has ended so.
+fn ended(alloc: Global, number: u64, outcome: JobResult) -> Result<HostEvent, AllocError>
+    ensures { IfOk result (λ event. event ≡ HostEvent.Tasks (ended number outcome ∷ [])) }
 {
     let mut batch = Items::new(alloc);
     batch.push(TaskMsg {
         job: number,
-        body: TaskBody::Final(JobResult::Cancelled { saw }),
+        body: TaskBody::Final(outcome),
     })?;
     Ok(HostEvent::Tasks(batch))
 }
@@ -103,7 +137,14 @@ fn event_of<A: Analysis>(
         }
         ScriptStep::Cancel(number, saw) => {
             if can_see(out.get(number), saw) {
-                Ok(Some(stopped(alloc, number, saw)?))
+                Ok(Some(ended(alloc, number, JobResult::Cancelled { saw })?))
+            } else {
+                Ok(None)
+            }
+        }
+        ScriptStep::Supply(number, outcome) => {
+            if can_end(out.get(number), &outcome) {
+                Ok(Some(ended(alloc, number, outcome)?))
             } else {
                 Ok(None)
             }

@@ -1,9 +1,9 @@
 -- What the session asks of an event and of a command, each by one question.
 use Rattle.std.specs.Prelude.{ℕ, List, [], Option, None, Some}
 use Rattle.session_port.specs.declared.command.Command.{Command}
-use Rattle.session_port.specs.declared.command.Command.TheVariants.{Spawn, Revise, Invalidate, Log, Stop}
+use Rattle.session_port.specs.declared.command.Command.TheVariants.{Spawn, Revise, Invalidate, Log, Defer, SetLoader, Timer as OrderTimer, Stop}
 use Rattle.session_port.specs.declared.event.HostEvent.{HostEvent}
-use Rattle.session_port.specs.declared.event.HostEvent.TheVariants.{Bytes, Ended, Tasks, Vfs}
+use Rattle.session_port.specs.declared.event.HostEvent.TheVariants.{Bytes, Ended, Tasks, Vfs, DeferredTask, Timer}
 use Rattle.session_port.specs.declared.event.TaskMsg.{TaskMsg}
 use Rattle.session_port.specs.declared.job.Job.{Job}
 
@@ -13,6 +13,8 @@ bytes_of (Bytes bytes) = bytes
 bytes_of Ended = []
 bytes_of (Tasks batch) = []
 bytes_of (Vfs messages) = []
+bytes_of (DeferredTask tasks) = []
+bytes_of (Timer ticket) = []
 
 -- the messages of jobs that an event brings
 abbrev pub batch_in : HostEvent → List TaskMsg
@@ -20,6 +22,8 @@ batch_in (Bytes bytes) = []
 batch_in Ended = []
 batch_in (Tasks batch) = batch
 batch_in (Vfs messages) = []
+batch_in (DeferredTask tasks) = []
+batch_in (Timer ticket) = []
 
 -- the job that a command hands over
 abbrev pub job_of : Command → Option Job
@@ -27,6 +31,9 @@ job_of (Spawn job) = Some job
 job_of (Revise revision) = None
 job_of (Invalidate path) = None
 job_of (Log code text) = None
+job_of (Defer task) = None
+job_of (SetLoader load watch version) = None
+job_of (OrderTimer ticket) = None
 job_of Stop = None
 
 -- the revision that a command tells
@@ -35,4 +42,7 @@ revision_of (Spawn job) = None
 revision_of (Revise revision) = Some revision
 revision_of (Invalidate path) = None
 revision_of (Log code text) = None
+revision_of (Defer task) = None
+revision_of (SetLoader load watch version) = None
+revision_of (OrderTimer ticket) = None
 revision_of Stop = None

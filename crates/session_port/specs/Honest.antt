@@ -1,25 +1,34 @@
 -- An honest host's results.
-use Rattle.std.specs.Prelude.{◌≡◌, ◌<◌, List, [], ◌∷◌, map, Option, None, Some}
+use Rattle.std.specs.Prelude.{◌≡◌, ◌<◌, true, List, [], ◌∷◌, map, Option, None, Some}
 use Rattle.std.specs.FinMap as maps
 use Rattle.analysis_host.specs.Answers.{Finding}
 use Rattle.analysis_host.specs.SnapshotData.{SnapshotData}
 use Rattle.analysis_host.specs.declared.ask.Ask.{Ask}
-use Rattle.session_port.specs.Jobs.{Jobs, asks_of, result_by, final_of, after_message}
+use Rattle.session_port.specs.Jobs.{Jobs, asks_of, first_result, if_value, has_workspaces, has_build_data, has_macros, final_of, after_message}
 use Rattle.session_port.specs.declared.event.HostEvent.{HostEvent}
 use Rattle.session_port.specs.Events.{batch_in}
 use Rattle.session_port.specs.declared.event.TaskMsg.{TaskMsg}
 use Rattle.session_port.specs.declared.job.Job.{Job}
+use Rattle.session_port.specs.declared.job.JobKind.{JobKind}
+use Rattle.session_port.specs.declared.job.JobKind.TheVariants.{Request, FetchWorkspaces, FetchBuildData, LoadProcMacros}
 use Rattle.session_port.specs.declared.job.JobResult.{JobResult}
 use Rattle.session_port.specs.declared.job.JobResult.TheVariants.{Value, Fault, Cancelled, NoMemory}
 
--- what a job comes to on its snapshot
-abbrev pub outcome_of : (SnapshotData → Ask → Finding) → Job → JobResult
-outcome_of answer job = result_by job.kind (map (answer job.snapshot) (asks_of job.kind))
+-- a request's job ends with what its questions come to; a host's job may end with any value of its kind, and with any fault
+abbrev pub IsEndOf : JobKind → List Finding → JobResult → Type 0
+IsEndOf (Request ticket row params) findings result = result ≡ first_result findings
+IsEndOf (FetchWorkspaces projects detached path force) findings result = if_value has_workspaces result ≡ true
+IsEndOf (FetchBuildData version) findings result = if_value has_build_data result ≡ true
+IsEndOf (LoadProcMacros paths ignored) findings result = if_value has_macros result ≡ true
 
--- a result that the job may have: what its questions on its snapshot come to, that it saw a later revision, or that memory ran out
+-- what a job's questions come to on its snapshot
+abbrev pub findings_of : (SnapshotData → Ask → Finding) → Job → List Finding
+findings_of answer job = map (answer job.snapshot) (asks_of job.kind)
+
+-- a result that the job may have: what its questions on its snapshot come to, or what its host finds; that it saw a later revision; that memory ran out
 abbrev pub IsResultOf : (SnapshotData → Ask → Finding) → Job → JobResult → Type 0
-IsResultOf answer job (Value value) = Value value ≡ outcome_of answer job
-IsResultOf answer job (Fault code message) = Fault code message ≡ outcome_of answer job
+IsResultOf answer job (Value value) = IsEndOf job.kind (findings_of answer job) (Value value)
+IsResultOf answer job (Fault code message) = IsEndOf job.kind (findings_of answer job) (Fault code message)
 IsResultOf answer job (Cancelled saw) = job.snapshot.revision < saw
 IsResultOf answer job NoMemory = Unit {0}
 

@@ -1,5 +1,5 @@
 -- Jobs, and what they come to.
-use Rattle.std.specs.Prelude.{ℕ, List, [], ◌∷◌, Bool, true, false, Option, None, Some, option_and_then, if◌then◌else◌}
+use Rattle.std.specs.Prelude.{ℕ, List, [], ◌∷◌, Bool, true, false, Option, None, Some, option_and_then, is_some, if◌then◌else◌}
 use Rattle.std.specs.Ordering.{nat_cmp}
 use Rattle.std.specs.FinMap as map
 use Rattle.plain.specs.Plain.{is_plain}
@@ -13,11 +13,11 @@ use Rattle.session_port.specs.declared.event.TaskBody.TheVariants.{Final}
 use Rattle.session_port.specs.declared.event.TaskMsg.{TaskMsg}
 use Rattle.session_port.specs.declared.job.Job.{Job}
 use Rattle.session_port.specs.declared.job.JobKind.{JobKind}
-use Rattle.session_port.specs.declared.job.JobKind.TheVariants.{Request}
+use Rattle.session_port.specs.declared.job.JobKind.TheVariants.{Request, FetchWorkspaces, FetchBuildData, LoadProcMacros}
 use Rattle.session_port.specs.declared.job.JobResult.{JobResult}
 use Rattle.session_port.specs.declared.job.JobResult.TheVariants.{Value, Fault, Cancelled, NoMemory}
 use Rattle.session_port.specs.declared.job.JobValue.{JobValue}
-use Rattle.session_port.specs.declared.job.JobValue.TheVariants.{Json}
+use Rattle.session_port.specs.declared.job.JobValue.TheVariants.{Json, Workspaces, BuildData, ProcMacros}
 
 -- jobs by their numbers
 abbrev pub Jobs : Type 0
@@ -26,10 +26,20 @@ Jobs = map.FinMap nat_cmp Job
 -- the request that a job is for, if it is for one
 abbrev pub ticket_of : JobKind → Option ℕ
 ticket_of (Request ticket row params) = Some ticket
+ticket_of (FetchWorkspaces projects detached path force) = None
+ticket_of (FetchBuildData version) = None
+ticket_of (LoadProcMacros paths ignored) = None
+
+-- the job is a request's
+abbrev pub is_request : JobKind → Bool
+is_request kind = is_some (ticket_of kind)
 
 -- the questions that a job asks, one after another
 abbrev pub asks_of : JobKind → List Ask
 asks_of (Request ticket row params) = RequestAsk row params ∷ []
+asks_of (FetchWorkspaces projects detached path force) = []
+asks_of (FetchBuildData version) = []
+asks_of (LoadProcMacros paths ignored) = []
 
 -- a job's value is the answer to its question
 abbrev pub value_of : Answer → JobValue
@@ -44,27 +54,53 @@ abbrev pub first_result : List Finding → JobResult
 first_result [] = NoMemory
 first_result (finding ∷ findings) = result_of finding
 
--- what a job comes to, by what its questions come to
-abbrev pub result_by : JobKind → List Finding → JobResult
-result_by (Request ticket row params) findings = first_result findings
-
--- the JSON in a result is plain
+-- the value is a request's: JSON, and plain
 abbrev pub plain_value : JobValue → Bool
 plain_value (Json value) = is_plain value
+plain_value (Workspaces results) = false
+plain_value (BuildData results) = false
+plain_value (ProcMacros macros) = false
 
+-- the value is of workspaces, of builds, of proc macros
+abbrev pub has_workspaces : JobValue → Bool
+has_workspaces (Json value) = false
+has_workspaces (Workspaces results) = true
+has_workspaces (BuildData results) = false
+has_workspaces (ProcMacros macros) = false
+
+abbrev pub has_build_data : JobValue → Bool
+has_build_data (Json value) = false
+has_build_data (Workspaces results) = false
+has_build_data (BuildData results) = true
+has_build_data (ProcMacros macros) = false
+
+abbrev pub has_macros : JobValue → Bool
+has_macros (Json value) = false
+has_macros (Workspaces results) = false
+has_macros (BuildData results) = false
+has_macros (ProcMacros macros) = true
+
+-- the value is so, where a job ended with one
+abbrev pub if_value : (JobValue → Bool) → JobResult → Bool
+if_value test (Value value) = test value
+if_value test (Fault code message) = true
+if_value test (Cancelled saw) = true
+if_value test NoMemory = true
+
+-- a request's job may end so
 abbrev pub plain_result : JobResult → Bool
-plain_result (Value value) = plain_value value
-plain_result (Fault code message) = true
-plain_result (Cancelled saw) = true
-plain_result NoMemory = true
+plain_result result = if_value plain_value result
 
 -- the result in a message, if it tells of one
 abbrev pub final_of : TaskBody → Option JobResult
 final_of (Final result) = Some result
 
--- a value is of the kind of its job
+-- a value is of the kind of its job; an end without a value is one of every job
 abbrev pub fits_kind : JobKind → JobResult → Bool
 fits_kind (Request ticket row params) result = plain_result result
+fits_kind (FetchWorkspaces projects detached path force) result = if_value has_workspaces result
+fits_kind (FetchBuildData version) result = if_value has_build_data result
+fits_kind (LoadProcMacros paths ignored) result = if_value has_macros result
 
 abbrev pub fits_final : JobKind → Option JobResult → Bool
 fits_final kind None = false

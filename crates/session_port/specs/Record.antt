@@ -8,7 +8,7 @@ use Rattle.session_port.specs.declared.cause.HostError.{HostError}
 use Rattle.session_port.specs.declared.cause.HostError.TheVariants.{Failed, NoMemory}
 use Rattle.session_port.specs.declared.command.Command.{Command}
 use Rattle.session_port.specs.declared.event.HostEvent.{HostEvent}
-use Rattle.session_port.specs.declared.event.HostEvent.TheVariants.{Bytes, Ended, Tasks, Vfs}
+use Rattle.session_port.specs.declared.event.HostEvent.TheVariants.{Bytes, Ended, Tasks, Vfs, DeferredTask, Timer}
 use Rattle.session_port.specs.declared.job.Job.{Job}
 
 -- a record with more entries, if there is a record
@@ -47,6 +47,8 @@ UnlessEnded (Bytes bytes) P = P
 UnlessEnded Ended P = Unit {0}
 UnlessEnded (Tasks batch) P = P
 UnlessEnded (Vfs messages) P = P
+UnlessEnded (DeferredTask tasks) P = P
+UnlessEnded (Timer ticket) P = P
 
 -- the jobs out after an event
 abbrev pub after_event : HostEvent → Jobs → Jobs

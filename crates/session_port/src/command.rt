@@ -1,6 +1,9 @@
 // What a session orders of its host.
+ghost use Rattle.std.specs.Prelude.{◌≡◌};
+
 use crate::job::Job;
-use docs_vfs::VfsPath;
+use crate::listed::Listed;
+use docs_vfs::{FileId, Root, VfsPath};
 use plain::{Copied, Items, Text};
 use std::alloc::AllocError;
 
@@ -32,6 +35,15 @@ pub enum LogCode {
     SettingsError,
 }
 
+/// What a session does once there is nothing else to do.
+#[derive(Drop)]
+pub enum DeferredTask {
+    /// Whether this file is part of some crate.
+    CheckIfIndexed(VfsPath),
+    /// Whether some of these files are the sources of proc macros.
+    CheckProcMacroSources(Listed<FileId>),
+}
+
 /// What a session orders of its host.
 #[derive(Drop)]
 pub enum Command {
@@ -42,13 +54,38 @@ pub enum Command {
     /// What was read of this file is out of date: read it anew.
     Invalidate(VfsPath),
     Log(LogCode, Text),
+    /// Give this task back as an event.
+    Defer(DeferredTask),
+    /// Read the files of these roots, and watch them if that is asked; what is told of them names this version.
+    SetLoader {
+        load: Items<Root>,
+        watch: bool,
+        version: u32,
+    },
+    /// Give an event with this ticket once some time has passed. It takes the place of a timer that was ordered before.
+    Timer(u64),
     /// The session has ended.
     Stop,
 }
 
-impl Clone for Command {
-    ghost use Rattle.std.specs.Prelude.{◌≡◌};
+impl Clone for DeferredTask {
+    ghost is_clone = { λ task copy. copy ≡ task };
 
+    fn clone(&self) -> Result<DeferredTask, AllocError> {
+        match self {
+            DeferredTask::CheckIfIndexed(path) => Ok(DeferredTask::CheckIfIndexed(path.clone()?)),
+            DeferredTask::CheckProcMacroSources(files) => {
+                Ok(DeferredTask::CheckProcMacroSources(files.clone()?))
+            }
+        }
+    }
+}
+
+impl Copied for DeferredTask {
+    ghost copies = { λ x y h. h };
+}
+
+impl Clone for Command {
     ghost is_clone = { λ command copy. copy ≡ command };
 
     fn clone(&self) -> Result<Command, AllocError> {
@@ -57,6 +94,17 @@ impl Clone for Command {
             Command::Revise(revision) => Ok(Command::Revise(*revision)),
             Command::Invalidate(path) => Ok(Command::Invalidate(path.clone()?)),
             Command::Log(code, text) => Ok(Command::Log(*code, text.clone()?)),
+            Command::Defer(task) => Ok(Command::Defer(task.clone()?)),
+            Command::SetLoader {
+                load,
+                watch,
+                version,
+            } => Ok(Command::SetLoader {
+                load: load.clone()?,
+                watch: *watch,
+                version: *version,
+            }),
+            Command::Timer(ticket) => Ok(Command::Timer(*ticket)),
             Command::Stop => Ok(Command::Stop),
         }
     }

@@ -2,19 +2,20 @@
 ghost use Rattle.std.specs.Prelude.{◌≡◌};
 ghost use Rattle.session_port.specs.Jobs.{fits};
 
-use crate::job::{Job, JobKind, JobResult};
+use crate::command::DeferredTask;
+use crate::job::{Job, JobResult};
 use docs_vfs::VfsPath;
 use plain::{Bytes, Copied, Items};
 
 /// What a message says of its job.
-#[derive(Clone, Debug, Drop)]
+#[derive(Clone, Drop)]
 pub enum TaskBody {
     /// The job has ended.
     Final(JobResult),
 }
 
 /// A message of a job.
-#[derive(Clone, Debug, Drop)]
+#[derive(Clone, Drop)]
 pub struct TaskMsg {
     pub job: u64,
     pub body: TaskBody,
@@ -58,7 +59,7 @@ pub enum LoaderMsg {
 }
 
 /// What a host gives.
-#[derive(Clone, Debug, Drop)]
+#[derive(Clone, Drop)]
 pub enum HostEvent {
     /// Bytes from the client, cut anywhere.
     Bytes(Bytes),
@@ -68,6 +69,10 @@ pub enum HostEvent {
     Tasks(Items<TaskMsg>),
     /// Messages of a loader, in the order in which they came.
     Vfs(Items<LoaderMsg>),
+    /// Tasks that were deferred, in the order in which they were.
+    DeferredTask(Items<DeferredTask>),
+    /// The time of the timer with this ticket has passed.
+    Timer(u64),
 }
 
 impl TaskBody {
@@ -75,8 +80,8 @@ impl TaskBody {
     pub fn fits(&self, job: &Job) -> bool
         ensures { result ≡ fits job.now self.now }
     {
-        match (self, &job.kind) {
-            (TaskBody::Final(result), JobKind::Request { .. }) => result.is_plain(),
+        match self {
+            TaskBody::Final(result) => result.fits(&job.kind),
         }
     }
 }

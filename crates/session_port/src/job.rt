@@ -1,20 +1,42 @@
 // Jobs, and what they come to.
-ghost use Rattle.std.specs.Prelude.{◌≡◌};
-ghost use Rattle.session_port.specs.Jobs.{plain_result};
+ghost use Rattle.std.specs.Prelude.{◌≡◌, IfOk};
+ghost use Rattle.session_port.specs.Jobs.{fits_kind, is_request};
 
+use crate::listed::Listed;
 use analysis_host::GlobalStateSnapshot;
+use docs_vfs::VfsPath;
 use method_table::{PoolClass, RowId};
-use plain::{Copied, Json, SharedJson, Text};
+use plain::{Copied, Items, Json, SharedJson, Text};
+use project_model::{BuildScripts, MacroPath, MacroState, ProjectWorkspace};
+use ra_settings::LinkedProject;
 use std::alloc::AllocError;
 
-/// What a job is to find out.
-#[derive(Clone, Debug, Drop)]
+/// What a job is to find out. All but a request's are the host's own: no analysis is asked.
+#[derive(Drop)]
 pub enum JobKind {
     /// The answer to the request with this ticket.
     Request {
         ticket: u64,
         row: RowId,
         params: SharedJson,
+    },
+    /// The workspaces of these projects and of these files that stand alone; `path` is the file for which they are fetched, and `force`
+    /// says that nothing of an earlier fetch is to be taken.
+    FetchWorkspaces {
+        projects: Items<LinkedProject>,
+        detached: Items<VfsPath>,
+        path: Option<VfsPath>,
+        force: bool,
+    },
+    /// What the build scripts of the workspaces with this version make.
+    FetchBuildData {
+        version: u64,
+    },
+    /// The proc macros of the crates with these numbers, workspace by workspace. By the name of a crate, the macros that are not to be
+    /// expanded.
+    LoadProcMacros {
+        paths: Items<Items<(u32, MacroPath)>>,
+        ignored: Items<(Text, Items<Text>)>,
     },
 }
 
@@ -28,14 +50,20 @@ pub struct Job {
 }
 
 /// The value of a job, of the job's kind.
-#[derive(Clone, Debug, Drop)]
+#[derive(Clone, Drop)]
 pub enum JobValue {
     /// The result of a request.
     Json(Json),
+    /// The workspaces of the projects, one after another.
+    Workspaces(Listed<Result<ProjectWorkspace, Text>>),
+    /// What the build scripts made, workspace by workspace.
+    BuildData(Listed<Result<BuildScripts, Text>>),
+    /// The proc macros of crates, by their numbers.
+    ProcMacros(Items<(u32, MacroState)>),
 }
 
 /// How a job ended.
-#[derive(Clone, Debug, Drop)]
+#[derive(Clone, Drop)]
 pub enum JobResult {
     Value(JobValue),
     Fault { code: Option<i32>, message: Text },
@@ -44,14 +72,72 @@ pub enum JobResult {
     NoMemory,
 }
 
-impl JobResult {
-    /// Whether the JSON in it is plain.
-    pub fn is_plain(&self) -> bool
-        ensures { result ≡ plain_result self.now }
+impl JobKind {
+    /// Whether the job is a request's, and not the host's own.
+    pub fn is_request(&self) -> bool
+        ensures { result ≡ is_request self.now }
     {
+        matches!(self, JobKind::Request { .. })
+    }
+}
+
+impl JobResult {
+    /// Whether a job of this kind may end so: a value is of its kind, and JSON in it is plain.
+    pub fn fits(&self, kind: &JobKind) -> bool
+        ensures { result ≡ fits_kind kind.now self.now }
+    {
+        let JobResult::Value(value) = self else {
+            return true;
+        };
+        match (kind, value) {
+            (JobKind::Request { .. }, JobValue::Json(json)) => json.is_plain(),
+            (JobKind::FetchWorkspaces { .. }, JobValue::Workspaces(_)) => true,
+            (JobKind::FetchBuildData { .. }, JobValue::BuildData(_)) => true,
+            (JobKind::LoadProcMacros { .. }, JobValue::ProcMacros(_)) => true,
+            _ => false,
+        }
+    }
+}
+
+/// A copy of a value, where there is one.
+fn copy_of<T: Copied>(value: &Option<T>) -> Result<Option<T>, AllocError>
+    ensures { IfOk result (λ copy. copy ≡ value.now) }
+{
+    value.clone()
+}
+
+impl Clone for JobKind {
+    ghost is_clone = { λ kind copy. copy ≡ kind };
+
+    fn clone(&self) -> Result<JobKind, AllocError> {
         match self {
-            JobResult::Value(JobValue::Json(value)) => value.is_plain(),
-            _ => true,
+            JobKind::Request {
+                ticket,
+                row,
+                params,
+            } => Ok(JobKind::Request {
+                ticket: *ticket,
+                row: *row,
+                params: params.clone()?,
+            }),
+            JobKind::FetchWorkspaces {
+                projects,
+                detached,
+                path,
+                force,
+            } => Ok(JobKind::FetchWorkspaces {
+                projects: projects.clone()?,
+                detached: detached.clone()?,
+                path: copy_of(path)?,
+                force: *force,
+            }),
+            JobKind::FetchBuildData { version } => {
+                Ok(JobKind::FetchBuildData { version: *version })
+            }
+            JobKind::LoadProcMacros { paths, ignored } => Ok(JobKind::LoadProcMacros {
+                paths: paths.clone()?,
+                ignored: ignored.clone()?,
+            }),
         }
     }
 }

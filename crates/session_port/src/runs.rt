@@ -1,7 +1,7 @@
 // What a job comes to.
 ghost use Rattle.std.specs.Prelude.{◌≡◌, ◌≤◌, ◌<◌, true, None, Some, IfOk};
 ghost use Rattle.analysis_host.specs.Polls.{HasPolled};
-ghost use Rattle.session_port.specs.Jobs.{fits_kind};
+ghost use Rattle.session_port.specs.Jobs.{is_request, fits_kind};
 ghost use Rattle.session_port.specs.Honest.{IsResultOf};
 ghost use Rattle.session_port.specs.Runs.{IfCancelled, UnlessNoMemory};
 
@@ -9,8 +9,9 @@ use crate::job::{Job, JobKind, JobResult, JobValue};
 use analysis_host::{Analysis, Answer, Ask, Cancel, Outcome};
 use std::alloc::AllocError;
 
-/// Runs a job: its result on its snapshot, unless a poll says that it is out of date.
+/// Runs a request's job: its result on its snapshot, unless a poll says that it is out of date.
 pub fn run_job<A: Analysis, C: Cancel>(job: &Job, analysis: &A, cancel: &mut C) -> JobResult
+    requires asked { is_request job.now.kind ≡ true }
     requires floor { job.now.snapshot.revision ≤ C.floor cancel.old }
     requires fresh { C.held cancel.old ≡ None }
 
@@ -36,6 +37,7 @@ fn query<A: Analysis, C: Cancel>(
     analysis: &A,
     cancel: &mut C,
 ) -> Result<JobResult, AllocError>
+    requires asked { is_request job.now.kind ≡ true }
     requires floor { job.now.snapshot.revision ≤ C.floor cancel.old }
     requires fresh { C.held cancel.old ≡ None }
     ensures is { IfOk result (IsResultOf A.answer job.now) }
@@ -46,7 +48,9 @@ fn query<A: Analysis, C: Cancel>(
     ensures key { C.key cancel.new ≡ C.key cancel.old }
     ensures floor_stays { C.floor cancel.new ≡ C.floor cancel.old }
 {
-    let JobKind::Request { row, params, .. } = &job.kind;
+    let JobKind::Request { row, params, .. } = &job.kind else {
+        unreachable!();
+    };
     let ask = Ask::Request {
         row: *row,
         params: params.clone()?,

@@ -33,22 +33,45 @@ fn snapshot(alloc: Global) -> Option<GlobalStateSnapshot> {
     }))
 }
 
-/// A job on the first revision.
-pub fn job_of(alloc: Global, number: u64) -> Option<Job>
+/// What a job is to find out: a request's question, or workspaces, builds or proc macros.
+pub fn kind_of(alloc: Global, word: &str) -> Option<JobKind> {
+    match word {
+        "workspaces" => Some(JobKind::FetchWorkspaces {
+            projects: Items::new(alloc),
+            detached: Items::new(alloc),
+            path: None,
+            force: false,
+        }),
+        "builds" => Some(JobKind::FetchBuildData { version: 1 }),
+        "macros" => Some(JobKind::LoadProcMacros {
+            paths: Items::new(alloc),
+            ignored: Items::new(alloc),
+        }),
+        _ => Some(JobKind::Request {
+            ticket: 1,
+            row: RowId(0),
+            params: SharedJson::new(alloc, Json::null()).ok()?,
+        }),
+    }
+}
+
+/// A job of this kind on the first revision.
+fn job_with(alloc: Global, number: u64, word: &str) -> Option<Job>
     ensures { IfSome result (λ job. job.number ≡ number) }
 {
-    let params = SharedJson::new(alloc, Json::null()).ok()?;
+    let kind = kind_of(alloc, word)?;
     let snapshot = snapshot(alloc)?;
     Some(Job {
         number,
         class: PoolClass::Worker,
-        kind: JobKind::Request {
-            ticket: 1,
-            row: RowId(0),
-            params,
-        },
+        kind,
         snapshot,
     })
+}
+
+/// A request's job on the first revision.
+pub fn job_of(alloc: Global, number: u64) -> Option<Job> {
+    job_with(alloc, number, "request")
 }
 
 fn add_spawn(commands: &mut Items<Command>, job: Job) -> Option<()>
@@ -60,24 +83,25 @@ fn add_spawn(commands: &mut Items<Command>, job: Job) -> Option<()>
     }
 }
 
-/// The commands to do the jobs 7 and 9.
-fn two_jobs(alloc: Global) -> Option<Items<Command>>
+/// The commands to do the jobs 7, a request's, and 9, of this kind.
+fn two_jobs(alloc: Global, word: &str) -> Option<Items<Command>>
     ensures { IfSome result (λ commands. AreRising 0 (spawned commands)) }
 {
-    let first = job_of(alloc, 7)?;
+    let first = job_with(alloc, 7, "request")?;
     let mut commands = Items::new(alloc);
     add_spawn(&mut commands, first)?;
-    let second = job_of(alloc, 9)?;
+    let second = job_with(alloc, 9, word)?;
     add_spawn(&mut commands, second)?;
     Some(commands)
 }
 
-/// `jobs` for the commands to do the jobs 7 and 9, else no command.
+/// `jobs` for the commands to do the requests' jobs 7 and 9, `builds` for the same where 9 is the host's own, else no command.
 pub fn commands_of(alloc: Global, word: &str) -> Option<Items<Command>>
     ensures { IfSome result (λ commands. AreRising 0 (spawned commands)) }
 {
-    if word == "jobs" {
-        return two_jobs(alloc);
+    match word {
+        "jobs" => two_jobs(alloc, "request"),
+        "builds" => two_jobs(alloc, "builds"),
+        _ => Some(Items::new(alloc)),
     }
-    Some(Items::new(alloc))
 }

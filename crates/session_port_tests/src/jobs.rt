@@ -1,10 +1,12 @@
 // Jobs that run, and what crosses threads.
-use crate::fixtures::job_of;
-use crate::words::result_text;
+use crate::fixtures::{job_of, kind_of};
+use crate::words::{add, result_text};
 use analysis_host::{Cancel, Never};
-use plain::Json;
+use plain::{Items, Json};
 use session_peers::NullAnalysis;
-use session_port::{HostEvent, Job, JobResult, JobValue, TaskBody, TaskMsg, run_job};
+use session_port::{
+    HostEvent, Job, JobKind, JobResult, JobValue, Listed, TaskBody, TaskMsg, run_job,
+};
 use std::alloc::Global;
 
 /// Tells each query that revision 3 is there.
@@ -39,11 +41,11 @@ impl Cancel for Third {
     }
 }
 
-// These calls claim nothing here. They run only a job on the first revision.
+// These calls claim nothing here. They run only a request's job on the first revision.
 
 /// What a job comes to that no later revision stops.
 fn lasting(job: &Job) -> Option<JobResult> {
-    if job.snapshot.revision() == 0 {
+    if job.kind.is_request() && job.snapshot.revision() == 0 {
         Some(run_job(job, &NullAnalysis, &mut Never::new()))
     } else {
         None
@@ -56,7 +58,7 @@ fn stopped(job: &Job) -> Option<JobResult> {
         seen: false,
         polls: 0,
     };
-    if job.snapshot.revision() == 0 {
+    if job.kind.is_request() && job.snapshot.revision() == 0 {
         Some(run_job(job, &NullAnalysis, &mut third))
     } else {
         None
@@ -93,6 +95,57 @@ fn run_told(alloc: Global, stops: bool) -> Option<&'static str> {
 fn jobs_run(rt: HostRuntime) {
     assert!(rt; run_told(rt.alloc(), false) == Some("null"));
     assert!(rt; run_told(rt.alloc(), true) == Some("cancelled"));
+}
+
+/// An end of a job: its value, or a word for an end without one.
+fn end(alloc: Global, word: &str) -> JobResult {
+    match word {
+        "json" => JobResult::Value(JobValue::Json(Json::null())),
+        "workspaces" => JobResult::Value(JobValue::Workspaces(Listed::from_vec(Vec::new(alloc)))),
+        "builds" => JobResult::Value(JobValue::BuildData(Listed::from_vec(Vec::new(alloc)))),
+        "macros" => JobResult::Value(JobValue::ProcMacros(Items::new(alloc))),
+        "stopped" => JobResult::Cancelled { saw: 1 },
+        _ => JobResult::NoMemory,
+    }
+}
+
+fn end_fits(outcome: JobResult, kind: &JobKind) -> bool {
+    outcome.fits(kind)
+}
+
+/// Which of these ends a job of this kind may have, each in a letter.
+fn fitting(alloc: Global, kind: JobKind) -> String {
+    let mut text = String::new(alloc);
+    for word in ["json", "workspaces", "builds", "macros", "stopped", "full"] {
+        add(
+            &mut text,
+            if end_fits(end(alloc, word), &kind) {
+                "y"
+            } else {
+                "n"
+            },
+        );
+    }
+    text
+}
+
+fn fits_as(alloc: Global, word: &str, wanted: &str) -> Option<bool> {
+    Some(fitting(alloc, kind_of(alloc, word)?).as_str() == wanted)
+}
+
+#[test]
+fn values_fit_their_kinds(rt: HostRuntime) {
+    for (word, wanted) in [
+        ("request", "ynnnyy"),
+        ("workspaces", "nynnyy"),
+        ("builds", "nnynyy"),
+        ("macros", "nnnyyy"),
+    ] {
+        assert!(rt;
+            fits_as(rt.alloc(), word, wanted) == Some(true),
+            "at {word}"
+        );
+    }
 }
 
 fn sends<T: Send + Drop>(x: T) {

@@ -7,7 +7,9 @@ use crate::fixtures::commands_of;
 use crate::words::{add, add_event, add_run, cut, numbers};
 use plain::{Bytes, Items, Json};
 use session_peers::{HostileHost, NullAnalysis, ScriptHost, ScriptStep};
-use session_port::{Command, Host, HostError, HostEvent, JobResult, JobValue, TaskBody, TaskMsg};
+use session_port::{
+    Command, Host, HostError, HostEvent, JobResult, JobValue, Listed, TaskBody, TaskMsg,
+};
 use std::alloc::Global;
 
 /// A message that a job has this result.
@@ -37,13 +39,31 @@ fn full(alloc: Global, job: &str) -> Option<HostEvent> {
     Some(one_message(alloc, job.parse::<u64>().ok()?, JobResult::NoMemory))
 }
 
-/// `finish` with the numbers of jobs, `stop` with a job and the revision that it saw; `bytes`, `end` and `full` are
-/// given, the last as the message that a job has no memory.
+/// An end of a job in a word: a value, or that it stopped.
+fn end(alloc: Global, word: &str) -> JobResult {
+    match word {
+        "null" => null(),
+        "builds" => JobResult::Value(JobValue::BuildData(Listed::from_vec(Vec::new(alloc)))),
+        "early" => JobResult::Cancelled { saw: 0 },
+        "late" => JobResult::Cancelled { saw: 1 },
+        _ => JobResult::NoMemory,
+    }
+}
+
+fn supply(alloc: Global, words: &str) -> Option<ScriptStep> {
+    let (job, word) = cut(words, " ");
+    Some(ScriptStep::Supply(job.parse::<u64>().ok()?, end(alloc, word)))
+}
+
+/// `finish` with the numbers of jobs, `stop` with a job and the revision that it saw, `supply` with a job and its end; `bytes`,
+/// `end` and `full` are given, the last as the message that a job has no memory; `timer` too.
 fn step(alloc: Global, words: &str) -> Option<ScriptStep> {
     let (word, rest) = cut(words, " ");
     match word {
         "finish" => Some(ScriptStep::Finish(numbers(alloc, rest)?)),
         "stop" => stop(rest),
+        "supply" => supply(alloc, rest),
+        "timer" => Some(ScriptStep::Give(HostEvent::Timer(5))),
         "bytes" => Some(ScriptStep::Give(bytes(alloc, rest))),
         "end" => Some(ScriptStep::Give(HostEvent::Ended)),
         "full" => Some(ScriptStep::Give(full(alloc, rest)?)),
@@ -134,7 +154,7 @@ fn agrees(alloc: Global, line: &str) -> Option<bool> {
     Some(run_script(alloc, steps, fails, commands, count).as_str() == wanted)
 }
 
-// Each script: whether the jobs 7 and 9 are ordered first, or nothing; the numbers of the calls that fail; the steps; how
+// Each script: whether the jobs 7 and 9 are ordered first, the second a request's too or the host's own, or nothing; the numbers of the calls that fail; the steps; how
 // many events are asked for. Then what comes of the order, the events, each before a `|`, and the calls that were
 // recorded: how many commands were taken, or an event.
 
@@ -155,6 +175,19 @@ const STOPPING: &str =
 #[test]
 fn a_script_stops_jobs(rt: HostRuntime) {
     assert!(rt; agrees(rt.alloc(), STOPPING) == Some(true));
+}
+
+/// Job 9 is the host's own: it is not finished, and gets no end that does not fit it. Job 7 is not supplied.
+const SUPPLYING: &str =
+    "builds > - > finish 9 7, supply 7 null, supply 9 null, supply 9 early, timer, supply 9 builds, supply 9 late > 4 > taken > 7: null;|5|9: build data;|ended| > 2|event|event|event|event|";
+
+/// The host's own job may also stop.
+const LATE: &str = "builds > - > supply 9 late > 2 > taken > 9: cancelled;|ended| > 2|event|event|";
+
+#[test]
+fn a_script_supplies_ends(rt: HostRuntime) {
+    assert!(rt; agrees(rt.alloc(), SUPPLYING) == Some(true));
+    assert!(rt; agrees(rt.alloc(), LATE) == Some(true));
 }
 
 /// The first order fails.

@@ -53,6 +53,9 @@ pub fn result_text(outcome: &JobResult) -> &'static str {
         JobResult::Value(JobValue::Json(value)) => {
             if value.is_null() { "null" } else { "value" }
         }
+        JobResult::Value(JobValue::Workspaces(_)) => "workspaces",
+        JobResult::Value(JobValue::BuildData(_)) => "build data",
+        JobResult::Value(JobValue::ProcMacros(_)) => "proc macros",
         JobResult::Fault { .. } => "fault",
         JobResult::Cancelled { .. } => "cancelled",
         JobResult::NoMemory => "no memory",
@@ -80,6 +83,8 @@ pub fn add_given(alloc: Global, text: &mut String, event: &HostEvent) {
         HostEvent::Ended => add(text, "ended"),
         HostEvent::Tasks(batch) => add_batch(alloc, text, batch.as_slice()),
         HostEvent::Vfs(messages) => add_loader(alloc, text, messages.as_slice()),
+        HostEvent::DeferredTask(_) => add(text, "deferred"),
+        HostEvent::Timer(ticket) => add_number(alloc, text, *ticket),
     }
 }
 

@@ -186,6 +186,7 @@ impl GlobalState {
             Event::Lsp(message) => self.on_message(message, analysis, out),
             Event::Task(batch) => self.on_batch(batch, analysis, out),
             Event::Vfs(messages) => self.on_loader(messages, out),
+            Event::Deferred(_) | Event::Timer(_) => Ok(()),
         }
     }
 

@@ -20,13 +20,16 @@ fn requests_while_files_are_loading_and_not(rt: HostRuntime) {
 }
 
 // What the last of some events comes to. A row of the table that is tried again, one that isn't, and one whose client is
-// to ask again; in the last line the texts stayed, so it is tried again.
+// to ask again; where the texts stayed, it is tried again. A value of builds fits no request's job. Nothing is done for timers and deferred tasks.
 const RESULTS: &str =
     r#"loading then ask textDocument/formatting {"a":1} then null > Content-Length: 38\r\n\r\n{"id":5,"jsonrpc":"2.0","result":null}
 ask textDocument/completion {"a":1} then open then stopped > Latency
 ask textDocument/hover {"a":1} then open then stopped > Content-Length: 77\r\n\r\n{"error":{"code":-32801,"message":"content modified"},"id":5,"jsonrpc":"2.0"}
 ask textDocument/diagnostic {"a":1} then open then stopped > Content-Length: 122\r\n\r\n{"error":{"code":-32802,"data":{"retriggerRequest":true},"message":"server cancelled the request"},"id":5,"jsonrpc":"2.0"}
-ask textDocument/hover {"a":1} then stopped > Worker"#;
+ask textDocument/hover {"a":1} then stopped > Worker
+ask textDocument/hover {"a":1} then builds > log
+deferred then timer then ask textDocument/hover {"a":1} then null > Content-Length: 38\r\n\r\n{"id":5,"jsonrpc":"2.0","result":null}
+ask textDocument/hover {"a":1} then timer then deferred > "#;
 
 #[test]
 fn results_of_jobs(rt: HostRuntime) {

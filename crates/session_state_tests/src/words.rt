@@ -5,7 +5,7 @@ use plain::{Items, Json, Text};
 use ra_config::Config;
 use session_model::{Counter, Event, TurnError};
 use session_port::{
-    Command, Job, JobResult, JobValue, LoaderMsg, LoadingProgress, TaskBody, TaskMsg,
+    Command, Job, JobResult, JobValue, Listed, LoaderMsg, LoadingProgress, TaskBody, TaskMsg,
 };
 use session_state::TurnOut;
 use std::alloc::Global;
@@ -92,7 +92,7 @@ fn ended(alloc: Global, outcome: JobResult) -> Option<Event> {
 
 /// `ask` and `tell` with a method and its params, `answer` with the result in the response to the session's request 0,
 /// `loading` where files begin to load, `open` where `/w/a.rs` is opened, `null` and `stopped` as results of the first
-/// job, and `shutdown` as a request.
+/// job, `builds` as a result that is no request's, `deferred` and `timer`, and `shutdown` as a request.
 pub fn event_of(alloc: Global, words: &str) -> Option<Event> {
     let (kind, rest) = cut(words, " ");
     match kind {
@@ -107,6 +107,12 @@ pub fn event_of(alloc: Global, words: &str) -> Option<Event> {
         ),
         "null" => ended(alloc, JobResult::Value(JobValue::Json(Json::null()))),
         "stopped" => ended(alloc, JobResult::Cancelled { saw: 1 }),
+        "builds" => ended(
+            alloc,
+            JobResult::Value(JobValue::BuildData(Listed::from_vec(Vec::new(alloc)))),
+        ),
+        "deferred" => Some(Event::Deferred(Items::new(alloc))),
+        "timer" => Some(Event::Timer(1)),
         "shutdown" => request(alloc, 1, "shutdown", "null"),
         _ => None,
     }
@@ -131,6 +137,7 @@ fn command_name(command: &Command) -> &'static str {
         Command::Log(_, _) => "log",
         Command::Revise(_) => "revise",
         Command::Invalidate(_) => "invalidate",
+        Command::Defer(_) | Command::SetLoader { .. } | Command::Timer(_) => "other",
         Command::Stop => "stop",
     }
 }

@@ -1,8 +1,8 @@
 // Messages of jobs.
-ghost use Rattle.std.specs.Prelude.{◌≡◌, true, decimal, MatchOption};
+ghost use Rattle.std.specs.Prelude.{◌≡◌, true, decimal, IfSome, MatchOption};
 ghost use Rattle.std.specs.FinMap as map;
 ghost use Rattle.method_table.specs.Rows.{class_of};
-ghost use Rattle.session_port.specs.Jobs.{fitting_job, plain_result};
+ghost use Rattle.session_port.specs.Jobs.{fits, fits_kind, fitting_job};
 ghost use Rattle.turn_parts.specs.Meets.{Meets, Gives};
 ghost use Rattle.turn_parts.specs.Working.{logged};
 ghost use Rattle.desk.specs.Desk.{waiting_for};
@@ -53,14 +53,17 @@ impl Desk {
             ticket,
             row,
             params,
-        } = kind;
+        } = kind
+        else {
+            return Ok(());
+        };
         if snapshot.revision() < scene.snapshot.revision() && !retries(row) {
             return self.refuse_stopped(ticket, row, out);
         }
         self.on_class(scene, ticket, row, params, analysis, out)
     }
 
-    // A result, where its request still waits.
+    // A result, where its request still waits. A job of the host is for none.
     #[tactic(auto, unfolding(crate::specs::Steps::delivered, crate::specs::Steps::settled, crate::specs::Steps::answered))]
     fn deliver<A: Analysis>(
         &mut self,
@@ -70,10 +73,12 @@ impl Desk {
         analysis: &A,
         out: &mut TurnOut,
     ) -> Result<(), TurnError>
-        requires { plain_result outcome ≡ true }
+        requires { fits_kind job.kind outcome ≡ true }
         ensures { Meets result (delivered (meaning_of A.decodes A.answer) scene.now (waiting_for job self.old) job outcome (record { state = self.old; out = out.old })) self.new out.new }
     {
-        let JobKind::Request { ticket, .. } = &job.kind;
+        let JobKind::Request { ticket, .. } = &job.kind else {
+            return Ok(());
+        };
         let ticket = *ticket;
         if self.is_completed(ticket) {
             return Ok(());
@@ -101,10 +106,11 @@ impl Desk {
     // Takes the job off that a message fits, where it fits one.
     fn take_fitting(&mut self, message: &TaskMsg) -> Option<Job>
         ensures value { result ≡ fitting_job message.now self.old.jobs }
+        ensures fits { IfSome result (λ job. fits job message.now.body ≡ true) }
         ensures state { MatchOption result (self.new ≡ self.old) (λ _. self.new ≡ record self.old { jobs = map.remove self.old.jobs message.now.job }) }
     {
-        let TaskBody::Final(outcome) = &message.body;
-        if !outcome.is_plain() || !self.jobs.contains(message.job) {
+        let job = self.jobs.get(message.job)?;
+        if !message.body.fits(job) {
             return None;
         }
         self.jobs.remove(message.job)

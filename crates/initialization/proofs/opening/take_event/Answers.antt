@@ -1,11 +1,11 @@
 use Rattle.std.proofs.Common.{arith, refl, inl, sym, ◌∙◌, [], ◌∷◌, ◌<◌, ◌-◌, ◌^◌}
 use Rattle.std.proofs.lemmas.Grind.{common_steps}
 use Rattle.session_port.specs.Record.{after_event}
-use Rattle.session_port.specs.declared.event.HostEvent.TheVariants.{Bytes, Tasks, Ended, Vfs}
+use Rattle.session_port.specs.declared.event.HostEvent.TheVariants.{Bytes, Tasks, Ended, Vfs, DeferredTask, Timer}
 use Rattle.session_laws.proofs.Courses.{course-event, course-waits}
 use Rattle.initialization.proofs.Folds.{telling-events, telling-none, telling-same}
 use Rattle.initialization.proofs.Idle.{batch-none}
-use Rattle.initialization.proofs.Stretches.{advances-feed, goes-loader, goes-tasks}
+use Rattle.initialization.proofs.Stretches.{advances-feed, goes-deferred, goes-loader, goes-tasks, goes-timer}
 use Rattle.initialization.proofs.opening.take_event.Goals as goal
 
 pub returns-then-talk-clause-event : goal.returns-then-talk-clause-event
@@ -50,6 +50,26 @@ returns-in-Vfs-clause-event g c =
     let room : c.args.talk.now.events < 2 ^ 64 - 1 = omega arith in
     λ threads turns. goes-loader threads c.args.talk.now _ _ c.requires.waits c.requires.sound c.requires.in_step c.requires.fits room c.in-Vfs.field-0 _ refl
     (telling-events (Vfs c.in-Vfs.field-0 ∷ []) _ _ (grind (arith, common_steps, h)) refl)
+
+pub returns-in-DeferredTask-clause-idle : goal.returns-in-DeferredTask-clause-idle
+returns-in-DeferredTask-clause-idle g c = c.in-Ok.ensures.out ∙ (λ i. after_event (c.in-DeferredTask.is i) (c.requires.idle i))
+
+pub returns-in-DeferredTask-clause-event : goal.returns-in-DeferredTask-clause-event
+returns-in-DeferredTask-clause-event g c =
+    let h = c.in-Ok.ensures in
+    let room : c.args.talk.now.events < 2 ^ 64 - 1 = omega arith in
+    λ threads turns. goes-deferred threads c.args.talk.now _ _ c.requires.waits c.requires.sound c.requires.in_step c.requires.fits room c.in-DeferredTask.field-0 _ refl
+    (telling-events (DeferredTask c.in-DeferredTask.field-0 ∷ []) _ _ (grind (arith, common_steps, h)) refl)
+
+pub returns-in-Timer-clause-idle : goal.returns-in-Timer-clause-idle
+returns-in-Timer-clause-idle g c = c.in-Ok.ensures.out ∙ (λ i. after_event (c.in-Timer.is i) (c.requires.idle i))
+
+pub returns-in-Timer-clause-event : goal.returns-in-Timer-clause-event
+returns-in-Timer-clause-event g c =
+    let h = c.in-Ok.ensures in
+    let room : c.args.talk.now.events < 2 ^ 64 - 1 = omega arith in
+    λ threads turns. goes-timer threads c.args.talk.now _ _ c.requires.waits c.requires.sound c.requires.in_step c.requires.fits room c.in-Timer.field-0 _ refl
+    (telling-events (Timer c.in-Timer.field-0 ∷ []) _ _ (grind (arith, common_steps, h)) refl)
 
 pub returns-clause-event : goal.returns-clause-event
 returns-clause-event g c =

@@ -1,7 +1,7 @@
 use Rattle.std.proofs.Common.{rules, arith, refl, inl, [], ◌∷◌, ◌≡◌, ◌<◌, length}
 use Rattle.std.proofs.lemmas.Grind.{common_steps}
-use Rattle.session_port.specs.declared.event.HostEvent.TheVariants.{Bytes, Tasks, Vfs, Ended}
-use Rattle.session_model.specs.declared.input.Event.TheVariants.{Task, Vfs as VfsEvent}
+use Rattle.session_port.specs.declared.event.HostEvent.TheVariants.{Bytes, Tasks, Vfs, DeferredTask, Timer, Ended}
+use Rattle.session_model.specs.declared.input.Event.TheVariants.{Task, Vfs as VfsEvent, Deferred, Timer as TimerEvent}
 use Rattle.session_model.specs.declared.input.Input.TheVariants.{Next}
 use Rattle.session_laws.proofs.Courses.{course-event, course-fed, course-empty, course-waits}
 use Rattle.session_laws.proofs.Stretches.{telling-calls}
@@ -37,6 +37,20 @@ returns-in-Vfs-clause-turn g c =
     advances-turn _ (Next (VfsEvent c.in-Vfs.messages)) (Vfs c.in-Vfs.messages ∷ []) _ _ _ _ _ _ _ _ _ _ _ _
     (course-waits _ _ c.requires.waits) (λ more. course-event _ _ (Vfs c.in-Vfs.messages) more c.requires.waits) refl
     (telling-calls _ _ _ (grind (arith, common_steps, h)) refl) (grind (arith, common_steps, h)) (λ _. tt) tt refl c.run_turn-in-Vfs.ensures.turn
+
+pub returns-in-DeferredTask-clause-turn : goal.returns-in-DeferredTask-clause-turn
+returns-in-DeferredTask-clause-turn g c =
+    let h = c.in-Ok.ensures in
+    advances-turn _ (Next (Deferred c.in-DeferredTask.tasks)) (DeferredTask c.in-DeferredTask.tasks ∷ []) _ _ _ _ _ _ _ _ _ _ _ _
+    (course-waits _ _ c.requires.waits) (λ more. course-event _ _ (DeferredTask c.in-DeferredTask.tasks) more c.requires.waits) refl
+    (telling-calls _ _ _ (grind (arith, common_steps, h)) refl) (grind (arith, common_steps, h)) (λ _. tt) tt refl c.run_turn-in-DeferredTask.ensures.turn
+
+pub returns-in-Timer-clause-turn : goal.returns-in-Timer-clause-turn
+returns-in-Timer-clause-turn g c =
+    let h = c.in-Ok.ensures in
+    advances-turn _ (Next (TimerEvent c.in-Timer.ticket)) (Timer c.in-Timer.ticket ∷ []) _ _ _ _ _ _ _ _ _ _ _ _
+    (course-waits _ _ c.requires.waits) (λ more. course-event _ _ (Timer c.in-Timer.ticket) more c.requires.waits) refl
+    (telling-calls _ _ _ (grind (arith, common_steps, h)) refl) (grind (arith, common_steps, h)) (λ _. tt) tt refl c.run_turn-in-Timer.ensures.turn
 
 pub returns-then-len-eq0-clause-turn : goal.returns-then-len-eq0-clause-turn
 returns-then-len-eq0-clause-turn g c =
