@@ -1,10 +1,18 @@
+ghost use Rattle.std.specs.Prelude.{◌≡◌};
+ghost use Rattle.std.proofs.Common.{rules};
+
 use crate::path::VfsPath;
 use crate::shared_bytes::SharedBytes;
+use plain::Copied;
 use std::alloc::{AllocError, AllocFailed};
 
 /// The number of a path in a table of files.
 #[derive(Clone, Copy, Debug, PartialEq, Eq, PartialOrd, Ord, Hash)]
 pub struct FileId(pub u32);
+
+impl Copied for FileId {
+    ghost copies = { λ x y h. Prim.search rules };
+}
 
 /// Whether a file is marked as excluded.
 #[derive(Clone, Copy, Debug, PartialEq, Eq, PartialOrd, Ord, Hash)]

@@ -2,7 +2,6 @@
 ghost use Rattle.std.specs.Prelude.{◌≡◌};
 
 use crate::job::Job;
-use crate::listed::Listed;
 use docs_vfs::{FileId, Root, VfsPath};
 use plain::{Copied, Items, Text};
 use std::alloc::AllocError;
@@ -36,12 +35,12 @@ pub enum LogCode {
 }
 
 /// What a session does once there is nothing else to do.
-#[derive(Drop)]
+#[derive(Debug, Drop)]
 pub enum DeferredTask {
     /// Whether this file is part of some crate.
     CheckIfIndexed(VfsPath),
     /// Whether some of these files are the sources of proc macros.
-    CheckProcMacroSources(Listed<FileId>),
+    CheckProcMacroSources(Items<FileId>),
 }
 
 /// What a session orders of its host.

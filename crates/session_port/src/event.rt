@@ -8,14 +8,14 @@ use docs_vfs::VfsPath;
 use plain::{Bytes, Copied, Items};
 
 /// What a message says of its job.
-#[derive(Clone, Drop)]
+#[derive(Clone, Debug, Drop)]
 pub enum TaskBody {
     /// The job has ended.
     Final(JobResult),
 }
 
 /// A message of a job.
-#[derive(Clone, Drop)]
+#[derive(Clone, Debug, Drop)]
 pub struct TaskMsg {
     pub job: u64,
     pub body: TaskBody,
@@ -59,7 +59,7 @@ pub enum LoaderMsg {
 }
 
 /// What a host gives.
-#[derive(Clone, Drop)]
+#[derive(Clone, Debug, Drop)]
 pub enum HostEvent {
     /// Bytes from the client, cut anywhere.
     Bytes(Bytes),

@@ -2,7 +2,6 @@
 ghost use Rattle.std.specs.Prelude.{◌≡◌, IfOk};
 ghost use Rattle.session_port.specs.Jobs.{fits_kind, is_request};
 
-use crate::listed::Listed;
 use analysis_host::GlobalStateSnapshot;
 use docs_vfs::VfsPath;
 use method_table::{PoolClass, RowId};
@@ -12,7 +11,7 @@ use ra_settings::LinkedProject;
 use std::alloc::AllocError;
 
 /// What a job is to find out. All but a request's are the host's own: no analysis is asked.
-#[derive(Drop)]
+#[derive(Debug, Drop)]
 pub enum JobKind {
     /// The answer to the request with this ticket.
     Request {
@@ -50,20 +49,20 @@ pub struct Job {
 }
 
 /// The value of a job, of the job's kind.
-#[derive(Clone, Drop)]
+#[derive(Clone, Debug, Drop)]
 pub enum JobValue {
     /// The result of a request.
     Json(Json),
     /// The workspaces of the projects, one after another.
-    Workspaces(Listed<Result<ProjectWorkspace, Text>>),
+    Workspaces(Items<Result<ProjectWorkspace, Text>>),
     /// What the build scripts made, workspace by workspace.
-    BuildData(Listed<Result<BuildScripts, Text>>),
+    BuildData(Items<Result<BuildScripts, Text>>),
     /// The proc macros of crates, by their numbers.
     ProcMacros(Items<(u32, MacroState)>),
 }
 
 /// How a job ended.
-#[derive(Clone, Drop)]
+#[derive(Clone, Debug, Drop)]
 pub enum JobResult {
     Value(JobValue),
     Fault { code: Option<i32>, message: Text },

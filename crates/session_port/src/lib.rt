@@ -7,7 +7,6 @@ mod command;
 mod event;
 mod job;
 mod lent;
-mod listed;
 mod peers;
 mod runs;
 
@@ -15,7 +14,6 @@ pub use cause::HostError;
 pub use command::{Command, DeferredTask, LogCode};
 pub use event::{HostEvent, LoadedFile, LoaderMsg, LoadingProgress, TaskBody, TaskMsg};
 pub use job::{Job, JobKind, JobResult, JobValue};
-pub use listed::Listed;
 pub use peers::{Host, Sink, Source};
 pub use plain::NoMemory;
 pub use runs::run_job;

@@ -5,7 +5,7 @@ use analysis_host::{Cancel, Never};
 use plain::{Items, Json};
 use session_peers::NullAnalysis;
 use session_port::{
-    HostEvent, Job, JobKind, JobResult, JobValue, Listed, TaskBody, TaskMsg, run_job,
+    HostEvent, Job, JobKind, JobResult, JobValue, TaskBody, TaskMsg, run_job,
 };
 use std::alloc::Global;
 
@@ -101,8 +101,8 @@ fn jobs_run(rt: HostRuntime) {
 fn end(alloc: Global, word: &str) -> JobResult {
     match word {
         "json" => JobResult::Value(JobValue::Json(Json::null())),
-        "workspaces" => JobResult::Value(JobValue::Workspaces(Listed::from_vec(Vec::new(alloc)))),
-        "builds" => JobResult::Value(JobValue::BuildData(Listed::from_vec(Vec::new(alloc)))),
+        "workspaces" => JobResult::Value(JobValue::Workspaces(Items::new(alloc))),
+        "builds" => JobResult::Value(JobValue::BuildData(Items::new(alloc))),
         "macros" => JobResult::Value(JobValue::ProcMacros(Items::new(alloc))),
         "stopped" => JobResult::Cancelled { saw: 1 },
         _ => JobResult::NoMemory,

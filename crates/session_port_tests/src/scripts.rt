@@ -8,7 +8,7 @@ use crate::words::{add, add_event, add_run, cut, numbers};
 use plain::{Bytes, Items, Json};
 use session_peers::{HostileHost, NullAnalysis, ScriptHost, ScriptStep};
 use session_port::{
-    Command, Host, HostError, HostEvent, JobResult, JobValue, Listed, TaskBody, TaskMsg,
+    Command, Host, HostError, HostEvent, JobResult, JobValue, TaskBody, TaskMsg,
 };
 use std::alloc::Global;
 
@@ -43,7 +43,7 @@ fn full(alloc: Global, job: &str) -> Option<HostEvent> {
 fn end(alloc: Global, word: &str) -> JobResult {
     match word {
         "null" => null(),
-        "builds" => JobResult::Value(JobValue::BuildData(Listed::from_vec(Vec::new(alloc)))),
+        "builds" => JobResult::Value(JobValue::BuildData(Items::new(alloc))),
         "early" => JobResult::Cancelled { saw: 0 },
         "late" => JobResult::Cancelled { saw: 1 },
         _ => JobResult::NoMemory,

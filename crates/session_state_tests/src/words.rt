@@ -5,7 +5,7 @@ use plain::{Items, Json, Text};
 use ra_config::Config;
 use session_model::{Counter, Event, TurnError};
 use session_port::{
-    Command, Job, JobResult, JobValue, Listed, LoaderMsg, LoadingProgress, TaskBody, TaskMsg,
+    Command, Job, JobResult, JobValue, LoaderMsg, LoadingProgress, TaskBody, TaskMsg,
 };
 use session_state::TurnOut;
 use std::alloc::Global;
@@ -109,7 +109,7 @@ pub fn event_of(alloc: Global, words: &str) -> Option<Event> {
         "stopped" => ended(alloc, JobResult::Cancelled { saw: 1 }),
         "builds" => ended(
             alloc,
-            JobResult::Value(JobValue::BuildData(Listed::from_vec(Vec::new(alloc)))),
+            JobResult::Value(JobValue::BuildData(Items::new(alloc))),
         ),
         "deferred" => Some(Event::Deferred(Items::new(alloc))),
         "timer" => Some(Event::Timer(1)),
