@@ -1,5 +1,5 @@
 // Places of positions.
-ghost use Rattle.std.specs.Prelude.{◌≡◌, ◌+◌, ◌<◌, ◌≤◌, ◌^◌, length, max, slice_get, IfSome, IfOk, IsTrue, is_some, unwrap_or};
+ghost use Rattle.std.specs.Prelude.{◌≡◌, ◌+◌, ◌<◌, ◌≤◌, ◌^◌, length, max, slice_get, IfSome, IfOk, IsTrue, is_some, unwrap_or, Ok};
 ghost use Rattle.std.specs.String.Boundary.{IsSplitPoint};
 ghost use Rattle.text_core.specs.Positions.{is_inside, code_units, past_units, line_start, line_end, line_span, place_of, range_of};
 ghost use Rattle.text_core.specs.declared.position.PositionEncoding.TheVariants.{Utf8, Wide};
@@ -173,6 +173,26 @@ pub(crate) fn place_of(
     }
 }
 
+/// The place of a range's end. Where the range is empty, that is its start's, and the line isn't counted again.
+fn end_of(
+    encoding: PositionEncoding,
+    text: &str,
+    starts: &[u32],
+    range: Range,
+    start: usize,
+) -> Result<usize, OffsetFault>
+    requires known { KnowsLines starts.now text.now (range.end.line + 1) }
+    requires start { place_of encoding text.now range.start ≡ Ok start }
+    requires split { IsSplitPoint text.now start }
+    ensures value { result ≡ place_of encoding text.now range.end }
+    ensures split { IfOk result (IsSplitPoint text.now) }
+{
+    if range.end == range.start {
+        return Ok(start);
+    }
+    place_of(encoding, text, starts, range.end)
+}
+
 /// The places of a range.
 pub(crate) fn range_of(
     encoding: PositionEncoding,
@@ -187,7 +207,7 @@ pub(crate) fn range_of(
     ensures rising { IfOk result (λ places. places.0 ≤ places.1) }
 {
     let start = place_of(encoding, text, starts, range.start)?;
-    let end = place_of(encoding, text, starts, range.end)?;
+    let end = end_of(encoding, text, starts, range, start)?;
     if end < start {
         return Err(OffsetFault::Reversed);
     }
