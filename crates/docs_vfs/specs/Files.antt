@@ -1,5 +1,5 @@
 -- The table of files: the numbers of paths, what is kept of each, and what was there at the last take.
-use Rattle.std.specs.Prelude.{◌≡◌, ℕ, Bool, true, false, not, ◌||◌, ◌+◌, ◌-◌, nat_le, nat_lt, List, [], ◌∷◌, ◌++◌, length, slice_get, bytes_eq, Option, Some, None, is_some, Result, Ok, Err, if◌then◌else◌}
+use Rattle.std.specs.Prelude.{◌≡◌, ℕ, Bool, true, false, ◌||◌, ◌+◌, ◌-◌, nat_le, nat_lt, List, [], ◌∷◌, ◌++◌, length, slice_get, bytes_eq, Option, Some, None, is_some, Result, Ok, Err, if◌then◌else◌}
 use Rattle.std.specs.List.{filter_map}
 use Rattle.std.specs.FinMap as map
 use Rattle.docs_vfs.specs.Paths.{path_cmp}
@@ -13,6 +13,7 @@ use Rattle.docs_vfs.specs.declared.file_kinds.FileRow.{FileRow}
 use Rattle.docs_vfs.specs.declared.file_kinds.FileWas.{FileWas}
 use Rattle.docs_vfs.specs.declared.file_kinds.Kept.{Kept}
 use Rattle.docs_vfs.specs.declared.file_kinds.Kept.TheVariants.{Nothing, Contents, Excluded}
+use Rattle.docs_vfs.specs.declared.file_kinds.Replaced.{Replaced}
 use Rattle.docs_vfs.specs.declared.file_kinds.TableFault.{TableFault}
 use Rattle.docs_vfs.specs.declared.file_kinds.TableFault.TheVariants.{Full, NoMemory}
 
@@ -92,27 +93,27 @@ file_id_of t path = id_in (map.get t.rows path)
 abbrev pub next_file : Files → FileId
 next_file t = record { 0 = t.first + length t.paths }
 
+-- all numbers were given
+abbrev pub is_full : Files → Bool
+is_full t = nat_le 4294967295 (t.first + length t.paths)
+
 abbrev pub number_in : Files → List ℕ → Option FileRow → Result (Files × FileId) TableFault
 number_in t path (Some row) = Ok (t, row.file)
-number_in t path None =
-    if nat_le 4294967295 (t.first + length t.paths) then Err Full
-    else Ok (record t { paths = t.paths ++ path ∷ [] }, next_file t)
+number_in t path None = if is_full t then Err Full else Ok (record t { paths = t.paths ++ path ∷ [] }, next_file t)
 
 -- a path without a number gets the next one
 abbrev pub with_number : Files → List ℕ → Result (Files × FileId) TableFault
 with_number t path = number_in t path (map.get t.rows path)
-
--- the path has or would get this number, and it is the next one where the path has none
-abbrev pub NumberIs : Files → List ℕ → FileId → Bool → Type 0
-NumberIs t path file next =
-    (with_number t path ≡ Ok (record t { paths = if next then t.paths ++ path ∷ [] else t.paths }, file))
-    × (next ≡ not (is_some (map.get t.rows path)))
 
 -- ---- the calls
 
 -- what was there is kept once
 abbrev pub before_of : map.FinMap path_cmp FileWas → List ℕ → FileWas → map.FinMap path_cmp FileWas
 before_of before path was = if is_some (map.get before path) then before else map.insert before path was
+
+-- the number and the contents in a row
+abbrev pub was_of : FileRow → FileWas
+was_of row = record { file = row.file; contents = contents_of row.kept }
 
 abbrev pub and_then : {A B : Type 0} → Result A TableFault → (A → Result B TableFault) → Result B TableFault
 and_then (Ok x) next = next x
@@ -136,6 +137,26 @@ set_in t path contents =
     if is_marked (kept_at t path) || same_contents (contents_at t path) contents then Ok (t, false)
     else and_then (put_in t path (kept_of contents)) (λ u. Ok (u, true))
 
+-- the same of a path that has neither contents nor a mark; any other stays as it is
+abbrev pub add_in : Files → List ℕ → Option (List ℕ) → Result (Files × Bool) TableFault
+add_in t path contents = if is_some (file_id_of t path) then Ok (t, false) else set_in t path contents
+
+-- what a set makes of a path's row and of what was kept, and whether that is a change
+abbrev pub set_row : FileRow → map.FinMap path_cmp FileWas → List ℕ → Option (List ℕ) → FileRow × map.FinMap path_cmp FileWas × Bool
+set_row row before path contents =
+    if is_marked row.kept || same_contents (contents_of row.kept) contents then (row, before, false)
+    else (record row { kept = kept_of contents }, before_of before path (was_of row), true)
+
+-- what an addition makes of them
+abbrev pub add_row : FileRow → map.FinMap path_cmp FileWas → List ℕ → Option (List ℕ) → FileRow × map.FinMap path_cmp FileWas × Bool
+add_row row before path contents =
+    if is_some (id_by row.file row.kept) then (row, before, false) else set_row row before path contents
+
+-- what a mark makes of them
+abbrev pub mark_row : FileRow → map.FinMap path_cmp FileWas → List ℕ → FileRow × map.FinMap path_cmp FileWas
+mark_row row before path =
+    if is_marked row.kept then (row, before) else (record row { kept = Excluded }, before_of before path (was_of row))
+
 -- the table with a mark at a path
 abbrev pub mark_in : Files → List ℕ → Result Files TableFault
 mark_in t path = if is_marked (kept_at t path) then Ok t else put_in t path Excluded
@@ -154,6 +175,11 @@ Meets (Err e) expected old new = FailsAs e expected old new
 abbrev pub Gives : {A : Type 0} → Result A TableFault → Result (Files × A) TableFault → Files → Files → Type 0
 Gives (Ok x) expected old new = expected ≡ Ok (new, x)
 Gives (Err e) expected old new = FailsAs e expected old new
+
+-- whether a call changed contents
+abbrev pub changed_of : Result Replaced TableFault → Result Bool TableFault
+changed_of (Ok replaced) = Ok replaced.changed
+changed_of (Err e) = Err e
 
 -- ---- the difference since the last take
 

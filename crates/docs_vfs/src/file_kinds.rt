@@ -60,6 +60,15 @@ pub struct FileWas {
     pub contents: Option<SharedBytes>,
 }
 
+/// What a call made of a path: its number before and after, where it had contents or a mark, with whether it was marked,
+/// and whether its contents changed.
+#[derive(Clone, Copy, Debug)]
+pub struct Replaced {
+    pub before: Option<(FileId, FileExcluded)>,
+    pub after: Option<(FileId, FileExcluded)>,
+    pub changed: bool,
+}
+
 /// Why a call of the table failed.
 #[derive(Clone, Copy, Debug, PartialEq, Eq, PartialOrd, Ord, Hash)]
 pub enum TableFault {

@@ -1,14 +1,14 @@
-ghost use Rattle.std.specs.Prelude.{◌≡◌, ◌++◌, ◌∷◌, [], ◌+◌, OnOk, OnErr, IfOk, IfErr, Err, None, is_some, not, option_to_list, if◌then◌else◌};
+ghost use Rattle.std.specs.Prelude.{◌≡◌, ◌++◌, ◌∷◌, [], ◌+◌, OnOk, OnErr, IfOk, IfErr, None, Some, true, false, option_to_list};
 ghost use Rattle.std.specs.Option.{option_copied};
 ghost use Rattle.std.specs.FinMap as map;
 ghost use Rattle.std.specs.List.{filter_map};
-ghost use Rattle.docs_vfs.specs.Files.{new_files, contents_of, kept_of, kept_in, is_marked, contents_at, same_contents, with_number, before_of, put_in, set_in, mark_in, path_at, exists_in, file_id_of, kind_between, change_of, changes, NumberIs, Meets, Gives};
+ghost use Rattle.docs_vfs.specs.Files.{new_files, contents_of, kept_of, kept_in, is_marked, contents_at, same_contents, was_of, before_of, set_row, add_row, mark_row, put_in, set_in, add_in, mark_in, path_at, exists_in, id_by, file_id_of, kind_between, change_of, changes, changed_of, next_file, is_full, Meets, Gives};
 ghost use Rattle.docs_vfs.specs.FileLaws.{IsNumbered, IsDifference};
 ghost use Rattle.docs_vfs.specs.declared.file_kinds.TableFault.TheVariants.{Full};
 
 use crate::by_path::ByPath;
 use crate::file_kinds::{
-    ChangeKind, ChangedFile, FileExcluded, FileId, FileRow, FileWas, Kept, TableFault,
+    ChangeKind, ChangedFile, FileExcluded, FileId, FileRow, FileWas, Kept, Replaced, TableFault,
 };
 use crate::path::VfsPath;
 use crate::shared_bytes::SharedBytes;
@@ -45,17 +45,25 @@ impl Model for FileTable {
     ghost invariant = { λ t. IsNumbered (record { first = t.first; paths = t.paths; rows = t.rows; before = t.before }) };
 }
 
-/// Whether a path is marked.
-fn is_marked_row(row: Option<&FileRow>) -> bool
-    ensures { result ≡ is_marked (kept_in (option_copied row.entry)) }
+/// Whether this is a mark.
+fn is_mark(kept: &Kept) -> bool
+    ensures { result ≡ is_marked kept.now }
 {
-    match row {
-        None => false,
-        Some(row) => match &row.kept {
-            Kept::Excluded => true,
-            Kept::Contents(_) => false,
-            Kept::Nothing => false,
-        },
+    match kept {
+        Kept::Excluded => true,
+        Kept::Contents(_) => false,
+        Kept::Nothing => false,
+    }
+}
+
+/// The contents, where these are what is kept.
+fn contents_of(kept: &Kept) -> Option<&SharedBytes>
+    ensures { option_copied result ≡ contents_of kept.now }
+{
+    match kept {
+        Kept::Contents(bytes) => Some(bytes),
+        Kept::Excluded => None,
+        Kept::Nothing => None,
     }
 }
 
@@ -65,11 +73,18 @@ fn contents_of_row(row: Option<&FileRow>) -> Option<&SharedBytes>
 {
     match row {
         None => None,
-        Some(row) => match &row.kept {
-            Kept::Contents(bytes) => Some(bytes),
-            Kept::Excluded => None,
-            Kept::Nothing => None,
-        },
+        Some(row) => contents_of(&row.kept),
+    }
+}
+
+/// The number of a path that has contents or a mark, and whether it is marked.
+fn id_of(row: &FileRow) -> Option<(FileId, FileExcluded)>
+    ensures { result ≡ id_by row.now.file row.now.kept }
+{
+    match &row.kept {
+        Kept::Nothing => None,
+        Kept::Contents(_) => Some((row.file, FileExcluded::No)),
+        Kept::Excluded => Some((row.file, FileExcluded::Yes)),
     }
 }
 
@@ -164,31 +179,101 @@ fn drain_changes(
     }
 }
 
-/// Keeps what was there at the last take, unless the path was touched since.
-fn touch(
-    before: &mut ByPath<FileWas>,
-    path: &VfsPath,
-    was: FileWas,
-    is_touched: bool,
-) -> Result<(), AllocError>
-    requires { is_touched ≡ is_some (map.get before.old path.now) }
-    ensures ok { OnOk result (before.new ≡ before_of before.old path.now was) }
+/// Keeps what is in a path's row, unless the path was touched since the last take.
+fn touch(before: &mut ByPath<FileWas>, path: &VfsPath, row: &FileRow) -> Result<(), AllocError>
+    ensures ok { OnOk result (before.new ≡ before_of before.old path.now (was_of row.now)) }
     ensures err { OnErr result (before.new ≡ before.old) }
 {
-    if is_touched {
+    if before.contains(path) {
         return Ok(());
     }
-    before.insert(path.clone()?, was)?;
+    let contents = share(contents_of(&row.kept))?;
+    let file = row.file;
+    before.insert(path.clone()?, FileWas { file, contents })?;
     Ok(())
 }
 
-/// Forgets what was kept of a path that wasn't touched before.
-fn untouch(before: &mut ByPath<FileWas>, path: &VfsPath, is_touched: bool)
-    ensures { before.new ≡ (if is_touched then before.old else map.remove before.old path.now) }
+/// Keeps this in a path's row. Without memory all stays.
+fn put_in_row(
+    row: &mut FileRow,
+    before: &mut ByPath<FileWas>,
+    path: &VfsPath,
+    kept: Kept,
+) -> Result<(), AllocError>
+    ensures ok { OnOk result ((row.new ≡ record row.old { kept = kept }) × (before.new ≡ before_of before.old path.now (was_of row.old))) }
+    ensures err { OnErr result ((row.new ≡ row.old) × (before.new ≡ before.old)) }
 {
-    if !is_touched {
-        before.remove(path);
+    touch(before, path, row)?;
+    row.kept = kept;
+    Ok(())
+}
+
+/// Nothing has changed at a path with this number.
+fn unchanged(id: Option<(FileId, FileExcluded)>) -> Replaced
+    ensures { result ≡ record { before = id; after = id; changed = false } }
+{
+    Replaced {
+        before: id,
+        after: id,
+        changed: false,
     }
+}
+
+/// Sets the contents in a path's row, or takes them away. Without memory all stays.
+fn set_row(
+    row: &mut FileRow,
+    before: &mut ByPath<FileWas>,
+    path: &VfsPath,
+    contents: Option<SharedBytes>,
+) -> Result<Replaced, AllocError>
+    ensures row { IfOk result (λ r. (row.new, before.new, r.changed) ≡ set_row row.old before.old path.now contents) }
+    ensures before { IfOk result (λ r. r.before ≡ id_by row.old.file row.old.kept) }
+    ensures after { IfOk result (λ r. r.after ≡ id_by row.new.file row.new.kept) }
+    ensures err { OnErr result ((row.new ≡ row.old) × (before.new ≡ before.old)) }
+{
+    let id = id_of(row);
+    if is_mark(&row.kept) || are_same(contents_of(&row.kept), &contents) {
+        return Ok(unchanged(id));
+    }
+    put_in_row(row, before, path, keep(contents))?;
+    Ok(Replaced {
+        before: id,
+        after: id_of(row),
+        changed: true,
+    })
+}
+
+/// The same, where a path has neither contents nor a mark. Any other stays as it is.
+fn add_row(
+    row: &mut FileRow,
+    before: &mut ByPath<FileWas>,
+    path: &VfsPath,
+    contents: Option<SharedBytes>,
+) -> Result<Replaced, AllocError>
+    ensures row { IfOk result (λ r. (row.new, before.new, r.changed) ≡ add_row row.old before.old path.now contents) }
+    ensures before { IfOk result (λ r. r.before ≡ id_by row.old.file row.old.kept) }
+    ensures after { IfOk result (λ r. r.after ≡ id_by row.new.file row.new.kept) }
+    ensures err { OnErr result ((row.new ≡ row.old) × (before.new ≡ before.old)) }
+{
+    match id_of(row) {
+        None => set_row(row, before, path, contents),
+        known => Ok(unchanged(known)),
+    }
+}
+
+/// Marks a path in its row. Without memory all stays.
+fn mark_row(
+    row: &mut FileRow,
+    before: &mut ByPath<FileWas>,
+    path: &VfsPath,
+) -> Result<(), AllocError>
+    ensures ok { OnOk result ((row.new, before.new) ≡ mark_row row.old before.old path.now) }
+    ensures err { OnErr result ((row.new ≡ row.old) × (before.new ≡ before.old)) }
+{
+    if is_mark(&row.kept) {
+        return Ok(());
+    }
+    put_in_row(row, before, path, Kept::Excluded)
 }
 
 /// Keeps a row of a path that has none, and the path behind those that have numbers. Without memory all stays.
@@ -214,25 +299,31 @@ fn put_next_row(
     }
 }
 
-/// Keeps a row of a path, which is added to the paths where its number is the next one. Without memory all stays.
-#[tactic(auto, using(crate::proofs::TableLemmas::no_row))]
-fn put_row(
+/// Keeps this of a path that has no row, with the next number. Without memory all stays.
+#[tactic(auto, using(crate::proofs::TableLemmas::undone_by))]
+fn put_next(
     paths: &mut Items<VfsPath>,
     rows: &mut ByPath<FileRow>,
+    before: &mut ByPath<FileWas>,
     path: &VfsPath,
     row: FileRow,
-    is_next: bool,
 ) -> Result<(), AllocError>
-    requires { is_next ≡ not (is_some (map.get rows.old path.now)) }
-    ensures ok { OnOk result ((paths.new ≡ (if is_next then paths.old ++ path.now ∷ [] else paths.old))
-        × (rows.new ≡ map.insert rows.old path.now row)) }
-    ensures err { OnErr result ((paths.new ≡ paths.old) × (rows.new ≡ rows.old)) }
+    requires row { map.get rows.old path.now ≡ None }
+    requires touched { map.get before.old path.now ≡ None }
+    ensures ok { OnOk result ((paths.new ≡ paths.old ++ path.now ∷ []) × (rows.new ≡ map.insert rows.old path.now row)
+        × (before.new ≡ map.insert before.old path.now (record { file = row.file; contents = None }))) }
+    ensures err { OnErr result ((paths.new ≡ paths.old) × (rows.new ≡ rows.old) × (before.new ≡ before.old)) }
 {
-    if is_next {
-        return put_next_row(paths, rows, path, row);
+    let file = row.file;
+    let contents = None;
+    before.insert(path.clone()?, FileWas { file, contents })?;
+    match put_next_row(paths, rows, path, row) {
+        Ok(()) => Ok(()),
+        Err(_) => {
+            before.remove(path);
+            Err(AllocError)
+        }
     }
-    rows.insert(path.clone()?, row)?;
-    Ok(())
 }
 
 impl FileTable {
@@ -288,56 +379,60 @@ impl FileTable {
     pub fn file_id(&self, path: &VfsPath) -> Option<(FileId, FileExcluded)>
         ensures { result ≡ file_id_of self.now path.now }
     {
-        let row = self.rows.get(path)?;
-        match &row.kept {
-            Kept::Nothing => None,
-            Kept::Contents(_) => Some((row.file, FileExcluded::No)),
-            Kept::Excluded => Some((row.file, FileExcluded::Yes)),
-        }
+        id_of(self.rows.get(path)?)
     }
 
-    /// The number that a path has or would get, and whether it is the next one.
-    fn number_for(&self, path: &VfsPath) -> Result<(FileId, bool), TableFault>
-        ensures ok { IfOk result (λ n. NumberIs self.now path.now n.0 n.1) }
-        ensures err { IfErr result (λ e. (e ≡ Full) × (with_number self.now path.now ≡ Err Full)) }
+    /// The next number.
+    fn next_number(&self) -> Result<FileId, TableFault>
+        ensures ok { IfOk result (λ file. (file ≡ next_file self.now) × (is_full self.now ≡ false)) }
+        ensures err { IfErr result (λ e. (e ≡ Full) × (is_full self.now ≡ true)) }
     {
-        if let Some(row) = self.rows.get(path) {
-            return Ok((row.file, false));
-        }
         let given = self.first as u128 + self.paths.len() as u128;
         if given >= MOST_FILES {
             return Err(TableFault::Full);
         }
-        Ok((FileId(given as u32), true))
+        Ok(FileId(given as u32))
     }
 
-    /// Keeps this of a path.
+    /// Keeps this of a path that has no row, and answers its number.
     #[tactic(auto, using(crate::proofs::TableLemmas::parts))]
-    fn put(&mut self, path: &VfsPath, kept: Kept) -> Result<(), TableFault>
-        ensures { Meets result (put_in self.old path.now kept) self.old self.new }
+    fn put_new(&mut self, path: &VfsPath, kept: Kept) -> Result<FileId, TableFault>
+        requires { map.get self.old.rows path.now ≡ None }
+        ensures put { Meets result (put_in self.old path.now kept) self.old self.new }
+        ensures row { IfOk result (λ file. map.get self.new.rows path.now ≡ Some (record { file = file; kept = kept })) }
     {
-        let (file, is_next) = self.number_for(path)?;
-        let contents = share(contents_of_row(self.rows.get(path)))?;
-        let is_touched = self.before.contains(path);
-        touch(
-            &mut self.before,
-            path,
-            FileWas { file, contents },
-            is_touched,
-        )?;
-        match put_row(
+        let file = self.next_number()?;
+        put_next(
             &mut self.paths,
             &mut self.rows,
+            &mut self.before,
             path,
             FileRow { file, kept },
-            is_next,
-        ) {
-            Ok(()) => Ok(()),
-            Err(_) => {
-                untouch(&mut self.before, path, is_touched);
-                Err(TableFault::NoMemory)
-            }
-        }
+        )?;
+        Ok(file)
+    }
+
+    /// Sets the contents of a path that has no row.
+    #[tactic(auto, using(crate::proofs::TableLemmas::parts))]
+    fn set_new(
+        &mut self,
+        path: &VfsPath,
+        contents: Option<SharedBytes>,
+    ) -> Result<Replaced, TableFault>
+        requires { map.get self.old.rows path.now ≡ None }
+        ensures set { Gives (changed_of result) (set_in self.old path.now contents) self.old self.new }
+        ensures before { IfOk result (λ r. r.before ≡ file_id_of self.old path.now) }
+        ensures after { IfOk result (λ r. r.after ≡ file_id_of self.new path.now) }
+    {
+        let Some(bytes) = contents else {
+            return Ok(unchanged(None));
+        };
+        let file = self.put_new(path, Kept::Contents(bytes))?;
+        Ok(Replaced {
+            before: None,
+            after: Some((file, FileExcluded::No)),
+            changed: true,
+        })
     }
 
     /// Sets the contents at a path, or takes them away, and answers whether that is a change. A marked path
@@ -364,22 +459,55 @@ impl FileTable {
     ) -> Result<bool, TableFault>
         ensures { Gives result (set_in self.old path contents) self.old self.new }
     {
-        let row = self.rows.get(&path);
-        if is_marked_row(row) || are_same(contents_of_row(row), &contents) {
-            return Ok(false);
+        Ok(self.replace_shared(&path, contents)?.changed)
+    }
+
+    /// The same, and answers the number of the path before and after.
+    #[tactic(auto, using(crate::proofs::TableLemmas::parts))]
+    pub fn replace_shared(
+        &mut self,
+        path: &VfsPath,
+        contents: Option<SharedBytes>,
+    ) -> Result<Replaced, TableFault>
+        ensures set { Gives (changed_of result) (set_in self.old path.now contents) self.old self.new }
+        ensures before { IfOk result (λ r. r.before ≡ file_id_of self.old path.now) }
+        ensures after { IfOk result (λ r. r.after ≡ file_id_of self.new path.now) }
+    {
+        match self.rows.get_mut(path) {
+            None => self.set_new(path, contents),
+            Some(row) => Ok(set_row(row, &mut self.before, path, contents)?),
         }
-        self.put(&path, keep(contents))?;
-        Ok(true)
+    }
+
+    /// The same of a path that has neither contents nor a mark. Any other stays as it is.
+    #[tactic(auto, using(crate::proofs::TableLemmas::parts))]
+    pub fn add_shared(
+        &mut self,
+        path: &VfsPath,
+        contents: Option<SharedBytes>,
+    ) -> Result<Replaced, TableFault>
+        ensures set { Gives (changed_of result) (add_in self.old path.now contents) self.old self.new }
+        ensures before { IfOk result (λ r. r.before ≡ file_id_of self.old path.now) }
+        ensures after { IfOk result (λ r. r.after ≡ file_id_of self.new path.now) }
+    {
+        match self.rows.get_mut(path) {
+            None => self.set_new(path, contents),
+            Some(row) => Ok(add_row(row, &mut self.before, path, contents)?),
+        }
     }
 
     /// Marks a path as excluded for good, and drops its contents.
+    #[tactic(auto, using(crate::proofs::TableLemmas::parts))]
     pub fn insert_excluded(&mut self, path: VfsPath) -> Result<(), TableFault>
         ensures { Meets result (mark_in self.old path) self.old self.new }
     {
-        if is_marked_row(self.rows.get(&path)) {
-            return Ok(());
+        match self.rows.get_mut(&path) {
+            None => {
+                self.put_new(&path, Kept::Excluded)?;
+            }
+            Some(row) => mark_row(row, &mut self.before, &path)?,
         }
-        self.put(&path, Kept::Excluded)
+        Ok(())
     }
 
     /// What became of the files since the last take, in the order of their paths. Without memory that is forgotten.

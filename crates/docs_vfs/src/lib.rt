@@ -18,7 +18,7 @@ mod shared_bytes;
 mod source_roots;
 
 pub use by_path::ByPath;
-pub use file_kinds::{ChangeKind, ChangedFile, FileExcluded, FileId, TableFault};
+pub use file_kinds::{ChangeKind, ChangedFile, FileExcluded, FileId, Replaced, TableFault};
 pub use file_laws::{
     calls_change_one_path, changes_are_the_difference, numbers_are_kept, runs_give_the_difference,
     runs_keep_numbers_and_marks,
