@@ -1,3 +1,5 @@
 pub mod Dependencies
+pub mod Same
 pub mod Targets
+pub mod Tests
 pub mod Workspaces

@@ -1,5 +1,5 @@
 -- A workspace apart from what its build made.
-use Rattle.std.specs.Prelude.{ℕ, List, Option, None, unwrap_or}
+use Rattle.std.specs.Prelude.{ℕ, List, None, unwrap_or}
 use Rattle.project_model.specs.declared.workspace.ProjectWorkspace.{ProjectWorkspace}
 
 -- the workspace as it is before its build

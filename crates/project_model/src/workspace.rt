@@ -34,6 +34,7 @@ pub struct ProjectWorkspace {
 }
 
 impl ProjectWorkspace {
+    ghost use Rattle.project_model.specs.Same.{is_same_but_build};
     ghost use Rattle.project_model.specs.Workspaces.{without_build, manifest_or_root};
 
     /// The path that names the workspace in texts.
@@ -48,6 +49,13 @@ impl ProjectWorkspace {
 
     /// Whether the workspaces are the same but for what their builds made.
     pub fn eq_ignore_build_data(&self, other: &ProjectWorkspace) -> bool
+        ensures equal { IsTrue result ↔ (without_build self.now ≡ without_build other.now) }
+        ensures value { result ≡ is_same_but_build self.now other.now }
+    {
+        self.has_same_parts(other)
+    }
+
+    fn has_same_parts(&self, other: &ProjectWorkspace) -> bool
         ensures { IsTrue result ↔ (without_build self.now ≡ without_build other.now) }
     {
         self.kind == other.kind
