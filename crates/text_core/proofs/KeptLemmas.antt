@@ -1,5 +1,5 @@
 -- An index that is kept over an edit.
-use Rattle.std.proofs.Common.{◌≡◌, ℕ, zero, suc, ◌+◌, ◌-◌, ◌<◌, ◌≤◌, Bool, false, List, [], ◌∷◌, ◌++◌, length, take, drop, Option, Some, None, Result, Ok, Err, refl, ap, sym, subst, ◌∙◌, arith, max, append_assoc, inl, inr}
+use Rattle.std.proofs.Common.{◌≡◌, ℕ, zero, suc, ◌+◌, ◌-◌, ◌<◌, ◌≤◌, Bool, false, List, [], ◌∷◌, ◌++◌, length, take, drop, Option, Some, None, Result, Ok, Err, refl, ap, sym, subst, ◌∙◌, arith, max, inl, inr}
 use Rattle.std.specs.Prelude.{IfOk, IfSome, slice_range, unwrap_or}
 use Rattle.std.specs.String.Boundary.{IsSplitPoint}
 use Rattle.std.specs.List.{replace_range}
@@ -16,17 +16,12 @@ use Rattle.text_core.specs.Positions.{line_start, line_end, past_units, after, i
 use Rattle.text_core.specs.Changes.{edited, replaced}
 use Rattle.text_core.specs.Rebuilds.{Progress, after_edit, is_past, lowered}
 use Rattle.text_core.specs.Splices.{AreBehind, Fall, IsPart, lowest, spliced}
-use Rattle.text_core.specs.Starts.{KnowsLines, line_starts}
-use Rattle.text_core.specs.Kept.{IsKnown, IsKept}
+use Rattle.text_core.specs.Starts.{line_starts}
+use Rattle.text_core.specs.Kept.{IsKept}
 use Rattle.text_core.proofs.EndLemmas.{length_edit}
 use Rattle.text_core.proofs.PlaceLemmas.{line_end-bounds, past-within}
 use Rattle.text_core.proofs.SpliceLemmas.{HasFront, fall-push, front_part, has_front, lowest-push, spliced-push}
-use Rattle.text_core.proofs.StartLemmas.{line_start-before, line_start-next, line_start-kept, starts-know}
-
--- the lines of a range that isn't past the least line are known
-known_before : (range : Range) (least : Option ℕ) → is_past range least ≡ false → (line : ℕ) → line ≤ max range.start.line range.end.line + 1 → IsKnown least line
-known_before range None h line low = tt
-known_before range (Some least) h line low = grind (arith, nat_tests)
+use Rattle.text_core.proofs.StartLemmas.{line_start-before, line_start-next, line_start-kept}
 
 -- each line before one that begins, begins no later
 lines_before : (line later : ℕ) (text : List ℕ) (k n : ℕ) → later ≡ line + n → line_start later text ≡ Some k → (j : ℕ) × (line_start line text ≡ Some j) × (j ≤ k)
@@ -37,14 +32,6 @@ lines_before line (suc later) text k (suc n) same h =
     let low = line_start-next later text one.0 k one.1 h in
     let more = lines_before line later text one.0 n (omega arith) one.1 in
     (more.0, more.1, omega (arith, more.2))
-
--- the lines up to the one in which an edit starts begin where they did
-edit_keeps : (text new : List ℕ) (line last from to k : ℕ) → line ≤ last → line_start last text ≡ Some k → k ≤ from → from ≤ length text
-    → line_start line (replace_range text from to new) ≡ line_start line text
-edit_keeps text new line last from to k low h after within =
-    let here = lines_before line last text k (last - line) (omega arith) h in
-    ap (line_start line) (append_assoc (take from text) new (drop to text))
-    ∙ line_start-kept line text (new ++ drop to text) from here.0 within here.1 (omega (arith, here.2)) ∙ sym here.1
 
 abbrev placed : ℕ → Result ℕ OffsetFault
 placed n = Ok n
@@ -179,22 +166,10 @@ range_below e text splices (Some least) range from to falls behind h within plac
     let low = in_line-end e text range.end (line_start range.end.line text) to refl (from_to-end (place_of e text range.start) (place_of e text range.end) from to places) in
     omega (arith, low, ends.text_end, ends.before)
 
-behind_line : (text : List ℕ) (splices : List Splice) (least : Option ℕ) (line : ℕ) → Fall text (length text) splices → AreBehind text splices least → IsKnown least line
-    → line_start line (spliced text splices) ≡ line_start line text
-behind_line text splices None line falls behind known = ap (λ l. line_start line (spliced text l)) behind
-behind_line text splices (Some least) line falls behind known =
-    front_line text (spliced text splices) (lowest (length text) splices) line least behind.0 (has_front text splices falls) known behind.1 behind.2
-
-pub kept-knows : (text : List ℕ) (splices : List Splice) (size : ℕ) (starts : List ℕ) (least : Option ℕ) (range : Range) → IsKept text splices size starts least
-    → is_past range least ≡ false → KnowsLines starts text (max range.start.line range.end.line + 1)
-kept-knows text splices size starts least range kept h line low =
-    let known = known_before range least h line low in
-    kept.knows line known ∙ behind_line text splices least line kept.falls kept.behind known
-
 pub kept-within : (text : List ℕ) (splices : List Splice) (size : ℕ) (starts : List ℕ) (least : Option ℕ) → IsKept text splices size starts least → lowest (length text) splices ≤ size
 kept-within text splices size starts least kept = omega (arith, kept.counted, (has_front text splices kept.falls).within)
 
--- an edit more leaves the index right for the lines up to its start's
+-- an edit more stands in front of the others
 pub kept_edit : (e : PositionEncoding) (text : List ℕ) (splices : List Splice) (size : ℕ) (starts : List ℕ) (least : Option ℕ) (range : Range) (s : Splice)
     → IsKept text splices size starts least → is_past range least ≡ false → range_of e text range ≡ Ok (s.start, s.end)
     → IsPart text (lowest (length text) splices) s.start s.end
@@ -210,13 +185,7 @@ kept_edit e text splices size starts least range s kept before places part =
       counted = omega (arith, ap length push, all, kept.counted, part.rising, part.below, within);
       falls = fall-push text (length text) splices s kept.falls part;
       behind = (begins.0, begins.1, omega (arith, begins.2, lowest-push (length text) splices s));
-      knows = λ line low.
-          let known = known_before range least before line (omega arith) in
-          let first : line_start range.start.line made ≡ Some begins.0 =
-          behind_line text splices least range.start.line kept.falls kept.behind (known_before range least before range.start.line (omega arith)) ∙ begins.1 in
-          kept.knows line known
-          ∙ sym (edit_keeps made s.text.now line range.start.line s.start s.end begins.0 low first begins.2 (omega (arith, part.rising, part.below, within, kept.counted)))
-          ∙ ap (line_start line) (sym push);
+      own_starts = kept.own_starts;
     }
 
 -- what is known of the places of a range that isn't past the least line
@@ -238,7 +207,7 @@ kept_new text splices size starts none counted all =
       counted = counted;
       falls = tt;
       behind = refl;
-      knows = λ line _. starts-know starts text all line;
+      own_starts = all;
     } in
     subst (λ l. IsKept text l size starts None) (sym none) here
 

@@ -8,6 +8,7 @@ pub mod KeptLemmas
 pub mod LineEndLemmas
 pub mod LineLemmas
 pub mod LineTextLemmas
+pub mod MadeLemmas
 pub mod MovedLemmas
 pub mod PlaceLemmas
 pub mod PositionLemmas

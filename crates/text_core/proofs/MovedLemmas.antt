@@ -143,6 +143,37 @@ back_starts xs starts from to n rising within all splits =
     let count = splits low last here early late in
     ap (drop n) here ∙ ap (λ k. drop k (low ++ last)) count ∙ drop_front low last
 
+-- the starts past one place and up to another, by the counts that split the starts there
+pub between_starts : (xs starts : List ℕ) (from to n m : ℕ) → from ≤ to → to ≤ length xs → starts ≡ line_starts xs → Splits starts from n → Splits starts to m
+    → n ≤ length starts → m ≤ length starts → (n ≤ m) × (take (m - n) (drop n starts) ≡ starts_in from (between from to xs))
+between_starts xs starts from to n m rising within all low high first last =
+    let middle = starts_in from (between from to xs) in
+    let tail = starts_in to (drop to xs) in
+    let whole : from + (to - from) ≡ to = omega arith in
+    let size : from + length (between from to xs) ≡ to = omega (arith, length-between xs from to within) in
+    let cut : drop from xs ≡ between from to xs ++ drop to xs =
+    sym (take-append-drop (to - from) (drop from xs)) ∙ ap (λ l. between from to xs ++ l) (drop-drop (to - from) from xs ∙ ap (λ k. drop k xs) whole) in
+    let past : drop n starts ≡ middle ++ tail =
+    back_starts xs starts from from n (omega arith) (omega arith) all low ∙ ap (starts_in from) cut ∙ starts_in-append from (between from to xs) (drop to xs)
+    ∙ ap (λ k. middle ++ starts_in k (drop to xs)) size in
+    let behind : drop m starts ≡ tail = back_starts xs starts from to m rising within all high in
+    let left : length starts - n ≡ length middle + length tail = sym (length-drop n starts) ∙ ap length past ∙ length-append middle tail in
+    let rest : length starts - m ≡ length tail = sym (length-drop m starts) ∙ ap length behind in (
+      omega (arith, left, rest),
+      ap (take (m - n)) past ∙ take_low (m - n) middle tail (omega (arith, left, rest)),
+    )
+
+-- the starts past one place and up to another, moved, fit
+pub between_fits : (xs starts : List ℕ) (from to at n m : ℕ) → from ≤ to → to ≤ length xs → starts ≡ line_starts xs → Splits starts from n → Splits starts to m
+    → n ≤ length starts → m ≤ length starts → to - from + at < 4294967296
+    → All (λ start. (from ≤ start) × (start - from + at < 4294967296)) (take (m - n) (drop n starts))
+between_fits xs starts from to at n m rising within all low high first last small =
+    let here = between_starts xs starts from to n m rising within all low high first last in
+    let size : from + length (between from to xs) ≡ to = omega (arith, length-between xs from to within) in
+    All-same (λ start. (from ≤ start) × (start - from + at < 4294967296)) _ _ here.1
+    (All-weaker (Stands from (from + length (between from to xs))) (λ start. (from ≤ start) × (start - from + at < 4294967296))
+    (λ start stands. (omega (arith, stands.0), omega (arith, stands.1, size))) _ (starts_in-stand from (between from to xs)))
+
 -- the place at which a search divides the starts
 low_at : (low high : List ℕ) (place n d : ℕ) → All (λ start. start ≤ place) low → n < length low → get_or (low ++ high) n d ≤ place
 low_at low high place n d all here =

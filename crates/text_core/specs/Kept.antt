@@ -1,23 +1,17 @@
 -- What is known of lines in an index that is kept over edits.
-use Rattle.std.specs.Prelude.{◌≡◌, ℕ, ◌≤◌, false, List, [], length, slice_get, string_bytes, Option, Some, None}
-use Rattle.text_core.specs.Positions.{line_start}
+use Rattle.std.specs.Prelude.{◌≡◌, ℕ, ◌≤◌, false, List, [], length, string_bytes, Option, None}
 use Rattle.text_core.specs.Rebuilds.{Progress}
 use Rattle.text_core.specs.Splices.{Fall, AreBehind, spliced}
 use Rattle.text_core.specs.Starts.{line_starts}
 use Rattle.text_core.specs.declared.draft.Draft.{Draft}
 use Rattle.text_core.specs.declared.splices.Splice.{Splice}
 
--- a line at which no later edit was made
-abbrev pub IsKnown : Option ℕ → ℕ → Type 0
-IsKnown None line = Unit {0}
-IsKnown (Some least) line = line ≤ least
-
--- the splices fall, and the starts are those of the text that they leave, up to the least line at which an edit was made
+-- the splices fall, and the starts are those of the text before them
 pub record IsKept (text : List ℕ) (splices : List Splice) (size : ℕ) (starts : List ℕ) (least : Option ℕ) : Type 0 where
   pub counted : size ≡ length (spliced text splices)
   pub falls : Fall text (length text) splices
   pub behind : AreBehind text splices least
-  pub knows : (line : ℕ) → IsKnown least line → slice_get starts line ≡ line_start line (spliced text splices)
+  pub own_starts : starts ≡ line_starts text
 
 abbrev pub IsKeptIn : Draft → Type 0
 IsKeptIn draft = IsKept (string_bytes draft.text) draft.splices.items draft.size draft.starts.items draft.least

@@ -1,24 +1,25 @@
 // A text that is edited, with the line starts that are kept over the edits.
-ghost use Rattle.std.specs.Prelude.{◌≡◌, ◌<◌, ◌≤◌, ◌^◌, ℕ, List, length, false, OnOk, IfOk, string_bytes};
+ghost use Rattle.std.specs.Prelude.{◌≡◌, ◌+◌, ◌-◌, ◌<◌, ◌≤◌, ◌^◌, ◌++◌, ℕ, List, length, slice_range, false, OnOk, IfOk, string_bytes};
 ghost use Rattle.text_core.specs.Changes.{edited};
 ghost use Rattle.text_core.specs.Positions.{range_of};
 ghost use Rattle.text_core.specs.Rebuilds.{is_past, refreshed, after_edit, with_edit};
 ghost use Rattle.text_core.specs.Kept.{IsKeptIn, IsNewDraft, progress, text_of};
 ghost use Rattle.text_core.specs.Ends.{ComesFrom};
 ghost use Rattle.text_core.specs.Splices.{IsPart, lowest};
+ghost use Rattle.text_core.specs.Starts.{line_starts, starts_in};
 
 use crate::ends::{Ends, ends_after};
 use crate::offsets;
 use crate::position::{OffsetFault, PositionEncoding, Range};
 use crate::splices::{Splice, make};
-use crate::starts::find_starts;
+use crate::starts::{find_starts, push_moved, push_starts, starts_up_to};
 use plain::Steps;
 use std::alloc::{AllocError, Global};
 use std::mem;
 use std::sync::ledger::Ledger;
 
-/// A text, the edits of it that are put off, how many bytes the text has that they leave, the starts of its lines up to the
-/// least line at which an edit was made, that line, whether an edit was skipped, and how much of the first text no edit touched.
+/// A text, the edits of it that are put off, how many bytes the text has that they leave, the starts of the lines of the text as
+/// it is, the least line at which an edit was put off, whether an edit was skipped, and how much of the first text no edit touched.
 #[derive(Drop)]
 pub(crate) struct Draft<'a> {
     pub(crate) text: String,
@@ -68,7 +69,51 @@ fn is_past(range: Range, least: Option<u32>) -> bool
     }
 }
 
-/// Builds the index anew where a range reaches lines that it doesn't know. What was put off is made before.
+/// Puts the starts of a draft's text that stand past one place and up to another behind what a list holds, as far past a third
+/// place as they are past the first.
+fn push_kept(
+    starts: &mut Vec<u32>,
+    draft: &Draft,
+    from: usize,
+    end: usize,
+    to: usize,
+) -> Result<(), AllocError>
+    requires known { draft.now.starts.items ≡ line_starts (string_bytes draft.now.text) }
+    requires rising { from ≤ end }
+    requires within { end ≤ length (string_bytes draft.now.text) }
+    requires fits { end - from + to < 2 ^ 32 }
+    ensures { let part = slice_range (string_bytes draft.now.text) from end in
+        OnOk result (starts.new.items ≡ starts.old.items ++ starts_in to part) }
+{
+    let first = starts_up_to(&draft.starts, from);
+    let last = starts_up_to(&draft.starts, end);
+    push_moved(starts, &draft.starts[first..last], from, to)
+}
+
+/// The starts of the lines of the text that a draft stands for, in one pass from the last splice to the first. Only the texts of
+/// the splices are searched.
+fn made_starts(draft: &Draft, alloc: Global) -> Result<Vec<u32>, AllocError>
+    requires kept { IsKeptIn draft.now }
+    requires fits { draft.now.size < 2 ^ 32 }
+    ensures { IfOk result (λ starts. starts.items ≡ line_starts (text_of draft.now)) }
+{
+    let mut starts = Vec::with_capacity(alloc, draft.starts.len())?;
+    starts.push(0)?;
+    let mut place = 0;
+    let mut made = 0;
+    for index in (0..draft.splices.len()).rev() {
+        let splice = draft.splices[index];
+        push_kept(&mut starts, draft, place, splice.start, made)?;
+        made += splice.start - place;
+        push_starts(&mut starts, splice.text.as_bytes(), made)?;
+        made += splice.text.len();
+        place = splice.end;
+    }
+    push_kept(&mut starts, draft, place, draft.text.len(), made)?;
+    Ok(starts)
+}
+
+/// Makes what was put off where a range reaches lines that it may have moved. The starts of the lines are taken over.
 fn refresh<L: Ledger>(
     draft: &mut Draft,
     alloc: Global,
@@ -89,16 +134,17 @@ fn refresh<L: Ledger>(
 {
     if is_past(range, draft.least) {
         steps.tick();
+        draft.starts = made_starts(&*draft, alloc)?;
         let text = mem::replace(&mut draft.text, String::new(alloc));
         let mut splices = mem::replace(&mut draft.splices, Vec::new(alloc));
         draft.text = make(alloc, text, &mut splices)?;
-        find_starts(&mut draft.starts, draft.text.as_bytes())?;
         draft.least = None;
     }
     Ok(())
 }
 
-/// The places of a range whose lines the index knows. No edit that was put off reaches down to them.
+/// The places of a range before the least line. No edit that was put off reaches down to them, so they are the same in the text
+/// as it is.
 fn range_of(
     draft: &Draft,
     encoding: PositionEncoding,

@@ -41,6 +41,9 @@ pub(crate) fn push_moved(
     requires { All (λ start. (from ≤ start) × (start - from + to < 2 ^ 32)) moved.now }
     ensures { OnOk result (starts.new.items ≡ starts.old.items ++ map (λ start. start - from + to) moved.now) }
 {
+    if from == to {
+        return starts.extend_from_slice(moved);
+    }
     for start in moved {
         starts.push((*start as usize - from + to) as u32)?;
     }

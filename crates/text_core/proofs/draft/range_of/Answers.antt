@@ -3,13 +3,14 @@ use Rattle.std.specs.Prelude.{IfOk, slice_get}
 use Rattle.std.specs.String.Boundary.{IsSplitPoint}
 use Rattle.std.proofs.lemmas.Result.{IfOk-weaker}
 use Rattle.text_core.specs.Positions.{line_start, range_of}
-use Rattle.text_core.proofs.KeptLemmas.{kept-knows, kept-within, part_below, range_behind}
+use Rattle.text_core.proofs.KeptLemmas.{kept-within, part_below, range_behind}
+use Rattle.text_core.proofs.StartLemmas.{starts-know}
 use Rattle.text_core.proofs.draft.range_of.Goals as goal
 
 pub range_of-requires : goal.range_of-requires
 range_of-requires c = λ line low.
     ap (λ l. slice_get l line) c.deref.ensures.value
-    ∙ kept-knows _ _ _ _ c.args.draft.now.least c.args.range c.requires.kept c.requires.before line low
+    ∙ starts-know _ _ c.requires.kept.own_starts line
     ∙ ap (line_start line) (sym c.as_str.ensures.value)
 
 pub returns-clause-value : goal.returns-clause-value
