@@ -6,6 +6,8 @@ use crate::files::{path_at, world_of};
 use analysis_host::{GlobalStateSnapshot, SnapshotParts, Versions, World};
 use docs_vfs::{FileExcluded, FileId, VfsPath};
 use file_ids::FileIds;
+use plain::Items;
+use project_model::ProjectWorkspace;
 use ra_config::Config;
 use std::alloc::Global;
 use std::sync::Arc;
@@ -109,12 +111,16 @@ fn frozen(
     file_ids: FileIds,
     versions: Versions,
     config: Arc<Config, Global>,
+    workspaces: Arc<Items<ProjectWorkspace>, Global>,
 ) -> GlobalStateSnapshot {
     GlobalStateSnapshot::new(SnapshotParts {
         world,
         file_ids,
         versions,
         config,
+        proc_macros_loaded: true,
+        workspaces,
+        workspaces_version: 5,
         revision: 9,
     })
 }
@@ -129,5 +135,6 @@ pub fn snapshot_of(
     let file_ids = numbers(alloc)?;
     let world = world_of(alloc, texts, endings)?;
     let config = settings(alloc)?;
-    Some(frozen(world, file_ids, versions, config))
+    let workspaces = workspaces(alloc)?;
+    Some(frozen(world, file_ids, versions, config, workspaces))
 }
