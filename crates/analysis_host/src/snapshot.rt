@@ -11,8 +11,8 @@ use docs_vfs::{SourceRoots, VfsPath};
 use file_ids::FileIds;
 use plain::{Copied, Items, NoMemory};
 use project_model::{
-    CrateData, PackageSpecifier, ProjectWorkspace, TargetSpec, all_workspace_dependencies_for_package,
-    target_spec_for_file,
+    CrateData, PackageSpecifier, ProjectWorkspace, TargetSpec,
+    all_workspace_dependencies_for_package, target_spec_for_file,
 };
 use ra_config::Config;
 use std::alloc::{AllocError, Global};
@@ -66,14 +66,14 @@ impl Model for GlobalStateSnapshot {
 impl GlobalStateSnapshot {
     pub fn new(parts: SnapshotParts) -> Self
         ensures { result ≡ record {
-            world = parts.world;
-            file_ids = parts.file_ids;
-            versions = parts.versions;
-            config = arc_value parts.config;
-            proc_macros_loaded = parts.proc_macros_loaded;
-            workspaces = arc_value parts.workspaces;
-            workspaces_version = parts.workspaces_version;
-            revision = parts.revision;
+          world = parts.world;
+          file_ids = parts.file_ids;
+          versions = parts.versions;
+          config = arc_value parts.config;
+          proc_macros_loaded = parts.proc_macros_loaded;
+          workspaces = arc_value parts.workspaces;
+          workspaces_version = parts.workspaces_version;
+          revision = parts.revision;
         } }
     {
         GlobalStateSnapshot { parts }

@@ -158,8 +158,8 @@ impl World {
         crates: Option<Arc<CrateData, Global>>,
     )
         ensures { self.new ≡ record self.old {
-            roots = unwrap_or (option_map arc_value roots) self.old.roots;
-            crates = unwrap_or (option_map arc_value crates) self.old.crates;
+          roots = unwrap_or (option_map arc_value roots) self.old.roots;
+          crates = unwrap_or (option_map arc_value crates) self.old.crates;
         } }
     {
         if let Some(roots) = roots {

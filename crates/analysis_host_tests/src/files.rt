@@ -120,7 +120,7 @@ fn text_now<'a>(host: &'a AnalysisHost, path: &VfsPath) -> &'a str {
     }
 }
 
-fn revision_of(host: &AnalysisHost) -> u64 {
+pub fn revision_of(host: &AnalysisHost) -> u64 {
     host.revision()
 }
 

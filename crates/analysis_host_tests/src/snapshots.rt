@@ -1,8 +1,9 @@
-// Snapshots of a world with four numbers and three versions, at revision 9.
+// Snapshots of a world with four numbers and three versions, at revision 9, with one workspace at version 5.
 ghost use Rattle.std.specs.Prelude.{◌≡◌, true, Some};
 ghost use Rattle.file_ids.specs.Numbers.{IsFree};
 
 use crate::files::{path_at, world_of};
+use crate::projects::workspaces;
 use analysis_host::{GlobalStateSnapshot, SnapshotParts, Versions, World};
 use docs_vfs::{FileExcluded, FileId, VfsPath};
 use file_ids::FileIds;
@@ -125,16 +126,20 @@ fn frozen(
     })
 }
 
+/// A snapshot of a world.
+pub fn snapshot_in(alloc: Global, world: World) -> Option<GlobalStateSnapshot> {
+    let versions = third_versions(alloc)?;
+    let file_ids = numbers(alloc)?;
+    let config = settings(alloc)?;
+    let workspaces = workspaces(alloc)?;
+    Some(frozen(world, file_ids, versions, config, workspaces))
+}
+
 /// A snapshot of the world with one text after another at `/w/a.rs`, whose lines ended so. A `|` stands between two.
 pub fn snapshot_of(
     alloc: Global,
     texts: &str,
     endings: LineEndings,
 ) -> Option<GlobalStateSnapshot> {
-    let versions = third_versions(alloc)?;
-    let file_ids = numbers(alloc)?;
-    let world = world_of(alloc, texts, endings)?;
-    let config = settings(alloc)?;
-    let workspaces = workspaces(alloc)?;
-    Some(frozen(world, file_ids, versions, config, workspaces))
+    snapshot_in(alloc, world_of(alloc, texts, endings)?)
 }

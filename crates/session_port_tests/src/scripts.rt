@@ -7,9 +7,7 @@ use crate::fixtures::commands_of;
 use crate::words::{add, add_event, add_run, cut, numbers};
 use plain::{Bytes, Items, Json};
 use session_peers::{HostileHost, NullAnalysis, ScriptHost, ScriptStep};
-use session_port::{
-    Command, Host, HostError, HostEvent, JobResult, JobValue, TaskBody, TaskMsg,
-};
+use session_port::{Command, Host, HostError, HostEvent, JobResult, JobValue, TaskBody, TaskMsg};
 use std::alloc::Global;
 
 /// A message that a job has this result.
