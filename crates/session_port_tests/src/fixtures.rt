@@ -26,11 +26,15 @@ fn snapshot(alloc: Global) -> Option<GlobalStateSnapshot> {
     let world = World::new(alloc).ok()?;
     let versions = Versions::new(alloc).ok()?;
     let config = settings(alloc)?;
+    let workspaces = Arc::new(alloc, Items::new(alloc)).ok()?;
     Some(GlobalStateSnapshot::new(SnapshotParts {
         world,
         file_ids: FileIds::new(alloc),
         versions,
         config,
+        proc_macros_loaded: false,
+        workspaces,
+        workspaces_version: 0,
         revision: 0,
     }))
 }
