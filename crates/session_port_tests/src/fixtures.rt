@@ -8,9 +8,11 @@ use docs_vfs::VfsPath;
 use file_ids::FileIds;
 use method_table::PoolClass;
 use plain::{Items, Json, SharedJson};
+use project_model::ProjectWorkspace;
 use ra_config::Config;
 use ra_settings::LinkedProject;
 use session_port::{Command, DeferredTask, Job, JobKind};
+use small_project::workspaces_of;
 use std::alloc::Global;
 use std::sync::Arc;
 
@@ -21,12 +23,27 @@ fn settings(alloc: Global) -> Option<Arc<Config>> {
     Arc::new(alloc, config).ok()
 }
 
-/// The first revision.
+/// The project with the manifest `/a/Cargo.toml`.
+fn projects(alloc: Global) -> Option<Items<LinkedProject>> {
+    let manifest = VfsPath::new(alloc, "/a/Cargo.toml").ok()??;
+    let mut projects = Items::new(alloc);
+    projects
+        .push(LinkedProject::ProjectManifest(manifest))
+        .ok()?;
+    Some(projects)
+}
+
+/// The one workspace of that project.
+fn workspaces(alloc: Global) -> Option<Items<ProjectWorkspace>> {
+    workspaces_of(alloc, projects(alloc)?.as_slice()).ok()
+}
+
+/// The first revision, with one workspace.
 fn snapshot(alloc: Global) -> Option<GlobalStateSnapshot> {
     let world = World::new(alloc).ok()?;
     let versions = Versions::new(alloc).ok()?;
     let config = settings(alloc)?;
-    let workspaces = Arc::new(alloc, Items::new(alloc)).ok()?;
+    let workspaces = Arc::new(alloc, workspaces(alloc)?).ok()?;
     Some(GlobalStateSnapshot::new(SnapshotParts {
         world,
         file_ids: FileIds::new(alloc),
@@ -37,16 +54,6 @@ fn snapshot(alloc: Global) -> Option<GlobalStateSnapshot> {
         workspaces_version: 0,
         revision: 0,
     }))
-}
-
-/// The project with the manifest `/a/Cargo.toml`.
-fn projects(alloc: Global) -> Option<Items<LinkedProject>> {
-    let manifest = VfsPath::new(alloc, "/a/Cargo.toml").ok()??;
-    let mut projects = Items::new(alloc);
-    projects
-        .push(LinkedProject::ProjectManifest(manifest))
-        .ok()?;
-    Some(projects)
 }
 
 /// What a job is to find out: a request's question, or the workspaces of a project, builds or proc macros.

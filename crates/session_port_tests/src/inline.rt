@@ -130,7 +130,7 @@ const STREAMS: &str = "Content-Length: 2\r\n\r\n{}Content-Length: 4\r\n\r\nnull 
     Content-Length: 20\r\n\r\n{} > 0 > idle > 2 > Content-Length: 20\r\n\r\n{}|ended| > no record~\
     Content-Length: 2\r\n\r\n{} > 0 > jobs > 3 > 7: null;9: null;|Content-Length: 2\r\n\r\n{}|ended| > 4~\
     Content-Length: 2\r\n\r\n{} > 1 > jobs > 3 > 7: null;9: null;|failed| > 2~\
-    Content-Length: 2\r\n\r\n{} > 0 > builds > 2 > 7: null;9: build data 0;|Content-Length: 2\r\n\r\n{}| > 3";
+    Content-Length: 2\r\n\r\n{} > 0 > builds > 2 > 7: null;9: build data 1;|Content-Length: 2\r\n\r\n{}| > 3";
 
 fn agrees(alloc: Global, line: &str) -> Option<bool> {
     let (text, rest) = cut(line, " > ");

@@ -177,7 +177,7 @@ fn a_script_stops_jobs(rt: HostRuntime) {
 
 /// Job 9 is the host's own: it is not finished, and gets no end that does not fit it. Job 7 is not supplied.
 const SUPPLYING: &str =
-    "builds > - > finish 9 7, supply 7 null, supply 9 null, supply 9 early, timer, supply 9 builds, supply 9 late > 4 > taken > 7: null;|5|9: build data;|ended| > 2|event|event|event|event|";
+    "builds > - > finish 9 7, supply 7 null, supply 9 null, supply 9 early, timer, supply 9 builds, supply 9 late > 4 > taken > 7: null;|5|9: build data 0;|ended| > 2|event|event|event|event|";
 
 /// The host's own job may also stop.
 const LATE: &str = "builds > - > supply 9 late > 2 > taken > 9: cancelled;|ended| > 2|event|event|";
