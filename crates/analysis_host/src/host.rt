@@ -2,14 +2,15 @@
 ghost use Rattle.std.specs.Prelude.{◌≡◌, ◌<◌, ◌+◌, length, IfOk, option_copied};
 ghost use Rattle.std.specs.FinMap as map;
 ghost use Rattle.analysis_host.specs.SnapshotData.{text_at};
-ghost use Rattle.analysis_host.specs.HostData.{new_host, new_host_at, changed, Changes};
+ghost use Rattle.analysis_host.specs.HostData.{new_host, new_host_at, changed, files_only, Changes};
 ghost use Rattle.analysis_host.specs.Costs.{AreQuick};
 ghost use Rattle.analysis_host.specs.declared.host.WorldFault.TheVariants.{NoMemory as OutOfMemory};
 
 use crate::text_entry::TextEntry;
 use crate::world::World;
-use docs_vfs::VfsPath;
+use docs_vfs::{SourceRoots, VfsPath};
 use plain::Items;
+use project_model::CrateData;
 use shared_map::Steps;
 use std::alloc::{AllocError, Global};
 use std::marker::{Brand, Model};
@@ -23,10 +24,25 @@ pub struct FileChange {
     pub entry: Option<TextEntry>,
 }
 
-/// What changes in one step, in order.
+/// What changes in one step: the files in order, and the roots and the crates where they are given.
 #[derive(Drop)]
 pub struct Change {
     pub files: Items<FileChange>,
+    pub roots: Option<SourceRoots>,
+    pub crates: Option<CrateData>,
+}
+
+impl Change {
+    /// A change of files alone.
+    pub fn files_only(files: Items<FileChange>) -> Change
+        ensures { result ≡ files_only files }
+    {
+        Change {
+            files,
+            roots: None,
+            crates: None,
+        }
+    }
 }
 
 /// Why a change was not made.
@@ -34,7 +50,7 @@ pub struct Change {
 pub enum WorldFault {
     /// The last revision was reached. Nothing changed.
     Exhausted,
-    /// The world is empty, and its revision as it was.
+    /// The world has no texts. Its roots, its crates and its revision are as they were.
     NoMemory,
 }
 
@@ -67,14 +83,14 @@ impl Model for AnalysisHost {
 }
 
 impl AnalysisHost {
-    /// No texts, at revision 0.
+    /// The empty world, at revision 0.
     pub fn new(alloc: Global) -> Result<AnalysisHost, AllocError>
         ensures { IfOk result (λ host. host ≡ new_host) }
     {
         AnalysisHost::new_at(alloc, 0)
     }
 
-    /// No texts, where this many revisions were used.
+    /// The empty world, where this many revisions were used.
     pub fn new_at(alloc: Global, used: u64) -> Result<AnalysisHost, AllocError>
         ensures { IfOk result (λ host. host ≡ new_host_at used) }
     {
@@ -118,9 +134,23 @@ impl AnalysisHost {
         self.world.index(path)
     }
 
+    /// The present roots.
+    pub fn roots(&self) -> &SourceRoots
+        ensures { result.now ≡ self.now.world.roots }
+    {
+        self.world.roots()
+    }
+
+    /// The present crate graph.
+    pub fn crate_data(&self) -> &CrateData
+        ensures { result.now ≡ self.now.world.crates }
+    {
+        self.world.crate_data()
+    }
+
     /// Makes one change, and so a new revision.
     pub fn apply_change(&mut self, change: Change) -> Result<(), WorldFault>
-        ensures ok { Changes result (changed change.files self.old) self.old self.new }
+        ensures ok { Changes result (changed change self.old) self.old self.new }
     {
         self.apply_uncounted::<Brand>(change, Blank::new(1))
     }
@@ -130,7 +160,7 @@ impl AnalysisHost {
         requires name { blank.name ≡ L.name }
         requires parts { blank.parts ≡ L.parts }
         requires some { 0 < L.parts }
-        ensures ok { Changes result (changed change.files self.old) self.old self.new }
+        ensures ok { Changes result (changed change self.old) self.old self.new }
     {
         let mut steps = Steps::<L>::new(blank);
         self.apply_counted(change, &mut steps)
@@ -143,14 +173,14 @@ impl AnalysisHost {
         change: Change,
         steps: &mut Steps<L>,
     ) -> Result<(), WorldFault>
-        ensures ok { Changes result (changed change.files self.old) self.old self.new }
+        ensures ok { Changes result (changed change self.old) self.old self.new }
         ensures cost { let count = length change.files in
             AreQuick count (map.len self.old.world.texts + count) steps.old steps.new }
     {
         if self.revision == u64::MAX {
             return Err(WorldFault::Exhausted);
         }
-        self.world.put_files(change.files, steps)?;
+        self.world.put(change, steps)?;
         self.revision += 1;
         Ok(())
     }

@@ -1,12 +1,19 @@
 // What a job works on: everything that a query may ask, at one moment, shared and never changed.
-ghost use Rattle.std.specs.Prelude.{◌≡◌};
+ghost use Rattle.std.specs.Prelude.{◌≡◌, IfOk};
 ghost use Rattle.std.specs.Arc.{arc_value};
+ghost use Rattle.project_model.specs.Dependencies.{all_deps};
+ghost use Rattle.project_model.specs.Targets.{target_spec_for_file};
 ghost use Rattle.analysis_host.specs.SnapshotData.{encoding_of};
 
 use crate::versions::Versions;
 use crate::world::World;
+use docs_vfs::{SourceRoots, VfsPath};
 use file_ids::FileIds;
-use plain::Copied;
+use plain::{Copied, Items, NoMemory};
+use project_model::{
+    CrateData, PackageSpecifier, ProjectWorkspace, TargetSpec,
+    all_workspace_dependencies_for_package, target_spec_for_file,
+};
 use ra_config::Config;
 use std::alloc::{AllocError, Global};
 use std::marker::Model;
@@ -22,6 +29,9 @@ pub struct SnapshotParts {
     pub file_ids: FileIds,
     pub versions: Versions,
     pub config: Arc<Config, Global>,
+    pub proc_macros_loaded: bool,
+    pub workspaces: Arc<Items<ProjectWorkspace>, Global>,
+    pub workspaces_version: u64,
     pub revision: u64,
 }
 
@@ -41,12 +51,30 @@ impl Model for GlobalStateSnapshot {
 
     ghost coded = { snapshot_code };
 
-    ghost view = { λ s. record { world = s.parts.world; file_ids = s.parts.file_ids; versions = s.parts.versions; config = arc_value s.parts.config; revision = s.parts.revision } };
+    ghost view = { λ s. record {
+      world = s.parts.world;
+      file_ids = s.parts.file_ids;
+      versions = s.parts.versions;
+      config = arc_value s.parts.config;
+      proc_macros_loaded = s.parts.proc_macros_loaded;
+      workspaces = arc_value s.parts.workspaces;
+      workspaces_version = s.parts.workspaces_version;
+      revision = s.parts.revision;
+    } };
 }
 
 impl GlobalStateSnapshot {
     pub fn new(parts: SnapshotParts) -> Self
-        ensures { result ≡ record { world = parts.world; file_ids = parts.file_ids; versions = parts.versions; config = arc_value parts.config; revision = parts.revision } }
+        ensures { result ≡ record {
+          world = parts.world;
+          file_ids = parts.file_ids;
+          versions = parts.versions;
+          config = arc_value parts.config;
+          proc_macros_loaded = parts.proc_macros_loaded;
+          workspaces = arc_value parts.workspaces;
+          workspaces_version = parts.workspaces_version;
+          revision = parts.revision;
+        } }
     {
         GlobalStateSnapshot { parts }
     }
@@ -69,6 +97,61 @@ impl GlobalStateSnapshot {
     {
         self.config().encodings()
     }
+
+    pub fn roots(&self) -> &SourceRoots
+        ensures { result.now ≡ self.now.world.roots }
+    {
+        self.parts.world.roots()
+    }
+
+    /// The crate graph.
+    pub fn crate_data(&self) -> &CrateData
+        ensures { result.now ≡ self.now.world.crates }
+    {
+        self.parts.world.crate_data()
+    }
+
+    /// Whether proc macros are loaded.
+    pub fn proc_macros_loaded(&self) -> bool
+        ensures { result ≡ self.now.proc_macros_loaded }
+    {
+        self.parts.proc_macros_loaded
+    }
+
+    pub fn workspaces(&self) -> &[ProjectWorkspace]
+        ensures { result.now ≡ self.now.workspaces }
+    {
+        self.parts.workspaces.as_slice()
+    }
+
+    /// The version of the workspaces.
+    pub fn workspaces_version(&self) -> u64
+        ensures { result ≡ self.now.workspaces_version }
+    {
+        self.parts.workspaces_version
+    }
+
+    /// What is told of the first target with this root, over the workspaces and their packages in order.
+    pub fn target_spec_for_file(
+        &self,
+        _alloc: Global,
+        root: &VfsPath,
+    ) -> Result<Option<TargetSpec>, NoMemory>
+        ensures { IfOk result (λ spec. spec ≡ target_spec_for_file self.now.workspaces root.now) }
+    {
+        target_spec_for_file(self.workspaces(), root)
+    }
+
+    /// The members that a package depends on, each as a specifier of the same variant. None where no workspace names them.
+    pub fn all_workspace_dependencies_for_package(
+        &self,
+        alloc: Global,
+        package: &PackageSpecifier,
+    ) -> Result<Option<Items<PackageSpecifier>>, NoMemory>
+        ensures { IfOk result (λ deps. deps ≡ all_deps self.now.workspaces «package».now) }
+    {
+        all_workspace_dependencies_for_package(alloc, self.workspaces(), package)
+    }
 }
 
 impl Clone for GlobalStateSnapshot {
@@ -81,6 +164,9 @@ impl Clone for GlobalStateSnapshot {
                 file_ids: self.parts.file_ids.clone()?,
                 versions: self.parts.versions.clone()?,
                 config: Arc::try_clone(&self.parts.config)?,
+                proc_macros_loaded: self.parts.proc_macros_loaded,
+                workspaces: Arc::try_clone(&self.parts.workspaces)?,
+                workspaces_version: self.parts.workspaces_version,
                 revision: self.parts.revision,
             },
         })

@@ -113,10 +113,28 @@ fn line_endings(rt: HostRuntime) {
     }
 }
 
-/// The text and the version of the file, the threads, and the revision.
-const PARTS: &str = "parts 0 > mod b; 3 4 9";
+/// The label and the root of the project of a target, the first dependency of a package, and the number of workspaces with
+/// their version and whether proc macros are loaded.
+const PROJECTS: &str = "spec /w/a.rs > p /w
+spec /w/b.rs > none
+deps p > b
+deps q > none
+project > 1 5 loaded";
+
+#[test]
+fn workspaces_of_a_snapshot(rt: HostRuntime) {
+    for line in PROJECTS.lines() {
+        assert!(rt; agrees(rt.alloc(), line) == Some(true), "at {line}");
+    }
+}
+
+/// The text and the version of the file, the threads, and the revision; then as above.
+const COPIED: &str = "parts 0 > mod b; 3 4 9
+project > 1 5 loaded";
 
 #[test]
 fn copied_snapshot(rt: HostRuntime) {
-    assert!(rt; agrees_copied(rt.alloc(), PARTS) == Some(true));
+    for line in COPIED.lines() {
+        assert!(rt; agrees_copied(rt.alloc(), line) == Some(true), "at {line}");
+    }
 }

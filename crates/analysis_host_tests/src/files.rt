@@ -82,20 +82,18 @@ pub fn files_without(alloc: Global, path: &str) -> Option<Items<FileChange>> {
 /// The change that sets a path to one text after another. A `|` stands between two.
 pub fn change_with(alloc: Global, path: &str, texts: &str, endings: LineEndings) -> Option<Change> {
     let files = files_with(alloc, path, texts, endings)?;
-    Some(Change { files })
+    Some(Change::files_only(files))
 }
 
 /// The change that takes the text of a path away.
 pub fn change_without(alloc: Global, path: &str) -> Option<Change> {
     let files = files_without(alloc, path)?;
-    Some(Change { files })
+    Some(Change::files_only(files))
 }
 
 /// The change of no file.
 pub fn change_of_nothing(alloc: Global) -> Change {
-    Change {
-        files: Items::new(alloc),
-    }
+    Change::files_only(Items::new(alloc))
 }
 
 pub fn new_host(alloc: Global) -> Option<AnalysisHost> {
@@ -122,7 +120,7 @@ fn text_now<'a>(host: &'a AnalysisHost, path: &VfsPath) -> &'a str {
     }
 }
 
-fn revision_of(host: &AnalysisHost) -> u64 {
+pub fn revision_of(host: &AnalysisHost) -> u64 {
     host.revision()
 }
 

@@ -18,7 +18,11 @@ mod places;
 #[cfg(test)]
 mod polls;
 #[cfg(test)]
+mod projects;
+#[cfg(test)]
 mod questions;
+#[cfg(test)]
+mod roots;
 #[cfg(test)]
 mod snapshots;
 #[cfg(test)]

@@ -6,6 +6,7 @@ use crate::numbers::{
     version_of_url,
 };
 use crate::places::{place, places};
+use crate::projects::{dependency_of_label, project, spec_of_path};
 use crate::snapshots::snapshot_of;
 use crate::words::cut;
 use analysis_host::GlobalStateSnapshot;
@@ -16,7 +17,8 @@ use text_core::LineEndings;
 /// version at a URL, `names` for the path and the URL of a path, and `beside` for the URL of a path beside `/w/a.rs`.
 /// `place` has a URL, a line and a column, `range` a URL and two columns of the first line, `lens` a URL, a version, the
 /// line of its position and that of its range's end. `lines` asks for the lines and line endings of a number, and `parts`
-/// for its text and version beside what is no file's.
+/// for its text and version beside what is no file's. `spec` has the root of a target, `deps` a package's label, and
+/// `project` asks what is known of all workspaces.
 fn told(alloc: Global, snapshot: &GlobalStateSnapshot, question: &str) -> Option<String> {
     let (kind, rest) = cut(question, " ");
     match kind {
@@ -31,6 +33,9 @@ fn told(alloc: Global, snapshot: &GlobalStateSnapshot, question: &str) -> Option
         "lens" => lens(alloc, snapshot, rest),
         "lines" => lines_of(alloc, snapshot, rest),
         "parts" => parts_of(alloc, snapshot, rest),
+        "spec" => spec_of_path(alloc, snapshot, rest),
+        "deps" => dependency_of_label(alloc, snapshot, rest),
+        "project" => project(alloc, snapshot),
         _ => None,
     }
 }

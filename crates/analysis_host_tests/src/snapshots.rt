@@ -1,11 +1,14 @@
-// Snapshots of a world with four numbers and three versions, at revision 9.
+// Snapshots of a world with four numbers and three versions, at revision 9, with one workspace at version 5.
 ghost use Rattle.std.specs.Prelude.{◌≡◌, true, Some};
 ghost use Rattle.file_ids.specs.Numbers.{IsFree};
 
 use crate::files::{path_at, world_of};
+use crate::projects::workspaces;
 use analysis_host::{GlobalStateSnapshot, SnapshotParts, Versions, World};
 use docs_vfs::{FileExcluded, FileId, VfsPath};
 use file_ids::FileIds;
+use plain::Items;
+use project_model::ProjectWorkspace;
 use ra_config::Config;
 use std::alloc::Global;
 use std::sync::Arc;
@@ -109,14 +112,27 @@ fn frozen(
     file_ids: FileIds,
     versions: Versions,
     config: Arc<Config, Global>,
+    workspaces: Arc<Items<ProjectWorkspace>, Global>,
 ) -> GlobalStateSnapshot {
     GlobalStateSnapshot::new(SnapshotParts {
         world,
         file_ids,
         versions,
         config,
+        proc_macros_loaded: true,
+        workspaces,
+        workspaces_version: 5,
         revision: 9,
     })
+}
+
+/// A snapshot of a world.
+pub fn snapshot_in(alloc: Global, world: World) -> Option<GlobalStateSnapshot> {
+    let versions = third_versions(alloc)?;
+    let file_ids = numbers(alloc)?;
+    let config = settings(alloc)?;
+    let workspaces = workspaces(alloc)?;
+    Some(frozen(world, file_ids, versions, config, workspaces))
 }
 
 /// A snapshot of the world with one text after another at `/w/a.rs`, whose lines ended so. A `|` stands between two.
@@ -125,9 +141,5 @@ pub fn snapshot_of(
     texts: &str,
     endings: LineEndings,
 ) -> Option<GlobalStateSnapshot> {
-    let versions = third_versions(alloc)?;
-    let file_ids = numbers(alloc)?;
-    let world = world_of(alloc, texts, endings)?;
-    let config = settings(alloc)?;
-    Some(frozen(world, file_ids, versions, config))
+    snapshot_in(alloc, world_of(alloc, texts, endings)?)
 }

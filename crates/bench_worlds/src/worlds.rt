@@ -22,7 +22,7 @@ fn change_of(alloc: Global, path: VfsPath) -> Result<Change, AllocError> {
     let endings = LineEndings::Unix;
     let entry = Some(TextEntry { text, endings });
     files.push(FileChange { path, entry })?;
-    Ok(Change { files })
+    Ok(Change::files_only(files))
 }
 
 /// Sets the text of the document with a number.

@@ -23,6 +23,9 @@ use Rattle.analysis_host.specs.contracts.snapshot.SnapshotParts as SnapshotParts
 use Rattle.analysis_host.specs.contracts.versions.Versions as Versions
 use Rattle.analysis_host.specs.contracts.world.World as World
 use Rattle.docs_vfs.proofs.source_roots.Root.TheSendSync as Root
+use Rattle.docs_vfs.proofs.source_roots.SourceRoots.TheSendSync as SourceRoots
+use Rattle.project_model.proofs.crates.CrateData.TheSendSync as CrateData
+use Rattle.project_model.proofs.workspace.ProjectWorkspace.TheSendSync as ProjectWorkspace
 use Rattle.session_port.proofs.command.DeferredTask.TheSendSync as DeferredTask
 use Rattle.session_port.proofs.command.LogCode.TheSendSync as LogCode
 use Rattle.session_port.proofs.job.JobKind.TheSendSync as JobKind
@@ -30,7 +33,7 @@ use Rattle.method_table.proofs.class.PoolClass.TheSendSync as PoolClass
 use Rattle.session_port.specs.contracts.command.Command as Command
 use Rattle.session_port.specs.contracts.job.Job as Job
 
-ruleset trees = (TextEntry.the_send, TextEntry.the_sync, VfsPath.the_send, VfsPath.the_sync, heap.crosses, knot.crosses, sendable)
+ruleset trees = (TextEntry.the_send, TextEntry.the_sync, VfsPath.the_send, VfsPath.the_sync, SourceRoots.the_send, SourceRoots.the_sync, CrateData.the_send, CrateData.the_sync, heap.crosses, knot.crosses, sendable)
 
 ruleset layers = (Layer.the_send, Layer.the_sync, Defaults.the_send, Defaults.the_sync, ByNumber.the_send, ByNumber.the_sync, heap.crosses, knot.crosses, sendable)
 
@@ -84,11 +87,13 @@ versions_send = search trees depth 60 fits 20000
 pub versions_sync : IsSync Versions.the_row
 versions_sync = search trees depth 60 fits 20000
 
+ruleset workspaces = (ProjectWorkspace.the_send, ProjectWorkspace.the_sync, Items.the_send, Items.the_sync)
+
 pub parts_send : IsSend SnapshotParts.the_row
-parts_send = declared_send SnapshotParts.the_type (search (world_send, file_ids_send, versions_send, config_send, config_sync, heap.Arc-send, sendable) depth 20 fits 20000)
+parts_send = declared_send SnapshotParts.the_type (search (world_send, file_ids_send, versions_send, config_send, config_sync, workspaces, heap.Arc-send, sendable) depth 20 fits 20000)
 
 pub parts_sync : IsSync SnapshotParts.the_row
-parts_sync = declared_sync SnapshotParts.the_type (search (world_sync, file_ids_sync, versions_sync, config_send, config_sync, heap.Arc-sync, sendable) depth 20 fits 20000)
+parts_sync = declared_sync SnapshotParts.the_type (search (world_sync, file_ids_sync, versions_sync, config_send, config_sync, workspaces, heap.Arc-sync, sendable) depth 20 fits 20000)
 
 pub snapshot_send : IsSend Snapshot.the_row
 snapshot_send = view_send SnapshotInside.the_row _ _ _ _ (declared_send SnapshotInside.the_type (search (parts_send, sendable) depth 20 fits 20000))

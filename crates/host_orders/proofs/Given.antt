@@ -2,7 +2,7 @@
 use Rattle.std.proofs.Common.{◌≡◌, ℕ, List, [], ◌∷◌, ◌++◌, Option, None, Some, refl, sym, ap, ◌∙◌, append_assoc, append-nil}
 use Rattle.std.specs.Prelude.{option_to_list}
 use Rattle.host_orders.specs.declared.kept.Kept.{Kept}
-use Rattle.host_orders.specs.declared.kept.Kept.TheVariants.{Loaders, Deferred, Timer}
+use Rattle.host_orders.specs.declared.kept.Kept.TheVariants.{Loader, Deferred, Timer}
 use Rattle.host_orders.specs.HostOrders.{HostOrders, next, after_next}
 use Rattle.host_orders.specs.Runs.{Act, kept_after, given, versions_in, tasks_in, versions_set, tasks_deferred}
 use Rattle.host_orders.specs.Runs.Act.{SetsLoader, Defers, SetsTimer, Gives}
@@ -13,14 +13,13 @@ module _ {D : Type 0} where
 
   versions_in-append : (xs ys : List (Kept D)) → versions_in (xs ++ ys) ≡ versions_in xs ++ versions_in ys
   versions_in-append [] ys = refl
-  versions_in-append (Loaders versions ∷ xs) ys =
-      ap (λ l. versions ++ l) (versions_in-append xs ys) ∙ sym (append_assoc versions (versions_in xs) (versions_in ys))
+  versions_in-append (Loader version ∷ xs) ys = ap (λ l. version ∷ l) (versions_in-append xs ys)
   versions_in-append (Deferred tasks ∷ xs) ys = versions_in-append xs ys
   versions_in-append (Timer ticket ∷ xs) ys = versions_in-append xs ys
 
   tasks_in-append : (xs ys : List (Kept D)) → tasks_in (xs ++ ys) ≡ tasks_in xs ++ tasks_in ys
   tasks_in-append [] ys = refl
-  tasks_in-append (Loaders versions ∷ xs) ys = tasks_in-append xs ys
+  tasks_in-append (Loader version ∷ xs) ys = tasks_in-append xs ys
   tasks_in-append (Deferred tasks ∷ xs) ys =
       ap (λ l. tasks ++ l) (tasks_in-append xs ys) ∙ sym (append_assoc tasks (tasks_in xs) (tasks_in ys))
   tasks_in-append (Timer ticket ∷ xs) ys = tasks_in-append xs ys
@@ -28,7 +27,7 @@ module _ {D : Type 0} where
   -- what is next, and what stays
   next_versions : (loaders : List ℕ) (deferred : List D) (timer : Option ℕ)
       → versions_in (option_to_list (next (of_three loaders deferred timer))) ++ (after_next (of_three loaders deferred timer)).loaders ≡ loaders
-  next_versions (version ∷ rest) deferred timer = append-nil ((version ∷ rest) ++ []) ∙ append-nil (version ∷ rest)
+  next_versions (version ∷ rest) deferred timer = refl
   next_versions [] (task ∷ rest) timer = refl
   next_versions [] [] (Some ticket) = refl
   next_versions [] [] None = refl

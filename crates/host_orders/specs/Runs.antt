@@ -1,7 +1,7 @@
 -- Runs of the calls: what was ordered and what was given, told by the calls alone. A run has its last act first.
-use Rattle.std.specs.Prelude.{◌≡◌, ℕ, List, [], ◌∷◌, ◌++◌, Some, option_to_list}
+use Rattle.std.specs.Prelude.{◌≡◌, ℕ, List, [], ◌∷◌, ◌++◌, Some, slice_get, option_to_list}
 use Rattle.host_orders.specs.declared.kept.Kept.{Kept}
-use Rattle.host_orders.specs.declared.kept.Kept.TheVariants.{Loaders, Deferred, Timer}
+use Rattle.host_orders.specs.declared.kept.Kept.TheVariants.{Loader, Deferred, Timer}
 use Rattle.host_orders.specs.HostOrders.{HostOrders, none_kept, set_loader, defer, set_timer, next, after_next}
 
 pub data Act (D : Type 0) : Type 0 where
@@ -30,19 +30,19 @@ given (act ∷ before) = given before
 
 abbrev pub versions_in : {D : Type 0} → List (Kept D) → List ℕ
 versions_in [] = []
-versions_in (Loaders versions ∷ rest) = versions ++ versions_in rest
+versions_in (Loader version ∷ rest) = version ∷ versions_in rest
 versions_in (Deferred tasks ∷ rest) = versions_in rest
 versions_in (Timer ticket ∷ rest) = versions_in rest
 
 abbrev pub tasks_in : {D : Type 0} → List (Kept D) → List D
 tasks_in [] = []
-tasks_in (Loaders versions ∷ rest) = tasks_in rest
+tasks_in (Loader version ∷ rest) = tasks_in rest
 tasks_in (Deferred tasks ∷ rest) = tasks ++ tasks_in rest
 tasks_in (Timer ticket ∷ rest) = tasks_in rest
 
 abbrev pub tickets_in : {D : Type 0} → List (Kept D) → List ℕ
 tickets_in [] = []
-tickets_in (Loaders versions ∷ rest) = tickets_in rest
+tickets_in (Loader version ∷ rest) = tickets_in rest
 tickets_in (Deferred tasks ∷ rest) = tickets_in rest
 tickets_in (Timer ticket ∷ rest) = ticket ∷ tickets_in rest
 
@@ -71,8 +71,8 @@ pub record IsNewestTimer {D : Type 0} (ticket : ℕ) (run : List (Act D)) : Type
   pub newest : HasNoTimer since
   pub waits : tickets_in (given run) ≡ tickets_in (given before)
 
--- what is given is all that is kept of its kind
-abbrev pub IsAllOfItsKind : {D : Type 0} → Kept D → HostOrders D → Type 0
-IsAllOfItsKind (Loaders versions) o = o.loaders ≡ versions
-IsAllOfItsKind (Deferred tasks) o = o.deferred ≡ tasks
-IsAllOfItsKind (Timer ticket) o = o.timer ≡ Some ticket
+-- what is given is the oldest of the versions that are kept, all of the tasks, or the timer
+abbrev pub IsDue : {D : Type 0} → Kept D → HostOrders D → Type 0
+IsDue (Loader version) o = slice_get o.loaders 0 ≡ Some version
+IsDue (Deferred tasks) o = o.deferred ≡ tasks
+IsDue (Timer ticket) o = o.timer ≡ Some ticket

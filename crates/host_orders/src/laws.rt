@@ -2,14 +2,14 @@
 ghost use Rattle.std.specs.Prelude.{◌≡◌, ◌↔◌, ℕ, List, [], ◌∷◌, ◌++◌, None, Some};
 ghost use Rattle.host_orders.specs.declared.kept.Kept.{Kept};
 ghost use Rattle.host_orders.specs.HostOrders.{HostOrders, next};
-ghost use Rattle.host_orders.specs.Runs.{Act, kept_after, given, versions_in, tasks_in, versions_set, tasks_deferred, IsNewestTimer, IsAllOfItsKind};
+ghost use Rattle.host_orders.specs.Runs.{Act, kept_after, given, versions_in, tasks_in, versions_set, tasks_deferred, IsNewestTimer, IsDue};
 
 /// What was given and what is kept are together what was ordered, in order; so nothing else is given, and nothing twice.
-/// What is given is all that is kept of its kind.
+/// A version is given alone, the oldest first; the tasks are given all at once.
 pub fn each_order_is_given_once<D>()
     ensures versions { (run : List (Act D)) → versions_in (given run) ++ (kept_after run).loaders ≡ versions_set run }
     ensures tasks { (run : List (Act D)) → tasks_in (given run) ++ (kept_after run).deferred ≡ tasks_deferred run }
-    ensures whole { (o : HostOrders D) (kept : Kept D) → next o ≡ Some kept → IsAllOfItsKind kept o }
+    ensures due { (o : HostOrders D) (kept : Kept D) → next o ≡ Some kept → IsDue kept o }
 {}
 
 /// The timer that is kept is the newest that was set, if no timer was given since, and no other; and no other is given.

@@ -1,4 +1,4 @@
-ghost use Rattle.std.specs.Prelude.{◌≡◌, [], OnOk, OnErr};
+ghost use Rattle.std.specs.Prelude.{◌≡◌, [], drop, slice_get, OnOk, OnErr};
 ghost use Rattle.host_orders.specs.HostOrders.{none_kept, set_loader, defer, set_timer, batch, next, after_next};
 
 use crate::kept::Kept;
@@ -65,19 +65,30 @@ impl<D: Drop> HostOrders<D> {
         self.timer = Some(ticket);
     }
 
-    /// Gives what is next: all settings of a loader, else all tasks, else the timer.
+    /// Gives what is next: the oldest settings of a loader, else all tasks, else the timer.
     pub fn next(&mut self) -> Option<Kept<D>>
         ensures value { result ≡ next self.old }
         ensures after { self.new ≡ after_next self.old }
     {
-        if let Some(versions) = take_batch(&mut self.loaders, self.alloc) {
-            return Some(Kept::Loaders(versions));
+        if let Some(version) = take_first(&mut self.loaders) {
+            return Some(Kept::Loader(version));
         }
         if let Some(tasks) = take_batch(&mut self.deferred, self.alloc) {
             return Some(Kept::Deferred(tasks));
         }
         Some(Kept::Timer(self.timer.take()?))
     }
+}
+
+/// Takes the first item out, where there is one.
+fn take_first<T>(items: &mut Items<T>) -> Option<T>
+    ensures value { result ≡ slice_get items.old 0 }
+    ensures after { items.new ≡ drop 1 items.old }
+{
+    if items.is_empty() {
+        return None;
+    }
+    Some(items.remove(0))
 }
 
 /// Takes all items out, where there are any.

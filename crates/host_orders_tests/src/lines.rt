@@ -4,13 +4,15 @@ use plain::Text;
 use std::alloc::Global;
 
 /// Each word is a call: `v1` sets a loader, by the version `1`, `d1` defers the task `1`, `t1` sets the timer `1`, and
-/// `=` asks for what is next, which the rest of the word is: a letter and all of its kind, or nothing.
+/// `=` asks for what is next, which the rest of the word is: `v` and one version, `d` and all tasks, `t` and the timer, or
+/// nothing.
 const LINES: &str = "=
-v1 v2 =v12 = =
+v1 v2 =v1 =v2 = =
 d1 d2 d1 =d121 =
 t1 =t1 =
 t1 d1 v1 =v1 =d1 =t1 =
-d1 v1 t1 d2 v2 =v12 =d12 =t1 =
+d1 v1 t1 d2 v2 =v1 =v2 =d12 =t1 =
+v1 v2 =v1 v3 d1 =v2 =v3 =d1 =
 d1 v1 =v1 v2 =v2 d2 =d12 =
 t1 t2 =t2 =
 t1 =t1 t1 =t1 =
@@ -35,14 +37,6 @@ fn next(orders: &mut HostOrders<Text>) -> Option<Kept<Text>> {
     orders.next()
 }
 
-fn are_versions(versions: &[u32], digits: &[u8]) -> bool {
-    versions.len() == digits.len()
-        && versions
-            .iter()
-            .zip(digits)
-            .all(|(version, digit)| *version == u32::from(*digit))
-}
-
 fn are_tasks(tasks: &[Text], digits: &[u8]) -> bool {
     tasks.len() == digits.len()
         && tasks.iter().zip(digits).all(|(task, digit)| task.as_str().as_bytes().first()
@@ -53,9 +47,7 @@ fn are_tasks(tasks: &[Text], digits: &[u8]) -> bool {
 fn is_given(given: &Option<Kept<Text>>, want: &[u8]) -> bool {
     match (given, want.split_first()) {
         (None, None) => true,
-        (Some(Kept::Loaders(versions)), Some((b'v', digits))) => {
-            are_versions(versions.as_slice(), digits)
-        }
+        (Some(Kept::Loader(version)), Some((b'v', [digit]))) => *version == u32::from(*digit),
         (Some(Kept::Deferred(tasks)), Some((b'd', digits))) => are_tasks(tasks.as_slice(), digits),
         (Some(Kept::Timer(ticket)), Some((b't', digits))) => {
             digits.first().map(|digit| u64::from(*digit)) == Some(*ticket)

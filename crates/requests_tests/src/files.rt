@@ -34,7 +34,7 @@ fn file(alloc: Global) -> Result<FileChange, Fail> {
 fn change(alloc: Global) -> Result<Change, Fail> {
     let mut files = Items::new(alloc);
     files.push(file(alloc)?)?;
-    Ok(Change { files })
+    Ok(Change::files_only(files))
 }
 
 /// A host of one file, `/w/a.rs`.
@@ -94,6 +94,9 @@ fn snapshot(alloc: Global) -> Result<GlobalStateSnapshot, Fail> {
         file_ids: numbers(alloc)?,
         versions: Versions::new(alloc)?,
         config: config(alloc)?,
+        proc_macros_loaded: false,
+        workspaces: Arc::new(alloc, Items::new(alloc))?,
+        workspaces_version: 0,
     }))
 }
 

@@ -25,7 +25,7 @@ use Rattle.docs_vfs.proofs.NumberLaws.{none_numbered, taken_numbered, set_number
 use Rattle.docs_vfs.proofs.PutLemmas.{one_path, same_path}
 use Rattle.text_core.specs.declared.change.ContentChange.{ContentChange}
 use Rattle.text_core.specs.declared.position.PositionEncoding.{PositionEncoding}
-use Rattle.analysis_host.specs.HostData.{HostData, changed, with_entry, with_files}
+use Rattle.analysis_host.specs.HostData.{HostData, changed, files_only, with_change, with_entry, with_files}
 use Rattle.analysis_host.specs.declared.host.WorldFault.{WorldFault}
 use Rattle.analysis_host.specs.declared.host.WorldFault.TheVariants.{Exhausted}
 use Rattle.analysis_host.specs.declared.text_entry.TextEntry.{TextEntry}
@@ -317,8 +317,12 @@ unchanged files ready none =
       same = λ _. refl;
     }
 
+-- the host once these files are changed
+abbrev host_after : List ChangedFile → HostData → HostData
+host_after list host = record { world = with_change (files_only (each file_change list)) host.world; revision = host.revision + 1 }
+
 abbrev host_with : SessionFiles → HostData
-host_with files = record { world = record { texts = with_files (each file_change (changes files.table)) files.host.world.texts }; revision = files.host.revision + 1 }
+host_with files = host_after (changes files.table) files.host
 
 changed_turn : (files : SessionFiles) → files.loading ≡ false → are_some (changes files.table) ≡ true → Turned files (record (taken_up files) { host = host_with files })
 changed_turn files ready some =
@@ -340,12 +344,10 @@ by_room false host files now is = err_not _ now is
 by_changes : (list : List ChangedFile) (files now : SessionFiles) → files.loading ≡ false → changes files.table ≡ list → with_changes list (taken_up files) ≡ Ok now → Turned files now
 by_changes [] files now ready list is = subst (Turned files) (ok_same (taken_up files) now is) (unchanged files ready list)
 by_changes (file ∷ later) files now ready list is =
-    let host : HostData = record { world = record { texts = with_files (each file_change (file ∷ later)) files.host.world.texts }; revision = files.host.revision + 1 } in
+    let host = host_after (file ∷ later) files.host in
     let made : record (taken_up files) { host = host } ≡ now = by_room (ltb files.host.revision (2 ^ 64 - 1)) host (taken_up files) now is in
     let same : record (taken_up files) { host = host_with files } ≡ record (taken_up files) { host = host } =
-    ap (λ (l : List ChangedFile). record (taken_up files) {
-      host = record { world = record { texts = with_files (each file_change l) files.host.world.texts }; revision = files.host.revision + 1 };
-    }) list in
+    ap (λ l. record (taken_up files) { host = host_after l files.host }) list in
     subst (Turned files) (same ∙ made) (changed_turn files ready (ap are_some list))
 
 by_processing : (files now : SessionFiles) → files.loading ≡ false → after_processing files ≡ Ok now → Turned files now

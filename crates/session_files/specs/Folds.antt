@@ -10,7 +10,7 @@ use Rattle.docs_vfs.specs.declared.file_kinds.ChangedFile.{ChangedFile}
 use Rattle.docs_vfs.specs.declared.file_kinds.TableFault.{TableFault}
 use Rattle.text_core.specs.declared.change.ContentChange.{ContentChange}
 use Rattle.text_core.specs.declared.position.PositionEncoding.{PositionEncoding}
-use Rattle.analysis_host.specs.HostData.{HostData, changed}
+use Rattle.analysis_host.specs.HostData.{HostData, changed, files_only}
 use Rattle.analysis_host.specs.declared.host.WorldFault.{WorldFault}
 use Rattle.session_port.specs.declared.event.LoadedFile.{LoadedFile}
 use Rattle.session_port.specs.declared.event.LoaderMsg.{LoaderMsg}
@@ -123,7 +123,7 @@ world_put (Err fault) files = Err Revisions
 -- the world with these files changed, where there are some: one revision more
 abbrev pub with_changes : List ChangedFile → SessionFiles → Result SessionFiles Counter
 with_changes [] files = Ok files
-with_changes (file ∷ later) files = world_put (changed (each file_change (file ∷ later)) files.host) files
+with_changes (file ∷ later) files = world_put (changed (files_only (each file_change (file ∷ later))) files.host) files
 
 -- the contents are from now on those of the last time
 abbrev pub taken_up : SessionFiles → SessionFiles

@@ -42,7 +42,7 @@ use Rattle.session_files.specs.Current.{AreNumbers, IsCurrent}
 use Rattle.session_files.specs.Folds.{after_closing, after_editing, after_messages, after_opening, after_turn, is_due, is_open}
 use Rattle.session_files.specs.SessionFiles.{SessionFiles, no_files}
 use Rattle.session_model.specs.Hearing.{heard_of, told_by}
-use Rattle.session_model.specs.State.{columns_in, excludes_in}
+use Rattle.session_model.specs.State.{columns_in, excludes_in, macros_loaded_in}
 use Rattle.session_model.specs.Run.{Turn, Told, AllRead, AsksLast, IsHonestInput, commands_of, fed_bytes, out_after, taking, telling}
 use Rattle.session_model.specs.declared.fault.SessionError.{SessionError}
 use Rattle.session_model.specs.declared.fault.SessionError.TheVariants.{ClientExited, BadFrame, BadMessage, HostFault, WriteFault, Exhausted, NoMemory}
@@ -76,6 +76,9 @@ snapshot_at place = record {
   file_ids = place.files.ids;
   versions = place.files.versions;
   config = place.client.settings;
+  proc_macros_loaded = macros_loaded_in place.client.settings;
+  workspaces = [];
+  workspaces_version = 0;
   revision = place.revision;
 }
 

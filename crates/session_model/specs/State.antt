@@ -1,9 +1,9 @@
 -- The session's state, as contracts see it: a record of its parts.
-use Rattle.std.specs.Prelude.{ℕ, List, [], None, false}
+use Rattle.std.specs.Prelude.{ℕ, Bool, List, [], None, false, not}
 use Rattle.text_core.specs.declared.position.PositionEncoding.{PositionEncoding}
-use Rattle.ra_settings.specs.declared.row.Row.TheVariants.{FilesExclude}
+use Rattle.ra_settings.specs.declared.row.Row.TheVariants.{FilesExclude, ProcMacroEnable}
 use Rattle.ra_settings.specs.declared.value.SettingValue.{SettingValue}
-use Rattle.ra_settings.specs.declared.value.SettingValue.TheVariants.{Paths}
+use Rattle.ra_settings.specs.declared.value.SettingValue.TheVariants.{Paths, Truth}
 use Rattle.layered_settings.specs.Search.{setting}
 use Rattle.ra_config.specs.Config.{ConfigData}
 use Rattle.analysis_host.specs.SnapshotData.{SnapshotData}
@@ -33,13 +33,24 @@ paths_in other = []
 abbrev pub excludes_in : ConfigData → List (List ℕ)
 excludes_in settings = paths_in (setting FilesExclude None settings.settings)
 
--- the snapshot of the present
+abbrev pub truth_in : SettingValue → Bool
+truth_in (Truth truth) = truth
+truth_in other = false
+
+-- whether no proc macros are wanted: the setting `procMacro.enable`. None are loaded yet
+abbrev pub macros_loaded_in : ConfigData → Bool
+macros_loaded_in settings = not (truth_in (setting ProcMacroEnable None settings.settings))
+
+-- the snapshot of the present; there are no workspaces yet
 abbrev pub snapshot_of : State → SnapshotData
 snapshot_of state = record {
   world = state.files.host.world;
   file_ids = state.files.ids;
   versions = state.files.versions;
   config = state.client.settings;
+  proc_macros_loaded = macros_loaded_in state.client.settings;
+  workspaces = [];
+  workspaces_version = 0;
   revision = state.files.host.revision;
 }
 

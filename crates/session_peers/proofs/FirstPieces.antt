@@ -11,8 +11,9 @@ use Rattle.lsp_frame.specs.Frames.{cut_of, head_of, head_at, window}
 use Rattle.lsp_frame.specs.Find.{place_of}
 use Rattle.lsp_frame.specs.declared.frame.Cut.{Cut}
 use Rattle.lsp_frame.specs.declared.frame.Cut.TheVariants.{NeedMore, Bad, Frame}
-use Rattle.session_peers.specs.Coming.{Comes, ComesAsBytes, ComesAsEnd, source_after}
+use Rattle.session_peers.specs.Coming.{Comes, ComesAsBytes, ComesAsEnd, orders_after, source_after}
 use Rattle.session_peers.specs.Framed.{FramedData, waiting as framed_waiting, IsRead, EndsBy, EndsPiece}
+use Rattle.session_peers.specs.Orders.{Orders, next_answer}
 use Rattle.session_peers.specs.Inline.{InlineData, waiting, IsFirstPiece, IsNextPiece, GivesBytes}
 use Rattle.session_port.specs.Jobs.{Jobs}
 use Rattle.session_port.specs.Record.{before_piece}
@@ -33,14 +34,15 @@ unfolding cut_of head_of head_at window place_of
 cut_nothing = refl
 
 -- where the next piece is empty nothing is held and nothing is left
-pub comes_as_end : (out : Jobs) (source : FramedData) (end : ℕ) → out ≡ map.empty → EndsPiece source end → end ≡ 0 → ComesAsEnd out source
-comes_as_end out source end idle ends zero = by_cut (cut_of source.held) refl ends
+pub comes_as_end : (out : Jobs) (orders : Orders) (source : FramedData) (end : ℕ) → out ≡ map.empty → next_answer orders ≡ None → EndsPiece source end → end ≡ 0
+    → ComesAsEnd out orders source
+comes_as_end out orders source end idle answered ends zero = by_cut (cut_of source.held) refl ends
   where
     none : end ≡ length source.held → source.held ≡ []
     none is = nil_from_length source.held (sym is ∙ zero)
 
-    by_cut : (c : Cut) → cut_of source.held ≡ c → EndsBy source end c → ComesAsEnd out source
-    by_cut NeedMore cut is = record { idle = idle; none = none is.0; dry = is.1 }
+    by_cut : (c : Cut) → cut_of source.held ≡ c → EndsBy source end c → ComesAsEnd out orders source
+    by_cut NeedMore cut is = record { idle = idle; answered = answered; none = none is.0; dry = is.1 }
     by_cut Bad cut is = let differs : Bad ≡ NeedMore = sym cut ∙ ap cut_of (none is) ∙ cut_nothing in cc
     by_cut (Frame body_start body_end) cut is =
         let bounds = cut_bounds source.held body_start body_end cut in absurd (omega (arith, bounds.low, bounds.order, is, zero))
@@ -50,7 +52,7 @@ before_both : (piece behind : List ℕ) (left : Option (List ℕ)) → before_pi
 before_both piece behind None = refl
 before_both piece behind (Some left) = ap Some (append_assoc piece behind left)
 
-module _ (out : Jobs) (before source : FramedData) (piece : List ℕ) (comes : ComesAsBytes out before source piece) where
+module _ (out : Jobs) (orders : Orders) (before source : FramedData) (piece : List ℕ) (comes : ComesAsBytes out orders before source piece) where
   held_parted : source.held ≡ piece ++ drop (length piece) source.held
   held_parted = sym (take-append-drop (length piece) source.held) ∙ ap (λ front. front ++ drop (length piece) source.held) (sym comes.is)
 
@@ -87,22 +89,25 @@ module _ (out : Jobs) (before source : FramedData) (piece : List ℕ) (comes : C
   next_of (Some left) told = first_of left told
 
 -- what comes as bytes is given as the next piece
-gives_bytes : (old new : InlineData) (out : Jobs) (before source : FramedData) (piece : List ℕ) → out ≡ old.out → before.held ≡ old.held → before.left ≡ old.left
-    → framed_waiting source ≡ framed_waiting before → drop (length piece) source.held ≡ new.held → source.left ≡ new.left → ComesAsBytes out before source piece
-    → GivesBytes old new piece
-gives_bytes old new out before source piece same_out same_held same_left same_waiting new_held new_left comes =
+gives_bytes : (old new : InlineData) (out : Jobs) (orders : Orders) (before source : FramedData) (piece : List ℕ) → out ≡ old.out → orders ≡ old.orders
+    → before.held ≡ old.held → before.left ≡ old.left → framed_waiting source ≡ framed_waiting before → drop (length piece) source.held ≡ new.held
+    → source.left ≡ new.left → new.orders ≡ orders → ComesAsBytes out orders before source piece → GivesBytes old new piece
+gives_bytes old new out orders before source piece same_out same_orders same_held same_left same_waiting new_held new_left new_orders comes =
     let at_old : framed_waiting source ≡ waiting old = same_waiting ∙ (λ i. before_piece (same_held i) (same_left i)) in
     let at_new : framed_waiting (source_after (Bytes piece) source) ≡ waiting new = λ i. before_piece (new_held i) (new_left i) in record {
       idle = sym same_out ∙ comes.idle;
+      answered = ap next_answer (sym same_orders) ∙ comes.answered;
+      orders = new_orders ∙ same_orders;
       some = comes.some;
-      parted = sym at_old ∙ waiting_parted out before source piece comes ∙ ap (before_piece piece) at_new;
-      next = subst (IsNextPiece piece) at_old (next_of out before source piece comes source.left refl);
+      parted = sym at_old ∙ waiting_parted out orders before source piece comes ∙ ap (before_piece piece) at_new;
+      next = subst (IsNextPiece piece) at_old (next_of out orders before source piece comes source.left refl);
       unread = λ shown. sym new_left ∙ ap (λ s. s.left) (comes.unread (λ needs. shown (ap cut_of (sym same_held) ∙ needs))) ∙ same_left;
     }
 
-pub event_bytes : (answer : SnapshotData → Ask → Finding) (event : HostEvent) (piece : List ℕ) (old new : InlineData) (out : Jobs) (before source : FramedData)
-    → event ≡ Bytes piece → out ≡ old.out → before.held ≡ old.held → before.left ≡ old.left → framed_waiting source ≡ framed_waiting before → (source_after event source).held ≡ new.held
-    → (source_after event source).left ≡ new.left → Comes answer out before source event → GivesBytes old new piece
-event_bytes answer event piece old new out before source is same_out same_held same_left same_waiting new_held new_left comes =
-    gives_bytes old new out before source piece same_out same_held same_left same_waiting (ap (λ e. (source_after e source).held) (sym is) ∙ new_held) new_left
-    (subst (Comes answer out before source) is comes)
+pub event_bytes : (answer : SnapshotData → Ask → Finding) (event : HostEvent) (piece : List ℕ) (old new : InlineData) (out : Jobs) (orders : Orders) (before source : FramedData)
+    → event ≡ Bytes piece → out ≡ old.out → orders ≡ old.orders → before.held ≡ old.held → before.left ≡ old.left → framed_waiting source ≡ framed_waiting before
+    → (source_after event source).held ≡ new.held → (source_after event source).left ≡ new.left → new.orders ≡ orders_after event orders
+    → Comes answer out orders before source event → GivesBytes old new piece
+event_bytes answer event piece old new out orders before source is same_out same_orders same_held same_left same_waiting new_held new_left new_orders comes =
+    gives_bytes old new out orders before source piece same_out same_orders same_held same_left same_waiting (ap (λ e. (source_after e source).held) (sym is) ∙ new_held) new_left
+    (new_orders ∙ ap (λ e. orders_after e orders) is) (subst (Comes answer out orders before source) is comes)

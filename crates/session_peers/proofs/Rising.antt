@@ -16,7 +16,7 @@ use Rattle.session_port.specs.Honest.{IsHonestMessage, AreHonest}
 use Rattle.session_port.specs.Jobs.{Jobs, after_message, after_batch}
 use Rattle.session_port.specs.Record.{AreRising, last_number, with_jobs}
 use Rattle.session_peers.proofs.Fitting.{after_fitting}
-use Rattle.session_peers.specs.Results.{Finishes}
+use Rattle.session_peers.specs.Results.{Finishes, IsOfProject}
 use Rattle.session_port.specs.Runs.{AreUncancelled}
 use Rattle.session_port.specs.declared.event.TaskMsg.{TaskMsg}
 use Rattle.session_port.specs.declared.job.Job.{Job}
@@ -172,12 +172,19 @@ module _ (answer : SnapshotData → Ask → Finding) where
   all_uncancelled (job ∷ jobs) [] finish = absurd finish
   all_uncancelled (job ∷ jobs) (message ∷ batch) finish = (finish.0.uncancelled, all_uncancelled jobs batch finish.1)
 
+  of_project : (jobs : List Job) (batch : List TaskMsg) → AllZip (Finishes answer) jobs batch → AllZip IsOfProject (map (λ entry. entry.1) (entries_of jobs)) batch
+  of_project [] [] finish = tt
+  of_project [] (message ∷ batch) finish = absurd finish
+  of_project (job ∷ jobs) [] finish = absurd finish
+  of_project (job ∷ jobs) (message ∷ batch) finish = (finish.0.project, of_project jobs batch finish.1)
+
   -- what a batch of all the results is
   pub record AreAllResults (out : Jobs) (batch : List TaskMsg) : Type 0 where
     pub honest : AreHonest answer out batch
     pub all : after_batch batch out ≡ map.empty
     pub numbers : map (λ message. message.job) batch ≡ map.keys out
     pub uncancelled : AreUncancelled batch
+    pub project : AllZip IsOfProject (map.values out) batch
 
   pub all_results : (jobs : List Job) (out : Jobs) (done batch : List TaskMsg) → with_jobs jobs map.empty ≡ out → batch ≡ done → AreRising 0 jobs
       → AllZip (Finishes answer) jobs done → AreAllResults out batch
@@ -187,6 +194,7 @@ module _ (answer : SnapshotData → Ask → Finding) where
         all = all_finished 0 jobs done rising finish;
         numbers = by_number jobs done rising finish;
         uncancelled = all_uncancelled jobs done finish;
+        project = subst (λ entries. AllZip IsOfProject (map (λ entry. entry.1) entries) done) (sym (entries-rising 0 jobs rising)) (of_project jobs done finish);
       } in
       let at_out : AreAllResults out done = subst (λ o. AreAllResults o done) is whole in
       subst (λ messages. AreAllResults out messages) (sym same) at_out

@@ -7,8 +7,10 @@ use Rattle.session_port.specs.Jobs.{Jobs}
 use Rattle.session_port.specs.Record.{HostCall, gave, took}
 use Rattle.session_peers.specs.Inline.{InlineData}
 use Rattle.session_peers.specs.Memory.{PlanData}
+use Rattle.session_peers.specs.Orders.{Orders}
 use Rattle.session_peers.specs.Script.{ScriptData, HostileData}
 use Rattle.session_port.specs.declared.command.Command.{Command}
+use Rattle.session_port.specs.declared.command.DeferredTask.{DeferredTask}
 use Rattle.session_port.specs.declared.event.HostEvent.{HostEvent}
 use Rattle.session_port.specs.declared.job.Job.{Job}
 use Rattle.session_peers.specs.declared.script.ScriptStep.{ScriptStep}
@@ -50,10 +52,15 @@ hostile_code job event call =
     code_by ((Jobs × ℕ) × (List HostEvent × List HostCall)) (coded× (jobs_code job) (coded× (coded_list event) (coded_list call)))
     (λ h. ((h.out, h.handed), (h.events, h.calls))) (λ p. record { out = p.0.0; handed = p.0.1; events = p.1.0; calls = p.1.1 }) (λ _. refl)
 
-abbrev pub inline_code : Coded Job → Coded HostCall → Coded InlineData
-inline_code job call =
-    code_by ((Jobs × ℕ) × ((List ℕ × Option (List ℕ)) × ((ℕ × Bool) × Option (List HostCall))))
-    (coded× (jobs_code job)
+abbrev pub orders_code : Coded DeferredTask → Coded Orders
+orders_code task =
+    code_by (List ℕ × (List DeferredTask × Option ℕ)) (coded× (coded_list coded_ℕ) (coded× (coded_list task) (coded_option coded_ℕ)))
+    (λ o. (o.loaders, (o.deferred, o.timer))) (λ p. record { loaders = p.0; deferred = p.1.0; timer = p.1.1 }) (λ _. refl)
+
+abbrev pub inline_code : Coded Job → Coded DeferredTask → Coded HostCall → Coded InlineData
+inline_code job task call =
+    code_by (((Jobs × ℕ) × Orders) × ((List ℕ × Option (List ℕ)) × ((ℕ × Bool) × Option (List HostCall))))
+    (coded× (coded× (jobs_code job) (orders_code task))
     (coded× (coded× (coded_list coded_ℕ) (coded_option (coded_list coded_ℕ))) (coded× (coded× coded_ℕ coded_bool) (coded_option (coded_list call)))))
-    (λ h. ((h.out, h.handed), ((h.held, h.left), ((h.faults, h.spent), h.calls))))
-    (λ p. record { out = p.0.0; handed = p.0.1; held = p.1.0.0; left = p.1.0.1; faults = p.1.1.0.0; spent = p.1.1.0.1; calls = p.1.1.1 }) (λ _. refl)
+    (λ h. (((h.out, h.handed), h.orders), ((h.held, h.left), ((h.faults, h.spent), h.calls))))
+    (λ p. record { out = p.0.0.0; handed = p.0.0.1; orders = p.0.1; held = p.1.0.0; left = p.1.0.1; faults = p.1.1.0.0; spent = p.1.1.0.1; calls = p.1.1.1 }) (λ _. refl)

@@ -4,5 +4,6 @@ pub mod Coming
 pub mod Framed
 pub mod Inline
 pub mod Memory
+pub mod Orders
 pub mod Results
 pub mod Script

@@ -1,29 +1,35 @@
 // The host that runs everything on one thread.
-ghost use Rattle.std.specs.Prelude.{◌≡◌, ◌≢◌, ℕ, List, true, false, Err, IsTrue, IfOk, IfErr, OnErr, option_copied};
-ghost use Rattle.session_peers.specs.Coming.{Comes, IsHeld, NeedsRead, source_after, jobs_after};
+ghost use Rattle.std.specs.Prelude.{◌≡◌, ℕ, List, true, false, Err, IsTrue, IfOk, IfErr, OnErr, option_copied};
+ghost use Rattle.session_peers.specs.Coming.{Comes, IsHeld, NeedsRead, orders_after, source_after, jobs_after};
 ghost use Rattle.session_peers.specs.Framed.{waiting as framed_waiting};
 ghost use Rattle.session_port.specs.Honest.{IsHonest};
-ghost use Rattle.session_peers.specs.Inline.{new_inline, waiting, GivesBytes, GivesResults, GivesEnd, ReadsNow};
+ghost use Rattle.session_peers.specs.Inline.{new_inline, waiting, GivesAnswer, GivesBytes, GivesResults, GivesEnd, ReadsNow};
+ghost use Rattle.session_peers.specs.Orders.{after_commands};
+ghost use Rattle.session_port.specs.declared.command.DeferredTask.{DeferredTask as Deferred};
 ghost use Rattle.session_port.specs.declared.event.LoaderMsg.{LoaderMsg};
 ghost use Rattle.session_port.specs.declared.event.TaskMsg.{TaskMsg};
 ghost use Rattle.session_port.specs.Record.{HasCause, AreRising, UnlessEnded, added, after_given, after_ok, after_order, gave, last_number, spawned, took};
 
 use crate::framed_source::FramedSource;
 use crate::jobs_out::JobsOut;
+use crate::orders::{keep_orders, next_answer};
 use crate::recorded_call::RecordedCall;
 use analysis_host::Analysis;
+use host_orders::HostOrders;
 use plain::{Bytes, Items};
-use session_port::{Command, Host, HostError, HostEvent, Source};
+use session_port::{Command, DeferredTask, Host, HostError, HostEvent, Source};
 use std::alloc::{AllocError, Global};
 use std::marker::Model;
 
-/// Runs each job within `next`, before more bytes are given, and reads the source where it needs more of them.
+/// Before more bytes come the results of all jobs out, which it runs within `next`, then the answers to the settings of a loader, one event
+/// each, then the deferred tasks, then the newest timer. It reads the source where it needs more bytes.
 #[derive(Drop)]
 pub struct InlineHost<'a, S: Source, A> {
     alloc: Global,
     source: FramedSource<S>,
     analysis: &'a A,
     jobs: JobsOut,
+    orders: HostOrders<DeferredTask>,
     calls: Option<Items<RecordedCall>>,
 }
 
@@ -31,14 +37,15 @@ impl<'a, S: Source, A> Model for InlineHost<'a, S, A> {
     ghost use Rattle.session_peers.specs.Codes.{call_code, inline_code};
     ghost use Rattle.session_peers.specs.Inline.{InlineData};
     ghost use Rattle.session_port.specs.contracts.command.Command as command;
+    ghost use Rattle.session_port.specs.contracts.command.DeferredTask as task;
     ghost use Rattle.session_port.specs.contracts.event.HostEvent as event;
     ghost use Rattle.session_port.specs.contracts.job.Job as job;
 
     ghost Value = { InlineData };
 
-    ghost coded = { inline_code job.the_row.coded (call_code event.the_row.coded command.the_row.coded) };
+    ghost coded = { inline_code job.the_row.coded task.the_row.coded (call_code event.the_row.coded command.the_row.coded) };
 
-    ghost view = { λ h. record { out = h.jobs.out; handed = h.jobs.handed; held = h.source.held; left = h.source.left; calls = h.calls; faults = h.source.faults; spent = h.source.spent } };
+    ghost view = { λ h. record { out = h.jobs.out; handed = h.jobs.handed; orders = h.orders; held = h.source.held; left = h.source.left; calls = h.calls; faults = h.source.faults; spent = h.source.spent } };
 }
 
 /// Adds an event to the record, if one is kept.
@@ -51,22 +58,27 @@ fn keep(calls: &mut Option<Items<RecordedCall>>, event: &HostEvent) -> Result<()
     Ok(())
 }
 
-/// The event that comes next, with nothing given away yet.
+/// The event that comes next. Nothing is given away yet but an order that it answers.
 fn coming<S: Source, A: Analysis>(
     alloc: Global,
     source: &mut FramedSource<S>,
     jobs: &JobsOut,
+    orders: &mut HostOrders<DeferredTask>,
     analysis: &A,
 ) -> Result<HostEvent, HostError>
     requires fresh { source.old.spent ≡ false }
     ensures fresh { IfOk result (λ _. source.new.spent ≡ false) }
     ensures waiting { framed_waiting source.new ≡ framed_waiting source.old }
-    ensures event { IfOk result (Comes A.answer jobs.now.out source.old source.new) }
+    ensures event { IfOk result (Comes A.answer jobs.now.out orders.old source.old source.new) }
+    ensures orders { IfOk result (λ event. orders.new ≡ orders_after event orders.old) }
     ensures cause { HasCause source.old.faults source.new.faults result }
-    ensures failed { result ≡ Err HostError.Failed → NeedsRead jobs.now.out source.old }
+    ensures failed { result ≡ Err HostError.Failed → NeedsRead jobs.now.out orders.old source.old }
 {
     if !jobs.is_empty() {
         return Ok(HostEvent::Tasks(jobs.results(alloc, analysis)?));
+    }
+    if let Some(event) = next_answer(alloc, orders)? {
+        return Ok(event);
     }
     let end = source.next_end()?;
     if end == 0 {
@@ -99,6 +111,7 @@ impl<'a, S: Source, A: Analysis> InlineHost<'a, S, A> {
             source: FramedSource::new(alloc, source)?,
             analysis,
             jobs: JobsOut::new(alloc),
+            orders: HostOrders::new(alloc),
             calls: keep.then(|| Items::new(alloc)),
         })
     }
@@ -138,13 +151,21 @@ impl<'a, S: Source, A: Analysis> Host<A> for InlineHost<'a, S, A> {
         ensures bytes { IfOk result (λ event. (piece : List ℕ) → event ≡ HostEvent.Bytes piece → GivesBytes self.old self.new piece) }
         ensures results { IfOk result (λ event. (batch : List TaskMsg) → event ≡ HostEvent.Tasks batch → GivesResults self.old self.new batch) }
         ensures ended { IfOk result (λ event. event ≡ HostEvent.Ended → GivesEnd self.old self.new) }
-        ensures no_loader { IfOk result (λ event. (messages : List LoaderMsg) → event ≢ HostEvent.Vfs messages) }
+        ensures loader { IfOk result (λ event. (messages : List LoaderMsg) → event ≡ HostEvent.Vfs messages → GivesAnswer self.old self.new event) }
+        ensures deferred { IfOk result (λ event. (tasks : List Deferred) → event ≡ HostEvent.DeferredTask tasks → GivesAnswer self.old self.new event) }
+        ensures timer { IfOk result (λ event. (ticket : ℕ) → event ≡ HostEvent.Timer ticket → GivesAnswer self.old self.new event) }
         // It may be called again after the end too.
         ensures fresh_at_end { IfOk result (λ _. self.new.spent ≡ false) }
         ensures kept { OnErr result (waiting self.new ≡ waiting self.old) }
         ensures failed { result ≡ Err HostError.Failed → ReadsNow self.old }
     {
-        let event = coming(self.alloc, &mut self.source, &self.jobs, self.analysis)?;
+        let event = coming(
+            self.alloc,
+            &mut self.source,
+            &self.jobs,
+            &mut self.orders,
+            self.analysis,
+        )?;
         keep(&mut self.calls, &event)?;
         let_go(&mut self.source, &mut self.jobs, &event);
         Ok(event)
@@ -161,12 +182,14 @@ impl<'a, S: Source, A: Analysis> Host<A> for InlineHost<'a, S, A> {
             ≡ after_ok result (λ _. added self.old.calls (took commands)) self.old.calls }
         ensures cause { HasCause self.old.faults self.new.faults result }
 
+        ensures orders { IfOk result (λ _. self.new.orders ≡ after_commands commands self.old.orders) }
         ensures held { self.new.held ≡ self.old.held }
         ensures left { self.new.left ≡ self.old.left }
         ensures faults { self.new.faults ≡ self.old.faults }
         ensures memory { IfErr result (λ e. e ≡ HostError.NoMemory) }
     {
         self.jobs.take(commands.as_slice())?;
+        keep_orders(&mut self.orders, commands.as_slice())?;
         if let Some(calls) = &mut self.calls {
             calls.push(RecordedCall::of_commands(commands))?;
         }

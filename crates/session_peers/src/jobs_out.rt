@@ -5,7 +5,7 @@ ghost use Rattle.std.specs.FinMap as map;
 ghost use Rattle.session_port.specs.Honest.{AreHonest};
 ghost use Rattle.session_port.specs.Jobs.{after_batch};
 ghost use Rattle.session_port.specs.Record.{AreRising, after_order, last_number, spawned};
-ghost use Rattle.session_peers.specs.Results.{Finishes};
+ghost use Rattle.session_peers.specs.Results.{Finishes, IsOfProject};
 ghost use Rattle.session_port.specs.Runs.{AreUncancelled};
 
 use crate::results::result_of;
@@ -127,6 +127,7 @@ impl JobsOut {
         ensures numbers { IfOk result (λ batch.
             map (λ message. message.job) batch ≡ map.keys self.now.out) }
         ensures uncancelled { IfOk result AreUncancelled }
+        ensures project { IfOk result (AllZip IsOfProject (map.values self.now.out)) }
     {
         Ok(Items::from_vec(results_of(alloc, &self.jobs, analysis)?))
     }

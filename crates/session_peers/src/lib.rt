@@ -11,6 +11,7 @@ mod memory_sink;
 mod memory_source;
 mod null_analysis;
 mod numbered_jobs;
+mod orders;
 mod queue;
 mod recorded_call;
 mod results;

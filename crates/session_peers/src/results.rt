@@ -1,37 +1,23 @@
 // What a job comes to where nothing cancels it.
-ghost use Rattle.std.specs.Prelude.{◌≡◌, true, false};
+ghost use Rattle.std.specs.Prelude.{◌≡◌, true, false, length};
 ghost use Rattle.session_port.specs.Jobs.{fits_kind, is_request};
 ghost use Rattle.session_port.specs.Honest.{IsResultOf};
 ghost use Rattle.session_port.specs.Runs.{IsUncancelled};
-ghost use Rattle.session_peers.specs.Results.{IsWithoutProject};
+ghost use Rattle.session_port.specs.SmallProject.{IsSmall};
 
 use analysis_host::{Analysis, Never};
-use plain::Text;
-use session_port::{Job, JobResult, run_job};
+use session_port::{Job, JobResult, run_job, small_project};
 use std::alloc::Global;
 
-/// What a job of the host's own comes to: there is no project.
-fn no_project(alloc: Global) -> JobResult
-    ensures { IsWithoutProject result }
-{
-    match Text::from_str(alloc, "no project") {
-        Ok(message) => JobResult::Fault {
-            code: None,
-            message,
-        },
-        Err(_) => JobResult::NoMemory,
-    }
-}
-
-/// The result of a job that nothing cancels. One of the host's own has no project.
+/// The result of a job that nothing cancels. One of the host's own is of a project of which nothing is known but where it lies.
 pub fn result_of<A: Analysis>(alloc: Global, job: &Job, analysis: &A) -> JobResult
     ensures is { IsResultOf A.answer job.now result }
     ensures uncancelled { IsUncancelled result }
     ensures fits { fits_kind job.now.kind result ≡ true }
-    ensures host { is_request job.now.kind ≡ false → IsWithoutProject result }
+    ensures project { is_request job.now.kind ≡ false → IsSmall job.now.kind (length job.now.snapshot.workspaces) result }
 {
     if !job.kind.is_request() {
-        return no_project(alloc);
+        return small_project(alloc, job, job.snapshot.workspaces().len());
     }
     // A revision fits 64 bits.
     let _revision = job.snapshot.revision();

@@ -3,3 +3,4 @@ pub mod Honest
 pub mod Jobs
 pub mod Record
 pub mod Runs
+pub mod SmallProject

@@ -5,6 +5,7 @@
 mod cause;
 mod command;
 mod event;
+mod host_job;
 mod job;
 mod lent;
 mod peers;
@@ -13,6 +14,7 @@ mod runs;
 pub use cause::HostError;
 pub use command::{Command, DeferredTask, LogCode};
 pub use event::{HostEvent, LoadedFile, LoaderMsg, LoadingProgress, TaskBody, TaskMsg};
+pub use host_job::small_project;
 pub use job::{Job, JobKind, JobResult, JobValue};
 pub use peers::{Host, Sink, Source};
 pub use plain::NoMemory;

@@ -1,5 +1,6 @@
 // Jobs, and the commands to do them. Each call answers none where memory runs out.
-ghost use Rattle.std.specs.Prelude.{◌≡◌, [], ◌∷◌, ◌++◌, IfSome};
+ghost use Rattle.std.specs.Prelude.{◌≡◌, ℕ, [], ◌∷◌, ◌++◌, None, IfSome};
+ghost use Rattle.session_port.specs.Events.{job_of as job_in};
 ghost use Rattle.session_port.specs.Record.{AreRising, spawned};
 
 use analysis_host::{GlobalStateSnapshot, RowId, SnapshotParts, Versions, World};
@@ -7,8 +8,11 @@ use docs_vfs::VfsPath;
 use file_ids::FileIds;
 use method_table::PoolClass;
 use plain::{Items, Json, SharedJson};
+use project_model::ProjectWorkspace;
 use ra_config::Config;
-use session_port::{Command, Job, JobKind};
+use ra_settings::LinkedProject;
+use session_port::{Command, DeferredTask, Job, JobKind};
+use small_project::workspaces_of;
 use std::alloc::Global;
 use std::sync::Arc;
 
@@ -19,25 +23,44 @@ fn settings(alloc: Global) -> Option<Arc<Config>> {
     Arc::new(alloc, config).ok()
 }
 
-/// The first revision.
+/// The project with the manifest `/a/Cargo.toml`.
+fn projects(alloc: Global) -> Option<Items<LinkedProject>> {
+    let manifest = VfsPath::new(alloc, "/a/Cargo.toml").ok()??;
+    let mut projects = Items::new(alloc);
+    projects
+        .push(LinkedProject::ProjectManifest(manifest))
+        .ok()?;
+    Some(projects)
+}
+
+/// The one workspace of that project.
+fn workspaces(alloc: Global) -> Option<Items<ProjectWorkspace>> {
+    workspaces_of(alloc, projects(alloc)?.as_slice()).ok()
+}
+
+/// The first revision, with one workspace.
 fn snapshot(alloc: Global) -> Option<GlobalStateSnapshot> {
     let world = World::new(alloc).ok()?;
     let versions = Versions::new(alloc).ok()?;
     let config = settings(alloc)?;
+    let workspaces = Arc::new(alloc, workspaces(alloc)?).ok()?;
     Some(GlobalStateSnapshot::new(SnapshotParts {
         world,
         file_ids: FileIds::new(alloc),
         versions,
         config,
+        proc_macros_loaded: false,
+        workspaces,
+        workspaces_version: 0,
         revision: 0,
     }))
 }
 
-/// What a job is to find out: a request's question, or workspaces, builds or proc macros.
+/// What a job is to find out: a request's question, or the workspaces of a project, builds or proc macros.
 pub fn kind_of(alloc: Global, word: &str) -> Option<JobKind> {
     match word {
         "workspaces" => Some(JobKind::FetchWorkspaces {
-            projects: Items::new(alloc),
+            projects: projects(alloc)?,
             detached: Items::new(alloc),
             path: None,
             force: false,
@@ -95,13 +118,48 @@ fn two_jobs(alloc: Global, word: &str) -> Option<Items<Command>>
     Some(commands)
 }
 
-/// `jobs` for the commands to do the requests' jobs 7 and 9, `builds` for the same where 9 is the host's own, else no command.
+/// `jobs` for the commands to do the requests' jobs 7 and 9, `builds`, `workspaces` or `macros` for the same where 9 is the host's own,
+/// else no command.
 pub fn commands_of(alloc: Global, word: &str) -> Option<Items<Command>>
     ensures { IfSome result (λ commands. AreRising 0 (spawned commands)) }
 {
     match word {
         "jobs" => two_jobs(alloc, "request"),
-        "builds" => two_jobs(alloc, "builds"),
+        "builds" | "workspaces" | "macros" => two_jobs(alloc, word),
         _ => Some(Items::new(alloc)),
     }
+}
+
+/// `v` and a version for the settings of a loader, `t` and a ticket for a timer, else a task.
+fn command_of(alloc: Global, word: &str) -> Option<Command>
+    ensures { IfSome result (λ command. job_in command ≡ None) }
+{
+    if let Some(version) = word.strip_prefix("v") {
+        return Some(Command::SetLoader {
+            load: Items::new(alloc),
+            watch: false,
+            version: version.parse::<u32>().ok()?,
+        });
+    }
+    if let Some(ticket) = word.strip_prefix("t") {
+        return Some(Command::Timer(ticket.parse::<u64>().ok()?));
+    }
+    Some(Command::Defer(DeferredTask::CheckProcMacroSources(Items::new(alloc))))
+}
+
+fn alone(alloc: Global, command: Command) -> Option<Items<Command>>
+    ensures { IfSome result (λ commands. commands ≡ command ∷ []) }
+{
+    let mut commands = Items::new(alloc);
+    match commands.push(command) {
+        Ok(()) => Some(commands),
+        Err(_) => None,
+    }
+}
+
+/// A turn with the one order that a word is.
+pub fn order_of(alloc: Global, word: &str) -> Option<Items<Command>>
+    ensures { IfSome result (λ commands. (low : ℕ) → AreRising low (spawned commands)) }
+{
+    alone(alloc, command_of(alloc, word)?)
 }

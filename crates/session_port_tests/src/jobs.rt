@@ -4,9 +4,7 @@ use crate::words::{add, result_text};
 use analysis_host::{Cancel, Never};
 use plain::{Items, Json};
 use session_peers::NullAnalysis;
-use session_port::{
-    HostEvent, Job, JobKind, JobResult, JobValue, TaskBody, TaskMsg, run_job,
-};
+use session_port::{HostEvent, Job, JobKind, JobResult, JobValue, TaskBody, TaskMsg, run_job};
 use std::alloc::Global;
 
 /// Tells each query that revision 3 is there.

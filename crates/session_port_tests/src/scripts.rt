@@ -7,9 +7,7 @@ use crate::fixtures::commands_of;
 use crate::words::{add, add_event, add_run, cut, numbers};
 use plain::{Bytes, Items, Json};
 use session_peers::{HostileHost, NullAnalysis, ScriptHost, ScriptStep};
-use session_port::{
-    Command, Host, HostError, HostEvent, JobResult, JobValue, TaskBody, TaskMsg,
-};
+use session_port::{Command, Host, HostError, HostEvent, JobResult, JobValue, TaskBody, TaskMsg};
 use std::alloc::Global;
 
 /// A message that a job has this result.
@@ -179,7 +177,7 @@ fn a_script_stops_jobs(rt: HostRuntime) {
 
 /// Job 9 is the host's own: it is not finished, and gets no end that does not fit it. Job 7 is not supplied.
 const SUPPLYING: &str =
-    "builds > - > finish 9 7, supply 7 null, supply 9 null, supply 9 early, timer, supply 9 builds, supply 9 late > 4 > taken > 7: null;|5|9: build data;|ended| > 2|event|event|event|event|";
+    "builds > - > finish 9 7, supply 7 null, supply 9 null, supply 9 early, timer, supply 9 builds, supply 9 late > 4 > taken > 7: null;|5|9: build data 0;|ended| > 2|event|event|event|event|";
 
 /// The host's own job may also stop.
 const LATE: &str = "builds > - > supply 9 late > 2 > taken > 9: cancelled;|ended| > 2|event|event|";

@@ -62,11 +62,23 @@ pub fn result_text(outcome: &JobResult) -> &'static str {
     }
 }
 
+/// Adds of how many workspaces or builds a result tells.
+fn add_count(alloc: Global, text: &mut String, outcome: &JobResult) {
+    let count = match outcome {
+        JobResult::Value(JobValue::Workspaces(workspaces)) => workspaces.len(),
+        JobResult::Value(JobValue::BuildData(builds)) => builds.len(),
+        _ => return,
+    };
+    add(text, " ");
+    add_number(alloc, text, count as u64);
+}
+
 fn add_message(alloc: Global, text: &mut String, message: &TaskMsg) {
     let TaskBody::Final(outcome) = &message.body;
     add_number(alloc, text, message.job);
     add(text, ": ");
     add(text, result_text(outcome));
+    add_count(alloc, text, outcome);
     add(text, ";");
 }
 
@@ -83,7 +95,10 @@ pub fn add_given(alloc: Global, text: &mut String, event: &HostEvent) {
         HostEvent::Ended => add(text, "ended"),
         HostEvent::Tasks(batch) => add_batch(alloc, text, batch.as_slice()),
         HostEvent::Vfs(messages) => add_loader(alloc, text, messages.as_slice()),
-        HostEvent::DeferredTask(_) => add(text, "deferred"),
+        HostEvent::DeferredTask(tasks) => {
+            add(text, "deferred ");
+            add_number(alloc, text, tasks.len() as u64);
+        }
         HostEvent::Timer(ticket) => add_number(alloc, text, *ticket),
     }
 }

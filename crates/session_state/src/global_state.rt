@@ -9,7 +9,7 @@ ghost use Rattle.turn_parts.specs.Working.{ordered, logged};
 ghost use Rattle.desk.specs.Meaning.{Meaning, meaning_of};
 ghost use Rattle.desk.specs.Steps.{responded, cancelled};
 ghost use Rattle.session_model.specs.Machine.{at_desk, closed, counted, facts_of, happened, kept, revised, step, taken_in};
-ghost use Rattle.session_model.specs.State.{scene_of, snapshot_of, fresh, fresh_at};
+ghost use Rattle.session_model.specs.State.{macros_loaded_in, scene_of, snapshot_of, fresh, fresh_at};
 ghost use Rattle.session_model.specs.declared.input.Input.TheVariants.{Start, Next};
 
 mod asking;
@@ -18,6 +18,7 @@ mod messages;
 mod notifications;
 mod watching;
 
+use crate::no_workspaces::NoWorkspaces;
 use analysis_host::{Analysis, GlobalStateSnapshot, SnapshotParts};
 use client::Client;
 use desk::{Desk, Scene};
@@ -39,6 +40,7 @@ pub struct GlobalState {
     client: Client,
     files: SessionFiles,
     desk: Desk,
+    workspaces: NoWorkspaces,
 }
 
 impl Model for GlobalState {
@@ -65,6 +67,7 @@ impl GlobalState {
             client: Client::new(alloc, settings)?,
             files: SessionFiles::new(alloc)?,
             desk: Desk::new(alloc),
+            workspaces: NoWorkspaces::new(alloc)?,
         })
     }
 
@@ -78,10 +81,18 @@ impl GlobalState {
             client: Client::new_at(alloc, used.outgoing, settings)?,
             files: SessionFiles::new_at(alloc, used.files, used.revisions)?,
             desk: Desk::new_at(alloc, used.turns, used.jobs),
+            workspaces: NoWorkspaces::new(alloc)?,
         })
     }
 
-    /// The snapshot of the present.
+    // Whether no proc macros are wanted.
+    fn macros_loaded(&self) -> bool
+        ensures { result ≡ macros_loaded_in self.now.client.settings }
+    {
+        !self.client.settings().proc_macro_enable()
+    }
+
+    /// The snapshot of the present. There are no workspaces yet.
     pub fn snapshot(&self) -> Result<GlobalStateSnapshot, AllocError>
         ensures { IfOk result (λ snapshot. snapshot ≡ snapshot_of self.now) }
     {
@@ -90,6 +101,9 @@ impl GlobalState {
             file_ids: self.files.file_ids()?,
             versions: self.files.versions()?,
             config: Arc::try_clone(self.client.settings())?,
+            proc_macros_loaded: self.macros_loaded(),
+            workspaces: self.workspaces.share()?,
+            workspaces_version: 0,
             revision: self.files.revision(),
         }))
     }

@@ -49,7 +49,7 @@ fn add_file(alloc: Global, files: &mut Items<FileChange>, text: &str) -> Option<
 fn change(alloc: Global, text: &str) -> Option<Change> {
     let mut files = Items::new(alloc);
     add_file(alloc, &mut files, text)?;
-    Some(Change { files })
+    Some(Change::files_only(files))
 }
 
 fn apply(alloc: Global, host: &mut AnalysisHost, text: &str) -> Option<()> {
@@ -112,6 +112,7 @@ fn snapshot(alloc: Global, host: &AnalysisHost) -> Option<GlobalStateSnapshot> {
     let versions = Versions::new(alloc).ok()?;
     let file_ids = numbers(alloc)?;
     let config = config(alloc)?;
+    let workspaces = Arc::new(alloc, Items::new(alloc)).ok()?;
     let world = host.world().ok()?;
     Some(GlobalStateSnapshot::new(SnapshotParts {
         revision: host.revision(),
@@ -119,6 +120,9 @@ fn snapshot(alloc: Global, host: &AnalysisHost) -> Option<GlobalStateSnapshot> {
         file_ids,
         versions,
         config,
+        proc_macros_loaded: false,
+        workspaces,
+        workspaces_version: 0,
     }))
 }
 

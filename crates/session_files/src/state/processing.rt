@@ -6,7 +6,7 @@ ghost use Rattle.session_files.specs.Folds.{world_put, taken_up, after_processin
 ghost use Rattle.session_files.specs.Meets.{Leaves};
 ghost use Rattle.session_files.specs.Steps.{processed};
 ghost use Rattle.session_files.specs.Texts.{entry_of, file_change};
-ghost use Rattle.analysis_host.specs.HostData.{changed};
+ghost use Rattle.analysis_host.specs.HostData.{changed, files_only};
 
 use crate::entries::{entry_of_bytes, entry_of_document};
 use crate::state::SessionFiles;
@@ -62,9 +62,9 @@ impl SessionFiles {
 
     // One change of the world, and so one revision more.
     fn change_world(&mut self, files: Items<FileChange>) -> Result<(), TurnError>
-        ensures { Leaves result (world_put (changed files self.old.host) self.old) self.new }
+        ensures { Leaves result (world_put (changed (files_only files) self.old.host) self.old) self.new }
     {
-        match self.host.apply_change(Change { files }) {
+        match self.host.apply_change(Change::files_only(files)) {
             Ok(()) => Ok(()),
             Err(WorldFault::Exhausted) => Err(TurnError::Exhausted {
                 counter: Counter::Revisions,
