@@ -1,5 +1,5 @@
 // The versions of the open documents at one moment.
-ghost use Rattle.std.specs.Prelude.{◌≡◌, ◌<◌, IfOk};
+ghost use Rattle.std.specs.Prelude.{◌≡◌, ◌<◌, IfOk, OnOk, OnErr};
 ghost use Rattle.std.specs.FinMap as map;
 ghost use Rattle.analysis_host.specs.Versions.{with_version};
 
@@ -11,7 +11,7 @@ use std::alloc::{AllocError, Global};
 use std::marker::{Brand, Model};
 use std::sync::ledger::{Blank, Ledger};
 
-/// The version of each path that is open. The map never changes, and its clones share it.
+/// The version of each path that is open. Clones share what they have in common, and no change of one is seen in another.
 #[derive(Drop)]
 pub struct Versions {
     versions: PathMap<i32>,
@@ -28,25 +28,6 @@ impl Model for Versions {
     ghost coded = { map.code (coded_list coded_ℕ) coded_ℤ };
 
     ghost view = { λ v. v.versions };
-}
-
-/// The map with that path set, or without it, where nobody counts the steps.
-fn set_uncounted<L: Ledger>(
-    versions: &PathMap<i32>,
-    path: VfsPath,
-    version: Option<i32>,
-    blank: Blank,
-) -> Result<PathMap<i32>, AllocError>
-    requires name { blank.name ≡ L.name }
-    requires parts { blank.parts ≡ L.parts }
-    requires some { 0 < L.parts }
-    ensures { IfOk result (λ new. new ≡ with_version path version versions.now) }
-{
-    let mut steps = Steps::<L>::new(blank);
-    match version {
-        Some(version) => versions.set(path, Some(version), &mut steps),
-        None => versions.set(path, None, &mut steps),
-    }
 }
 
 impl Versions {
@@ -73,9 +54,38 @@ impl Versions {
     ) -> Result<Versions, AllocError>
         ensures { IfOk result (λ versions. versions ≡ with_version path version self.now) }
     {
-        Ok(Versions {
-            versions: set_uncounted::<Brand>(&self.versions, path, version, Blank::new(1))?,
-        })
+        let mut versions = self.clone()?;
+        versions.put(path, version)?;
+        Ok(versions)
+    }
+
+    /// Sets that path, or takes it away. Nodes that other maps share are copied, all others stay this map's own. Without memory
+    /// the map is empty.
+    pub fn put(&mut self, path: VfsPath, version: Option<i32>) -> Result<(), AllocError>
+        ensures ok { OnOk result (self.new ≡ with_version path version self.old) }
+        ensures err { OnErr result (self.new ≡ map.empty) }
+    {
+        self.put_uncounted::<Brand>(path, version, Blank::new(1))
+    }
+
+    /// The same where nobody counts the steps.
+    fn put_uncounted<L: Ledger>(
+        &mut self,
+        path: VfsPath,
+        version: Option<i32>,
+        blank: Blank,
+    ) -> Result<(), AllocError>
+        requires name { blank.name ≡ L.name }
+        requires parts { blank.parts ≡ L.parts }
+        requires some { 0 < L.parts }
+        ensures ok { OnOk result (self.new ≡ with_version path version self.old) }
+        ensures err { OnErr result (self.new ≡ map.empty) }
+    {
+        let mut steps = Steps::<L>::new(blank);
+        match version {
+            Some(version) => self.versions.put(path, Some(version), &mut steps),
+            None => self.versions.put(path, None, &mut steps),
+        }
     }
 }
 
