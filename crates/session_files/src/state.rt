@@ -124,8 +124,7 @@ impl SessionFiles {
     fn put_version(&mut self, path: VfsPath, version: i32) -> Result<(), AllocError>
         ensures { OnOk result (self.new ≡ version_put path version self.old) }
     {
-        self.versions = self.versions.set(self.alloc, path, Some(version))?;
-        Ok(())
+        self.versions.put(path, Some(version))
     }
 
     fn put_text(&mut self, path: VfsPath, text: SharedText) -> Result<(), AllocError>

@@ -179,7 +179,7 @@ impl SessionFiles {
     fn remove_document(&mut self, path: &VfsPath) -> Result<(), AllocError>
         ensures { OnOk result (self.new ≡ after_closing path.now self.old) }
     {
-        self.versions = self.versions.set(self.alloc, path.clone()?, None)?;
+        self.versions.put(path.clone()?, None)?;
         self.texts.remove(path);
         Ok(())
     }
