@@ -1,8 +1,9 @@
 -- What becomes of the workspaces when a fetch or a run of build scripts has ended.
-use Rattle.std.specs.Prelude.{◌≡◌, ◌↔◌, ℕ, Bool, true, false, not, ◌&&◌, ◌||◌, ◌==◌, IsTrue, MatchBool, List, [], ◌∷◌, map, Option, Some, None, is_some, Result, Ok, Err, length, if◌then◌else◌}
+use Rattle.std.specs.Prelude.{◌≡◌, ℕ, Bool, true, false, not, ◌&&◌, ◌||◌, ◌==◌, List, [], ◌∷◌, Option, Some, None, is_some, Result, Ok, Err, length, if◌then◌else◌}
+use Rattle.std.specs.Cmp.Lexicographic.{pointwise}
 use Rattle.project_model.specs.declared.build.BuildScripts.{BuildScripts}
 use Rattle.project_model.specs.declared.workspace.ProjectWorkspace.{ProjectWorkspace}
-use Rattle.project_model.specs.Workspaces.{without_build}
+use Rattle.project_model.specs.Same.{is_same_but_build}
 use Rattle.msrv.specs.Msrv.{msrv_texts}
 use Rattle.reload.specs.Errors.{fetch_error}
 use Rattle.reload.specs.declared.switch.Switch.{Switch}
@@ -25,8 +26,8 @@ taken (Ok workspace ∷ rest) = workspace ∷ taken rest
 taken (Err error ∷ rest) = taken rest
 
 -- there are as many, and each is the other but for its build data
-abbrev pub AreSame : List ProjectWorkspace → List ProjectWorkspace → Type 0
-AreSame one two = map without_build one ≡ map without_build two
+abbrev pub are_same : List ProjectWorkspace → List ProjectWorkspace → Bool
+are_same = pointwise is_same_but_build
 
 -- a run that failed made nothing
 abbrev pub scripts_of : Result BuildScripts (List ℕ) → BuildScripts
@@ -60,24 +61,20 @@ kept (first ∷ rest) None forced = anew_if forced
 abbrev pub replaced : List ProjectWorkspace → List ProjectWorkspace → Bool → Switch
 replaced new present build_scripts = switch.Replace new (msrv_texts new) build_scripts (not build_scripts || is_empty present)
 
-abbrev pub switched_to : Fetched → List ProjectWorkspace → Bool → Option Runs → Bool → Bool → Switch
-switched_to fetched present same runs forced build_scripts =
-    if same then kept present runs forced else replaced (taken fetched) present build_scripts
-
--- the fetched workspaces are taken: whether they are the present ones decides
-abbrev pub SwitchesTo : Fetched → List ProjectWorkspace → Option Runs → Bool → Bool → Switch → Type 0
-SwitchesTo fetched present runs forced build_scripts to =
-    (same : Bool) × (IsTrue same ↔ AreSame (taken fetched) present) × (to ≡ switched_to fetched present same runs forced build_scripts)
-
 -- an error ends the switch where there are workspaces
 abbrev pub has_ended : Fetched → Bool → List ProjectWorkspace → Bool
 has_ended fetched discover present = is_some (fetch_error (Some fetched) discover) && not (is_empty present)
 
+-- the fetched workspaces are taken: whether they are the present ones decides
+abbrev pub switched_to : Fetched → List ProjectWorkspace → Option Runs → Bool → Bool → Switch
+switched_to fetched present runs forced build_scripts =
+    if are_same (taken fetched) present then kept present runs forced else replaced (taken fetched) present build_scripts
+
 -- what a switch comes to; where nothing was fetched it does nothing
-abbrev pub Switches : Option Fetched → Bool → Bool → List ProjectWorkspace → Option Runs → Bool → Switch → Type 0
-Switches None forced discover present runs build_scripts to = to ≡ switch.End
-Switches (Some fetched) forced discover present runs build_scripts to =
-    MatchBool (has_ended fetched discover present) (to ≡ anew_if forced) (SwitchesTo fetched present runs forced build_scripts to)
+abbrev pub switch_of : Option Fetched → Bool → Bool → List ProjectWorkspace → Option Runs → Bool → Switch
+switch_of None forced discover present runs build_scripts = switch.End
+switch_of (Some fetched) forced discover present runs build_scripts =
+    if has_ended fetched discover present then anew_if forced else switched_to fetched present runs forced build_scripts
 
 -- there is one run for each workspace
 abbrev pub HasOneEach : Option Runs → List ProjectWorkspace → Type 0

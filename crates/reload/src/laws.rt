@@ -1,14 +1,15 @@
 // What the definitions of a reload come to.
-ghost use Rattle.std.specs.Prelude.{◌≡◌, ℕ, Bool, List, Option, Some, length, map, filter, take, is_some};
+ghost use Rattle.std.specs.Prelude.{◌≡◌, ◌↔◌, ℕ, IsTrue, Bool, List, Option, Some, length, map, filter, take, is_some};
 ghost use Rattle.std.specs.Cmp.{IsEquivalence};
 ghost use Rattle.std.specs.List.{filter_map, range_with_len};
 ghost use Rattle.docs_vfs.specs.declared.file_kinds.FileId.{FileId};
 ghost use Rattle.project_model.specs.declared.crates.CrateEntry.{CrateEntry};
 ghost use Rattle.project_model.specs.declared.workspace.ProjectWorkspace.{ProjectWorkspace};
+ghost use Rattle.project_model.specs.Workspaces.{without_build};
 ghost use Rattle.reload.specs.Graph.{Standing, crate_roots, most_crates, places_from, number_of, crate_of, all_crates};
 ghost use Rattle.reload.specs.GraphLaws.{numbers_in, files_in, files_found, roots_in};
 ghost use Rattle.reload.specs.Names.{is_alike};
-ghost use Rattle.reload.specs.Switch.{Fetched, Runs, joined, runs_on, Switches};
+ghost use Rattle.reload.specs.Switch.{Fetched, Runs, are_same, joined, runs_on, switch_of};
 ghost use Rattle.reload.specs.declared.switch.Switch.TheVariants.{Join};
 
 /// That `-` and `_` are alike is an equivalence of texts.
@@ -16,11 +17,16 @@ pub fn alike_names_are_equivalent()
     ensures { IsEquivalence is_alike }
 {}
 
+/// A switch takes two lists of workspaces for the same exactly where they are equal but for what the builds made.
+pub fn same_workspaces_are_equal_but_for_builds()
+    ensures { (one two : List ProjectWorkspace) → IsTrue (are_same one two) ↔ (map without_build one ≡ map without_build two) }
+{}
+
 /// Where a switch joins build data, it was run on the version of the workspaces that are present.
 pub fn build_data_is_joined_to_its_version()
     ensures { (fetched : Option Fetched) (forced discover : Bool) (present made : List ProjectWorkspace)
         (version build_version : ℕ) (build : Option Runs) (build_scripts : Bool)
-        → Switches fetched forced discover present (runs_on version build_version build) build_scripts (Join made)
+        → switch_of fetched forced discover present (runs_on version build_version build) build_scripts ≡ Join made
         → (build_version ≡ version) × ((runs : Runs) × (build ≡ Some runs) × (made ≡ joined runs present)) }
 {}
 

@@ -22,6 +22,7 @@ pub use graph::ws_to_crate_graph;
 pub use laws::{
     alike_names_are_equivalent, build_data_is_joined_to_its_version,
     kept_crates_are_numbered_in_order, kept_dependencies_are_renumbered,
+    same_workspaces_are_equal_but_for_builds,
 };
 pub use names::eq_ignore_underscore;
 pub use plain::NoMemory;

@@ -1,7 +1,7 @@
 //! The cases of a switch.
-ghost use Rattle.std.specs.Prelude.{◌≡◌, ◌↔◌, IsTrue, IfOk};
+ghost use Rattle.std.specs.Prelude.{◌≡◌, IfOk};
 ghost use Rattle.std.specs.Option.{option_copied};
-ghost use Rattle.reload.specs.Switch.{taken, AreSame, scripts_of, with_build, joined, runs_on, anew_if, kept, replaced, Switches, HasOneEach};
+ghost use Rattle.reload.specs.Switch.{taken, are_same, scripts_of, with_build, joined, runs_on, anew_if, kept, replaced, switch_of, HasOneEach};
 
 use crate::errors::fetch_workspace_error;
 use crate::switch::Switch;
@@ -18,7 +18,7 @@ type Run = Result<BuildScripts, Text>;
 
 /// Whether the workspaces that were fetched are these, but for their build data.
 fn are_same(fetched: &[Fetched], present: &[ProjectWorkspace]) -> bool
-    ensures { IsTrue result ↔ AreSame (taken fetched.now) present.now }
+    ensures { result ≡ are_same (taken fetched.now) present.now }
 {
     let mut rest = present;
     for one in fetched {
@@ -168,8 +168,8 @@ pub fn switch_workspaces(
     build_scripts: bool,
 ) -> Result<Switch, NoMemory>
     requires { HasOneEach (runs_on version build_version (option_copied build)) present.now }
-    ensures { IfOk result (λ switch. Switches (option_copied fetched.entry) forced discover present.now
-        (runs_on version build_version (option_copied build.entry)) build_scripts switch) }
+    ensures { IfOk result (λ switch. switch ≡ switch_of (option_copied fetched.entry) forced discover present.now
+        (runs_on version build_version (option_copied build.entry)) build_scripts) }
 {
     let Some(list) = fetched else {
         return Ok(Switch::End);
