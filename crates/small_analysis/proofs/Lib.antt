@@ -1,4 +1,5 @@
 pub mod AskedLemmas
+pub mod BlockLemmas
 pub mod BracketLemmas
 pub mod ListLemmas
 pub mod MatchLemmas

@@ -1,6 +1,6 @@
 // The name at a place of a text.
-ghost use Rattle.std.specs.Prelude.{◌≡◌, ◌≤◌, length, option_copied};
-ghost use Rattle.std.specs.List.{prefix_len, suffix_len};
+ghost use Rattle.std.specs.Prelude.{◌≡◌, ◌≤◌, ◌+◌, ◌-◌, length, option_copied};
+ghost use Rattle.std.specs.List.{list_all, prefix_len, suffix_len};
 ghost use Rattle.small_analysis.specs.Names.{is_word_byte, run_start, run_end, is_name, name_at};
 
 fn is_word_byte(byte: u8) -> bool
@@ -9,8 +9,39 @@ fn is_word_byte(byte: u8) -> bool
     byte.is_ascii_alphanumeric() || byte == b'_'
 }
 
-/// How many word bytes there are at the end.
-fn words_before(front: &[u8]) -> usize
+/// How many bytes are looked at at once.
+const BLOCK: usize = 32;
+
+/// Whether all are word bytes. It has no early exit, so that they are looked at side by side.
+#[tactic(auto, using(std::proofs::lemmas::List::Folds::list_all_more))]
+fn are_word_bytes(block: &[u8]) -> bool
+    ensures { result ≡ list_all is_word_byte block.now }
+{
+    let mut all = true;
+    for byte in block {
+        all &= is_word_byte(*byte);
+    }
+    all
+}
+
+/// What stands before the whole blocks of word bytes at the end.
+#[tactic(auto, using(crate::proofs::BlockLemmas::suffix_len_before))]
+fn before_blocks(front: &[u8]) -> &[u8]
+    ensures value { suffix_len is_word_byte front.now ≡ length front.now - length result.now + suffix_len is_word_byte result.now }
+    ensures within { length result.now ≤ length front.now }
+{
+    let mut remaining = front;
+    while let Some((head, block)) = remaining.split_last_chunk::<BLOCK>() {
+        if !are_word_bytes(block) {
+            return remaining;
+        }
+        remaining = head;
+    }
+    remaining
+}
+
+/// How many word bytes there are at the end, byte by byte.
+fn bytes_before(front: &[u8]) -> usize
     ensures value { result ≡ suffix_len is_word_byte front.now }
     ensures within { result ≤ length front.now }
 {
@@ -21,12 +52,45 @@ fn words_before(front: &[u8]) -> usize
         .count()
 }
 
+/// How many word bytes there are at the end.
+fn words_before(front: &[u8]) -> usize
+    ensures value { result ≡ suffix_len is_word_byte front.now }
+    ensures within { result ≤ length front.now }
+{
+    let remaining = before_blocks(front);
+    front.len() - remaining.len() + bytes_before(remaining)
+}
+
+/// What stands after the whole blocks of word bytes at the front.
+fn after_blocks(rest: &[u8]) -> &[u8]
+    ensures value { prefix_len is_word_byte rest.now ≡ length rest.now - length result.now + prefix_len is_word_byte result.now }
+    ensures within { length result.now ≤ length rest.now }
+{
+    let mut remaining = rest;
+    while let Some((block, tail)) = remaining.split_first_chunk::<BLOCK>() {
+        if !are_word_bytes(block) {
+            return remaining;
+        }
+        remaining = tail;
+    }
+    remaining
+}
+
+/// How many word bytes there are from the front on, byte by byte.
+fn bytes_from(rest: &[u8]) -> usize
+    ensures value { result ≡ prefix_len is_word_byte rest.now }
+    ensures within { result ≤ length rest.now }
+{
+    rest.iter().take_while(|byte| is_word_byte(**byte)).count()
+}
+
 /// How many word bytes there are from the front on.
 fn words_from(rest: &[u8]) -> usize
     ensures value { result ≡ prefix_len is_word_byte rest.now }
     ensures within { result ≤ length rest.now }
 {
-    rest.iter().take_while(|byte| is_word_byte(**byte)).count()
+    let remaining = after_blocks(rest);
+    rest.len() - remaining.len() + bytes_from(remaining)
 }
 
 /// Where the word bytes begin that end at a place.
