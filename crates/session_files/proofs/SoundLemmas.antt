@@ -347,7 +347,7 @@ by_changes (file ∷ later) files now ready list is =
     let host = host_after (file ∷ later) files.host in
     let made : record (taken_up files) { host = host } ≡ now = by_room (ltb files.host.revision (2 ^ 64 - 1)) host (taken_up files) now is in
     let same : record (taken_up files) { host = host_with files } ≡ record (taken_up files) { host = host } =
-    ap (λ l. record (taken_up files) { host = host_after l files.host }) list in
+    ap (λ (l : List ChangedFile). record (taken_up files) { host = host_after l files.host }) list in
     subst (Turned files) (same ∙ made) (changed_turn files ready (ap are_some list))
 
 by_processing : (files now : SessionFiles) → files.loading ≡ false → after_processing files ≡ Ok now → Turned files now
