@@ -13,7 +13,7 @@ use Rattle.std.proofs.lemmas.List.{nil_from_length}
 use Rattle.shared_map.specs.AsMap.{set_in_map}
 use Rattle.docs_vfs.specs.Paths.{path_cmp}
 use Rattle.docs_vfs.specs.Files.{Files, new_files, changes, change_of, change_with, contents_at, contents_of, kept_in, file_id_of, kind_between, mark_in, same_contents, set_in}
-use Rattle.docs_vfs.specs.FileLaws.{IsNumbered, IsDifference, KeepsTaken, change_at, listed, number_at, taken_at}
+use Rattle.docs_vfs.specs.FileLaws.{IsNumbered, IsDifference, KeepsTaken, listed, number_at, taken_at}
 use Rattle.docs_vfs.specs.declared.file_kinds.ChangeKind.{ChangeKind}
 use Rattle.docs_vfs.specs.declared.file_kinds.ChangedFile.{ChangedFile}
 use Rattle.docs_vfs.specs.declared.file_kinds.FileId.{FileId}
@@ -25,7 +25,7 @@ use Rattle.docs_vfs.proofs.NumberLaws.{none_numbered, taken_numbered, set_number
 use Rattle.docs_vfs.proofs.PutLemmas.{one_path, same_path}
 use Rattle.text_core.specs.declared.change.ContentChange.{ContentChange}
 use Rattle.text_core.specs.declared.position.PositionEncoding.{PositionEncoding}
-use Rattle.analysis_host.specs.HostData.{HostData, changed, with_entry, with_files}
+use Rattle.analysis_host.specs.HostData.{HostData, with_entry, with_files}
 use Rattle.analysis_host.specs.declared.host.WorldFault.{WorldFault}
 use Rattle.analysis_host.specs.declared.host.WorldFault.TheVariants.{Exhausted}
 use Rattle.analysis_host.specs.declared.text_entry.TextEntry.{TextEntry}
