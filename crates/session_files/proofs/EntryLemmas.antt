@@ -6,7 +6,6 @@ use Rattle.std.proofs.lemmas.Bool.{cond-true, cond-false, le-leb, lt-leb}
 use Rattle.std.proofs.lemmas.Option.{same_Some}
 use Rattle.std.proofs.lemmas.Str.{is_utf8-from_IsUtf8}
 use Rattle.text_core.specs.LineEnds.{normalized, endings_of, crlf_place}
-use Rattle.text_core.specs.declared.line_endings.LineEndings.{LineEndings}
 use Rattle.text_core.specs.declared.line_endings.LineEndings.TheVariants.{Unix, Dos}
 use Rattle.text_core.proofs.LineEndLemmas.{crlf_none}
 use Rattle.analysis_host.specs.declared.text_entry.TextEntry.{TextEntry}

@@ -1,6 +1,6 @@
 -- The numbers beside the table are the table's, after each of its calls.
-use Rattle.std.proofs.Common.{◌≡◌, ℕ, Bool, true, false, cond, List, refl, sym, ap, subst, ◌∙◌, ⊎_elim}
-use Rattle.std.specs.Prelude.{bytes_eq, Option, None, Some, Ok}
+use Rattle.std.proofs.Common.{◌≡◌, ℕ, Bool, true, false, cond, List, refl, sym, ap, ◌∙◌, ⊎_elim}
+use Rattle.std.specs.Prelude.{bytes_eq, is_some, Option, None, Some, Result, Ok, Err}
 use Rattle.std.specs.Option.{option_map}
 use Rattle.std.specs.Cmp.Lexicographic.{nat_list_cmp_total}
 use Rattle.std.specs.FinMap as map
@@ -8,7 +8,7 @@ use Rattle.std.proofs.lemmas.Bool.{cases_Bool, cond-true, cond-false}
 use Rattle.std.proofs.lemmas.Option.{none-some, same_Some}
 use Rattle.shared_map.specs.AsMap.{set_in_map}
 use Rattle.docs_vfs.specs.Paths.{path_cmp}
-use Rattle.docs_vfs.specs.Files.{Files, new_files, id_by, id_in, file_id_of, kept_of, set_in, mark_in}
+use Rattle.docs_vfs.specs.Files.{Files, new_files, id_by, id_in, file_id_of, kept_of, set_in, add_in, mark_in}
 use Rattle.docs_vfs.specs.FileLaws.{IsNumbered, number_at}
 use Rattle.docs_vfs.specs.declared.file_kinds.FileExcluded.{FileExcluded}
 use Rattle.docs_vfs.specs.declared.file_kinds.FileId.{FileId}
@@ -18,7 +18,12 @@ use Rattle.docs_vfs.specs.declared.file_kinds.Kept.TheVariants.{Nothing, Content
 use Rattle.docs_vfs.proofs.NumberLaws.{put_numbers}
 use Rattle.docs_vfs.proofs.PutLemmas.{Put, same_path, one_path, row_after, set_is, mark_is}
 use Rattle.file_ids.specs.Numbers.{IsFree, file_of, number_of}
+use Rattle.docs_vfs.specs.declared.file_kinds.TableFault.{TableFault}
+use Rattle.docs_vfs.specs.declared.file_kinds.TableFault.TheVariants as table
+use Rattle.turn_parts.specs.declared.fault.Counter.TheVariants as counter
 use Rattle.session_files.specs.Current.{AreNumbersOf}
+use Rattle.session_files.specs.Folds.{contents_put, contents_added, table_put, made_of}
+use Rattle.session_files.specs.SessionFiles.{SessionFiles}
 
 abbrev Ids : Type 0
 Ids = map.FinMap path_cmp (FileId × FileExcluded)
@@ -36,6 +41,14 @@ stays t path u same = record {
   kept = λ q file is. ap (λ v. number_at v q) same ∙ is;
 }
 
+abbrev table_of : Files → Result (Files × Bool) TableFault → Files
+table_of t (Ok made) = made.0
+table_of t (Err fault) = t
+
+-- an addition of a path that is known leaves the table
+added_none : (t u : Files) (path : List ℕ) (contents : Option (List ℕ)) (changed : Bool) → is_some (file_id_of t path) ≡ true → add_in t path contents ≡ Ok (u, changed) → u ≡ t
+added_none t u path contents changed known is = ap (table_of t) (sym is ∙ cond-true _ _ _ known)
+
 put_moves : (t : Files) (path : List ℕ) (kept : Kept) (u : Files) → IsNumbered t → Put t path kept u → Moved t path u
 put_moves t path kept u numbered put = record {
   elsewhere = λ q other. row_after t path kept u put q ∙ cond-false _ _ _ other;
@@ -45,6 +58,13 @@ put_moves t path kept u numbered put = record {
 pub set_moves : (t u : Files) (path : List ℕ) (contents : Option (List ℕ)) (changed : Bool) → IsNumbered t → set_in t path contents ≡ Ok (u, changed) → Moved t path u
 set_moves t u path contents changed numbered is =
     ⊎_elim (λ (_, same, _). stays t path u same) (λ (_, put, _). put_moves t path (kept_of contents) u numbered put) (set_is t u path contents changed is)
+
+pub add_moves : (t u : Files) (path : List ℕ) (contents : Option (List ℕ)) (changed : Bool) → IsNumbered t → add_in t path contents ≡ Ok (u, changed) → Moved t path u
+add_moves t u path contents changed numbered is =
+    ⊎_elim
+    (λ known. stays t path u (added_none t u path contents changed known is))
+    (λ unknown. set_moves t u path contents changed numbered (sym (cond-false _ _ _ unknown) ∙ is))
+    (cases_Bool (is_some (file_id_of t path)))
 
 pub mark_moves : (t u : Files) (path : List ℕ) → IsNumbered t → mark_in t path ≡ Ok u → Moved t path u
 mark_moves t u path numbered is =
@@ -108,6 +128,9 @@ free_after ids t u path numbers numbered moved = free_by ids t u path numbers nu
 pub free_set : (ids : Ids) (t u : Files) (path : List ℕ) (contents : Option (List ℕ)) (changed : Bool) → AreNumbersOf ids t → IsNumbered t → IsNumbered u → set_in t path contents ≡ Ok (u, changed) → IsFree path (file_of (file_id_of u path)) ids
 free_set ids t u path contents changed numbers before after is = free_after ids t u path numbers after (set_moves t u path contents changed before is)
 
+pub free_add : (ids : Ids) (t u : Files) (path : List ℕ) (contents : Option (List ℕ)) (changed : Bool) → AreNumbersOf ids t → IsNumbered t → IsNumbered u → add_in t path contents ≡ Ok (u, changed) → IsFree path (file_of (file_id_of u path)) ids
+free_add ids t u path contents changed numbers before after is = free_after ids t u path numbers after (add_moves t u path contents changed before is)
+
 pub free_mark : (ids : Ids) (t u : Files) (path : List ℕ) → AreNumbersOf ids t → IsNumbered t → IsNumbered u → mark_in t path ≡ Ok u → IsFree path (file_of (file_id_of u path)) ids
 free_mark ids t u path numbers before after is = free_after ids t u path numbers after (mark_moves t u path before is)
 
@@ -120,10 +143,15 @@ none_at first ids u table empty path = ap (λ (m : Ids). map.get m path) empty �
 pub none_are : (ids : Ids) (u : Files) → u ≡ new_files 0 → ids ≡ map.empty → AreNumbersOf ids u
 none_are = none_at 0
 
-pub set_numbers : (ids now : Ids) (t u v : Files) (path : List ℕ) (contents : Option (List ℕ)) (changed : Bool) → AreNumbersOf ids t → IsNumbered t → set_in t path contents ≡ Ok (u, changed) → v ≡ u
-    → now ≡ set_in_map ids path (file_id_of u path) → AreNumbersOf now v
-set_numbers ids now t u v path contents changed numbers before is same made q =
-    ap (λ (m : Ids). map.get m q) made ∙ numbers_after ids t u path numbers (set_moves t u path contents changed before is) q ∙ ap (λ w. file_id_of w q) (sym same)
+pub set_numbers : (ids now : Ids) (t u v : Files) (path : List ℕ) (contents : Option (List ℕ)) (changed : Bool) (e : Option (FileId × FileExcluded)) → AreNumbersOf ids t → IsNumbered t → set_in t path contents ≡ Ok (u, changed) → v ≡ u
+    → e ≡ file_id_of u path → now ≡ set_in_map ids path e → AreNumbersOf now v
+set_numbers ids now t u v path contents changed e numbers before is same here made q =
+    ap (λ (m : Ids). map.get m q) (made ∙ ap (set_in_map ids path) here) ∙ numbers_after ids t u path numbers (set_moves t u path contents changed before is) q ∙ ap (λ w. file_id_of w q) (sym same)
+
+pub add_numbers : (ids now : Ids) (t u v : Files) (path : List ℕ) (contents : Option (List ℕ)) (changed : Bool) (e : Option (FileId × FileExcluded)) → AreNumbersOf ids t → IsNumbered t → add_in t path contents ≡ Ok (u, changed) → v ≡ u
+    → e ≡ file_id_of u path → now ≡ set_in_map ids path e → AreNumbersOf now v
+add_numbers ids now t u v path contents changed e numbers before is same here made q =
+    ap (λ (m : Ids). map.get m q) (made ∙ ap (set_in_map ids path) here) ∙ numbers_after ids t u path numbers (add_moves t u path contents changed before is) q ∙ ap (λ w. file_id_of w q) (sym same)
 
 pub mark_numbers : (ids now : Ids) (t u v : Files) (path : List ℕ) → AreNumbersOf ids t → IsNumbered t → mark_in t path ≡ Ok u → v ≡ u
     → now ≡ set_in_map ids path (file_id_of u path) → AreNumbersOf now v
@@ -133,6 +161,40 @@ mark_numbers ids now t u v path numbers before is same made q =
 pub taken_numbers : (ids : Ids) (t u : Files) → AreNumbersOf ids t → u ≡ record t { before = map.empty } → AreNumbersOf ids u
 taken_numbers ids t u numbers is q = numbers q ∙ ap (λ v. file_id_of v q) (sym is)
 
-pub ruleset setting = (free_set, none_are, set_numbers)
+-- ---- an addition
+
+-- what is to become of the files where a path is added
+pub added : (files : SessionFiles) (ids : Ids) (t u : Files) (path : List ℕ) (contents : Option (List ℕ)) (changed : Bool) → AreNumbersOf ids t → add_in t path contents ≡ Ok (u, changed)
+    → contents_added path contents (record files { table = t; ids = ids }) ≡ Ok (record files { table = u; ids = set_in_map ids path (file_id_of u path) })
+unfolding contents_added contents_put
+added files ids t u path contents changed numbers is =
+    ⊎_elim
+    (λ known.
+    let same = added_none t u path contents changed known is in
+    cond-true _ _ _ known
+    ∙ (λ i. Ok (record files { table = sym same i; ids = (set_same ids path (file_id_of u path) (numbers path ∙ ap (λ v. file_id_of v path) (sym same))) i })))
+    (λ unknown.
+    cond-false _ _ _ unknown
+    ∙ ap (λ r. table_put path (made_of r) (record files { table = t; ids = ids })) (sym (cond-false _ _ _ unknown) ∙ is))
+    (cases_Bool (is_some (file_id_of t path)))
+
+ok_not_err : {A : Type 0} (made : Files × Bool) (fault : TableFault) → (let r : Result (Files × Bool) TableFault = Ok made in r) ≡ Err fault → A
+ok_not_err made fault is = absurd cc
+
+-- a full table
+pub added_full : (files : SessionFiles) (ids : Ids) (t : Files) (path : List ℕ) (contents : Option (List ℕ)) → add_in t path contents ≡ Err table.Full
+    → contents_added path contents (record files { table = t; ids = ids }) ≡ Err counter.Files
+unfolding contents_added contents_put
+added_full files ids t path contents is =
+    ⊎_elim
+    (λ known. ok_not_err (t, false) table.Full (sym (cond-true _ _ _ known) ∙ is))
+    (λ unknown.
+    cond-false _ _ _ unknown
+    ∙ ap (λ r. table_put path (made_of r) (record files { table = t; ids = ids })) (sym (cond-false _ _ _ unknown) ∙ is))
+    (cases_Bool (is_some (file_id_of t path)))
+
+pub ruleset setting = (free_set, none_are)
+
+pub ruleset adding = (free_add, none_are, added, added_full)
 
 pub ruleset marking = (free_mark, none_are, mark_numbers)

@@ -13,7 +13,7 @@ use Rattle.std.proofs.lemmas.List.{nil_from_length}
 use Rattle.shared_map.specs.AsMap.{set_in_map}
 use Rattle.docs_vfs.specs.Paths.{path_cmp}
 use Rattle.docs_vfs.specs.Files.{Files, new_files, changes, change_of, change_with, contents_at, contents_of, kept_in, file_id_of, kind_between, mark_in, same_contents, set_in}
-use Rattle.docs_vfs.specs.FileLaws.{IsNumbered, IsDifference, KeepsTaken, change_at, listed, number_at, taken_at}
+use Rattle.docs_vfs.specs.FileLaws.{IsNumbered, IsDifference, KeepsTaken, listed, number_at, taken_at}
 use Rattle.docs_vfs.specs.declared.file_kinds.ChangeKind.{ChangeKind}
 use Rattle.docs_vfs.specs.declared.file_kinds.ChangedFile.{ChangedFile}
 use Rattle.docs_vfs.specs.declared.file_kinds.FileId.{FileId}

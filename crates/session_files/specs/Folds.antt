@@ -1,6 +1,6 @@
 -- What becomes of the files of a session. Each answers the counter that is at its end where one more of it was needed: the numbers of files, or the
 -- revisions.
-use Rattle.std.specs.Prelude.{ℕ, ℤ, List, [], ◌∷◌, Bool, true, false, not, ◌||◌, ◌&&◌, map as each, Option, None, Some, is_some, Result, Ok, Err, if◌then◌else◌}
+use Rattle.std.specs.Prelude.{ℕ, ℤ, List, [], ◌∷◌, Bool, true, false, not, ◌||◌, ◌&&◌, map as each, Option, Some, is_some, Result, Ok, Err, if◌then◌else◌}
 use Rattle.std.specs.List.{list_any}
 use Rattle.std.specs.FinMap as map
 use Rattle.shared_map.specs.AsMap.{set_in_map}
@@ -41,6 +41,11 @@ made_of (Err fault) = Err fault
 -- a path has these contents, or none; one that is marked stays as it is
 unfoldable pub contents_put : List ℕ → Option (List ℕ) → SessionFiles → Result SessionFiles Counter
 contents_put path contents files = table_put path (made_of (set_in files.table path contents)) files
+
+-- the same, where it has neither contents nor a mark
+unfoldable pub contents_added : List ℕ → Option (List ℕ) → SessionFiles → Result SessionFiles Counter
+contents_added path contents files =
+    if is_some (file_id_of files.table path) then Ok files else contents_put path contents files
 
 -- a path is marked as excluded, for good
 unfoldable pub mark_put : List ℕ → SessionFiles → Result SessionFiles Counter

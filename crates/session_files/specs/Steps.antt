@@ -1,5 +1,5 @@
 -- What a turn does with the files of a session, and what it logs and orders for them.
-use Rattle.std.specs.Prelude.{ℕ, ℤ, List, Bool, Option, Result, Ok, Err, if◌then◌else◌}
+use Rattle.std.specs.Prelude.{ℕ, ℤ, List, Bool, Result, Ok, Err, if◌then◌else◌}
 use Rattle.std.specs.FinMap as map
 use Rattle.text_core.specs.declared.change.ContentChange.{ContentChange}
 use Rattle.text_core.specs.declared.position.PositionEncoding.{PositionEncoding}

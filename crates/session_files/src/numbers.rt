@@ -5,8 +5,8 @@ ghost use Rattle.shared_map.specs.AsMap.{set_in_map};
 ghost use Rattle.docs_vfs.specs.Files.{new_files, file_id_of};
 ghost use Rattle.file_ids.specs.Numbers.{IsFree, file_of};
 ghost use Rattle.session_files.specs.Current.{AreNumbersOf};
-ghost use Rattle.session_files.specs.Folds.{contents_put, mark_put};
-ghost use Rattle.session_files.specs.Meets.{Leaves};
+ghost use Rattle.session_files.specs.Folds.{contents_put, contents_added, mark_put};
+ghost use Rattle.session_files.specs.Meets.{Leaves, turn_error};
 ghost use Rattle.session_files.specs.SessionFiles.{SessionFiles};
 
 use docs_vfs::{FileExcluded, FileId, FileTable, SharedBytes, TableFault, VfsPath};
@@ -26,28 +26,42 @@ fn are_same(a: Option<(FileId, FileExcluded)>, b: Option<(FileId, FileExcluded)>
     }
 }
 
-// The number of a path is what the table says. Without memory both are emptied, so that they agree even then.
+// The number of a path, which was the one before, is now the one after. Without memory both are emptied, so that they
+// agree even then.
 #[tactic(auto, using(crate::proofs::NumberLemmas::set_same))]
 fn put_number(
     alloc: Global,
     table: &mut FileTable,
     ids: &mut FileIds,
     path: VfsPath,
+    before: Option<(FileId, FileExcluded)>,
+    after: Option<(FileId, FileExcluded)>,
 ) -> Result<(), AllocError>
-    requires { IsFree path (file_of (file_id_of table.old path)) ids.old }
-    ensures ok { OnOk result ((table.new ≡ table.old) × (ids.new ≡ set_in_map ids.old path (file_id_of table.old path))) }
+    requires before { map.get ids.old path ≡ before }
+    requires free { IsFree path (file_of after) ids.old }
+    ensures ok { OnOk result ((table.new ≡ table.old) × (ids.new ≡ set_in_map ids.old path after)) }
     ensures err { OnErr result ((table.new ≡ new_files 0) × (ids.new ≡ map.empty)) }
 {
-    let entry = table.file_id(&path);
-    if are_same(ids.get(&path), entry) {
+    if are_same(before, after) {
         return Ok(());
     }
-    match ids.put(path, entry) {
+    match ids.put(path, after) {
         Ok(()) => Ok(()),
         Err(_) => {
             *table = FileTable::new(alloc);
             Err(AllocError)
         }
+    }
+}
+
+fn turn_error(fault: TableFault) -> TurnError
+    ensures { result ≡ turn_error fault }
+{
+    match fault {
+        TableFault::Full => TurnError::Exhausted {
+            counter: Counter::Files,
+        },
+        TableFault::NoMemory => TurnError::NoMemory,
     }
 }
 
@@ -66,21 +80,40 @@ pub(crate) fn set_contents(
     ensures numbers { AreNumbersOf ids.new table.new }
 {
     table.numbers_are_inverse();
-    match table.set_shared(path.clone()?, contents) {
-        Ok(_) => {}
-        Err(TableFault::Full) => {
-            return Err(TurnError::Exhausted {
-                counter: Counter::Files,
-            });
-        }
-        Err(TableFault::NoMemory) => return Err(TurnError::NoMemory),
-    }
+    let replaced = match table.replace_shared(&path, contents) {
+        Ok(replaced) => replaced,
+        Err(fault) => return Err(turn_error(fault)),
+    };
     table.numbers_are_inverse();
-    put_number(alloc, table, ids, path)?;
+    put_number(alloc, table, ids, path, replaced.before, replaced.after)?;
     Ok(())
 }
 
-/// The same of a mark.
+/// The same, where the path has neither contents nor a mark.
+#[tactic(auto, using(crate::proofs::NumberLemmas::adding))]
+pub(crate) fn add_contents(
+    alloc: Global,
+    table: &mut FileTable,
+    ids: &mut FileIds,
+    path: VfsPath,
+    contents: Option<SharedBytes>,
+) -> Result<(), TurnError>
+    requires { AreNumbersOf ids.old table.old }
+    ensures leaves { (files : SessionFiles) →
+        Leaves result (contents_added path contents (record files { table = table.old; ids = ids.old })) (record files { table = table.new; ids = ids.new }) }
+    ensures numbers { AreNumbersOf ids.new table.new }
+{
+    table.numbers_are_inverse();
+    let replaced = match table.add_shared(&path, contents) {
+        Ok(replaced) => replaced,
+        Err(fault) => return Err(turn_error(fault)),
+    };
+    table.numbers_are_inverse();
+    put_number(alloc, table, ids, path, replaced.before, replaced.after)?;
+    Ok(())
+}
+
+/// A path is marked as excluded, and its number is the one that the table gives it.
 #[tactic(auto, using(crate::proofs::NumberLemmas::marking), unfolding(crate::specs::Folds::mark_put))]
 pub(crate) fn set_mark(
     alloc: Global,
@@ -96,14 +129,11 @@ pub(crate) fn set_mark(
     table.numbers_are_inverse();
     match table.insert_excluded(path.clone()?) {
         Ok(()) => {}
-        Err(TableFault::Full) => {
-            return Err(TurnError::Exhausted {
-                counter: Counter::Files,
-            });
-        }
-        Err(TableFault::NoMemory) => return Err(TurnError::NoMemory),
+        Err(fault) => return Err(turn_error(fault)),
     }
     table.numbers_are_inverse();
-    put_number(alloc, table, ids, path)?;
+    let before = ids.get(&path);
+    let after = table.file_id(&path);
+    put_number(alloc, table, ids, path, before, after)?;
     Ok(())
 }

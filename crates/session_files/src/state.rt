@@ -1,6 +1,6 @@
 // The files of a session.
 ghost use Rattle.std.specs.Prelude.{◌≡◌, IfOk, OnOk, Some};
-ghost use Rattle.session_files.specs.Folds.{is_open, version_put, text_put, contents_put, mark_put};
+ghost use Rattle.session_files.specs.Folds.{is_open, version_put, text_put, contents_put, contents_added, mark_put};
 ghost use Rattle.session_files.specs.Meets.{Leaves};
 ghost use Rattle.session_files.specs.SessionFiles.{no_files, no_files_at};
 
@@ -8,7 +8,7 @@ mod documents;
 mod loading;
 mod processing;
 
-use crate::numbers::{set_contents, set_mark};
+use crate::numbers::{add_contents, set_contents, set_mark};
 use analysis_host::{AnalysisHost, SharedText, Versions, World};
 use docs_vfs::{ByPath, FileTable, SharedBytes, VfsPath};
 use file_ids::FileIds;
@@ -142,6 +142,17 @@ impl SessionFiles {
         ensures { Leaves result (contents_put path contents self.old) self.new }
     {
         set_contents(self.alloc, &mut self.table, &mut self.ids, path, contents)
+    }
+
+    // The same, where the path has neither contents nor a mark.
+    fn add_contents(
+        &mut self,
+        path: VfsPath,
+        contents: Option<SharedBytes>,
+    ) -> Result<(), TurnError>
+        ensures { Leaves result (contents_added path contents self.old) self.new }
+    {
+        add_contents(self.alloc, &mut self.table, &mut self.ids, path, contents)
     }
 
     fn put_mark(&mut self, path: VfsPath) -> Result<(), TurnError>

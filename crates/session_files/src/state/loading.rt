@@ -1,7 +1,7 @@
 // What a loader tells.
 ghost use Rattle.std.specs.Prelude.{◌≡◌, IfOk};
 ghost use Rattle.turn_parts.specs.Meets.{Meets};
-ghost use Rattle.session_files.specs.Folds.{contents_put, after_changed, after_loaded, after_each_changed, after_each_loaded, is_unfinished, after_message, after_messages};
+ghost use Rattle.session_files.specs.Folds.{contents_put, contents_added, after_changed, after_loaded, after_each_changed, after_each_loaded, is_unfinished, after_message, after_messages};
 ghost use Rattle.session_files.specs.Meets.{Leaves};
 ghost use Rattle.session_files.specs.Steps.{loaded};
 
@@ -39,6 +39,13 @@ impl SessionFiles {
         self.put_contents(path, contents)
     }
 
+    fn add_bytes(&mut self, path: VfsPath, contents: Option<Bytes>) -> Result<(), TurnError>
+        ensures { Leaves result (contents_added path contents self.old) self.new }
+    {
+        let contents = share(self.alloc, contents)?;
+        self.add_contents(path, contents)
+    }
+
     // A file has changed, which is of no account where it is open.
     #[tactic(auto, unfolding(crate::specs::Folds::after_changed))]
     fn take_changed(&mut self, file: LoadedFile) -> Result<(), TurnError>
@@ -52,15 +59,15 @@ impl SessionFiles {
     }
 
     // A file was read for the first time, which is of no account where it is open or known.
-    #[tactic(auto, unfolding(crate::specs::Folds::after_loaded))]
+    #[tactic(auto, unfolding(crate::specs::Folds::after_loaded, crate::specs::Folds::contents_added))]
     fn take_loaded(&mut self, file: LoadedFile) -> Result<(), TurnError>
         ensures { Leaves result (after_loaded file self.old) self.new }
     {
         let LoadedFile { path, contents } = file;
-        if self.is_open(&path) || self.table.file_id(&path).is_some() {
-            return Ok(());
+        if !self.is_open(&path) {
+            self.add_bytes(path, contents)?;
         }
-        self.put_bytes(path, contents)
+        Ok(())
     }
 
     #[tactic(auto, unfolding(crate::specs::Folds::after_each_changed))]
