@@ -1,4 +1,3 @@
-pub mod Decided
 pub mod FetchLaws
 pub mod Entries
 pub mod Pushed

@@ -1,7 +1,7 @@
 -- A switch to the workspaces that were fetched, or to what their builds made.
 use Rattle.std.specs.Prelude.{◌≡◌, ℕ, ◌+◌, ◌==◌, Bool, true, false, if◌then◌else◌, List, [], codes, Option, None, Some, option_map, Result, Ok, Err}
 use Rattle.project_model.specs.declared.workspace.ProjectWorkspace.{ProjectWorkspace}
-use Rattle.reload.specs.Switch.{Fetched, Runs, is_empty, runs_on, Switches}
+use Rattle.reload.specs.Switch.{Fetched, Runs, is_empty, runs_on, switch_of}
 use Rattle.reload.specs.declared.switch.Switch.{Switch}
 use Rattle.reload.specs.declared.switch.Switch.TheVariants as switch
 use Rattle.workspaces.specs.declared.follows.Follows.{Follows}
@@ -34,10 +34,10 @@ abbrev pub runs_at : ℕ → Option BuildOutput → Option Runs
 runs_at version last = runs_on version (version_built last) (runs_built last)
 
 -- the last fetch and the last build data decide upon a switch
-abbrev pub Decides : Bool → Bool → Workspaces → Switch → Type 0
-Decides discover build_scripts w to =
-    Switches (list_fetched w.fetches.queue.last) (was_forced w.fetches.queue.last) discover w.present
-    (runs_at w.version w.builds.queue.last) build_scripts to
+abbrev pub decided : Bool → Bool → Workspaces → Switch
+decided discover build_scripts w =
+    switch_of (list_fetched w.fetches.queue.last) (was_forced w.fetches.queue.last) discover w.present
+    (runs_at w.version w.builds.queue.last) build_scripts
 
 -- ---- what it leaves
 
@@ -82,16 +82,12 @@ switch_to switch.CrateData w = Some (follows.CrateData, settled w)
 switch_to (switch.Join made) w = renewed_by made [] false true w
 switch_to (switch.Replace new msrv ask_build go_on) w = renewed_by new msrv ask_build go_on w
 
+-- what follows the switch that is decided, and what it leaves
+abbrev pub switched : Bool → Bool → Workspaces → Option (Follows × Workspaces)
+switched discover build_scripts w = switch_to (decided discover build_scripts w) w
+
 -- what a call answers and leaves, by what it is to answer and leave; that memory ran out is free
 abbrev pub Gives : Option (Follows × Workspaces) → Workspaces → Result Follows SwitchFault → Workspaces → Type 0
 Gives expected old (Ok next) new = expected ≡ Some (next, new)
 Gives expected old (Err fault.Exhausted) new = (expected ≡ None) × (new ≡ old)
 Gives expected old (Err fault.NoMemory) new = new ≡ old
-
--- what a call of the switch answers and leaves
-abbrev pub SwitchesFrom : Bool → Bool → Workspaces → Result Follows SwitchFault → Workspaces → Type 0
-SwitchesFrom discover build_scripts old (Ok next) new =
-    (to : Switch) × Decides discover build_scripts old to × (switch_to to old ≡ Some (next, new))
-SwitchesFrom discover build_scripts old (Err fault.Exhausted) new =
-    ((to : Switch) × Decides discover build_scripts old to × (switch_to to old ≡ None)) × (new ≡ old)
-SwitchesFrom discover build_scripts old (Err fault.NoMemory) new = new ≡ old

@@ -4,7 +4,6 @@ ghost use Rattle.op_board.specs.QueueRuns.{running};
 ghost use Rattle.project_model.specs.declared.crates.MacroState.{MacroState};
 ghost use Rattle.project_model.specs.declared.workspace.ProjectWorkspace.{ProjectWorkspace};
 ghost use Rattle.reload.specs.Switch.{Fetched, Runs, joined};
-ghost use Rattle.reload.specs.declared.switch.Switch.{Switch};
 ghost use Rattle.reload.specs.declared.switch.Switch.TheVariants.{Join};
 ghost use Rattle.workspaces.specs.Builds.{build_to_start, end_build, runs_of};
 ghost use Rattle.workspaces.specs.FetchRuns.{FetchAct, fetches_after, IsFetchRun, fetches_started, fetches_ended, last_ordered, asks_force, StartsNone};
@@ -13,7 +12,7 @@ ghost use Rattle.workspaces.specs.Fetches.{fetch_to_start, start_fetch, end_fetc
 ghost use Rattle.workspaces.specs.Loads.{load_to_start, macros_of};
 ghost use Rattle.workspaces.specs.QueueRuns.{BuildAct, builds_after, IsBuildRun, builds_started, builds_ended, last_started, LoadAct, loads_after, IsLoadRun};
 ghost use Rattle.workspaces.specs.QueueRuns.{loads_started, loads_ended};
-ghost use Rattle.workspaces.specs.Switching.{was_forced, version_built, Decides};
+ghost use Rattle.workspaces.specs.Switching.{was_forced, version_built, decided};
 ghost use Rattle.workspaces.specs.Workspaces.{Builds, Fetches, Loads, Workspaces};
 ghost use Rattle.workspaces.specs.declared.outputs.BuildOutput.{BuildOutput};
 
@@ -56,17 +55,11 @@ pub fn fetches_come_first()
 pub fn old_build_data_is_not_joined()
     ensures kept { (run : List BuildAct) (made : Result Runs (List ℕ)) (present : List ProjectWorkspace)
         → version_built (end_build made present (builds_after run)).queue.last ≡ last_started (builds_started run) }
-    ensures joined { (discover build_scripts : Bool) (w : Workspaces) (made : List ProjectWorkspace) → Decides discover build_scripts w (Join made)
+    ensures joined { (discover build_scripts : Bool) (w : Workspaces) (made : List ProjectWorkspace) → decided discover build_scripts w ≡ Join made
         → (output : BuildOutput) × (w.builds.queue.last ≡ Some output) × (output.version ≡ w.version) × (made ≡ joined output.runs w.present) }
 {
     reload::build_data_is_joined_to_its_version();
 }
-
-/// The last fetch and the last build data decide upon one switch.
-pub fn one_switch_is_decided()
-    ensures { (discover build_scripts : Bool) (w : Workspaces) (one two : Switch) → Decides discover build_scripts w one
-        → Decides discover build_scripts w two → one ≡ two }
-{}
 
 /// What is kept of a run of build data has one run for each workspace, and of a load of macros one state for each crate
 /// that was listed, in order.

@@ -14,7 +14,7 @@ mod state;
 pub use follows::{Follows, SwitchFault};
 pub use laws::{
     each_has_one_entry, fetches_come_first, force_is_kept, old_build_data_is_not_joined,
-    old_timers_change_nothing, one_of_each_runs, one_switch_is_decided,
+    old_timers_change_nothing, one_of_each_runs,
 };
 pub use macros::without_macros;
 pub use outputs::{BuildOutput, FetchOutput};

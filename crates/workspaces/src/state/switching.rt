@@ -1,8 +1,7 @@
 // Switches to what was fetched and built.
 ghost use Rattle.std.specs.Prelude.{◌≡◌, ◌+◌, ◌<◌, ◌^◌, ◌↔◌, IsTrue, IfOk, MatchResult};
 ghost use Rattle.reload.specs.Switch.{is_empty};
-ghost use Rattle.workspaces.specs.Switching.{Decides, new_workspaces_cause, asks_build, presents, next_version, followed, renewed_by, switch_to, Gives};
-ghost use Rattle.workspaces.specs.Switching.{SwitchesFrom};
+ghost use Rattle.workspaces.specs.Switching.{decided, new_workspaces_cause, asks_build, presents, next_version, followed, renewed_by, switch_to, switched, Gives};
 ghost use Rattle.workspaces.specs.declared.follows.SwitchFault.TheVariants.{Exhausted};
 
 use crate::follows::{Follows, SwitchFault};
@@ -35,7 +34,7 @@ fn next_version(go_on: bool, version: u32) -> Result<Option<u32>, SwitchFault>
 impl Workspaces {
     // What the last fetch and the last build data decide.
     fn decide(&self, discover: bool, build_scripts: bool) -> Result<Switch, NoMemory>
-        ensures { IfOk result (λ to. Decides discover build_scripts self.now to) }
+        ensures { IfOk result (λ to. to ≡ decided discover build_scripts self.now) }
     {
         let fetched = self.fetches.last_op_result();
         let built = self.builds.last_op_result();
@@ -143,7 +142,7 @@ impl Workspaces {
     /// scripts run. After an `Err` the workspaces are as before.
     pub fn switch(&mut self, discover: bool, build_scripts: bool) -> Result<Follows, SwitchFault>
         requires { self.old.version + 1 < 2 ^ 64 }
-        ensures { SwitchesFrom discover build_scripts self.old result self.new }
+        ensures { Gives (switched discover build_scripts self.old) self.old result self.new }
     {
         let to = self.decide(discover, build_scripts)?;
         self.switch_to(to)
