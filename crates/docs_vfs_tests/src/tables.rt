@@ -1,13 +1,15 @@
 use crate::calls::{cut, path_at};
 use docs_vfs::{
-    ChangeKind, ChangedFile, FileExcluded, FileId, FileTable, SharedBytes, TableFault, VfsPath,
+    ChangeKind, ChangedFile, FileExcluded, FileId, FileTable, Replaced, SharedBytes, TableFault,
+    VfsPath,
 };
 use plain::{ArcText, Bytes, Text};
 use std::alloc::Global;
 use std::test::Fail;
 
 /// Calls of new tables, each with a path or a number, a text, and its answer. Contents are set, or taken away
-/// where the text is `-`. A blank line begins a new table.
+/// where the text is `-`. A replacement and an addition answer the number before and after, a mark's with `!`. A
+/// blank line begins a new table.
 const CALLS: &str = "set > /x > a > changed
 set > /x > a > same
 set > /x > - > changed
@@ -42,7 +44,19 @@ mark > /c > - > marked
 take > - > - > 1 create /a one, 0 create /b two
 set > /b > 2 > changed
 mark > /a > - > marked
-take > - > - > 1 delete /a -, 0 modify /b 2";
+take > - > - > 1 delete /a -, 0 modify /b 2
+
+add > /x > a > none 0 changed
+add > /x > b > 0 0 same
+replace > /x > b > 0 0 changed
+replace > /x > - > 0 none changed
+replace > /y > - > none none same
+add > /x > c > none 0 changed
+take > - > - > 0 create /x c
+mark > /x > - > marked
+replace > /x > d > 0! 0! same
+add > /x > - > 0! 0! same
+take > - > - > 0 delete /x -";
 
 /// Calls of a table that has one number left.
 const LAST_NUMBER: &str = "set > /a > a > changed
@@ -52,6 +66,8 @@ set > /b > b > full";
 
 /// Calls of a table that has no number left.
 const NO_NUMBER: &str = "set > /a > a > full
+add > /a > a > full
+replace > /a > - > none none same
 mark > /a > - > full";
 
 /// Contents, or none.
@@ -87,6 +103,39 @@ fn mark(alloc: Global, table: &mut FileTable, path: &str) -> Result<&'static str
         Ok(()) => "marked",
         Err(fault) => fault_name(fault),
     })
+}
+
+/// Contents to be shared, or none.
+fn shared(alloc: Global, text: &str) -> Result<Option<SharedBytes>, Fail> {
+    Ok(match contents_of(alloc, text)? {
+        Some(bytes) => Some(SharedBytes::new(alloc, bytes)?),
+        None => None,
+    })
+}
+
+/// Whether this is the number of a path, with `!` where it is marked.
+fn is_id(id: Option<(FileId, FileExcluded)>, text: &str) -> bool {
+    match id {
+        None => text == "none",
+        Some((file, FileExcluded::No)) => text.parse::<u32>().ok() == Some(file.0),
+        Some((file, FileExcluded::Yes)) => {
+            text.ends_with('!') && cut(text, "!").0.parse::<u32>().ok() == Some(file.0)
+        }
+    }
+}
+
+/// Whether a call answered this: the number before, the one after, and whether that is a change.
+fn is_replaced(replaced: Result<Replaced, TableFault>, answer: &str) -> bool {
+    let (before, rest) = cut(answer, " ");
+    let (after, change) = cut(rest, " ");
+    match replaced {
+        Ok(replaced) => {
+            is_id(replaced.before, before)
+                && is_id(replaced.after, after)
+                && replaced.changed == (change == "changed")
+        }
+        Err(fault) => fault_name(fault) == answer,
+    }
 }
 
 /// Whether a path has this number, and contents or a mark, or has none of them.
@@ -159,6 +208,14 @@ fn agrees(alloc: Global, table: &mut FileTable, line: &str) -> Result<bool, Fail
     let (text, answer) = cut(rest, " > ");
     Ok(match call {
         "set" => set(alloc, table, name, text)? == answer,
+        "replace" => is_replaced(
+            table.replace_shared(&path_at(alloc, name)?, shared(alloc, text)?),
+            answer,
+        ),
+        "add" => is_replaced(
+            table.add_shared(&path_at(alloc, name)?, shared(alloc, text)?),
+            answer,
+        ),
         "mark" => mark(alloc, table, name)? == answer,
         "number" => has_number(table, &path_at(alloc, name)?, text, answer),
         "path" => is_path(
