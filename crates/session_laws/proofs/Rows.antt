@@ -422,6 +422,10 @@ batch-settles meaning turns (m ∷ ms) w =
     (subst (λ js. DoesAtDesk v u (batch_row meaning ms past) (after_batch ms js)) a.desk.out
     (subst (λ p. DoesAtDesk v u (batch_row meaning ms p) (after_batch ms v.state.desk.jobs)) (settled-place turns m w v done a) b))))
 
+-- the session with the desk and the workspaces of another
+abbrev parts_now : State → Working State → Working State
+parts_now s u = record { state = record s { desk = u.state.desk; workspaces = u.state.workspaces }; out = u.out }
+
 batch-mid : (meaning : Meaning) (s : State) (batch : List TaskMsg) → IfOk (batched meaning batch (counted_turn s)) (Mid meaning s (Next (Task batch)))
 batch-mid meaning s batch =
     let done = batch_row meaning batch (place_of s) in
@@ -431,8 +435,7 @@ batch-mid meaning s batch =
     (workspaces-mid meaning s (Next (Task batch)) (desk_now s (at u)) u.state.workspaces
     (desk-mid meaning s (Next (Task batch)) done (at u) refl refl (record { client = refl; files = refl }) a.desk)))
   where
-    is-now : (u : Working State) → u.state ≡ record s { desk = u.state.desk; workspaces = u.state.workspaces }
-        → record { state = record s { desk = u.state.desk; workspaces = u.state.workspaces }; out = u.out } ≡ u
+    is-now : (u : Working State) → u.state ≡ record s { desk = u.state.desk; workspaces = u.state.workspaces } → parts_now s u ≡ u
     is-now u rest = λ i. record { state = sym rest i; out = u.out }
 
 -- ---- whole turns
