@@ -16,7 +16,6 @@ mod requests;
 mod results;
 
 pub use fetching::FetchEnd;
-
 use lsp_frame::{Incoming, Response};
 use plain::{ByNumber, Text};
 use session_port::{Command, Job, LogCode};

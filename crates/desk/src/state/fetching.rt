@@ -41,7 +41,11 @@ impl Desk {
         ensures { option_copied result ≡ fitting_job message.now self.now.jobs }
     {
         let job = self.jobs.get(message.job)?;
-        if message.body.fits(job) { Some(job) } else { None }
+        if message.body.fits(job) {
+            Some(job)
+        } else {
+            None
+        }
     }
 
     /// What a message of a job says of a fetch of workspaces that is out: a copy of what it came to.
