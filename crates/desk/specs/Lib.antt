@@ -1,6 +1,5 @@
 pub mod Codes
 pub mod Desk
-pub mod Fetching
 pub mod Folds
 pub mod Meaning
 pub mod Reactions

@@ -8,8 +8,6 @@ mod asking;
 #[cfg(test)]
 mod counters;
 #[cfg(test)]
-mod fetching;
-#[cfg(test)]
 mod methods;
 #[cfg(test)]
 mod results;
