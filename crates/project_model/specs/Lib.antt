@@ -1,5 +1,4 @@
 pub mod Dependencies
 pub mod Same
 pub mod Targets
-pub mod Tests
 pub mod Workspaces

@@ -9,7 +9,7 @@ use Rattle.project_model.specs.declared.package.Target.{Target}
 use Rattle.project_model.specs.declared.package.Package.{Package}
 use Rattle.project_model.specs.declared.crates.CrateEntry.{CrateEntry}
 use Rattle.project_model.specs.declared.workspace.ProjectWorkspace.{ProjectWorkspace}
-use Rattle.project_model.specs.Tests.{Test, truth, number, list_by, option_by, ◌and◌, test_by, text, texts, text_or_none}
+use Rattle.plain.specs.Tests.{Test, truth, number, list_by, option_by, ◌and◌, test_by, text, texts, text_or_none}
 use Rattle.project_model.specs.Workspaces.{without_build}
 use Rattle.std.proofs.Common.{ap}
 use Rattle.std.proofs.lemmas.Bool.Decides.{Decides-like}
