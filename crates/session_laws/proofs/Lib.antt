@@ -7,6 +7,7 @@ pub mod Counted
 pub mod Courses
 pub mod Each
 pub mod Exhausting
+pub mod Fetching
 pub mod Filing
 pub mod Handed
 pub mod Held

@@ -36,6 +36,7 @@ use Rattle.notify.specs.declared.notice.DidOpen.{DidOpen}
 use Rattle.notify.specs.declared.notice.Notice.{Notice}
 use Rattle.notify.specs.declared.notice.Notice.TheVariants as notices
 use Rattle.desk.specs.Desk.{Desk}
+use Rattle.desk.specs.Fetching.{fetch_ended}
 use Rattle.desk.specs.Folds.{asked_among, pending_after, shutdown_after}
 use Rattle.desk.specs.Meaning.{Meaning}
 use Rattle.desk.specs.Reactions.{Reaction, silent, joined, cancel_row, message_row, request_row}
@@ -48,12 +49,13 @@ use Rattle.desk_laws.proofs.Settling.{cancel-settles, message-settles, message-t
 use Rattle.session_files.specs.Folds.{after_closing, after_messages, after_opening}
 use Rattle.session_files.specs.SessionFiles.{SessionFiles}
 use Rattle.session_files.specs.Steps.{changed, closed as closed_document, loaded, opened, processed}
+use Rattle.workspaces.specs.Workspaces.{Workspaces}
 use Rattle.session_model.specs.Headline.{Place, reaction_of, row, notice_row, batch_row, desk_after, place_after, place_past, client_after, last_of, revision_after, scene_at}
 use Rattle.session_model.specs.Headline.{are_due, is_changed, files_after, files_made, files_told, files_turned, or_before}
 use Rattle.session_model.specs.Inputs.{cancelled_by, request_in, turns_after}
-use Rattle.session_model.specs.Machine.{Turning, asked_for_settings, at_client, at_desk, at_files, batched, changed_at, client_in, closed, closed_at, closing_part, counted, desk_in, event_part}
-use Rattle.session_model.specs.Machine.{facts_of, file_changed, files_changed, files_in, files_part, files_processed, happened, kept, later_parts, noticed, opened_at, received, revised, state_in, step, taken, taken_in, told}
-use Rattle.session_model.specs.Machine.{turned, turning, with_client, with_desk, with_files, with_state}
+use Rattle.session_model.specs.Machine.{Turning, asked_for_settings, at_client, at_desk, at_files, at_workspaces, batched, begin_part, begun_fetches, changed_at, client_in, closed, closed_at, closing_part, counted, desk_in, event_part}
+use Rattle.session_model.specs.Machine.{facts_of, fetch_kept, fetch_part, fetch_started, file_changed, files_changed, files_in, files_part, files_processed, happened, kept, later_parts, noticed, opened_at, received, revised, start_parts, state_in, step, taken, taken_in, timed, told}
+use Rattle.session_model.specs.Machine.{turned, turning, with_client, with_desk, with_files, with_state, with_workspaces}
 use Rattle.session_model.specs.Hearing.{heard_of, told_by}
 use Rattle.session_model.specs.Run.{Turn, Steps, begun, after_input, out_after}
 use Rattle.session_model.specs.State.{State, columns_in, excludes_in, scene_of}
@@ -67,6 +69,7 @@ use Rattle.session_model.specs.declared.heard.Heard.TheVariants.{Told, Malformed
 use Rattle.session_laws.specs.Beside.{Serves, Tells, turn_of}
 use Rattle.session_laws.specs.Invariant.{StepFits, place_of}
 use Rattle.session_laws.proofs.Beside.{beside-fits, beside-revised}
+use Rattle.session_laws.proofs.Fetching.{HandsOver, started-hands}
 use Rattle.session_laws.proofs.Filing.{DoesForFiles, KeepsHost, Processes, change-host, change_of, changed-does, closed-does, loaded-does, messages-host, opened-does, opening-host}
 use Rattle.session_laws.proofs.Filing.{processed-does, revision_by, revision_now, turn-revises}
 use Rattle.session_laws.proofs.Numbered.{row-numbered}
@@ -91,6 +94,8 @@ pub record Mid (meaning : Meaning) (s : State) (input : Input) (u : Working Stat
   pub files : files_told s.client.settings input s.files ≡ Ok u.state.files
   pub unrevised : filter_map revision_of u.out.commands ≡ []
   pub host : KeepsHost s.files u.state.files
+  -- all jobs so far are for requests
+  pub spawns : spawned u.out.commands ≡ (row meaning input (place_of s)).jobs
 
 -- a turn before it closes
 pub record Made (meaning : Meaning) (s : State) (input : Input) (u : Working State) : Type 0 where
@@ -131,6 +136,19 @@ desk-mid meaning s input done v number is still a = record {
   files = still.files;
   unrevised = a.unrevised;
   host = refl;
+  spawns = a.spawns ∙ ap (λ (d : Reaction). d.jobs) (sym is);
+}
+
+-- the workspaces are no matter
+workspaces-mid : (meaning : Meaning) (s : State) (input : Input) (u : Working State) (workspaces : Workspaces) → Mid meaning s input u
+    → Mid meaning s input (record { state = with_workspaces workspaces u.state; out = u.out })
+workspaces-mid meaning s input u workspaces mid = record {
+  serves = record { does = mid.serves.does; numbered = mid.serves.numbered; desk = mid.serves.desk };
+  client = mid.client;
+  files = mid.files;
+  unrevised = mid.unrevised;
+  host = mid.host;
+  spawns = mid.spawns;
 }
 
 -- a turn that leaves the desk as it is, once it is counted
@@ -143,6 +161,7 @@ told-mid meaning s input u serves tells desk client files host = record {
   files = files;
   unrevised = ap (filter_map revision_of) tells.ordered ∙ tells.revises_none;
   host = host;
+  spawns = ap spawned tells.ordered ∙ tells.spawns_none ∙ ap (λ (d : Reaction). d.jobs) serves.does;
 }
 
 -- a turn that leaves all as it is
@@ -347,20 +366,32 @@ place_at turns s = record (place_of s) { desk = record s.desk { turns = turns } 
 abbrev pub at : Working State → Working Desk
 at w = record { state = w.state.desk; out = w.out }
 
--- the desk has done this, and nothing else has changed
+-- the desk has done this, and nothing else but the workspaces has changed
 pub record DoesAtDesk (w u : Working State) (done : Reaction) (jobs : Jobs) : Type 0 where
   pub desk : Settled None (at w) (at u) done jobs
-  pub rest : u.state ≡ record w.state { desk = u.state.desk }
+  pub rest : u.state ≡ record w.state { desk = u.state.desk; workspaces = u.state.workspaces }
 
--- a message of a batch
-pub taken-settles : (meaning : Meaning) (turns : ℕ) (message : TaskMsg) (w : Working State)
-    → IfOk (taken meaning message w) (λ u. DoesAtDesk w u (message_row meaning (scene_of w.state) (record w.state.desk { turns = turns }) message) (after_message message w.state.desk.jobs))
-taken-settles meaning turns message w =
+-- a message of a batch, at the desk
+desk-settles : (meaning : Meaning) (turns : ℕ) (message : TaskMsg) (w : Working State)
+    → IfOk (at_desk (taken_at_desk meaning (scene_of w.state) message) w)
+    (λ u. DoesAtDesk w u (message_row meaning (scene_of w.state) (record w.state.desk { turns = turns }) message) (after_message message w.state.desk.jobs))
+desk-settles meaning turns message w =
     let scene = scene_of w.state in
     let jobs = after_message message w.state.desk.jobs in
     IfOk-within desk_in with_desk (taken_at_desk meaning scene message) w _
     (IfOk-weaker _ (λ v. Settled None (at w) v (message_row meaning scene w.state.desk message) jobs) _ (message-settles meaning scene message (at w))
     (λ v a. record { desk = subst (λ d. Settled None (at w) v d jobs) (sym (message-turns meaning scene w.state.desk turns message)) a; rest = refl }))
+
+-- and told to the workspaces
+pub taken-settles : (meaning : Meaning) (turns : ℕ) (message : TaskMsg) (w : Working State)
+    → IfOk (taken meaning message w) (λ u. DoesAtDesk w u (message_row meaning (scene_of w.state) (record w.state.desk { turns = turns }) message) (after_message message w.state.desk.jobs))
+taken-settles meaning turns message w =
+    let done = message_row meaning (scene_of w.state) (record w.state.desk { turns = turns }) message in
+    let jobs = after_message message w.state.desk.jobs in
+    let told : Working State → Working State = at_workspaces (fetch_kept (fetch_ended message w.state.desk.jobs)) in
+    IfOk-and_then (at_desk (taken_at_desk meaning (scene_of w.state) message) w) (λ v. Ok (told v)) (λ v. DoesAtDesk w v done jobs) (λ v. DoesAtDesk w v done jobs)
+    (desk-settles meaning turns message w)
+    (λ v a. record { desk = a.desk; rest = ap (with_workspaces (told v).state.workspaces) a.rest })
 
 -- what a message leaves is the next one's place
 pub settled-place : (turns : ℕ) (message : TaskMsg) (w v : Working State) (done : Reaction) → DoesAtDesk w v done (after_message message w.state.desk.jobs) → place_at turns v.state ≡ place_past message done (place_at turns w.state)
@@ -371,7 +402,7 @@ settled-place turns message w v done a = same_place _ _
 does-on : (w v u : Working State) (a b : Reaction) (js ks : Jobs) → DoesAtDesk w v a js → DoesAtDesk v u b ks → DoesAtDesk w u (joined a b) ks
 does-on w v u a b js ks p q = record {
   desk = settled-on (at w) (at v) (at u) a b js ks p.desk q.desk;
-  rest = q.rest ∙ ap (λ (s : State). record s { desk = u.state.desk }) p.rest;
+  rest = q.rest ∙ ap (λ (s : State). record s { desk = u.state.desk; workspaces = u.state.workspaces }) p.rest;
 }
 
 -- a batch is its messages, one after another
@@ -391,14 +422,20 @@ batch-settles meaning turns (m ∷ ms) w =
     (subst (λ js. DoesAtDesk v u (batch_row meaning ms past) (after_batch ms js)) a.desk.out
     (subst (λ p. DoesAtDesk v u (batch_row meaning ms p) (after_batch ms v.state.desk.jobs)) (settled-place turns m w v done a) b))))
 
+-- the session with the desk and the workspaces of another
+abbrev parts_now : State → Working State → Working State
+parts_now s u = record { state = record s { desk = u.state.desk; workspaces = u.state.workspaces }; out = u.out }
+
 batch-mid : (meaning : Meaning) (s : State) (batch : List TaskMsg) → IfOk (batched meaning batch (counted_turn s)) (Mid meaning s (Next (Task batch)))
 batch-mid meaning s batch =
     let done = batch_row meaning batch (place_of s) in
     IfOk-weaker _ (λ u. DoesAtDesk (counted_turn s) u done (after_batch batch s.desk.jobs)) (Mid meaning s (Next (Task batch)))
     (batch-settles meaning s.desk.turns batch (counted_turn s))
-    (λ u a. subst (Mid meaning s (Next (Task batch))) (is-now u a.rest) (desk-mid meaning s (Next (Task batch)) done (at u) refl refl (record { client = refl; files = refl }) a.desk))
+    (λ u a. subst (Mid meaning s (Next (Task batch))) (is-now u a.rest)
+    (workspaces-mid meaning s (Next (Task batch)) (desk_now s (at u)) u.state.workspaces
+    (desk-mid meaning s (Next (Task batch)) done (at u) refl refl (record { client = refl; files = refl }) a.desk)))
   where
-    is-now : (u : Working State) → u.state ≡ record s { desk = u.state.desk } → desk_now s (at u) ≡ u
+    is-now : (u : Working State) → u.state ≡ record s { desk = u.state.desk; workspaces = u.state.workspaces } → parts_now s u ≡ u
     is-now u rest = λ i. record { state = sym rest i; out = u.out }
 
 -- ---- whole turns
@@ -422,7 +459,9 @@ event-mid meaning s (Lsp message) = message-mid meaning s message
 event-mid meaning s (Task batch) = batch-mid meaning s batch
 event-mid meaning s (Vfs messages) = loaded-mid meaning s messages
 event-mid meaning s (Deferred tasks) = desk-mid meaning s (Next (Deferred tasks)) silent (counted_desk s.desk) refl refl (record { client = refl; files = refl }) (nothing-settles (counted_desk s.desk))
-event-mid meaning s (Timer ticket) = desk-mid meaning s (Next (Timer ticket)) silent (counted_desk s.desk) refl refl (record { client = refl; files = refl }) (nothing-settles (counted_desk s.desk))
+event-mid meaning s (Timer ticket) =
+    workspaces-mid meaning s (Next (Timer ticket)) (counted_turn s) (timed ticket (counted_turn s)).state.workspaces
+    (desk-mid meaning s (Next (Timer ticket)) silent (counted_desk s.desk) refl refl (record { client = refl; files = refl }) (nothing-settles (counted_desk s.desk)))
 
 pub counted-is : (s : State) → IfOk (counted (begun s)) (λ v. v ≡ counted_turn s)
 unfolding counted counted_at_desk
@@ -434,8 +473,8 @@ mid-fits meaning s event =
     IfOk-and_then (counted (begun s)) (happened meaning event) (λ v. v ≡ counted_turn s) (Mid meaning s (Next event)) (counted-is s)
     (λ v is. subst (λ w. IfOk (happened meaning event w) (Mid meaning s (Next event))) (sym is) (event-mid meaning s event))
 
-start-made : (meaning : Meaning) (s : State) → Made meaning s Start (begun s)
-start-made meaning s = record {
+start-made : (meaning : Meaning) (s : State) (workspaces : Workspaces) → Made meaning s Start (begun (with_workspaces workspaces s))
+start-made meaning s workspaces = record {
   serves = record { does = refl; numbered = tt; desk = none-handed s.desk };
   client = refl;
   files = refl;
@@ -536,13 +575,47 @@ record MadeTurn (meaning : Meaning) (s : State) (input : Input) (t : Working Tur
   facts : t.state.facts ≡ facts_of (begun s)
   made : Made meaning s input (session_in t)
 
-files-made : (meaning : Meaning) (s : State) (event : Event) (t : Working Turning) → MidTurn meaning s (Next event) t → IfOk (files_part t) (MadeTurn meaning s (Next event))
+-- a turn before its fetch: all jobs so far are for requests
+pub record ReadyTurn (meaning : Meaning) (s : State) (input : Input) (t : Working Turning) : Type 0 where
+  pub facts : t.state.facts ≡ facts_of (begun s)
+  pub made : Made meaning s input (session_in t)
+  pub spawns : spawned t.out.commands ≡ (row meaning input (place_of s)).jobs
+
+pub files-made : (meaning : Meaning) (s : State) (event : Event) (t : Working Turning) → MidTurn meaning s (Next event) t → IfOk (files_part t) (ReadyTurn meaning s (Next event))
 unfolding files_part files_processed
 files-made meaning s event t m =
-    IfOk-within state_in with_state files_processed t (MadeTurn meaning s (Next event))
+    IfOk-within state_in with_state files_processed t (ReadyTurn meaning s (Next event))
     (IfOk-within files_in with_files processed (session_in t) _
     (IfOk-weaker _ (Processes (record { state = t.state.state.files; out = t.out })) _ (processed-does _)
-    (λ v p. record { facts = m.facts; made = made-now meaning s event (session_in t) v m.mid p })))
+    (λ v p. record {
+      facts = m.facts;
+      made = made-now meaning s event (session_in t) v m.mid p;
+      spawns = ap (λ (o : Written). spawned o.commands) p.out ∙ m.mid.spawns;
+    })))
+
+-- the start asks for a fetch
+pub begins : (meaning : Meaning) (s : State) → IfOk (begin_part (turning (begun s))) (ReadyTurn meaning s Start)
+unfolding begin_part begun_fetches
+begins meaning s =
+    IfOk-within state_in with_state begun_fetches (turning (begun s)) (ReadyTurn meaning s Start)
+    (record { facts = refl; made = start-made meaning s _; spawns = refl })
+
+-- a fetch is started
+fetched-now : (meaning : Meaning) (s : State) (input : Input) (w v : Working State) → Made meaning s input w → HandsOver w v → Made meaning s input v
+fetched-now meaning s input w v made h = record {
+  serves = beside-fits meaning s input (after_input input s.desk.jobs) w v h.beside made.serves;
+  client = h.client ∙ made.client;
+  files = subst (λ (f : SessionFiles). files_made s.client.settings input s.files ≡ Ok f) (sym h.files) made.files;
+  unrevised = h.unrevised ∙ made.unrevised;
+  revised = ap (λ (f : SessionFiles). f.host.revision) h.files ∙ made.revised;
+}
+
+fetch-made : (meaning : Meaning) (s : State) (input : Input) (t : Working Turning) → ReadyTurn meaning s input t → IfOk (fetch_part t) (MadeTurn meaning s input)
+unfolding fetch_part
+fetch-made meaning s input t ready =
+    IfOk-within state_in with_state fetch_started t (MadeTurn meaning s input)
+    (IfOk-weaker (fetch_started (session_in t)) (HandsOver (session_in t)) _ (started-hands (session_in t))
+    (λ v h. record { facts = ready.facts; made = fetched-now meaning s input (session_in t) v ready.made h }))
 
 closing-fits : (meaning : Meaning) (s : State) (input : Input) (t : Working Turning) → MadeTurn meaning s input t → IfOk (closing_part t) (λ v. Fits meaning s input (session_in v))
 unfolding closing_part
@@ -556,17 +629,27 @@ event-fits meaning s event =
     IfOk-within state_in with_state (taken_in meaning event) (turning (begun s)) (MidTurn meaning s (Next event))
     (IfOk-weaker _ (Mid meaning s (Next event)) _ (mid-fits meaning s event) (λ v mid. record { facts = refl; mid = mid }))
 
+-- a fetch is started, and the turn closes
+abbrev pub fetch_and_close : Working Turning → Result (Working Turning) Counter
+fetch_and_close t = and_then (fetch_part t) closing_part
+
+fetch-fits : (meaning : Meaning) (s : State) (input : Input) (t : Working Turning) → ReadyTurn meaning s input t → IfOk (fetch_and_close t) (λ v. Fits meaning s input (session_in v))
+fetch-fits meaning s input t ready =
+    IfOk-and_then (fetch_part t) closing_part (MadeTurn meaning s input) (λ v. Fits meaning s input (session_in v))
+    (fetch-made meaning s input t ready) (λ u made. closing-fits meaning s input u made)
+
 step-fits : (meaning : Meaning) (s : State) (input : Input) → IfOk (step meaning input (begun s)) (Fits meaning s input)
 unfolding step
 step-fits meaning s Start =
-    IfOk-and_then (closing_part (turning (begun s))) turned (λ v. Fits meaning s Start (session_in v)) (Fits meaning s Start)
-    (closing-fits meaning s Start (turning (begun s)) (record { facts = refl; made = start-made meaning s })) (λ v fits. fits)
+    IfOk-and_then (start_parts (turning (begun s))) turned (λ v. Fits meaning s Start (session_in v)) (Fits meaning s Start)
+    (IfOk-and_then (begin_part (turning (begun s))) fetch_and_close (ReadyTurn meaning s Start) (λ v. Fits meaning s Start (session_in v))
+    (begins meaning s) (λ t ready. fetch-fits meaning s Start t ready)) (λ v fits. fits)
 step-fits meaning s (Next event) =
     IfOk-and_then (and_then (event_part meaning event (turning (begun s))) later_parts) turned (λ v. Fits meaning s (Next event) (session_in v)) (Fits meaning s (Next event))
     (IfOk-and_then (event_part meaning event (turning (begun s))) later_parts (MidTurn meaning s (Next event)) (λ v. Fits meaning s (Next event) (session_in v))
     (event-fits meaning s event)
-    (λ t m. IfOk-and_then (files_part t) closing_part (MadeTurn meaning s (Next event)) (λ v. Fits meaning s (Next event) (session_in v))
-    (files-made meaning s event t m) (λ u n. closing-fits meaning s (Next event) u n))) (λ v fits. fits)
+    (λ t m. IfOk-and_then (files_part t) fetch_and_close (ReadyTurn meaning s (Next event)) (λ v. Fits meaning s (Next event) (session_in v))
+    (files-made meaning s event t m) (λ u ready. fetch-fits meaning s (Next event) u ready))) (λ v fits. fits)
 
 pub steps-fit : (meaning : Meaning) (s : State) (turn : Turn) (new : State) → Steps meaning s turn new → StepFits meaning s turn new
 steps-fit meaning s turn new steps =

@@ -1,7 +1,12 @@
 -- The turn invariant: what holds of the lists between turns, and carries what is said of requests and answers.
-use Rattle.std.specs.Prelude.{◌≡◌, ◌≤◌, List}
+use Rattle.std.specs.Prelude.{◌≡◌, ◌≤◌, ℕ, Bool, true, false, List, Some}
+use Rattle.std.specs.FinMap as map
 use Rattle.ra_config.specs.Config.{ConfigData}
+use Rattle.session_port.specs.Jobs.{Jobs}
 use Rattle.session_port.specs.Record.{spawned}
+use Rattle.session_port.specs.declared.job.Job.{Job}
+use Rattle.session_port.specs.declared.job.JobKind.{JobKind}
+use Rattle.session_port.specs.declared.job.JobKind.TheVariants.{Request, FetchWorkspaces, FetchBuildData, LoadProcMacros}
 use Rattle.desk.specs.Meaning.{Meaning}
 use Rattle.desk_laws.specs.Invariant.{Sound}
 use Rattle.desk_laws.specs.Numbers.{AreNumbered}
@@ -22,6 +27,37 @@ place_of s = record {
   revision = s.files.host.revision;
   desk = s.desk;
 }
+
+-- ---- fetches, which no law speaks of yet
+
+-- the job fetches workspaces
+abbrev pub is_fetch : JobKind → Bool
+is_fetch (Request ticket row params) = false
+is_fetch (FetchWorkspaces projects detached path force) = true
+is_fetch (FetchBuildData version) = false
+is_fetch (LoadProcMacros paths ignored) = false
+
+-- exactly one job out is a fetch
+pub record IsFetchOut (jobs : Jobs) : Type 0 where
+  pub number : ℕ
+  pub job : Job
+  pub is_out : map.get jobs number ≡ Some job
+  pub fetches : is_fetch job.kind ≡ true
+  pub only : (other : ℕ) (holder : Job) → map.get jobs other ≡ Some holder → is_fetch holder.kind ≡ true → other ≡ number
+
+-- no job out is one
+abbrev pub IsNoFetchOut : Jobs → Type 0
+IsNoFetchOut jobs = (number : ℕ) (job : Job) → map.get jobs number ≡ Some job → is_fetch job.kind ≡ false
+
+abbrev pub FetchIsOutIf : Bool → Jobs → Type 0
+FetchIsOutIf true jobs = IsFetchOut jobs
+FetchIsOutIf false jobs = IsNoFetchOut jobs
+
+-- a fetch is in progress exactly where one job out is a fetch
+abbrev pub FetchIsOut : State → Type 0
+FetchIsOut s = FetchIsOutIf s.workspaces.fetches.queue.in_progress s.desk.jobs
+
+-- ---- turns
 
 -- a turn of the machine is its row of the reply table, the jobs that it hands over have the next numbers, and what it leaves is the next place
 pub record StepFits (meaning : Meaning) (s : State) (turn : Turn) (new : State) : Type 0 where

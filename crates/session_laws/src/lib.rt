@@ -6,5 +6,6 @@ mod laws;
 
 pub use laws::{
     any_pieces, no_request_is_answered_twice, parts_beside_keep_the_answers,
-    rows_keep_the_invariant, runs_keep_the_invariant, steps_are_rows, turns_are_read,
+    refused_turns_need_more, rows_keep_the_invariant, runs_keep_the_invariant, steps_are_rows,
+    turns_are_read,
 };

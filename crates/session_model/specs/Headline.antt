@@ -289,12 +289,12 @@ pub record NextInput (left : Course) (P : Input → Type 0) : Type 0 where
   pub is : left ≡ takes input later
   pub needs : P input
 
--- a turn needs one more of a counter than there are: its number is past the last one, it hands over more jobs, it asks the client where all numbers of requests
--- were given, it changes the world at the last revision, or one of its files needs a number where all were given
+-- a turn needs one more of a counter than there are: its number is past the last one, it hands over more jobs (for requests, and at most one to fetch
+-- workspaces), it asks the client where all numbers of requests were given, it changes the world at the last revision, or one of its files needs a number where all were given
 abbrev pub NeedsMore : Meaning → Place → Input → Counter → Type 0
 NeedsMore meaning place input Turns = 2 ^ 64 ≤ next_turn place
 NeedsMore meaning place input Bytes = ⊥
-NeedsMore meaning place input JobsCounter = 2 ^ 64 ≤ place.desk.handed + length (row meaning input place).jobs
+NeedsMore meaning place input JobsCounter = 2 ^ 64 ≤ place.desk.handed + length (row meaning input place).jobs + 1
 NeedsMore meaning place input Revisions = 2 ^ 64 - 1 ≤ place.revision
 NeedsMore meaning place input Outgoing = number_limit ≤ place.client.asked.given
 NeedsMore meaning place input Files = files_told place.client.settings input place.files ≡ Err Files
