@@ -11,6 +11,7 @@ pub mod Fetching
 pub mod Filing
 pub mod Handed
 pub mod Held
+pub mod InProgress
 pub mod Joined
 pub mod Numbered
 pub mod Once

@@ -10,7 +10,7 @@ use Rattle.session_port.specs.declared.job.JobKind.TheVariants.{Request, FetchWo
 use Rattle.desk.specs.Meaning.{Meaning}
 use Rattle.desk_laws.specs.Invariant.{Sound}
 use Rattle.desk_laws.specs.Numbers.{AreNumbered}
-use Rattle.session_model.specs.Headline.{Place, AreHandedOver, Revises, beginning, place_after, place_after_all, reaction_of, row}
+use Rattle.session_model.specs.Headline.{Place, AreHandedOver, HandsOver, Revises, beginning, place_after, place_after_all, reaction_of, row}
 use Rattle.session_model.specs.Run.{Turn}
 use Rattle.session_model.specs.State.{State}
 use Rattle.session_laws.specs.Answering.{answered_by, AreAccountedFor}
@@ -26,9 +26,10 @@ place_of s = record {
   files = s.files;
   revision = s.files.host.revision;
   desk = s.desk;
+  workspaces = s.workspaces;
 }
 
--- ---- fetches, which no law speaks of yet
+-- ---- fetches
 
 -- the job fetches workspaces
 abbrev pub is_fetch : JobKind → Bool
@@ -54,8 +55,8 @@ FetchIsOutIf true jobs = IsFetchOut jobs
 FetchIsOutIf false jobs = IsNoFetchOut jobs
 
 -- a fetch is in progress exactly where one job out is a fetch
-abbrev pub FetchIsOut : State → Type 0
-FetchIsOut s = FetchIsOutIf s.workspaces.fetches.queue.in_progress s.desk.jobs
+abbrev pub FetchIsOut : Place → Type 0
+FetchIsOut place = FetchIsOutIf place.workspaces.fetches.queue.in_progress place.desk.jobs
 
 -- ---- turns
 
@@ -66,12 +67,14 @@ pub record StepFits (meaning : Meaning) (s : State) (turn : Turn) (new : State) 
   pub place : place_of new ≡ place_after turn (place_of s)
   pub later : s.files.host.revision ≤ new.files.host.revision
   pub revised : Revises turn (place_of s)
+  pub hands_over : HandsOver meaning turn (place_of s)
 
--- after some turns of a fresh machine: it stands where the lists say, the invariant holds, and each job out for a request was handed over by one of the
--- turns, for a request that waits or was answered
+-- after some turns of a fresh machine: it stands where the lists say, the invariant holds, a fetch is in progress exactly where a job out is one, and each
+-- job out for a request was handed over by one of the turns, for a request that waits or was answered
 pub record Stands (settings : ConfigData) (turns : List Turn) (s : State) : Type 0 where
   pub place : place_of s ≡ place_after_all turns (beginning settings)
   pub sound : SoundAt (place_after_all turns (beginning settings))
+  pub fetching : FetchIsOut (place_after_all turns (beginning settings))
   pub handed : AreHandedOver settings turns (place_after_all turns (beginning settings)).desk.jobs
   pub accounted : let place = place_after_all turns (beginning settings) in
       AreAccountedFor place.desk.pending (answered_by turns (beginning settings)) place.desk.jobs

@@ -23,7 +23,7 @@ ghost use Rattle.session_model.specs.State.{State, fresh};
 ghost use Rattle.session_model.specs.declared.input.Input.{Input};
 ghost use Rattle.session_laws.specs.Answering.{answered_by};
 ghost use Rattle.session_laws.specs.Beside.{Beside, Serves};
-ghost use Rattle.session_laws.specs.Invariant.{SoundAt, Stands, StepFits, place_of};
+ghost use Rattle.session_laws.specs.Invariant.{FetchIsOut, SoundAt, Stands, StepFits, place_of};
 
 /// Bytes that come are as bytes that are held: a session's course is that of its bytes, however they are cut.
 pub fn any_pieces()
@@ -61,6 +61,14 @@ pub fn rows_keep_the_invariant()
         → reaction_of turn ≡ row meaning turn.input place → AreNumbered place.desk.handed (spawned turn.commands)
         → place.revision ≤ (place_after turn place).revision
         → SoundAt place → SoundAt (place_after turn place) }
+{}
+
+/// A fetch of workspaces is in progress exactly where one job out is a fetch: it is so at the beginning, and each turn of the
+/// machine keeps it.
+pub fn fetches_in_progress_are_out()
+    ensures beginning { (settings : ConfigData) → FetchIsOut (beginning settings) }
+    ensures kept { (meaning : Meaning) (old : State) (turn : Turn) (new : State)
+        → Steps meaning old turn new → SoundAt (place_of old) → FetchIsOut (place_of old) → FetchIsOut (place_of new) }
 {}
 
 /// No request is answered twice in a run; and where each response answers a pending request, so many are answered as there are

@@ -1,5 +1,5 @@
 -- The session machine: one turn, as a chain of its parts.
-use Rattle.std.specs.Prelude.{ℕ, ◌==◌, true, List, [], ◌∷◌, length, Option, None, Some, is_some, Result, Ok, Err, if◌then◌else◌}
+use Rattle.std.specs.Prelude.{ℕ, ◌==◌, List, [], ◌∷◌, length, Option, None, Some, is_some, Result, Ok, Err, if◌then◌else◌}
 use Rattle.std.specs.FinMap as map
 use Rattle.lsp_frame.specs.declared.message.RequestId.{RequestId}
 use Rattle.lsp_frame.specs.declared.message.Message.{Message}
@@ -23,14 +23,15 @@ use Rattle.notify.specs.declared.notice.DidOpen.{DidOpen}
 use Rattle.notify.specs.declared.notice.Notice.{Notice}
 use Rattle.notify.specs.declared.notice.Notice.TheVariants as notices
 use Rattle.desk.specs.Desk.{Desk}
-use Rattle.desk.specs.Fetching.{FetchEnd, fetch_ended}
+use Rattle.desk.specs.Fetching.{fetch_ended}
 use Rattle.desk.specs.Meaning.{Meaning}
 use Rattle.desk.specs.Steps.{requested, cancelled, counted as counted_at_desk, handed_over, taken as taken_at_desk, kept as kept_at_desk}
 use Rattle.session_files.specs.SessionFiles.{SessionFiles}
 use Rattle.session_files.specs.Steps.{changed, closed as closed_document, loaded, opened, processed}
-use Rattle.workspaces.specs.Fetches.{end_fetch, fetch_to_start, fire, start_fetch, start_up}
-use Rattle.workspaces.specs.Workspaces.{Fetches, Workspaces}
+use Rattle.workspaces.specs.Fetches.{fetch_to_start, fire, start_fetch, start_up}
+use Rattle.workspaces.specs.Workspaces.{Workspaces}
 use Rattle.workspaces.specs.declared.requests.FetchRequest.{FetchRequest}
+use Rattle.session_model.specs.Fetching.{fetch_kept, with_fetches}
 use Rattle.session_model.specs.Hearing.{heard_of}
 use Rattle.session_model.specs.State.{State, columns_in, discovers, excludes_in, fetch_kind, may_fetch, scene_of, snapshot_of}
 use Rattle.session_model.specs.declared.facts.Facts.{Facts}
@@ -89,16 +90,6 @@ with_workspaces workspaces state = record state { workspaces = workspaces }
 -- the workspaces come to this; nothing is written for it
 abbrev pub at_workspaces : (Workspaces → Workspaces) → Working State → Working State
 at_workspaces step w = record w { state = with_workspaces (step w.state.workspaces) w.state }
-
--- their fetches come to this
-abbrev pub with_fetches : (Fetches → Fetches) → Workspaces → Workspaces
-with_fetches step workspaces = record workspaces { fetches = step workspaces.fetches }
-
--- what a fetch came to is kept, where one is in progress, and a switch is wanted
-abbrev pub fetch_kept : Option FetchEnd → Workspaces → Workspaces
-fetch_kept None workspaces = workspaces
-fetch_kept (Some found) workspaces =
-    if workspaces.fetches.queue.in_progress then record workspaces { fetches = end_fetch found workspaces.fetches; switch_wanted = true } else workspaces
 
 -- ---- notifications
 
