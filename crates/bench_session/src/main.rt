@@ -38,12 +38,12 @@ fn hovers(alloc: Global, count: u32) -> Result<String, AllocError> {
     Ok(stream)
 }
 
-/// The results of so many jobs, the last one first.
+/// The results of so many jobs, the last one first. Job 1 is the fetch of the start.
 fn results(alloc: Global, count: u32) -> Result<Items<TaskMsg>, AllocError> {
     let mut batch = Items::new(alloc);
     for number in (0..count).rev() {
         batch.push(TaskMsg {
-            job: u64::from(number) + 1,
+            job: u64::from(number) + 2,
             body: TaskBody::Final(JobResult::Value(JobValue::Json(Json::null()))),
         })?;
     }

@@ -1,5 +1,6 @@
 pub mod Codes
 pub mod Desk
+pub mod Fetching
 pub mod Folds
 pub mod Meaning
 pub mod Reactions

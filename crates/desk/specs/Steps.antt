@@ -6,6 +6,7 @@ use Rattle.lsp_frame.specs.Pending.{is_pending, id_of, registered, closed}
 use Rattle.lsp_frame.specs.declared.message.RequestId.{RequestId}
 use Rattle.lsp_frame.specs.declared.message.Request.{Request}
 use Rattle.lsp_frame.specs.declared.message.Response.{Response}
+use Rattle.analysis_host.specs.SnapshotData.{SnapshotData}
 use Rattle.analysis_host.specs.declared.ask.Ask.TheVariants.{Request as RequestAsk}
 use Rattle.method_table.specs.Plans.{plan, is_shutdown}
 use Rattle.method_table.specs.Rows.{row_of, class_of, retries, default_of}
@@ -59,11 +60,15 @@ counted w = and_then (next_number w.state.turns Turns) (λ n. Ok (record w { sta
 unfoldable pub noted : RequestId → Working Desk → Working Desk
 noted id w = record w { state = record w.state { pending = registered w.state.turns id w.state.pending } }
 
--- a job on the present snapshot is handed over; it is out from the end of the turn on
-unfoldable pub dispatched : Scene → PoolClass → ℕ → RowId → Data → Working Desk → Result (Working Desk) Counter
-dispatched scene class ticket row params w = and_then (next_number w.state.handed Jobs) (λ n.
-    let job : Job = record { number = n; class = class; kind = RequestJob ticket row params; snapshot = scene.snapshot } in
+-- a job of this kind is handed over on this snapshot, with the next number; it is out from the end of the turn on
+abbrev pub handed_over : SnapshotData → PoolClass → JobKind → Working Desk → Result (Working Desk) Counter
+handed_over snapshot class kind w = and_then (next_number w.state.handed Jobs) (λ n.
+    let job : Job = record { number = n; class = class; kind = kind; snapshot = snapshot } in
     Ok (ordered (Spawn job) (record w { state = record w.state { handed = n } })))
+
+-- a request's job on the present snapshot is handed over
+unfoldable pub dispatched : Scene → PoolClass → ℕ → RowId → Data → Working Desk → Result (Working Desk) Counter
+dispatched scene class ticket row params w = handed_over scene.snapshot class (RequestJob ticket row params) w
 
 -- a request is answered by its own params, where they can be read
 unfoldable pub echoed : Bool → ℕ → Data → Working Desk → Working Desk

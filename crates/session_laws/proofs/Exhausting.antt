@@ -2,7 +2,7 @@
 use Rattle.std.proofs.Common.{◌≡◌, ℕ, ◌+◌, ◌-◌, ◌^◌, ◌≤◌, List, [], ◌∷◌, ◌++◌, length, Bool, true, false, refl, sym, ap, ◌∙◌, subst, arith, eqb-true}
 use Rattle.std.proofs.lemmas.List.{length-append}
 use Rattle.std.proofs.lemmas.Result.{IfErr-at_err, IfOk-at_ok}
-use Rattle.std.specs.Prelude.{◌==◌, Result, Ok, Err, IfErr, if◌then◌else◌}
+use Rattle.std.specs.Prelude.{◌==◌, Option, is_some, Result, Ok, Err, IfErr, if◌then◌else◌}
 use Rattle.docs_vfs.specs.FileUrls.{path_of}
 use Rattle.docs_vfs.specs.declared.file_url.UrlFault.{UrlFault}
 use Rattle.lsp_frame.specs.declared.message.Notification.{Notification}
@@ -11,6 +11,7 @@ use Rattle.lsp_frame.specs.declared.message.Message.TheVariants.{Request as Requ
 use Rattle.analysis_host.specs.HostData.{HostData}
 use Rattle.session_port.specs.Jobs.{after_message}
 use Rattle.session_port.specs.declared.event.TaskMsg.{TaskMsg}
+use Rattle.session_port.specs.declared.job.Job.{Job}
 use Rattle.turn_parts.specs.Working.{Working, and_then, within, written}
 use Rattle.turn_parts.specs.Written.{nothing_done}
 use Rattle.turn_parts.specs.declared.fault.Counter.{Counter}
@@ -27,6 +28,7 @@ use Rattle.notify.specs.declared.notice.DidChange.{DidChange}
 use Rattle.notify.specs.declared.notice.DidOpen.{DidOpen}
 use Rattle.notify.specs.declared.notice.Notice.{Notice}
 use Rattle.notify.specs.declared.notice.Notice.TheVariants as notices
+use Rattle.desk.specs.Desk.{Desk}
 use Rattle.desk.specs.Meaning.{Meaning}
 use Rattle.desk.specs.Reactions.{Reaction, message_row, request_row}
 use Rattle.desk.specs.Steps.{cancelled, requested, counted as counted_at_desk, taken as taken_at_desk}
@@ -36,11 +38,13 @@ use Rattle.desk_laws.proofs.Settling.{message-turns, request-turns}
 use Rattle.session_files.specs.Folds.{after_messages, after_opening}
 use Rattle.session_files.specs.SessionFiles.{SessionFiles}
 use Rattle.session_files.specs.Steps.{changed, closed as closed_document, loaded, opened, processed}
-use Rattle.session_model.specs.Headline.{NeedsMore, files_told, row, batch_row, place_past, scene_at}
-use Rattle.session_model.specs.Machine.{Turning, asked_for_settings, at_client, at_desk, at_files, batched, changed_at, client_in, closed, closed_at, closing_part, counted, desk_in, event_part}
-use Rattle.session_model.specs.Machine.{files_in, files_part, files_processed, happened, kept, later_parts, noticed, opened_at, received, state_in, step, taken, taken_in, told, turned, turning, with_client}
+use Rattle.workspaces.specs.Fetches.{fetch_to_start}
+use Rattle.workspaces.specs.declared.requests.FetchRequest.{FetchRequest}
+use Rattle.session_model.specs.Headline.{NeedsMore, fetches_in, files_told, row, batch_row, place_past, scene_at}
+use Rattle.session_model.specs.Machine.{Turning, asked_for_settings, at_client, at_desk, at_files, batched, begin_part, begun_fetches, changed_at, client_in, closed, closed_at, closing_part, counted, desk_in, event_part}
+use Rattle.session_model.specs.Machine.{fetch_part, fetch_started, files_in, files_part, files_processed, happened, kept, later_parts, noticed, opened_at, received, start_parts, state_in, step, taken, taken_in, told, turned, turning, with_client}
 use Rattle.session_model.specs.Machine.{with_desk, with_files, with_state}
-use Rattle.session_model.specs.State.{State, columns_in, excludes_in, scene_of}
+use Rattle.session_model.specs.State.{State, columns_in, excludes_in, may_fetch, scene_of}
 use Rattle.session_model.specs.Hearing.{heard_of}
 use Rattle.session_model.specs.Run.{begun}
 use Rattle.session_model.specs.declared.facts.Facts.{Facts}
@@ -52,16 +56,19 @@ use Rattle.session_model.specs.declared.heard.Heard.{Heard}
 use Rattle.session_model.specs.declared.heard.Heard.TheVariants.{Told, Malformed, Unhandled, Silent}
 use Rattle.session_laws.specs.Invariant.{place_of}
 use Rattle.session_laws.proofs.Filing.{AtLast, IsFull, change_of, changed-step-errs, full-err, loaded-errs-by, opened-errs, processed-errs}
-use Rattle.session_laws.proofs.Rows.{DoesAtDesk, MidTurn, at, counted-is, counted_turn, event-fits, notification_input, place_at, session_in, settled-place, taken-settles}
+use Rattle.session_laws.proofs.Fetching.{TooManyFetches, started-errs}
+use Rattle.session_laws.proofs.Rows.{DoesAtDesk, MidTurn, ReadyTurn, at, begins, counted-is, counted_turn, event-fits, fetch_and_close, files-made, kept_past, notification_input, place_at, ready-fetch, session_in, settled-place, taken-settles}
 
 -- ---- jobs
 
 taken-errs : (meaning : Meaning) (turns : ℕ) (message : TaskMsg) (w : Working State)
     → IfErr (taken meaning message w) (TooMany w.state.desk.handed (message_row meaning (scene_of w.state) (record w.state.desk { turns = turns }) message))
 taken-errs meaning turns message w =
-    IfErr-within desk_in with_desk (taken_at_desk meaning (scene_of w.state) message) w _
+    let many : Counter → Type 0 = TooMany w.state.desk.handed (message_row meaning (scene_of w.state) (record w.state.desk { turns = turns }) message) in
+    err-and_then (at_desk (taken_at_desk meaning (scene_of w.state) message) w) _ many
+    (IfErr-within desk_in with_desk (taken_at_desk meaning (scene_of w.state) message) w many
     (subst (λ d. IfErr (taken_at_desk meaning (scene_of w.state) message (at w)) (TooMany w.state.desk.handed d)) (sym (message-turns meaning (scene_of w.state) w.state.desk turns message))
-    (message-errs meaning (scene_of w.state) message (at w)))
+    (message-errs meaning (scene_of w.state) message (at w)))) (λ v is. tt)
 
 -- a batch: its first message that needs a job too many, behind those that the ones before have handed over
 batch-errs : (meaning : Meaning) (turns : ℕ) (batch : List TaskMsg) (w : Working State) → IfErr (batched meaning batch w) (TooMany w.state.desk.handed (batch_row meaning batch (place_at turns w.state)))
@@ -75,7 +82,7 @@ batch-errs meaning turns (m ∷ ms) w =
     let both : length (done.jobs ++ rest.jobs) ≡ length done.jobs + length rest.jobs = length-append done.jobs rest.jobs in
     err-and_then (taken meaning m w) (batched meaning ms) (TooMany w.state.desk.handed (batch_row meaning (m ∷ ms) place))
     (err-weaker (taken meaning m w) (TooMany w.state.desk.handed done) _ (taken-errs meaning turns m w) (λ c h. (h.0, omega (arith, h.1, both))))
-    (λ v is. let a : DoesAtDesk w v done jobs = IfOk-at_ok (λ v. DoesAtDesk w v done jobs) is (taken-settles meaning turns m w) in
+    (λ v is. let a : DoesAtDesk w v done jobs (kept_past m w.state) = IfOk-at_ok (λ v. DoesAtDesk w v done jobs (kept_past m w.state)) is (taken-settles meaning turns m w) in
     let given : v.state.desk.handed ≡ w.state.desk.handed + length done.jobs = a.desk.handed in
     err-weaker (batched meaning ms v) (TooMany v.state.desk.handed rest) _
     (subst (λ p. IfErr (batched meaning ms v) (TooMany v.state.desk.handed (batch_row meaning ms p))) (settled-place turns m w v done a) (batch-errs meaning turns ms v))
@@ -84,9 +91,13 @@ batch-errs meaning turns (m ∷ ms) w =
 abbrev Needs : Meaning → State → Input → Counter → Type 0
 Needs meaning s input counter = NeedsMore meaning (place_of s) input counter
 
+no-less : (jobs fetches : ℕ) → 2 ^ 64 ≤ jobs → 2 ^ 64 ≤ jobs + fetches
+no-less jobs fetches h = omega (arith, h)
+
 needs-jobs : (meaning : Meaning) (s : State) (input : Input) (done : Reaction) (counter : Counter) → row meaning input (place_of s) ≡ done → TooMany s.desk.handed done counter → Needs meaning s input counter
 needs-jobs meaning s input done counter is h =
-    subst (Needs meaning s input) (sym h.0) (subst (λ (d : Reaction). 2 ^ 64 ≤ s.desk.handed + length d.jobs) (sym is) h.1)
+    subst (Needs meaning s input) (sym h.0)
+    (subst (λ (d : Reaction). 2 ^ 64 ≤ s.desk.handed + length d.jobs + fetches_in input (place_of s)) (sym is) (no-less (s.desk.handed + length done.jobs) (fetches_in input (place_of s)) h.1))
 
 read-errs : (meaning : Meaning) (s : State) (r : Request) → IfErr (at_desk (requested meaning (scene_of s) r) (counted_turn s)) (Needs meaning s (Next (Lsp (RequestMessage r))))
 read-errs meaning s r =
@@ -213,14 +224,43 @@ files-part-errs meaning s event t m =
     (err-weaker _ (AtLast t.state.state.files.host.revision) (Needs meaning s (Next event)) (processed-errs _)
     (λ c h. subst (Needs meaning s (Next event)) (sym h.0) (subst (λ (host : HostData). 2 ^ 64 - 1 ≤ host.revision) m.mid.host h.1))))
 
+with-fetch : (handed jobs given fetches : ℕ) → given ≡ handed + jobs → 2 ^ 64 ≤ given + fetches → 2 ^ 64 ≤ handed + jobs + fetches
+with-fetch handed jobs given fetches is h = omega (arith, is, h)
+
+-- a fetch needs one job more
+fetch-part-errs : (meaning : Meaning) (s : State) (input : Input) (t : Working Turning) → ReadyTurn meaning s input t → IfErr (fetch_part t) (Needs meaning s input)
+unfolding fetch_part
+fetch-part-errs meaning s input t ready =
+    let given = t.state.state.desk.handed in
+    let fetch : Option (List ℕ × FetchRequest) = fetch_to_start (may_fetch t.state.state.client.settings) t.state.state.workspaces.fetches in
+    let jobs = (row meaning input (place_of s)).jobs in
+    let handed : given ≡ s.desk.handed + length jobs = ap (λ (d : Desk). d.handed) ready.made.serves.desk ∙ ap (λ (js : List Job). s.desk.handed + length js) ready.spawns in
+    IfErr-within state_in with_state fetch_started t (Needs meaning s input)
+    (err-weaker (fetch_started (session_in t)) (TooManyFetches given fetch) (Needs meaning s input) (started-errs (session_in t))
+    (λ c h. let many : 2 ^ 64 ≤ given + fetches_in input (place_of s) =
+    subst (λ (f : Option (List ℕ × FetchRequest)). 2 ^ 64 ≤ given + (if is_some f then 1 else 0)) (ready-fetch meaning s input t ready) h.1 in
+    subst (Needs meaning s input) (sym h.0) (with-fetch s.desk.handed (length jobs) given (fetches_in input (place_of s)) handed many)))
+
+fetch-close-errs : (meaning : Meaning) (s : State) (input : Input) (t : Working Turning) → ReadyTurn meaning s input t → IfErr (fetch_and_close t) (Needs meaning s input)
+fetch-close-errs meaning s input t ready =
+    err-and_then (fetch_part t) closing_part (Needs meaning s input) (fetch-part-errs meaning s input t ready) (λ u is. closing-errs u (Needs meaning s input))
+
+begin-errs : (t : Working Turning) (P : Counter → Type 0) → IfErr (begin_part t) P
+unfolding begin_part begun_fetches
+begin-errs t P = IfErr-within state_in with_state begun_fetches t P tt
+
 step-errs : (meaning : Meaning) (s : State) (input : Input) → IfErr (step meaning input (begun s)) (Needs meaning s input)
 unfolding step
-step-errs meaning s Start = err-and_then (closing_part (turning (begun s))) turned (Needs meaning s Start) (closing-errs (turning (begun s)) (Needs meaning s Start)) (λ v is. tt)
+step-errs meaning s Start =
+    err-and_then (start_parts (turning (begun s))) turned (Needs meaning s Start)
+    (err-and_then (begin_part (turning (begun s))) fetch_and_close (Needs meaning s Start) (begin-errs (turning (begun s)) (Needs meaning s Start))
+    (λ t is. fetch-close-errs meaning s Start t (IfOk-at_ok (ReadyTurn meaning s Start) is (begins meaning s)))) (λ v is. tt)
 step-errs meaning s (Next event) =
     err-and_then (and_then (event_part meaning event (turning (begun s))) later_parts) turned (Needs meaning s (Next event))
     (err-and_then (event_part meaning event (turning (begun s))) later_parts (Needs meaning s (Next event)) (event-part-errs meaning s event)
-    (λ t is. err-and_then (files_part t) closing_part (Needs meaning s (Next event))
-    (files-part-errs meaning s event t (IfOk-at_ok (MidTurn meaning s (Next event)) is (event-fits meaning s event))) (λ u made. closing-errs u (Needs meaning s (Next event)))))
+    (λ t is. let mid : MidTurn meaning s (Next event) t = IfOk-at_ok (MidTurn meaning s (Next event)) is (event-fits meaning s event) in
+    err-and_then (files_part t) fetch_and_close (Needs meaning s (Next event)) (files-part-errs meaning s event t mid)
+    (λ u made. fetch-close-errs meaning s (Next event) u (IfOk-at_ok (ReadyTurn meaning s (Next event)) made (files-made meaning s event t mid)))))
     (λ v is. tt)
 
 -- where the machine can't take a turn, one more of the counter that it names is needed than there are

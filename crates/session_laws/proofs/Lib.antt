@@ -7,9 +7,11 @@ pub mod Counted
 pub mod Courses
 pub mod Each
 pub mod Exhausting
+pub mod Fetching
 pub mod Filing
 pub mod Handed
 pub mod Held
+pub mod InProgress
 pub mod Joined
 pub mod Numbered
 pub mod Once

@@ -1,5 +1,5 @@
 // Laws of the definitions: of what a session reads and writes, and of the machine and the reply table.
-ghost use Rattle.std.specs.Prelude.{◌≡◌, ◌≤◌, ◌++◌, ◌∷◌, ℕ, List, length, map, Some};
+ghost use Rattle.std.specs.Prelude.{◌≡◌, ◌≤◌, ◌++◌, ◌∷◌, ℕ, List, length, map, Err, Some};
 ghost use Rattle.lsp_frame.specs.Pending.{Pending};
 ghost use Rattle.lsp_frame.specs.declared.message.Message.{Message};
 ghost use Rattle.lsp_frame.specs.declared.message.Response.{Response};
@@ -9,19 +9,21 @@ ghost use Rattle.session_port.specs.Record.{spawned};
 ghost use Rattle.session_port.specs.declared.event.HostEvent.{HostEvent};
 ghost use Rattle.session_port.specs.declared.event.HostEvent.TheVariants.{Bytes};
 ghost use Rattle.turn_parts.specs.Working.{Working};
+ghost use Rattle.turn_parts.specs.declared.fault.Counter.{Counter};
 ghost use Rattle.turn_parts.specs.Written.{AreRead, AreShort, frames_for, messages_in};
 ghost use Rattle.desk.specs.Folds.{AreAnswers};
 ghost use Rattle.desk.specs.Meaning.{Meaning};
 ghost use Rattle.desk_laws.specs.Answering.{AllDiffer, answered_in};
 ghost use Rattle.desk_laws.specs.Numbers.{AreNumbered};
 ghost use Rattle.session_model.specs.Course.{course_of};
-ghost use Rattle.session_model.specs.Headline.{Place, beginning, place_after, reaction_of, row};
-ghost use Rattle.session_model.specs.Run.{Turn, Runs, Steps};
+ghost use Rattle.session_model.specs.Headline.{NeedsMore, Place, beginning, place_after, reaction_of, row};
+ghost use Rattle.session_model.specs.Machine.{step};
+ghost use Rattle.session_model.specs.Run.{Turn, Runs, Steps, begun};
 ghost use Rattle.session_model.specs.State.{State, fresh};
 ghost use Rattle.session_model.specs.declared.input.Input.{Input};
 ghost use Rattle.session_laws.specs.Answering.{answered_by};
 ghost use Rattle.session_laws.specs.Beside.{Beside, Serves};
-ghost use Rattle.session_laws.specs.Invariant.{SoundAt, Stands, StepFits};
+ghost use Rattle.session_laws.specs.Invariant.{FetchIsOut, SoundAt, Stands, StepFits, place_of};
 
 /// Bytes that come are as bytes that are held: a session's course is that of its bytes, however they are cut.
 pub fn any_pieces()
@@ -39,6 +41,11 @@ pub fn steps_are_rows()
     ensures { (meaning : Meaning) (old : State) (turn : Turn) (new : State) → Steps meaning old turn new → StepFits meaning old turn new }
 {}
 
+/// A turn that the machine can't take needs one more of a counter than there are.
+pub fn refused_turns_need_more()
+    ensures { (meaning : Meaning) (old : State) (input : Input) (counter : Counter) → step meaning input (begun old) ≡ Err counter → NeedsMore meaning (place_of old) input counter }
+{}
+
 /// A part of a turn that answers nobody, whatever else it does, leaves what the turn has answered, its desk and the
 /// numbers of its jobs as they should be.
 pub fn parts_beside_keep_the_answers()
@@ -54,6 +61,14 @@ pub fn rows_keep_the_invariant()
         → reaction_of turn ≡ row meaning turn.input place → AreNumbered place.desk.handed (spawned turn.commands)
         → place.revision ≤ (place_after turn place).revision
         → SoundAt place → SoundAt (place_after turn place) }
+{}
+
+/// A fetch of workspaces is in progress exactly where one job out is a fetch: it is so at the beginning, and each turn of the
+/// machine keeps it.
+pub fn fetches_in_progress_are_out()
+    ensures beginning { (settings : ConfigData) → FetchIsOut (beginning settings) }
+    ensures kept { (meaning : Meaning) (old : State) (turn : Turn) (new : State)
+        → Steps meaning old turn new → SoundAt (place_of old) → FetchIsOut (place_of old) → FetchIsOut (place_of new) }
 {}
 
 /// No request is answered twice in a run; and where each response answers a pending request, so many are answered as there are

@@ -1,6 +1,6 @@
 -- What a session's record says of requests and answers: by the lists of inputs, messages and commands alone.
 use Rattle.std.specs.Prelude.{◌≡◌, ◌≤◌, ℕ, ◌+◌, ◌-◌, ◌^◌, ◌⊎◌, List, [], ◌∷◌, ◌++◌, length, Contains, Bool, false}
-use Rattle.std.specs.Prelude.{IsTrue, Option, None, Some, Result, Ok, Err, if◌then◌else◌}
+use Rattle.std.specs.Prelude.{IsTrue, Option, None, Some, is_some, Result, Ok, Err, if◌then◌else◌}
 use Rattle.std.specs.FinMap as map
 use Rattle.std.specs.List.{filter_map}
 use Rattle.docs_vfs.specs.FileUrls.{path_of}
@@ -31,6 +31,7 @@ use Rattle.notify.specs.declared.notice.DidOpen.{DidOpen}
 use Rattle.notify.specs.declared.notice.Notice.{Notice}
 use Rattle.notify.specs.declared.notice.Notice.TheVariants as notices
 use Rattle.desk.specs.Desk.{Desk, new_desk}
+use Rattle.desk.specs.Fetching.{fetch_ended}
 use Rattle.desk.specs.Folds.{AreHeld, AnswersOnce, asked_among, desk_past, pending_after, shutdown_after}
 use Rattle.desk.specs.Meaning.{Meaning}
 use Rattle.desk.specs.Reactions.{Reaction, silent, joined, cancel_row, message_row, request_row}
@@ -41,8 +42,12 @@ use Rattle.session_model.specs.Inputs.{cancelled_by, notice_in, request_in, resp
 use Rattle.session_files.specs.Current.{AreNumbers, IsCurrent}
 use Rattle.session_files.specs.Folds.{after_closing, after_editing, after_messages, after_opening, after_turn, is_due, is_open}
 use Rattle.session_files.specs.SessionFiles.{SessionFiles, no_files}
+use Rattle.workspaces.specs.Fetches.{fetch_to_start, fire, start_fetch, start_up}
+use Rattle.workspaces.specs.Workspaces.{Workspaces, no_workspaces}
+use Rattle.workspaces.specs.declared.requests.FetchRequest.{FetchRequest}
+use Rattle.session_model.specs.Fetching.{fetch_jobs, fetch_kept, fetches_kept, with_fetches}
 use Rattle.session_model.specs.Hearing.{heard_of, told_by}
-use Rattle.session_model.specs.State.{columns_in, excludes_in, macros_loaded_in}
+use Rattle.session_model.specs.State.{columns_in, discovers, excludes_in, macros_loaded_in, may_fetch}
 use Rattle.session_model.specs.Run.{Turn, Told, AllRead, AsksLast, IsHonestInput, commands_of, fed_bytes, out_after, taking, telling}
 use Rattle.session_model.specs.declared.fault.SessionError.{SessionError}
 use Rattle.session_model.specs.declared.fault.SessionError.TheVariants.{ClientExited, BadFrame, BadMessage, HostFault, WriteFault, Exhausted, NoMemory}
@@ -61,15 +66,17 @@ pub record Place : Type 0 where
   pub revision : ℕ
   -- the turns, the requests that are read and not answered, the jobs handed over and not ended
   pub desk : Desk
+  -- what is known of the workspaces, and the fetches of them that are asked for
+  pub workspaces : Workspaces
 
 abbrev pub beginning : ConfigData → Place
-beginning settings = record { client = new_client settings; files = no_files; revision = 0; desk = new_desk }
+beginning settings = record { client = new_client settings; files = no_files; revision = 0; desk = new_desk; workspaces = no_workspaces }
 
 -- the number of the next turn, from 1; the start has none
 abbrev pub next_turn : Place → ℕ
 next_turn place = place.desk.turns + 1
 
--- what a job works on that is handed over here
+-- what a job works on that is handed over here; it shows no workspaces yet
 abbrev pub snapshot_at : Place → SnapshotData
 snapshot_at place = record {
   world = place.files.host.world;
@@ -151,6 +158,29 @@ client_answered (Some response) client = after_answer response client
 abbrev pub client_after : Input → Client → Client
 client_after input client = client_answered (response_in input) (client_told (notice_in input) client)
 
+-- what an input tells of the workspaces, by the jobs that are out: the start asks for a fetch, a job's message may end one, and a timer may ask for one
+abbrev pub workspaces_told : ConfigData → Input → Jobs → Workspaces → Workspaces
+workspaces_told settings Start out workspaces = with_fetches (start_up (discovers settings)) workspaces
+workspaces_told settings (Next (Lsp message)) out workspaces = workspaces
+workspaces_told settings (Next (Task batch)) out workspaces = fetches_kept batch out workspaces
+workspaces_told settings (Next (Vfs messages)) out workspaces = workspaces
+workspaces_told settings (Next (Deferred tasks)) out workspaces = workspaces
+workspaces_told settings (Next (Timer ticket)) out workspaces = with_fetches (fire ticket) workspaces
+
+abbrev pub workspaces_at : Input → Place → Workspaces
+workspaces_at input place = workspaces_told place.client.settings input place.desk.jobs place.workspaces
+
+-- behind an input fetches may start, by the settings that it leaves
+abbrev pub may_start : Input → Client → Bool
+may_start input client = may_fetch (client_after input client).settings
+
+-- the fetch that a turn starts: the one that is asked for behind its input, where none is in progress
+abbrev pub fetch_in : Input → Place → Option (List ℕ × FetchRequest)
+fetch_in input place = fetch_to_start (may_start input place.client) (workspaces_at input place).fetches
+
+abbrev pub workspaces_after : Input → Place → Workspaces
+workspaces_after input place = with_fetches (start_fetch (may_start input place.client)) (workspaces_at input place)
+
 -- the last of numbers, else the one before
 abbrev pub last_of : List ℕ → ℕ → ℕ
 last_of [] number = number
@@ -175,6 +205,7 @@ place_after turn place = record {
   files = files_after place.client.settings turn.input place.files;
   revision = revision_after turn.commands place.revision;
   desk = desk_after turn place.desk;
+  workspaces = workspaces_after turn.input place;
 }
 
 abbrev pub place_after_all : List Turn → Place → Place
@@ -194,7 +225,8 @@ notice_row (Some id) desk = cancel_row id desk
 
 -- what a message of a batch leaves for the next one
 abbrev pub place_past : TaskMsg → Reaction → Place → Place
-place_past message done place = record place { desk = desk_past message done place.desk }
+place_past message done place =
+    record place { desk = desk_past message done place.desk; workspaces = fetch_kept (fetch_ended message place.desk.jobs) place.workspaces }
 
 -- a batch: each message on what the ones before it leave
 abbrev pub batch_row : Meaning → List TaskMsg → Place → Reaction
@@ -213,6 +245,12 @@ row meaning (Next (Task batch)) place = batch_row meaning batch place
 row meaning (Next (Vfs messages)) place = silent
 row meaning (Next (Deferred tasks)) place = silent
 row meaning (Next (Timer ticket)) place = silent
+
+-- a turn hands over the jobs of its row, and behind them that of the fetch that it starts, if it starts one: on what the turn leaves
+abbrev pub HandsOver : Meaning → Turn → Place → Type 0
+HandsOver meaning turn place =
+    spawned turn.commands ≡ (row meaning turn.input place).jobs
+        ++ fetch_jobs (place_after turn place).desk.handed (snapshot_at (place_after turn place)) (fetch_in turn.input place)
 
 -- ---- what holds between turns
 
@@ -257,6 +295,8 @@ pub record SeesFiles (files : SessionFiles) : Type 0 where
 pub record Answers (meaning : Meaning) (settings : ConfigData) (honest : Bool) (before : List Turn) (turn : Turn) : Type 0 where
   -- it answers by the reply table
   pub does : let place = place_after_all before (beginning settings) in reaction_of turn ≡ row meaning turn.input place
+  -- and it hands over no other jobs than these and that of a fetch of workspaces
+  pub hands_over : HandsOver meaning turn (place_after_all before (beginning settings))
   -- each response answers one request that was read and has no answer yet
   pub once : let place = place_after_all before (beginning settings) in
       AnswersOnce (next_turn place) (request_in turn.input) (responses_in turn.messages) place.desk.pending
@@ -289,12 +329,16 @@ pub record NextInput (left : Course) (P : Input → Type 0) : Type 0 where
   pub is : left ≡ takes input later
   pub needs : P input
 
--- a turn needs one more of a counter than there are: its number is past the last one, it hands over more jobs, it asks the client where all numbers of requests
--- were given, it changes the world at the last revision, or one of its files needs a number where all were given
+-- one job more, where a turn starts a fetch
+abbrev pub fetches_in : Input → Place → ℕ
+fetches_in input place = if is_some (fetch_in input place) then 1 else 0
+
+-- a turn needs one more of a counter than there are: its number is past the last one, it hands over more jobs, for requests and for a fetch, it asks the
+-- client where all numbers of requests were given, it changes the world at the last revision, or one of its files needs a number where all were given
 abbrev pub NeedsMore : Meaning → Place → Input → Counter → Type 0
 NeedsMore meaning place input Turns = 2 ^ 64 ≤ next_turn place
 NeedsMore meaning place input Bytes = ⊥
-NeedsMore meaning place input JobsCounter = 2 ^ 64 ≤ place.desk.handed + length (row meaning input place).jobs
+NeedsMore meaning place input JobsCounter = 2 ^ 64 ≤ place.desk.handed + length (row meaning input place).jobs + fetches_in input place
 NeedsMore meaning place input Revisions = 2 ^ 64 - 1 ≤ place.revision
 NeedsMore meaning place input Outgoing = number_limit ≤ place.client.asked.given
 NeedsMore meaning place input Files = files_told place.client.settings input place.files ≡ Err Files

@@ -1,5 +1,6 @@
 pub mod Codes
 pub mod Course
+pub mod Fetching
 pub mod Headline
 pub mod Hearing
 pub mod Inputs

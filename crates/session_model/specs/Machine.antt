@@ -1,5 +1,5 @@
 -- The session machine: one turn, as a chain of its parts.
-use Rattle.std.specs.Prelude.{ℕ, ◌==◌, List, [], ◌∷◌, length, is_some, Result, Ok, Err, if◌then◌else◌}
+use Rattle.std.specs.Prelude.{ℕ, ◌==◌, List, [], ◌∷◌, length, Option, None, Some, is_some, Result, Ok, Err, if◌then◌else◌}
 use Rattle.std.specs.FinMap as map
 use Rattle.lsp_frame.specs.declared.message.RequestId.{RequestId}
 use Rattle.lsp_frame.specs.declared.message.Message.{Message}
@@ -11,6 +11,7 @@ use Rattle.session_port.specs.declared.command.Command.TheVariants.{Revise, Inva
 use Rattle.session_port.specs.declared.command.LogCode.TheVariants.{MalformedNotification, UnhandledNotification}
 use Rattle.session_port.specs.declared.command.LogCode.TheVariants.{BadPath}
 use Rattle.session_port.specs.declared.event.TaskMsg.{TaskMsg}
+use Rattle.method_table.specs.declared.class.PoolClass.TheVariants.{Worker}
 use Rattle.turn_parts.specs.Working.{Working, and_then, ordered, logged, put_back, within}
 use Rattle.turn_parts.specs.declared.fault.Counter.{Counter}
 use Rattle.client.specs.Client.{Client}
@@ -22,12 +23,17 @@ use Rattle.notify.specs.declared.notice.DidOpen.{DidOpen}
 use Rattle.notify.specs.declared.notice.Notice.{Notice}
 use Rattle.notify.specs.declared.notice.Notice.TheVariants as notices
 use Rattle.desk.specs.Desk.{Desk}
+use Rattle.desk.specs.Fetching.{fetch_ended}
 use Rattle.desk.specs.Meaning.{Meaning}
-use Rattle.desk.specs.Steps.{requested, cancelled, counted as counted_at_desk, taken as taken_at_desk, kept as kept_at_desk}
+use Rattle.desk.specs.Steps.{requested, cancelled, counted as counted_at_desk, handed_over, taken as taken_at_desk, kept as kept_at_desk}
 use Rattle.session_files.specs.SessionFiles.{SessionFiles}
 use Rattle.session_files.specs.Steps.{changed, closed as closed_document, loaded, opened, processed}
+use Rattle.workspaces.specs.Fetches.{fetch_to_start, fire, start_fetch, start_up}
+use Rattle.workspaces.specs.Workspaces.{Workspaces}
+use Rattle.workspaces.specs.declared.requests.FetchRequest.{FetchRequest}
+use Rattle.session_model.specs.Fetching.{fetch_kept, with_fetches}
 use Rattle.session_model.specs.Hearing.{heard_of}
-use Rattle.session_model.specs.State.{State, columns_in, excludes_in, scene_of}
+use Rattle.session_model.specs.State.{State, columns_in, discovers, excludes_in, fetch_kind, may_fetch, scene_of, snapshot_of}
 use Rattle.session_model.specs.declared.facts.Facts.{Facts}
 use Rattle.session_model.specs.declared.input.Event.{Event}
 use Rattle.session_model.specs.declared.input.Event.TheVariants.{Lsp, Task, Vfs, Deferred, Timer}
@@ -75,6 +81,15 @@ with_files files state = record state { files = files }
 -- a step of them
 abbrev pub at_files : (Working SessionFiles → Result (Working SessionFiles) Counter) → Working State → Result (Working State) Counter
 at_files step w = within files_in with_files step w
+
+-- ---- the workspaces, within the session
+
+abbrev pub with_workspaces : Workspaces → State → State
+with_workspaces workspaces state = record state { workspaces = workspaces }
+
+-- the workspaces come to this; nothing is written for it
+abbrev pub at_workspaces : (Workspaces → Workspaces) → Working State → Working State
+at_workspaces step w = record w { state = with_workspaces (step w.state.workspaces) w.state }
 
 -- ---- notifications
 
@@ -128,9 +143,11 @@ received meaning (ResponseMessage r) w = at_client (λ c. Ok (answered r c)) w
 
 -- ---- results
 
--- a message of a job, on the present snapshot
+-- a message of a job, on the present snapshot; one that ends a fetch is told to the workspaces
 abbrev pub taken : Meaning → TaskMsg → Working State → Result (Working State) Counter
-taken meaning message w = at_desk (taken_at_desk meaning (scene_of w.state) message) w
+taken meaning message w =
+    and_then (at_desk (taken_at_desk meaning (scene_of w.state) message) w)
+    (λ v. Ok (at_workspaces (fetch_kept (fetch_ended message w.state.desk.jobs)) v))
 
 -- a batch of messages, one after another
 abbrev pub batched : Meaning → List TaskMsg → Working State → Result (Working State) Counter
@@ -139,13 +156,17 @@ batched meaning (message ∷ messages) w = and_then (taken meaning message w) (b
 
 -- ---- the turn
 
--- nothing is done yet for a deferred task, nor where a timer ends
+-- a fetch that waits for a timer is asked for when it comes
+abbrev pub timed : ℕ → Working State → Working State
+timed ticket w = at_workspaces (with_fetches (fire ticket)) w
+
+-- nothing is done yet for a deferred task
 unfoldable pub happened : Meaning → Event → Working State → Result (Working State) Counter
 happened meaning (Lsp message) w = received meaning message w
 happened meaning (Task batch) w = batched meaning batch w
 happened meaning (Vfs messages) w = at_files (loaded messages) w
 happened meaning (Deferred tasks) w = Ok w
-happened meaning (Timer ticket) w = Ok w
+happened meaning (Timer ticket) w = Ok (timed ticket w)
 
 -- the turn is counted, and its event is taken in
 unfoldable pub counted : Working State → Result (Working State) Counter
@@ -194,8 +215,19 @@ quiet_part w = Ok w
 abbrev pub publish_part : Working Turning → Result (Working Turning) Counter
 publish_part w = Ok w
 
-abbrev pub fetch_part : Working Turning → Result (Working Turning) Counter
-fetch_part w = Ok w
+-- a fetch that is to start is handed over on the present snapshot
+unfoldable pub fetch_handed_over : Option (List ℕ × FetchRequest) → Working State → Result (Working State) Counter
+fetch_handed_over None w = Ok w
+fetch_handed_over (Some request) w = at_desk (handed_over (snapshot_of w.state) Worker (fetch_kind w.state.client.settings request.1)) w
+
+-- the fetch that waits in the queue starts, where fetches may start and none is in progress
+unfoldable pub fetch_started : Working State → Result (Working State) Counter
+fetch_started w =
+    let may = may_fetch w.state.client.settings in
+    fetch_handed_over (fetch_to_start may w.state.workspaces.fetches) (at_workspaces (with_fetches (start_fetch may)) w)
+
+unfoldable pub fetch_part : Working Turning → Result (Working Turning) Counter
+fetch_part w = in_state fetch_started w
 
 abbrev pub build_part : Working Turning → Result (Working Turning) Counter
 build_part w = Ok w
@@ -219,6 +251,17 @@ later_parts w =
     and_then (files_part w) (λ w. and_then (quiet_part w) (λ w. and_then (publish_part w) (λ w. and_then (fetch_part w)
     (λ w. and_then (build_part w) (λ w. and_then (prime_part w) (λ w. and_then (status_part w) closing_part))))))
 
+-- the start asks for the first fetch, unless the projects are discovered
+unfoldable pub begun_fetches : Working State → Result (Working State) Counter
+begun_fetches w = Ok (at_workspaces (with_fetches (start_up (discovers w.state.client.settings))) w)
+
+unfoldable pub begin_part : Working Turning → Result (Working Turning) Counter
+begin_part w = in_state begun_fetches w
+
+-- the parts of the start
+abbrev pub start_parts : Working Turning → Result (Working Turning) Counter
+start_parts w = and_then (status_part w) (λ w. and_then (begin_part w) (λ w. and_then (fetch_part w) closing_part))
+
 -- the facts before a turn
 abbrev pub facts_of : Working State → Facts
 facts_of w = record { revision = w.state.files.host.revision; ordered = length w.out.commands }
@@ -232,5 +275,5 @@ turned w = Ok (record { state = w.state.state; out = w.out })
 
 -- one turn: a chain of nine parts. The start is a chain of its own, and uses no number of the turns
 unfoldable pub step : Meaning → Input → Working State → Result (Working State) Counter
-step meaning Start w = and_then (and_then (status_part (turning w)) closing_part) turned
+step meaning Start w = and_then (start_parts (turning w)) turned
 step meaning (Next event) w = and_then (and_then (event_part meaning event (turning w)) later_parts) turned

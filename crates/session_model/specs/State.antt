@@ -1,14 +1,18 @@
 -- The session's state, as contracts see it: a record of its parts.
-use Rattle.std.specs.Prelude.{ℕ, Bool, List, [], None, false, not}
+use Rattle.std.specs.Prelude.{ℕ, Bool, List, [], None, false, is_some, not, ◌||◌}
 use Rattle.text_core.specs.declared.position.PositionEncoding.{PositionEncoding}
-use Rattle.ra_settings.specs.declared.row.Row.TheVariants.{FilesExclude, ProcMacroEnable}
+use Rattle.ra_settings.specs.declared.row.Row.TheVariants.{CargoAutoreload, DetachedFiles, FilesExclude, ProcMacroEnable, WorkspaceDiscoverConfig}
 use Rattle.ra_settings.specs.declared.value.SettingValue.{SettingValue}
-use Rattle.ra_settings.specs.declared.value.SettingValue.TheVariants.{Paths, Truth}
+use Rattle.ra_settings.specs.declared.value.SettingValue.TheVariants.{Discover, Paths, Truth}
 use Rattle.layered_settings.specs.Search.{setting}
-use Rattle.ra_config.specs.Config.{ConfigData}
+use Rattle.ra_config.specs.Config.{ConfigData, projects_of}
 use Rattle.analysis_host.specs.SnapshotData.{SnapshotData}
+use Rattle.session_port.specs.declared.job.JobKind.{JobKind}
+use Rattle.session_port.specs.declared.job.JobKind.TheVariants.{FetchWorkspaces}
 use Rattle.client.specs.Client.{Client, new_client, new_client_at}
 use Rattle.session_files.specs.SessionFiles.{SessionFiles, no_files, no_files_at}
+use Rattle.workspaces.specs.Workspaces.{Workspaces, no_workspaces}
+use Rattle.workspaces.specs.declared.requests.FetchRequest.{FetchRequest}
 use Rattle.desk.specs.Desk.{Desk, new_desk, new_desk_at}
 use Rattle.desk.specs.declared.scene.Scene.{Scene}
 use Rattle.session_model.specs.declared.counters.Counters.{Counters}
@@ -20,6 +24,8 @@ pub record State : Type 0 where
   pub files : SessionFiles
   -- requests and jobs
   pub desk : Desk
+  -- the workspaces, and what is asked for to renew them
+  pub workspaces : Workspaces
 
 -- what a column counts: what the client and the session have agreed upon
 abbrev pub columns_in : ConfigData → PositionEncoding
@@ -41,7 +47,25 @@ truth_in other = false
 abbrev pub macros_loaded_in : ConfigData → Bool
 macros_loaded_in settings = not (truth_in (setting ProcMacroEnable None settings.settings))
 
--- the snapshot of the present; there are no workspaces yet
+-- the setting `workspace.discoverConfig` is set
+abbrev pub is_discovering : SettingValue → Bool
+is_discovering (Discover command) = is_some command
+is_discovering other = false
+
+-- the projects are discovered by a command
+abbrev pub discovers : ConfigData → Bool
+discovers settings = is_discovering (setting WorkspaceDiscoverConfig None settings.settings)
+
+-- workspaces may be fetched: the setting `cargo.autoreload`, or the projects are discovered
+abbrev pub may_fetch : ConfigData → Bool
+may_fetch settings = truth_in (setting CargoAutoreload None settings.settings) || discovers settings
+
+-- what a fetch is for: the projects of the session, and the files that stand alone
+abbrev pub fetch_kind : ConfigData → FetchRequest → JobKind
+fetch_kind settings request =
+    FetchWorkspaces (projects_of settings) (paths_in (setting DetachedFiles None settings.settings)) request.path request.force
+
+-- the snapshot of the present; it shows no workspaces yet
 abbrev pub snapshot_of : State → SnapshotData
 snapshot_of state = record {
   world = state.files.host.world;
@@ -60,7 +84,7 @@ scene_of state = record { snapshot = snapshot_of state; loading = state.files.lo
 
 -- the state before any turn
 abbrev pub fresh : ConfigData → State
-fresh settings = record { client = new_client settings; files = no_files; desk = new_desk }
+fresh settings = record { client = new_client settings; files = no_files; desk = new_desk; workspaces = no_workspaces }
 
 -- the same, where so many of each counter were used
 abbrev pub fresh_at : Counters → ConfigData → State
@@ -68,4 +92,5 @@ fresh_at used settings = record {
   client = new_client_at used.outgoing settings;
   files = no_files_at used.files used.revisions;
   desk = new_desk_at used.turns used.jobs;
+  workspaces = no_workspaces;
 }

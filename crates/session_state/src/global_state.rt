@@ -13,6 +13,7 @@ ghost use Rattle.session_model.specs.State.{macros_loaded_in, scene_of, snapshot
 ghost use Rattle.session_model.specs.declared.input.Input.TheVariants.{Start, Next};
 
 mod asking;
+mod fetching;
 mod filing;
 mod messages;
 mod notifications;
@@ -32,6 +33,7 @@ use std::alloc::{AllocError, Global};
 use std::marker::Model;
 use std::sync::Arc;
 use turn_parts::TurnOut;
+use workspaces::Workspaces;
 
 /// The state of a session.
 #[derive(Drop)]
@@ -40,21 +42,24 @@ pub struct GlobalState {
     client: Client,
     files: SessionFiles,
     desk: Desk,
-    workspaces: NoWorkspaces,
+    workspaces: Workspaces,
+    /// What snapshots show of the workspaces.
+    shown: NoWorkspaces,
 }
 
 impl Model for GlobalState {
     ghost use Rattle.docs_vfs.specs.contracts.file_table.FileTable as files_of;
     ghost use Rattle.client.specs.contracts.handler.ReqHandler as handler;
     ghost use Rattle.session_port.specs.contracts.job.Job as job;
+    ghost use Rattle.workspaces.specs.contracts.state.Workspaces as workspaces_of;
     ghost use Rattle.session_model.specs.Codes.{state_code};
     ghost use Rattle.session_model.specs.State.{State};
 
     ghost Value = { State };
 
-    ghost coded = { state_code handler.the_row.coded files_of.the_row.coded job.the_row.coded };
+    ghost coded = { state_code handler.the_row.coded files_of.the_row.coded job.the_row.coded workspaces_of.the_row.coded };
 
-    ghost view = { λ g. record { client = g.client; files = g.files; desk = g.desk } };
+    ghost view = { λ g. record { client = g.client; files = g.files; desk = g.desk; workspaces = g.workspaces } };
 }
 
 impl GlobalState {
@@ -67,7 +72,8 @@ impl GlobalState {
             client: Client::new(alloc, settings)?,
             files: SessionFiles::new(alloc)?,
             desk: Desk::new(alloc),
-            workspaces: NoWorkspaces::new(alloc)?,
+            workspaces: Workspaces::new(alloc),
+            shown: NoWorkspaces::new(alloc)?,
         })
     }
 
@@ -81,7 +87,8 @@ impl GlobalState {
             client: Client::new_at(alloc, used.outgoing, settings)?,
             files: SessionFiles::new_at(alloc, used.files, used.revisions)?,
             desk: Desk::new_at(alloc, used.turns, used.jobs),
-            workspaces: NoWorkspaces::new(alloc)?,
+            workspaces: Workspaces::new(alloc),
+            shown: NoWorkspaces::new(alloc)?,
         })
     }
 
@@ -92,7 +99,7 @@ impl GlobalState {
         !self.client.settings().proc_macro_enable()
     }
 
-    /// The snapshot of the present. There are no workspaces yet.
+    /// The snapshot of the present. It shows no workspaces yet.
     pub fn snapshot(&self) -> Result<GlobalStateSnapshot, AllocError>
         ensures { IfOk result (λ snapshot. snapshot ≡ snapshot_of self.now) }
     {
@@ -102,7 +109,7 @@ impl GlobalState {
             versions: self.files.versions()?,
             config: Arc::try_clone(self.client.settings())?,
             proc_macros_loaded: self.macros_loaded(),
-            workspaces: self.workspaces.share()?,
+            workspaces: self.shown.share()?,
             workspaces_version: 0,
             revision: self.files.revision(),
         }))
@@ -200,7 +207,8 @@ impl GlobalState {
             Event::Lsp(message) => self.on_message(message, analysis, out),
             Event::Task(batch) => self.on_batch(batch, analysis, out),
             Event::Vfs(messages) => self.on_loader(messages, out),
-            Event::Deferred(_) | Event::Timer(_) => Ok(()),
+            Event::Deferred(_) => Ok(()),
+            Event::Timer(ticket) => self.on_timer(ticket, out),
         }
     }
 
@@ -257,16 +265,18 @@ impl GlobalState {
     }
 
     /// Turn 0. It uses no number of the turns. After an `Err` the state is spent.
-    #[tactic(auto, unfolding(session_model::specs::Machine::step, session_model::specs::Machine::closing_part, turn_parts::specs::Working::within))]
+    #[tactic(auto, unfolding(session_model::specs::Machine::step, session_model::specs::Machine::begin_part, session_model::specs::Machine::fetch_part, session_model::specs::Machine::closing_part, turn_parts::specs::Working::within))]
     pub fn start(&mut self, out: &mut TurnOut) -> Result<(), TurnError>
         ensures { (meaning : Meaning) → Meets result (step meaning Start (record { state = self.old; out = out.old })) self.new out.new }
     {
         let facts = self.facts(out);
+        self.begin_fetches(out)?;
+        self.start_fetch(out)?;
         self.close_turn(facts, out)
     }
 
     /// One turn. After an `Err` the state is spent.
-    #[tactic(auto, unfolding(session_model::specs::Machine::step, session_model::specs::Machine::event_part, session_model::specs::Machine::files_part, session_model::specs::Machine::closing_part, turn_parts::specs::Working::within))]
+    #[tactic(auto, unfolding(session_model::specs::Machine::step, session_model::specs::Machine::event_part, session_model::specs::Machine::files_part, session_model::specs::Machine::fetch_part, session_model::specs::Machine::closing_part, turn_parts::specs::Working::within))]
     pub fn handle_event<A: Analysis>(
         &mut self,
         event: Event,
@@ -278,6 +288,7 @@ impl GlobalState {
         let facts = self.facts(out);
         self.take_in(event, analysis, out)?;
         self.process(out)?;
+        self.start_fetch(out)?;
         self.close_turn(facts, out)
     }
 }

@@ -48,12 +48,21 @@ fn settings_of(alloc: Global, state: &GlobalState) -> Option<String> {
     settings_text(alloc, snapshot.config())
 }
 
-/// What comes of an event. The word `settings` is no event: it asks for the settings.
+/// Turn 0, in words.
+fn start(alloc: Global, state: &mut GlobalState) -> Option<String> {
+    let mut out = TurnOut::new(alloc);
+    match state.start(&mut out) {
+        Ok(()) => words(alloc, &mut out),
+        Err(error) => fault(alloc, error),
+    }
+}
+
+/// What comes of an event. The words `settings` and `start` are none: they ask for the settings, and for turn 0.
 fn outcome(alloc: Global, state: &mut GlobalState, event: &str) -> Option<String> {
-    if event == "settings" {
-        settings_of(alloc, state)
-    } else {
-        turn(alloc, state, event_of(alloc, event)?)
+    match event {
+        "settings" => settings_of(alloc, state),
+        "start" => start(alloc, state),
+        _ => turn(alloc, state, event_of(alloc, event)?),
     }
 }
 

@@ -57,6 +57,7 @@ fn none_left(counter: &str) -> Option<Counters> {
 /// A counter, and an event that needs one of it; then what the session does where none is used, and where one is left.
 const NEEDS: &str = r#"turns > tell $/nothing null
 jobs > ask textDocument/hover {"a":1} > Worker > Worker
+jobs > start > Worker > Worker
 revisions > open > revise > revise
 outgoing > tell workspace/didChangeConfiguration null > Content-Length: 108\r\n\r\n{"id":0,"jsonrpc":"2.0","method":"workspace/configuration","params":{"items":[{"section":"rust-analyzer"}]}} > Content-Length: 117\r\n\r\n{"id":2147483647,"jsonrpc":"2.0","method":"workspace/configuration","params":{"items":[{"section":"rust-analyzer"}]}}
 files > open > revise > revise"#;

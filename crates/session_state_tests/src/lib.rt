@@ -8,6 +8,8 @@ mod asking;
 #[cfg(test)]
 mod counters;
 #[cfg(test)]
+mod fetching;
+#[cfg(test)]
 mod methods;
 #[cfg(test)]
 mod results;

@@ -92,7 +92,7 @@ fn ended(alloc: Global, outcome: JobResult) -> Option<Event> {
 
 /// `ask` and `tell` with a method and its params, `answer` with the result in the response to the session's request 0,
 /// `loading` where files begin to load, `open` where `/w/a.rs` is opened, `null` and `stopped` as results of the first
-/// job, `builds` as a result that is no request's, `deferred` and `timer`, and `shutdown` as a request.
+/// job, `fetched` and `builds` as results that are no request's, `deferred` and `timer`, and `shutdown` as a request.
 pub fn event_of(alloc: Global, words: &str) -> Option<Event> {
     let (kind, rest) = cut(words, " ");
     match kind {
@@ -107,6 +107,10 @@ pub fn event_of(alloc: Global, words: &str) -> Option<Event> {
         ),
         "null" => ended(alloc, JobResult::Value(JobValue::Json(Json::null()))),
         "stopped" => ended(alloc, JobResult::Cancelled { saw: 1 }),
+        "fetched" => ended(
+            alloc,
+            JobResult::Value(JobValue::Workspaces(Items::new(alloc))),
+        ),
         "builds" => ended(
             alloc,
             JobResult::Value(JobValue::BuildData(Items::new(alloc))),

@@ -23,7 +23,7 @@ const LOADING_ANSWERS: &str = r#"{"id":2,"jsonrpc":"2.0","result":null}
 const ENDINGS: &str =
     r#"- textDocument/didOpen {"textDocument":{"uri":"file:///w/a.rs","version":1,"text":"a\r\nb"}}
 1 textDocument/hover {"textDocument":{"uri":"file:///w/a.rs"},"position":{"line":0,"character":2}}
-finish 1
+finish 2
 - exit null"#;
 
 const ENDINGS_ANSWERS: &str = r#"{"id":1,"jsonrpc":"2.0","result":{"contents":"b"}}
@@ -38,9 +38,9 @@ loaded
 1 textDocument/hover {"textDocument":{"uri":"file:///w/b.rs"},"position":{"line":0,"character":0}}
 2 textDocument/hover {"textDocument":{"uri":"file:///w/c.rs"},"position":{"line":0,"character":0}}
 3 textDocument/hover {"textDocument":{"uri":"file:///w/d.rs"},"position":{"line":0,"character":0}}
-finish 1
 finish 2
 finish 3
+finish 4
 - exit null"#;
 
 const FILES_ANSWERS: &str = r#"{"id":1,"jsonrpc":"2.0","result":{"contents":"one"}}

@@ -63,7 +63,7 @@ fn files(alloc: Global, line: &str) -> Result<Items<LoadedFile>, Fail> {
     Ok(files)
 }
 
-/// `loading` and `loaded`, `file PATH TEXT`, `finish JOB`, or a message.
+/// `loading` and `loaded`, `file PATH TEXT`, `finish JOB`, or a message. Job 1 is the fetch that the start hands over.
 fn step(alloc: Global, line: &str) -> Result<ScriptStep, Fail> {
     let (word, rest) = cut(line);
     match word {

@@ -14,7 +14,7 @@ ghost use Rattle.turn_parts.specs.Meets.{Meets, Gives};
 ghost use Rattle.turn_parts.specs.Working.{replied};
 ghost use Rattle.desk.specs.Meaning.{meaning_of, can_read};
 ghost use Rattle.desk.specs.Replies.{already_pending, shut_already, unknown_request, invalid_params, finding_reply};
-ghost use Rattle.desk.specs.Steps.{requested, responded, admitted, shut_down, asked, unknown, classed, planned, stated, echoed, queried, submitted, dispatched};
+ghost use Rattle.desk.specs.Steps.{requested, responded, admitted, shut_down, asked, unknown, classed, planned, stated, echoed, queried, submitted, dispatched, handed_over};
 
 use crate::replies::{already_pending, fault_reply, invalid_params, shut_already, unknown_request};
 use crate::scene::Scene;
@@ -148,7 +148,29 @@ impl Desk {
 
 // What is planned for a request.
 impl Desk {
-    // Hands over a job on the present snapshot.
+    /// Hands over a job of this kind on this snapshot. After an `Err` the desk is spent.
+    #[tactic(auto, unfolding(turn_parts::specs::Working::ordered))]
+    pub fn hand_over(
+        &mut self,
+        kind: JobKind,
+        class: PoolClass,
+        snapshot: GlobalStateSnapshot,
+        out: &mut TurnOut,
+    ) -> Result<(), TurnError>
+        ensures { Meets result (handed_over snapshot class kind (record { state = self.old; out = out.old })) self.new out.new }
+    {
+        let number = next_number(self.handed, Counter::Jobs)?;
+        let job = Job {
+            number,
+            class,
+            kind,
+            snapshot,
+        };
+        self.handed = number;
+        self.order(Command::Spawn(job), out)
+    }
+
+    // Hands over a request's job on the present snapshot.
     #[tactic(auto, unfolding(crate::specs::Steps::dispatched))]
     fn dispatch(
         &mut self,
@@ -161,19 +183,13 @@ impl Desk {
     ) -> Result<(), TurnError>
         ensures { Meets result (dispatched scene.now class ticket row params (record { state = self.old; out = out.old })) self.new out.new }
     {
-        let number = next_number(self.handed, Counter::Jobs)?;
-        let job = Job {
-            number,
-            class,
-            kind: JobKind::Request {
-                ticket,
-                row,
-                params,
-            },
-            snapshot: scene.snapshot.clone()?,
+        let kind = JobKind::Request {
+            ticket,
+            row,
+            params,
         };
-        self.handed = number;
-        self.order(Command::Spawn(job), out)
+        let snapshot = scene.snapshot.clone()?;
+        self.hand_over(kind, class, snapshot, out)
     }
 
     // Answers a request by its own params, where they can be read.

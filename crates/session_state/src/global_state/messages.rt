@@ -3,7 +3,7 @@ ghost use Rattle.std.specs.Prelude.{◌≡◌};
 ghost use Rattle.lsp_frame.specs.Pending.{IsAbove};
 ghost use Rattle.turn_parts.specs.Meets.{Meets};
 ghost use Rattle.desk.specs.Meaning.{meaning_of};
-ghost use Rattle.desk.specs.Steps.{requested};
+ghost use Rattle.desk.specs.Steps.{requested, taken as taken_at_desk};
 ghost use Rattle.session_model.specs.Machine.{at_desk, batched, received, taken};
 ghost use Rattle.session_model.specs.State.{scene_of};
 
@@ -46,6 +46,20 @@ impl GlobalState {
         }
     }
 
+    // A message of a job, at the desk.
+    fn bring<A: Analysis>(
+        &mut self,
+        message: TaskMsg,
+        analysis: &A,
+        out: &mut TurnOut,
+    ) -> Result<(), TurnError>
+        ensures { Meets result (at_desk (taken_at_desk (meaning_of A.decodes A.answer) (scene_of self.old) message) (record { state = self.old; out = out.old })) self.new out.new }
+    {
+        let scene = self.scene()?;
+        self.desk.on_task(&scene, message, analysis, out)
+    }
+
+    // A message of a job. One that ends a fetch is told to the workspaces.
     fn on_task<A: Analysis>(
         &mut self,
         message: TaskMsg,
@@ -54,8 +68,9 @@ impl GlobalState {
     ) -> Result<(), TurnError>
         ensures { Meets result (taken (meaning_of A.decodes A.answer) message (record { state = self.old; out = out.old })) self.new out.new }
     {
-        let scene = self.scene()?;
-        self.desk.on_task(&scene, message, analysis, out)
+        let end = self.desk.fetch_end(&message)?;
+        self.bring(message, analysis, out)?;
+        self.keep_fetch(end, out)
     }
 
     // The messages of a batch, one after another.

@@ -1,0 +1,129 @@
+// Fetches of workspaces.
+ghost use Rattle.std.specs.Prelude.{◌≡◌, IfOk};
+ghost use Rattle.turn_parts.specs.Meets.{Meets, Gives};
+ghost use Rattle.method_table.specs.declared.class.PoolClass.TheVariants.{Worker};
+ghost use Rattle.desk.specs.Steps.{handed_over};
+ghost use Rattle.session_model.specs.Machine.{at_desk, at_workspaces, begun_fetches, fetch_handed_over, fetch_kept, fetch_started, timed};
+ghost use Rattle.session_model.specs.State.{discovers, fetch_kind, may_fetch, snapshot_of};
+
+use crate::global_state::GlobalState;
+use desk::FetchEnd;
+use docs_vfs::VfsPath;
+use method_table::PoolClass;
+use plain::{Items, Text};
+use session_model::TurnError;
+use session_port::JobKind;
+use std::alloc::{AllocError, Global};
+use turn_parts::TurnOut;
+use workspaces::FetchRequest;
+
+// A copy of paths.
+fn copied(alloc: Global, paths: &[VfsPath]) -> Result<Items<VfsPath>, AllocError>
+    ensures { IfOk result (λ copy. copy ≡ paths.now) }
+{
+    let mut copy = Items::new(alloc);
+    for path in paths {
+        copy.push(path.clone()?)?;
+    }
+    Ok(copy)
+}
+
+impl GlobalState {
+    // Whether the projects are discovered by a command.
+    fn discovers(&self) -> bool
+        ensures { result ≡ discovers self.now.client.settings }
+    {
+        self.client.settings().workspace_discover_config().is_some()
+    }
+
+    // Whether workspaces may be fetched.
+    fn may_fetch(&self) -> bool
+        ensures { result ≡ may_fetch self.now.client.settings }
+    {
+        self.client.settings().cargo_autoreload() || self.discovers()
+    }
+
+    // The start asks for the first fetch, unless the projects are discovered.
+    #[tactic(auto, unfolding(session_model::specs::Machine::begun_fetches))]
+    pub(super) fn begin_fetches(&mut self, out: &mut TurnOut) -> Result<(), TurnError>
+        ensures { Meets result (begun_fetches (record { state = self.old; out = out.old })) self.new out.new }
+    {
+        let discovers = self.discovers();
+        self.workspaces.start_up(discovers)?;
+        Ok(())
+    }
+
+    // The timer with this ticket has come.
+    pub(super) fn on_timer(&mut self, ticket: u64, out: &mut TurnOut) -> Result<(), TurnError>
+        ensures { Gives result (timed ticket (record { state = self.old; out = out.old })) self.new out.new }
+    {
+        self.workspaces.fire(ticket)?;
+        Ok(())
+    }
+
+    // What a fetch came to is kept, where one is in progress.
+    pub(super) fn keep_fetch(
+        &mut self,
+        end: Option<FetchEnd>,
+        out: &mut TurnOut,
+    ) -> Result<(), TurnError>
+        ensures { Gives result (at_workspaces (fetch_kept end) (record { state = self.old; out = out.old })) self.new out.new }
+    {
+        let Some(found) = end else {
+            return Ok(());
+        };
+        if self.workspaces.is_fetching() {
+            self.workspaces.end_fetch(found)?;
+        }
+        Ok(())
+    }
+
+    // What the job of a fetch is to find.
+    fn fetch_kind(&self, request: FetchRequest) -> Result<JobKind, AllocError>
+        ensures { IfOk result (λ kind. kind ≡ fetch_kind self.now.client.settings request) }
+    {
+        let settings = self.client.settings();
+        Ok(JobKind::FetchWorkspaces {
+            projects: settings.linked_or_discovered_projects(self.alloc)?,
+            detached: copied(self.alloc, settings.detached_files())?,
+            path: request.path,
+            force: request.force,
+        })
+    }
+
+    // Hands over a job of the session's own on the present snapshot.
+    fn hand_over(&mut self, kind: JobKind, out: &mut TurnOut) -> Result<(), TurnError>
+        ensures { Meets result (at_desk (handed_over (snapshot_of self.old) Worker kind) (record { state = self.old; out = out.old })) self.new out.new }
+    {
+        let snapshot = self.snapshot()?;
+        self.desk.hand_over(kind, PoolClass::Worker, snapshot, out)
+    }
+
+    // Hands over the job of a fetch that is to start.
+    #[tactic(auto, unfolding(session_model::specs::Machine::fetch_handed_over))]
+    fn hand_over_fetch(
+        &mut self,
+        started: Option<(Text, FetchRequest)>,
+        out: &mut TurnOut,
+    ) -> Result<(), TurnError>
+        ensures { Meets result (fetch_handed_over started (record { state = self.old; out = out.old })) self.new out.new }
+    {
+        match started {
+            None => Ok(()),
+            Some((_cause, request)) => {
+                let kind = self.fetch_kind(request)?;
+                self.hand_over(kind, out)
+            }
+        }
+    }
+
+    // Starts the fetch that waits in the queue, where fetches may start and none is in progress.
+    #[tactic(auto, unfolding(session_model::specs::Machine::fetch_started))]
+    pub(super) fn start_fetch(&mut self, out: &mut TurnOut) -> Result<(), TurnError>
+        ensures { Meets result (fetch_started (record { state = self.old; out = out.old })) self.new out.new }
+    {
+        let may = self.may_fetch();
+        let started = self.workspaces.start_fetch(may);
+        self.hand_over_fetch(started, out)
+    }
+}
