@@ -15,7 +15,7 @@ use Rattle.session_port.specs.declared.job.JobKind.{JobKind}
 use Rattle.session_port.specs.declared.job.JobKind.TheVariants.{Request, FetchWorkspaces, FetchBuildData, LoadProcMacros}
 use Rattle.session_port.specs.declared.job.JobResult.{JobResult}
 use Rattle.session_port.specs.declared.job.JobResult.TheVariants.{Value, Fault, Cancelled, NoMemory}
-use Rattle.session_port.specs.declared.job.JobValue.TheVariants.{Json, Workspaces as WorkspacesValue, BuildData, ProcMacros}
+use Rattle.session_port.specs.declared.job.JobValue.TheVariants.{Json, Roots, Primed, Workspaces as WorkspacesValue, BuildData, ProcMacros}
 use Rattle.desk.specs.Fetching.{FetchEnd, fetch_end, fetch_end_of, fetch_ended, fetch_told}
 use Rattle.desk.specs.Folds.{asked_among, is_asked}
 use Rattle.desk.specs.Meaning.{Meaning}
@@ -92,6 +92,8 @@ fit-true body (Some found) job is = by_test (fits found body) refl is
 -- a fetch ends with what it came to
 fetch-has-end : (result : JobResult) → if_value has_workspaces result ≡ true → (found : FetchEnd) × (fetch_end result ≡ Some found)
 fetch-has-end (Value (Json value)) fit = true-false (sym fit)
+fetch-has-end (Value (Roots paths)) fit = true-false (sym fit)
+fetch-has-end (Value Primed) fit = true-false (sym fit)
 fetch-has-end (Value (WorkspacesValue results)) fit = (Ok results, refl)
 fetch-has-end (Value (BuildData results)) fit = true-false (sym fit)
 fetch-has-end (Value (ProcMacros macros)) fit = true-false (sym fit)
