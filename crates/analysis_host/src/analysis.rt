@@ -1,7 +1,7 @@
 // What answers a question on a snapshot.
 ghost use Rattle.std.specs.Prelude.{◌≡◌, ◌≤◌, Bool, None, IfOk, OnOk};
 ghost use Rattle.serde_json.specs.Data.{Data};
-ghost use Rattle.analysis_host.specs.Answers.{Finding, Answers, IsPlainOutcome};
+ghost use Rattle.analysis_host.specs.Answers.{Finding, Answers, IsOutcomeOf};
 ghost use Rattle.analysis_host.specs.Polls.{HasPolled};
 ghost use Rattle.analysis_host.specs.SnapshotData.{SnapshotData};
 ghost use Rattle.analysis_host.specs.declared.ask.Ask.{Ask};
@@ -39,7 +39,8 @@ pub trait Analysis: Drop {
 
         // The answer or the fault of this question; cancelled only with the number that a poll of this call gave.
         ensures answers { IfOk result (Answers (answer snapshot.now ask.now) (C.held cancel.new)) }
-        ensures plain { IfOk result IsPlainOutcome }
+        // Of the question's kind, and its values are plain.
+        ensures kind { IfOk result (IsOutcomeOf ask.now) }
 
         ensures polled { OnOk result (HasPolled (C.polls cancel.old) (C.polls cancel.new)) }
         ensures key { C.key cancel.new ≡ C.key cancel.old }

@@ -2,7 +2,7 @@
 use crate::files::{entry_of, files_without, new_host};
 use crate::snapshots::no_versions;
 use analysis_host::{Answer, Ask, Never, Outcome, RowId, TextEntry, TextTree, World, WorldFault};
-use plain::{Json, SharedJson};
+use plain::{Items, Json, SharedJson};
 use std::alloc::Global;
 use text_core::LineEndings;
 
@@ -67,6 +67,7 @@ fn copied_outcome(outcome: Outcome) -> Option<Outcome> {
 fn questions_cross(alloc: Global) -> Option<()> {
     sends(copied_ask(question(alloc)?)?);
     sends(copied_outcome(Outcome::Value(Answer::Json(Json::null())))?);
+    sends(copied_outcome(Outcome::Value(Answer::Roots(Items::new(alloc))))?);
     sends(WorldFault::Exhausted);
     Some(())
 }

@@ -11,7 +11,7 @@ use Rattle.session_port.specs.Jobs.{value_of}
 use Rattle.session_port.specs.declared.job.JobResult.{JobResult}
 use Rattle.session_port.specs.declared.job.JobResult.TheVariants.{Value, Fault, Cancelled, NoMemory}
 use Rattle.session_port.specs.declared.job.JobValue.{JobValue}
-use Rattle.session_port.specs.declared.job.JobValue.TheVariants.{Json, Workspaces, BuildData, ProcMacros}
+use Rattle.session_port.specs.declared.job.JobValue.TheVariants.{Json, Roots, Primed, Workspaces, BuildData, ProcMacros}
 
 -- -32600
 abbrev pub already_pending : RequestId → Response
@@ -73,6 +73,8 @@ no_answer id = refusal id (negsuc 32602) (codes "no answer")
 -- only JSON fits a request's job
 abbrev pub value_reply : RequestId → JobValue → Response
 value_reply id (Json value) = response_with id value
+value_reply id (Roots paths) = no_answer id
+value_reply id Primed = no_answer id
 value_reply id (Workspaces results) = no_answer id
 value_reply id (BuildData results) = no_answer id
 value_reply id (ProcMacros macros) = no_answer id

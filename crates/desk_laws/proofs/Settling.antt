@@ -10,7 +10,7 @@ use Rattle.lsp_frame.specs.declared.message.RequestId.{RequestId}
 use Rattle.lsp_frame.specs.declared.message.Response.{Response}
 use Rattle.lsp_frame.proofs.InStep.{id_of-registered}
 use Rattle.analysis_host.specs.Answers.{Finding, answer, fault}
-use Rattle.analysis_host.specs.declared.ask.Answer.TheVariants.{Json as JsonAnswer}
+use Rattle.analysis_host.specs.declared.ask.Answer.TheVariants.{Json as JsonAnswer, Roots as RootsAnswer, Primed as PrimedAnswer}
 use Rattle.method_table.specs.Plans.{plan, is_shutdown}
 use Rattle.method_table.specs.Rows.{row_of, class_of, retries, default_of}
 use Rattle.method_table.specs.declared.class.Class.{Class}
@@ -33,7 +33,7 @@ use Rattle.session_port.specs.declared.job.JobKind.{JobKind}
 use Rattle.session_port.specs.declared.job.JobKind.TheVariants.{Request as RequestJob, FetchWorkspaces, FetchBuildData, LoadProcMacros}
 use Rattle.session_port.specs.declared.job.JobResult.{JobResult}
 use Rattle.session_port.specs.declared.job.JobResult.TheVariants.{Value, Fault, Cancelled, NoMemory}
-use Rattle.session_port.specs.declared.job.JobValue.TheVariants.{Json, Workspaces, BuildData, ProcMacros}
+use Rattle.session_port.specs.declared.job.JobValue.TheVariants.{Json, Roots, Primed, Workspaces, BuildData, ProcMacros}
 use Rattle.turn_parts.specs.Working.{Working, logged, ordered, replied}
 use Rattle.turn_parts.specs.Written.{responses_in}
 use Rattle.turn_parts.specs.declared.fault.Counter.{Counter}
@@ -82,10 +82,14 @@ some-same x y e = cc
 -- a reply is to the request of its id
 pub finding-id : (id : RequestId) (finding : Finding) → (finding_reply id finding).id ≡ Some id
 finding-id id (answer (JsonAnswer value)) = refl
+finding-id id (answer (RootsAnswer paths)) = refl
+finding-id id (answer PrimedAnswer) = refl
 finding-id id (fault code message) = refl
 
 pub finished-id : (id : RequestId) (result : JobResult) (response : Response) → finished_reply id result ≡ Some response → response.id ≡ Some id
 finished-id id (Value (Json value)) response is = sym (ap (λ (r : Response). r.id) (some-same _ response is))
+finished-id id (Value (Roots paths)) response is = sym (ap (λ (r : Response). r.id) (some-same _ response is))
+finished-id id (Value Primed) response is = sym (ap (λ (r : Response). r.id) (some-same _ response is))
 finished-id id (Value (Workspaces results)) response is = sym (ap (λ (r : Response). r.id) (some-same _ response is))
 finished-id id (Value (BuildData results)) response is = sym (ap (λ (r : Response). r.id) (some-same _ response is))
 finished-id id (Value (ProcMacros macros)) response is = sym (ap (λ (r : Response). r.id) (some-same _ response is))

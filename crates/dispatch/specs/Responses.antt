@@ -1,11 +1,11 @@
 -- The response to a request, by what its query came to (JSON-RPC 2.0, "Response object").
 use Rattle.std.specs.Prelude.{ℕ, ℤ, negsuc, List, Option, None, Some, Result, Ok, Err, if◌then◌else◌}
 use Rattle.std.specs.Ordering.{int_eq}
-use Rattle.serde_json.specs.Data.{Data}
+use Rattle.serde_json.specs.Data.{Data, null}
 use Rattle.lsp_frame.specs.declared.message.RequestId.{RequestId}
 use Rattle.lsp_frame.specs.declared.message.Response.{Response}
 use Rattle.analysis_host.specs.declared.ask.Answer.{Answer}
-use Rattle.analysis_host.specs.declared.ask.Answer.TheVariants.{Json}
+use Rattle.analysis_host.specs.declared.ask.Answer.TheVariants.{Json, Roots, Primed}
 use Rattle.analysis_host.specs.declared.ask.Outcome.{Outcome}
 use Rattle.analysis_host.specs.declared.ask.Outcome.TheVariants.{Value, Fault, Cancelled}
 use Rattle.dispatch.specs.declared.cancelled.HandlerCancelledError.{HandlerCancelledError}
@@ -29,9 +29,11 @@ abbrev pub fault_code : Option ℤ → ℤ
 fault_code None = internal_error_code
 fault_code (Some code) = if int_eq code out_of_memory_code then internal_error_code else code
 
--- the result of an answer
+-- the result of an answer; only JSON answers a request
 abbrev pub value_of : Answer → Data
 value_of (Json value) = value
+value_of (Roots paths) = null
+value_of Primed = null
 
 abbrev pub response_of : RequestId → Outcome → Result Response HandlerCancelledError
 response_of id (Value answer) = Ok (response_with id (value_of answer))

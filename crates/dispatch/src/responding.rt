@@ -67,6 +67,7 @@ pub fn result_to_response(
 {
     Ok(match outcome {
         Outcome::Value(Answer::Json(value)) => Ok(response_with(id, value)),
+        Outcome::Value(Answer::Roots(_) | Answer::Primed) => unreachable!(),
         Outcome::Fault { code, message } => Ok(refusal(id, fault_code(code), message)),
         Outcome::Cancelled { saw } => Err(HandlerCancelledError { saw }),
     })

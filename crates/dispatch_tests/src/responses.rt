@@ -6,9 +6,12 @@ use lsp_frame::{RequestId, Response, ResponseError};
 use plain::Json;
 use std::alloc::Global;
 
-/// The response to a request of an outcome, or none also where its value has a float.
+/// The response to a request of an outcome, or none also where its answer isn't JSON or has a float.
 fn respond(id: i32, outcome: Outcome) -> Option<Result<Response, HandlerCancelledError>> {
-    if let Outcome::Value(Answer::Json(value)) = &outcome {
+    if let Outcome::Value(answer) = &outcome {
+        let Answer::Json(value) = answer else {
+            return None;
+        };
         if !value.is_plain() {
             return None;
         }

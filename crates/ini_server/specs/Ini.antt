@@ -6,8 +6,8 @@ use Rattle.serde_json.specs.Data.{Data, null, string, object, member, no_members
 use Rattle.analysis_host.specs.Answers.{Finding, answer}
 use Rattle.analysis_host.specs.SnapshotData.{SnapshotData, encoding_of}
 use Rattle.analysis_host.specs.declared.ask.Ask.{Ask}
-use Rattle.analysis_host.specs.declared.ask.Ask.TheVariants.{Request}
-use Rattle.analysis_host.specs.declared.ask.Answer.TheVariants.{Json}
+use Rattle.analysis_host.specs.declared.ask.Ask.TheVariants.{Request, CratesOf, Prime}
+use Rattle.analysis_host.specs.declared.ask.Answer.TheVariants.{Json, Roots, Primed}
 use Rattle.method_table.specs.Rows.{default_of}
 use Rattle.method_table.specs.declared.named.TheConstants.{HOVER}
 use Rattle.method_table.specs.declared.row_id.RowId.{RowId}
@@ -102,6 +102,12 @@ abbrev pub ini_decodes : RowId → Data → Bool
 ini_decodes row params = if is_hover row then is_some (uri_of params) && is_some (position_of params) else true
 
 -- every other row answers its default
-abbrev pub ini_answer : SnapshotData → Ask → Finding
-ini_answer snapshot (Request row params) =
+abbrev pub ini_request : SnapshotData → RowId → Data → Finding
+ini_request snapshot row params =
     if is_hover row then hover_of snapshot (uri_of params) (position_of params) else answer (Json (default_of row))
+
+-- there are no crates
+abbrev pub ini_answer : SnapshotData → Ask → Finding
+ini_answer snapshot (Request row params) = ini_request snapshot row params
+ini_answer snapshot (CratesOf file) = answer (Roots [])
+ini_answer snapshot Prime = answer Primed

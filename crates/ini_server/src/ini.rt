@@ -1,12 +1,12 @@
 // Hovers on `.ini` files.
 ghost use Rattle.std.specs.Prelude.{◌≡◌, None, IfOk, option_copied};
 ghost use Rattle.analysis_host.specs.Answers.{Answers, IsPlainOutcome};
-ghost use Rattle.ini_server.specs.Ini.{hover_in, ini_answer, ini_decodes, is_key, is_on_key, value_at};
+ghost use Rattle.ini_server.specs.Ini.{hover_in, ini_answer, ini_decodes, ini_request, is_key, is_on_key, value_at};
 ghost use Rattle.text_core.specs.Lines.{line_text};
 
 use analysis_host::{Analysis, Answer, Ask, Cancel, GlobalStateSnapshot, Outcome, RowId};
 use method_table::{HOVER, default_of};
-use plain::{Json, NoMemory, Text};
+use plain::{Items, Json, NoMemory, Text};
 use requests::{malformed, nothing, position_of, refusal, text_of, uri_of};
 use serde_json::json;
 use std::alloc::Global;
@@ -75,7 +75,31 @@ fn hover_in(
     Ok(Outcome::Value(Answer::Json(Json::new(value))))
 }
 
-/// An analysis that answers hover by the value of the key under the position, and every other row by its default.
+/// What a request of a row comes to.
+fn request(
+    alloc: Global,
+    snapshot: &GlobalStateSnapshot,
+    row: RowId,
+    params: &Json,
+) -> Result<Outcome, NoMemory>
+    ensures answers { IfOk result (Answers (ini_request snapshot.now row params.now) None) }
+    ensures plain { IfOk result IsPlainOutcome }
+{
+    if row != HOVER {
+        return Ok(Outcome::Value(Answer::Json(default_of(alloc, row)?)));
+    }
+    let (Some(uri), Some(position)) = (uri_of(params), position_of(params)) else {
+        return malformed(alloc);
+    };
+    match text_of(alloc, snapshot, uri)? {
+        Ok(Some(index)) => hover_in(alloc, snapshot.encoding(), index, position),
+        Ok(None) => Ok(nothing()),
+        Err(message) => Ok(refusal(message)),
+    }
+}
+
+/// An analysis that answers hover by the value of the key under the position, and every other row by its default. It knows of no
+/// crate.
 #[derive(Drop)]
 pub struct Ini(pub Global);
 
@@ -97,18 +121,10 @@ impl Analysis for Ini {
         if let Some(saw) = cancel.poll() {
             return Ok(Outcome::Cancelled { saw });
         }
-        let Ask::Request { row, params } = ask;
-        if *row != HOVER {
-            return Ok(Outcome::Value(Answer::Json(default_of(self.0, *row)?)));
-        }
-        let params = params.as_json();
-        let (Some(uri), Some(position)) = (uri_of(params), position_of(params)) else {
-            return malformed(self.0);
-        };
-        match text_of(self.0, snapshot, uri)? {
-            Ok(Some(index)) => hover_in(self.0, snapshot.encoding(), index, position),
-            Ok(None) => Ok(nothing()),
-            Err(message) => Ok(refusal(message)),
+        match ask {
+            Ask::Request { row, params } => request(self.0, snapshot, *row, params.as_json()),
+            Ask::CratesOf(_) => Ok(Outcome::Value(Answer::Roots(Items::new(self.0)))),
+            Ask::Prime => Ok(Outcome::Value(Answer::Primed)),
         }
     }
 }

@@ -44,7 +44,7 @@ fn status(rt: &HostRuntime, words: &Words, input: Tape<'_>, output: &mut Paper) 
         input,
         &mut output,
         rt,
-        &NullAnalysis,
+        &NullAnalysis(rt.alloc()),
     )
 }
 

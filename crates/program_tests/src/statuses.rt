@@ -77,7 +77,13 @@ fn served<S: Sink>(alloc: Global, sink: &mut S) -> Result<u8, AllocError>
 {
     let words = session(alloc)?;
     let mut host = HostileHost::new(alloc, exit(alloc)?);
-    Ok(serve(alloc, words.as_slice(), &mut host, sink, &NullAnalysis))
+    Ok(serve(
+        alloc,
+        words.as_slice(),
+        &mut host,
+        sink,
+        &NullAnalysis(alloc),
+    ))
 }
 
 #[test]
@@ -94,7 +100,14 @@ fn continued(alloc: Global, place: u64) -> Result<u8, AllocError> {
     let reader = FrameReader::new_at(alloc, place);
     let mut host = HostileHost::new(alloc, exit(alloc)?);
     let mut sink = MemorySink::new(alloc, Items::new(alloc));
-    let outcome = main_loop_from(alloc, config, reader, &mut host, &mut sink, &NullAnalysis);
+    let outcome = main_loop_from(
+        alloc,
+        config,
+        reader,
+        &mut host,
+        &mut sink,
+        &NullAnalysis(alloc),
+    );
     Ok(status_of(outcome))
 }
 

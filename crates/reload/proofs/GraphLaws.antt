@@ -1,11 +1,11 @@
 -- Which crates are kept, and by which numbers.
-use Rattle.std.proofs.Common.{◌≡◌, ℕ, suc, ◌+◌, ◌-◌, ◌<◌, ◌≤◌, Bool, true, false, cond, ltb, List, [], ◌∷◌, length, take, map, filter, Option, Some, None, is_some, option_map, refl, sym, ap, ◌∙◌, arith}
+use Rattle.std.proofs.Common.{◌≡◌, ℕ, suc, ◌+◌, ◌-◌, ◌<◌, ◌≤◌, true, false, cond, ltb, List, [], ◌∷◌, length, take, map, filter, Option, Some, None, is_some, option_map, refl, sym, ap, ◌∙◌, arith}
 use Rattle.std.specs.List.{filter_map, cons_option, range_with_len}
 use Rattle.std.proofs.lemmas.Bool.{ltb-true, ltb-false}
 use Rattle.std.proofs.Math.Seq.{take-nil}
 use Rattle.docs_vfs.specs.declared.file_kinds.FileId.{FileId}
 use Rattle.project_model.specs.declared.crates.CrateEntry.{CrateEntry}
-use Rattle.reload.specs.Graph.{Standing, most_crates, place_at, next_after, places_from, place_of, number_of, info_of, crate_of}
+use Rattle.reload.specs.Graph.{Standing, most_crates, next_after, places_from, place_of, number_of, info_of, crate_of}
 use Rattle.reload.specs.GraphLaws.{numbers_in, files_in, files_found}
 
 abbrev AreNumbered : ℕ → List (Option Standing) → Type 0

@@ -6,7 +6,7 @@ use Rattle.std.specs.FinMap as by_key
 use Rattle.docs_vfs.specs.declared.file_kinds.FileId.{FileId}
 use Rattle.project_model.specs.declared.build.BuildScripts.{BuildScripts}
 use Rattle.project_model.specs.declared.build.MacroPath.{MacroPath}
-use Rattle.project_model.specs.declared.build.MacroPath.TheVariants.{Built, Failed}
+use Rattle.project_model.specs.declared.build.MacroPath.TheVariants.{Failed}
 use Rattle.project_model.specs.declared.crates.CrateData.{CrateData}
 use Rattle.project_model.specs.declared.crates.CrateEntry.{CrateEntry}
 use Rattle.project_model.specs.declared.crates.CrateInfo.{CrateInfo}

@@ -1,5 +1,5 @@
 -- Names of crates, in which `-` and `_` are alike.
-use Rattle.std.specs.Prelude.{◌≡◌, ℕ, Bool, List, map, bytes_eq, ◌==◌, if◌then◌else◌}
+use Rattle.std.specs.Prelude.{ℕ, Bool, List, map, bytes_eq, ◌==◌, if◌then◌else◌}
 
 -- the byte, or `_` for `-`
 abbrev pub underscored : ℕ → ℕ

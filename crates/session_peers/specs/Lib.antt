@@ -4,6 +4,7 @@ pub mod Coming
 pub mod Framed
 pub mod Inline
 pub mod Memory
+pub mod Null
 pub mod Orders
 pub mod Results
 pub mod Script

@@ -1,5 +1,5 @@
 -- The orders that a host keeps until it gives their answers, and what it gives.
-use Rattle.std.specs.Prelude.{ℕ, List, [], ◌∷◌, Option, None, Some, option_map}
+use Rattle.std.specs.Prelude.{ℕ, List, [], ◌∷◌, Option, None, option_map}
 use Rattle.host_orders.specs.HostOrders.{HostOrders, set_loader, defer, set_timer, next}
 use Rattle.host_orders.specs.declared.kept.Kept.{Kept}
 use Rattle.host_orders.specs.declared.kept.Kept.TheVariants.{Loader, Deferred, Timer as KeptTimer}

@@ -1,21 +1,19 @@
 // An analysis that knows nothing.
 use analysis_host::{Analysis, Answer, Ask, Cancel, GlobalStateSnapshot, Outcome, RowId};
-use plain::Json;
-use std::alloc::AllocError;
+use plain::{Items, Json};
+use std::alloc::{AllocError, Global};
 
-/// Reads all params, and answers null to everything.
+/// Reads all params, answers null to every request, and knows of no crate.
 #[derive(Drop)]
-pub struct NullAnalysis;
+pub struct NullAnalysis(pub Global);
 
 impl Analysis for NullAnalysis {
     ghost use Rattle.std.specs.Prelude.{true};
-    ghost use Rattle.serde_json.specs.Data.{null};
-    ghost use Rattle.analysis_host.specs.Answers.{answer as finding};
-    ghost use Rattle.analysis_host.specs.declared.ask.Answer.TheVariants.{Json as json_answer};
+    ghost use Rattle.session_peers.specs.Null.{null_answer};
 
     ghost decodes = { λ _ _. true };
 
-    ghost answer = { λ _ _. finding (json_answer null) };
+    ghost answer = { λ _ ask. null_answer ask };
 
     fn decodes(&self, _row: RowId, _params: &Json) -> bool {
         true
@@ -25,12 +23,16 @@ impl Analysis for NullAnalysis {
     fn query<C: Cancel>(
         &self,
         _snapshot: &GlobalStateSnapshot,
-        _ask: &Ask,
+        ask: &Ask,
         cancel: &mut C,
     ) -> Result<Outcome, AllocError> {
-        match cancel.poll() {
-            Some(saw) => Ok(Outcome::Cancelled { saw }),
-            None => Ok(Outcome::Value(Answer::Json(Json::null()))),
+        if let Some(saw) = cancel.poll() {
+            return Ok(Outcome::Cancelled { saw });
         }
+        Ok(Outcome::Value(match ask {
+            Ask::Request { .. } => Answer::Json(Json::null()),
+            Ask::CratesOf(_) => Answer::Roots(Items::new(self.0)),
+            Ask::Prime => Answer::Primed,
+        }))
     }
 }

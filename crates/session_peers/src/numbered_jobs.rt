@@ -4,7 +4,7 @@ ghost use Rattle.std.specs.FinMap as map;
 ghost use Rattle.session_port.specs.Jobs.{after_batch, after_message};
 ghost use Rattle.session_port.specs.Record.{after_event, after_order, last_number, spawned};
 
-use plain::{ByNumber, Items};
+use plain::ByNumber;
 use session_port::{Command, HostEvent, Job, TaskMsg};
 use std::alloc::{AllocError, Global};
 

@@ -5,7 +5,7 @@ use Rattle.std.specs.FinMap as map
 use Rattle.plain.specs.Plain.{is_plain}
 use Rattle.analysis_host.specs.Answers.{Finding, answer, fault}
 use Rattle.analysis_host.specs.declared.ask.Answer.{Answer}
-use Rattle.analysis_host.specs.declared.ask.Answer.TheVariants.{Json as JsonAnswer}
+use Rattle.analysis_host.specs.declared.ask.Answer.TheVariants.{Json as JsonAnswer, Roots as RootsAnswer, Primed as PrimedAnswer}
 use Rattle.analysis_host.specs.declared.ask.Ask.{Ask}
 use Rattle.analysis_host.specs.declared.ask.Ask.TheVariants.{Request as RequestAsk}
 use Rattle.session_port.specs.declared.event.TaskBody.{TaskBody}
@@ -17,7 +17,7 @@ use Rattle.session_port.specs.declared.job.JobKind.TheVariants.{Request, FetchWo
 use Rattle.session_port.specs.declared.job.JobResult.{JobResult}
 use Rattle.session_port.specs.declared.job.JobResult.TheVariants.{Value, Fault, Cancelled, NoMemory}
 use Rattle.session_port.specs.declared.job.JobValue.{JobValue}
-use Rattle.session_port.specs.declared.job.JobValue.TheVariants.{Json, Workspaces, BuildData, ProcMacros}
+use Rattle.session_port.specs.declared.job.JobValue.TheVariants.{Json, Roots, Primed, Workspaces, BuildData, ProcMacros}
 
 -- jobs by their numbers
 abbrev pub Jobs : Type 0
@@ -44,6 +44,8 @@ asks_of (LoadProcMacros paths ignored) = []
 -- a job's value is the answer to its question
 abbrev pub value_of : Answer → JobValue
 value_of (JsonAnswer value) = Json value
+value_of (RootsAnswer paths) = Roots paths
+value_of PrimedAnswer = Primed
 
 abbrev pub result_of : Finding → JobResult
 result_of (answer value) = Value (value_of value)
@@ -57,6 +59,8 @@ first_result (finding ∷ findings) = result_of finding
 -- the value is a request's: JSON, and plain
 abbrev pub plain_value : JobValue → Bool
 plain_value (Json value) = is_plain value
+plain_value (Roots paths) = false
+plain_value Primed = false
 plain_value (Workspaces results) = false
 plain_value (BuildData results) = false
 plain_value (ProcMacros macros) = false
@@ -64,18 +68,24 @@ plain_value (ProcMacros macros) = false
 -- the value is of workspaces, of builds, of proc macros
 abbrev pub has_workspaces : JobValue → Bool
 has_workspaces (Json value) = false
+has_workspaces (Roots paths) = false
+has_workspaces Primed = false
 has_workspaces (Workspaces results) = true
 has_workspaces (BuildData results) = false
 has_workspaces (ProcMacros macros) = false
 
 abbrev pub has_build_data : JobValue → Bool
 has_build_data (Json value) = false
+has_build_data (Roots paths) = false
+has_build_data Primed = false
 has_build_data (Workspaces results) = false
 has_build_data (BuildData results) = true
 has_build_data (ProcMacros macros) = false
 
 abbrev pub has_macros : JobValue → Bool
 has_macros (Json value) = false
+has_macros (Roots paths) = false
+has_macros Primed = false
 has_macros (Workspaces results) = false
 has_macros (BuildData results) = false
 has_macros (ProcMacros macros) = true

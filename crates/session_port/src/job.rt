@@ -53,6 +53,10 @@ pub struct Job {
 pub enum JobValue {
     /// The result of a request.
     Json(Json),
+    /// Where the root files of crates are.
+    Roots(Items<VfsPath>),
+    /// What later questions need is found out.
+    Primed,
     /// The workspaces of the projects, one after another.
     Workspaces(Items<Result<ProjectWorkspace, Text>>),
     /// What the build scripts made, workspace by workspace.

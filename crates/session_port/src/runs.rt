@@ -57,6 +57,7 @@ fn query<A: Analysis, C: Cancel>(
     };
     match analysis.query(&job.snapshot, &ask, cancel)? {
         Outcome::Value(Answer::Json(value)) => Ok(JobResult::Value(JobValue::Json(value))),
+        Outcome::Value(Answer::Roots(_) | Answer::Primed) => unreachable!(),
         Outcome::Fault { code, message } => Ok(JobResult::Fault { code, message }),
         Outcome::Cancelled { saw } => Ok(JobResult::Cancelled { saw }),
     }

@@ -111,7 +111,7 @@ fn run_on(alloc: Global, source: Small, commands: Items<Command>, count: u32) ->
     requires { AreRising 0 (spawned commands) }
 {
     let keep = !commands.is_empty();
-    let analysis = NullAnalysis;
+    let analysis = NullAnalysis(alloc);
     let Ok(host) = InlineHost::new(alloc, source, &analysis, keep) else {
         return None;
     };
@@ -198,7 +198,7 @@ fn answered_on(
 ) -> Option<String>
     requires { AreRising 0 (spawned commands) }
 {
-    let analysis = NullAnalysis;
+    let analysis = NullAnalysis(alloc);
     let Ok(host) = InlineHost::new(alloc, source, &analysis, false) else {
         return None;
     };

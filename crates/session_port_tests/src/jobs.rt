@@ -42,22 +42,22 @@ impl Cancel for Third {
 // These calls claim nothing here. They run only a request's job on the first revision.
 
 /// What a job comes to that no later revision stops.
-fn lasting(job: &Job) -> Option<JobResult> {
+fn lasting(alloc: Global, job: &Job) -> Option<JobResult> {
     if job.kind.is_request() && job.snapshot.revision() == 0 {
-        Some(run_job(job, &NullAnalysis, &mut Never::new()))
+        Some(run_job(job, &NullAnalysis(alloc), &mut Never::new()))
     } else {
         None
     }
 }
 
 /// What a job comes to that a later revision stops.
-fn stopped(job: &Job) -> Option<JobResult> {
+fn stopped(alloc: Global, job: &Job) -> Option<JobResult> {
     let mut third = Third {
         seen: false,
         polls: 0,
     };
     if job.kind.is_request() && job.snapshot.revision() == 0 {
-        Some(run_job(job, &NullAnalysis, &mut third))
+        Some(run_job(job, &NullAnalysis(alloc), &mut third))
     } else {
         None
     }
@@ -71,22 +71,22 @@ fn told(outcome: Option<JobResult>) -> &'static str {
     }
 }
 
-fn told_of(job: &Job, stops: bool) -> &'static str {
+fn told_of(alloc: Global, job: &Job, stops: bool) -> &'static str {
     if stops {
-        told(stopped(job))
+        told(stopped(alloc, job))
     } else {
-        told(lasting(job))
+        told(lasting(alloc, job))
     }
 }
 
 /// The one function that owns a job.
-fn told_in(job: Job, stops: bool) -> &'static str {
-    told_of(&job, stops)
+fn told_in(alloc: Global, job: Job, stops: bool) -> &'static str {
+    told_of(alloc, &job, stops)
 }
 
 /// What a job comes to, in words, if a later revision stops it or not.
 fn run_told(alloc: Global, stops: bool) -> Option<&'static str> {
-    Some(told_in(job_of(alloc, 7)?, stops))
+    Some(told_in(alloc, job_of(alloc, 7)?, stops))
 }
 
 #[test]
@@ -99,6 +99,8 @@ fn jobs_run(rt: HostRuntime) {
 fn end(alloc: Global, word: &str) -> JobResult {
     match word {
         "json" => JobResult::Value(JobValue::Json(Json::null())),
+        "roots" => JobResult::Value(JobValue::Roots(Items::new(alloc))),
+        "primed" => JobResult::Value(JobValue::Primed),
         "workspaces" => JobResult::Value(JobValue::Workspaces(Items::new(alloc))),
         "builds" => JobResult::Value(JobValue::BuildData(Items::new(alloc))),
         "macros" => JobResult::Value(JobValue::ProcMacros(Items::new(alloc))),
@@ -114,7 +116,16 @@ fn end_fits(outcome: JobResult, kind: &JobKind) -> bool {
 /// Which of these ends a job of this kind may have, each in a letter.
 fn fitting(alloc: Global, kind: JobKind) -> String {
     let mut text = String::new(alloc);
-    for word in ["json", "workspaces", "builds", "macros", "stopped", "full"] {
+    for word in [
+        "json",
+        "roots",
+        "primed",
+        "workspaces",
+        "builds",
+        "macros",
+        "stopped",
+        "full",
+    ] {
         add(
             &mut text,
             if end_fits(end(alloc, word), &kind) {
@@ -134,10 +145,10 @@ fn fits_as(alloc: Global, word: &str, wanted: &str) -> Option<bool> {
 #[test]
 fn values_fit_their_kinds(rt: HostRuntime) {
     for (word, wanted) in [
-        ("request", "ynnnyy"),
-        ("workspaces", "nynnyy"),
-        ("builds", "nnynyy"),
-        ("macros", "nnnyyy"),
+        ("request", "ynnnnnyy"),
+        ("workspaces", "nnnynnyy"),
+        ("builds", "nnnnynyy"),
+        ("macros", "nnnnnyyy"),
     ] {
         assert!(rt;
             fits_as(rt.alloc(), word, wanted) == Some(true),

@@ -191,7 +191,8 @@ fn steps(alloc: Global) -> Items<ScriptStep> {
 
 /// Two events of a host whose script gives a loader's messages, and its calls.
 fn scripted(alloc: Global) -> String {
-    match ScriptHost::new(alloc, &NullAnalysis, steps(alloc), Items::new(alloc)) {
+    let analysis = NullAnalysis(alloc);
+    match ScriptHost::new(alloc, &analysis, steps(alloc), Items::new(alloc)) {
         Ok(host) => told_of(alloc, host),
         Err(_) => String::new(alloc),
     }

@@ -133,7 +133,7 @@ fn run_script(
 ) -> String
     requires { AreRising 0 (spawned commands) }
 {
-    let analysis = NullAnalysis;
+    let analysis = NullAnalysis(alloc);
     let Ok(host) = ScriptHost::new(alloc, &analysis, steps, fails) else {
         return String::new(alloc);
     };
@@ -275,7 +275,8 @@ fn lent_gives(alloc: Global, mut host: ScriptHost<'_, NullAnalysis>) -> bool {
 
 fn lent_host_agrees(alloc: Global) -> Option<bool> {
     let steps = steps(alloc, "bytes ab, finish 9 8 9, finish 9, end, finish 9 7")?;
-    let host = ScriptHost::new(alloc, &NullAnalysis, steps, Items::new(alloc)).ok()?;
+    let analysis = NullAnalysis(alloc);
+    let host = ScriptHost::new(alloc, &analysis, steps, Items::new(alloc)).ok()?;
     Some(lent_gives(alloc, host))
 }
 

@@ -53,6 +53,8 @@ pub fn result_text(outcome: &JobResult) -> &'static str {
         JobResult::Value(JobValue::Json(value)) => {
             if value.is_null() { "null" } else { "value" }
         }
+        JobResult::Value(JobValue::Roots(_)) => "roots",
+        JobResult::Value(JobValue::Primed) => "primed",
         JobResult::Value(JobValue::Workspaces(_)) => "workspaces",
         JobResult::Value(JobValue::BuildData(_)) => "build data",
         JobResult::Value(JobValue::ProcMacros(_)) => "proc macros",

@@ -25,14 +25,19 @@ fn state_at(alloc: Global, used: Counters) -> Option<GlobalState> {
     GlobalState::new_at(alloc, settings(alloc)?, used).ok()
 }
 
-fn take_in(state: &mut GlobalState, event: Event, out: &mut TurnOut) -> Result<(), TurnError> {
-    state.handle_event(event, &NullAnalysis, out)
+fn take_in(
+    alloc: Global,
+    state: &mut GlobalState,
+    event: Event,
+    out: &mut TurnOut,
+) -> Result<(), TurnError> {
+    state.handle_event(event, &NullAnalysis(alloc), out)
 }
 
 /// One turn, in words.
 fn turn(alloc: Global, state: &mut GlobalState, event: Event) -> Option<String> {
     let mut out = TurnOut::new(alloc);
-    match take_in(state, event, &mut out) {
+    match take_in(alloc, state, event, &mut out) {
         Ok(()) => words(alloc, &mut out),
         Err(error) => fault(alloc, error),
     }

@@ -4,4 +4,5 @@ pub mod Brackets
 pub mod Asked
 pub mod Matches
 pub mod Params
+pub mod Roots
 pub mod Small

@@ -5,8 +5,8 @@ use Rattle.serde_json.specs.Data.{Data, null, string, object, member, no_members
 use Rattle.analysis_host.specs.Answers.{Finding, answer}
 use Rattle.analysis_host.specs.SnapshotData.{SnapshotData, encoding_of}
 use Rattle.analysis_host.specs.declared.ask.Ask.{Ask}
-use Rattle.analysis_host.specs.declared.ask.Ask.TheVariants.{Request}
-use Rattle.analysis_host.specs.declared.ask.Answer.TheVariants.{Json}
+use Rattle.analysis_host.specs.declared.ask.Ask.TheVariants.{Request, CratesOf, Prime}
+use Rattle.analysis_host.specs.declared.ask.Answer.TheVariants.{Json, Primed}
 use Rattle.analysis_host.specs.declared.ask.Outcome.{Outcome}
 use Rattle.analysis_host.specs.declared.ask.Outcome.TheVariants.{Value, Fault, Cancelled}
 use Rattle.method_table.specs.Rows.{class_of, default_of}
@@ -20,6 +20,7 @@ use Rattle.small_analysis.specs.Matches.{all_matched}
 use Rattle.small_analysis.specs.Names.{name_at}
 use Rattle.small_analysis.specs.Params.{HoverData, BraceData, hover_params, brace_params}
 use Rattle.small_analysis.specs.Positions.{place_in}
+use Rattle.small_analysis.specs.Roots.{crates_of}
 use Rattle.text_core.specs.declared.position.Position.{Position}
 use Rattle.text_core.specs.declared.position.PositionEncoding.{PositionEncoding}
 
@@ -82,9 +83,14 @@ row_answer snapshot row params =
     else (if is_matching_brace row then braces_of snapshot (brace_params params) else answer (Json (row_value row params)))
 
 -- params that aren't plain, or can't be read, are malformed
+abbrev pub request_answer : SnapshotData → RowId → Data → Finding
+request_answer snapshot row params = if is_plain params && small_decodes row params then row_answer snapshot row params else malformed
+
+-- nothing has to be found out beforehand
 abbrev pub small_answer : SnapshotData → Ask → Finding
-small_answer snapshot (Request row params) =
-    if is_plain params && small_decodes row params then row_answer snapshot row params else malformed
+small_answer snapshot (Request row params) = request_answer snapshot row params
+small_answer snapshot (CratesOf file) = crates_of snapshot file
+small_answer snapshot Prime = answer Primed
 
 -- a row answers plain params by a value of them, whatever the snapshot
 abbrev pub IsAnsweredBy : RowId → (Data → Data) → Type 0

@@ -1,12 +1,13 @@
 // The small analysis.
 ghost use Rattle.std.specs.Prelude.{◌≡◌, true, None, IfOk, OnOk};
 ghost use Rattle.plain.specs.Plain.{is_plain};
-ghost use Rattle.analysis_host.specs.Answers.{Answers, IsPlainOutcome};
+ghost use Rattle.analysis_host.specs.Answers.{Answers, IsOutcomeOf, IsPlainOutcome};
 ghost use Rattle.analysis_host.specs.Polls.{Counts, HasPolled};
-ghost use Rattle.small_analysis.specs.Small.{class_value, is_hover, is_matching_brace, row_value, small_decodes, small_answer, stopped_by};
+ghost use Rattle.small_analysis.specs.Small.{class_value, is_hover, is_matching_brace, request_answer, row_value, small_decodes, small_answer, stopped_by};
 
 use crate::hover::hover_of;
 use crate::matching_brace::braces_of;
+use crate::roots::crates_of;
 use analysis_host::{Analysis, Answer, Ask, Cancel, GlobalStateSnapshot, Outcome, RowId};
 use method_table::{Class, HOVER, MATCHING_BRACE, class_of, default_of};
 use plain::Json;
@@ -14,7 +15,7 @@ use requests::{has_positions, malformed, position_of, uri_of};
 use std::alloc::{AllocError, Global};
 
 /// An analysis that answers hover by the name under the position, matchingBrace by the brackets that match, and every
-/// other row by what it is answered where nothing is known.
+/// other row by what it is answered where nothing is known. Each file with a text belongs to all crates whose root files exist.
 #[derive(Drop)]
 pub struct SmallAnalysis {
     alloc: Global,
@@ -57,23 +58,38 @@ fn row_value(alloc: Global, row: RowId, params: &Json) -> Result<Json, AllocErro
     class_value(alloc, class_of(row), row, params)
 }
 
-/// What a question comes to.
-fn answer(alloc: Global, snapshot: &GlobalStateSnapshot, ask: &Ask) -> Result<Outcome, AllocError>
-    ensures answers { IfOk result (Answers (small_answer snapshot.now ask.now) None) }
+/// What a request of a row comes to.
+fn request_answer(
+    alloc: Global,
+    snapshot: &GlobalStateSnapshot,
+    row: RowId,
+    params: &Json,
+) -> Result<Outcome, AllocError>
+    ensures answers { IfOk result (Answers (request_answer snapshot.now row params.now) None) }
     ensures plain { IfOk result IsPlainOutcome }
 {
-    let Ask::Request { row, params } = ask;
-    let params = params.as_json();
     if !params.is_plain() {
         return malformed(alloc);
     }
-    if is_hover(*row) {
+    if is_hover(row) {
         hover_of(alloc, snapshot, params)
-    } else if is_matching_brace(*row) {
+    } else if is_matching_brace(row) {
         braces_of(alloc, snapshot, params)
     } else {
-        let value = row_value(alloc, *row, params)?;
+        let value = row_value(alloc, row, params)?;
         Ok(Outcome::Value(Answer::Json(value)))
+    }
+}
+
+/// What a question comes to.
+fn answer(alloc: Global, snapshot: &GlobalStateSnapshot, ask: &Ask) -> Result<Outcome, AllocError>
+    ensures answers { IfOk result (Answers (small_answer snapshot.now ask.now) None) }
+    ensures kind { IfOk result (IsOutcomeOf ask.now) }
+{
+    match ask {
+        Ask::Request { row, params } => request_answer(alloc, snapshot, *row, params.as_json()),
+        Ask::CratesOf(file) => crates_of(alloc, snapshot, *file),
+        Ask::Prime => Ok(Outcome::Value(Answer::Primed)),
     }
 }
 
@@ -112,7 +128,7 @@ impl Analysis for SmallAnalysis {
         ensures stopped { IfOk result (λ outcome. stopped_by outcome ≡ C.held cancel.new) }
         ensures answers { let question = small_answer snapshot.now ask.now in
             IfOk result (Answers question (C.held cancel.new)) }
-        ensures plain { IfOk result IsPlainOutcome }
+        ensures kind { IfOk result (IsOutcomeOf ask.now) }
 
         ensures once { Counts (C.polls cancel.old) (C.polls cancel.new) }
         ensures polled { OnOk result (HasPolled (C.polls cancel.old) (C.polls cancel.new)) }

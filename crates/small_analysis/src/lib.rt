@@ -1,4 +1,4 @@
-//! A small analysis: it finds the name under a position and the brackets that match, and nothing more.
+//! A small analysis: it finds the name under a position, the brackets that match and the root files of crates, and nothing more.
 #![tactic(auto)]
 
 mod analysis;
@@ -9,6 +9,7 @@ mod matches;
 mod matching_brace;
 mod names;
 mod offsets;
+mod roots;
 
 pub use analysis::SmallAnalysis;
 pub use laws::{brackets_match_in_pairs, names_are_maximal_runs, rows_have_their_answers};

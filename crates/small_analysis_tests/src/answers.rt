@@ -1,5 +1,5 @@
-// What hover and matchingBrace answer.
-use crate::questions::{cut, is_answer, is_brace_answer, is_hover_answer};
+// What hover, matchingBrace and questions that are no requests answer.
+use crate::questions::{cut, is_answer, is_brace_answer, is_hover_answer, is_other_answer};
 use method_table::HOVER;
 use small_analysis::SmallAnalysis;
 use std::alloc::Global;
@@ -159,6 +159,25 @@ fn is_listed(alloc: Global, line: &str) -> Option<bool> {
 fn positions_of_brackets(rt: HostRuntime) {
     for line in LISTS.lines() {
         assert!(rt; is_listed(rt.alloc(), line) == Some(true), "on {line}");
+    }
+}
+
+/// Numbers of files, of which only 0 has a text, and where the root files are of the crates that they belong to: those with a
+/// number that aren't excluded. Last comes what priming comes to.
+const CRATES: &str = "0 > roots /w/t.rs /w/a.rs
+1 > not text
+2 > not text
+7 > not text
+prime > primed";
+
+#[test]
+fn crates_and_priming(rt: HostRuntime) {
+    for line in CRATES.lines() {
+        let (word, want) = cut(line, " > ");
+        assert!(rt;
+            is_other_answer(rt.alloc(), word, want) == Some(true),
+            "on {line}"
+        );
     }
 }
 

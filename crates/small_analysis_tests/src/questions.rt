@@ -1,6 +1,7 @@
 // Questions to a small analysis, and what it answers in words.
 use crate::snapshots::snapshot_of;
 use analysis_host::{Analysis, Answer, Ask, GlobalStateSnapshot, Never, Outcome, RowId};
+use docs_vfs::{FileId, VfsPath};
 use method_table::{HOVER, MATCHING_BRACE};
 use plain::{Json, SharedJson};
 use small_analysis::SmallAnalysis;
@@ -18,10 +19,21 @@ fn value_text(alloc: Global, value: &Json) -> Option<String> {
     value.as_value().to_string(alloc).ok()
 }
 
-/// What an outcome says: the compact text of a value, or the message of a fault without a code.
+fn paths_text(alloc: Global, paths: &[VfsPath]) -> Option<String> {
+    let mut text = String::from_str(alloc, "roots").ok()?;
+    for path in paths {
+        text.push_str(" ").ok()?;
+        text.push_str(path.as_str()).ok()?;
+    }
+    Some(text)
+}
+
+/// What an outcome says: the compact text of a value, the paths of roots, or the message of a fault without a code.
 fn told(alloc: Global, outcome: &Outcome) -> Option<String> {
     match outcome {
         Outcome::Value(Answer::Json(value)) => value_text(alloc, value),
+        Outcome::Value(Answer::Roots(paths)) => paths_text(alloc, paths.as_slice()),
+        Outcome::Value(Answer::Primed) => String::from_str(alloc, "primed").ok(),
         Outcome::Fault {
             code: None,
             message,
@@ -75,6 +87,21 @@ fn answer(alloc: Global, row: RowId, text: &str, params: &str) -> Option<String>
 /// Whether a row answers this on a text and params.
 pub fn is_answer(alloc: Global, row: RowId, text: &str, params: &str, want: &str) -> Option<bool> {
     Some(answer(alloc, row, text, params)?.as_str() == want)
+}
+
+/// A question that isn't a request: after the crates of the file with a number, or a word for priming.
+fn other_ask(word: &str) -> Ask {
+    match word.parse::<u32>() {
+        Ok(number) => Ask::CratesOf(FileId(number)),
+        Err(_) => Ask::Prime,
+    }
+}
+
+/// Whether a question that isn't a request is answered so.
+pub fn is_other_answer(alloc: Global, word: &str, want: &str) -> Option<bool> {
+    let snapshot = snapshot_of(alloc, "a")?;
+    let told = answer_to(alloc, &snapshot, &other_ask(word))?;
+    Some(told.as_str() == want)
 }
 
 /// The params of hover at a position.

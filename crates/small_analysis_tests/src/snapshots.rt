@@ -1,4 +1,4 @@
-// Snapshots of one file with a text, `/w/a.rs`. Each function holds one large value, so that it stays quick to prove.
+// Snapshots of one file with a text, `/w/a.rs`, and some crates. Each function holds one large value, so that it stays quick to prove.
 ghost use Rattle.std.specs.Prelude.{◌≡◌, true, Some};
 ghost use Rattle.file_ids.specs.Numbers.{IsFree};
 
@@ -9,6 +9,7 @@ use analysis_host::{
 use docs_vfs::{FileExcluded, FileId, VfsPath};
 use file_ids::FileIds;
 use plain::{Items, Text};
+use project_model::{CrateData, CrateInfo};
 use ra_config::Config;
 use std::alloc::Global;
 use std::sync::Arc;
@@ -46,10 +47,38 @@ fn add_file(alloc: Global, files: &mut Items<FileChange>, text: &str) -> Option<
     files.push(file(alloc, text)?).ok()
 }
 
+/// Adds a crate with this root file.
+fn add_crate(alloc: Global, crates: &mut Items<CrateInfo>, root: FileId) -> Option<()> {
+    let info = CrateInfo {
+        root,
+        name: None,
+        deps: Items::new(alloc),
+        is_proc_macro: false,
+    };
+    crates.push(info).ok()
+}
+
+/// The crates with the root files 2, 1, 7 and 0.
+fn crates(alloc: Global) -> Option<CrateData> {
+    let mut crates = Items::new(alloc);
+    for root in [2, 1, 7, 0] {
+        add_crate(alloc, &mut crates, FileId(root))?;
+    }
+    Some(CrateData {
+        crates,
+        env: Items::new(alloc),
+        macros: Items::new(alloc),
+    })
+}
+
 fn change(alloc: Global, text: &str) -> Option<Change> {
     let mut files = Items::new(alloc);
     add_file(alloc, &mut files, text)?;
-    Some(Change::files_only(files))
+    Some(Change {
+        files,
+        roots: None,
+        crates: Some(crates(alloc)?),
+    })
 }
 
 fn apply(alloc: Global, host: &mut AnalysisHost, text: &str) -> Option<()> {
