@@ -1,5 +1,5 @@
 -- How a fetch of workspaces ended.
-use Rattle.std.specs.Prelude.{ℕ, List, codes, Option, None, Some, option_and_then, option_map, Result, Ok, Err}
+use Rattle.std.specs.Prelude.{ℕ, List, codes, Option, None, Some, option_and_then, Result, Ok, Err}
 use Rattle.project_model.specs.declared.workspace.ProjectWorkspace.{ProjectWorkspace}
 use Rattle.session_port.specs.Jobs.{Jobs, final_of, fitting_job}
 use Rattle.session_port.specs.declared.event.TaskMsg.{TaskMsg}

@@ -1,5 +1,5 @@
 -- A fetch of workspaces is in progress exactly where one job out is a fetch: each turn keeps it.
-use Rattle.std.proofs.Common.{◌≡◌, ◌≢◌, ℕ, ◌+◌, ◌≤◌, List, [], ◌∷◌, ◌++◌, length, Bool, true, false, refl, sym, ap, ◌∙◌, subst, arith}
+use Rattle.std.proofs.Common.{◌≡◌, ◌≢◌, ℕ, ◌+◌, ◌≤◌, List, [], ◌∷◌, length, Bool, true, false, refl, sym, ap, ◌∙◌, subst, arith}
 use Rattle.std.proofs.lemmas.Bool.{true≢false}
 use Rattle.std.specs.Prelude.{codes, cond, Option, None, Some, is_some, option_and_then, Ok, Err, if◌then◌else◌}
 use Rattle.std.specs.FinMap as map
@@ -31,7 +31,7 @@ use Rattle.workspaces.specs.Workspaces.{Fetches, Workspaces}
 use Rattle.workspaces.specs.declared.outputs.FetchOutput.{FetchOutput}
 use Rattle.workspaces.specs.declared.requests.FetchRequest.{FetchRequest}
 use Rattle.workspaces.specs.declared.requests.WaitingFetch.{WaitingFetch}
-use Rattle.session_model.specs.Fetching.{fetch_job, fetch_jobs, fetch_kept, fetches_kept, with_fetches}
+use Rattle.session_model.specs.Fetching.{fetch_job, fetch_jobs, fetch_kept, fetches_kept}
 use Rattle.session_model.specs.Headline.{HandsOver, Place, beginning, fetch_in, may_start, place_after, reaction_of, row, snapshot_at, workspaces_at, workspaces_told}
 use Rattle.session_model.specs.Run.{Steps, Turn, after_input}
 use Rattle.session_model.specs.State.{State, discovers}
