@@ -9,7 +9,7 @@ use Rattle.session_port.specs.declared.job.JobKind.TheVariants.{Request, FetchWo
 use Rattle.session_port.specs.declared.job.JobResult.{JobResult}
 use Rattle.session_port.specs.declared.job.JobResult.TheVariants.{Value, Fault, Cancelled, NoMemory}
 use Rattle.session_port.specs.declared.job.JobValue.{JobValue}
-use Rattle.session_port.specs.declared.job.JobValue.TheVariants.{Json, Workspaces, BuildData, ProcMacros}
+use Rattle.session_port.specs.declared.job.JobValue.TheVariants.{Json, Workspaces, BuildData, ProcMacros, Roots, Primed}
 
 -- workspaces, each found or not; or why there are none at all
 abbrev pub FetchEnd : Type 0
@@ -21,6 +21,8 @@ found_in (Json value) = None
 found_in (Workspaces results) = Some (Ok results)
 found_in (BuildData results) = None
 found_in (ProcMacros macros) = None
+found_in (Roots roots) = None
+found_in Primed = None
 
 -- what a fetch came to: a fault is its message, and the other ends without a value are a text each
 abbrev pub fetch_end : JobResult → Option FetchEnd

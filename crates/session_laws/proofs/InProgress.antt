@@ -15,7 +15,7 @@ use Rattle.session_port.specs.declared.job.JobKind.{JobKind}
 use Rattle.session_port.specs.declared.job.JobKind.TheVariants.{Request, FetchWorkspaces, FetchBuildData, LoadProcMacros}
 use Rattle.session_port.specs.declared.job.JobResult.{JobResult}
 use Rattle.session_port.specs.declared.job.JobResult.TheVariants.{Value, Fault, Cancelled, NoMemory}
-use Rattle.session_port.specs.declared.job.JobValue.TheVariants.{Json, Workspaces as WorkspacesValue, BuildData, ProcMacros}
+use Rattle.session_port.specs.declared.job.JobValue.TheVariants.{Json, Workspaces as WorkspacesValue, BuildData, ProcMacros, Roots, Primed}
 use Rattle.desk.specs.Fetching.{FetchEnd, fetch_end, fetch_end_of, fetch_ended, fetch_told}
 use Rattle.desk.specs.Folds.{asked_among, is_asked}
 use Rattle.desk.specs.Meaning.{Meaning}
@@ -95,6 +95,8 @@ fetch-has-end (Value (Json value)) fit = true-false (sym fit)
 fetch-has-end (Value (WorkspacesValue results)) fit = (Ok results, refl)
 fetch-has-end (Value (BuildData results)) fit = true-false (sym fit)
 fetch-has-end (Value (ProcMacros macros)) fit = true-false (sym fit)
+fetch-has-end (Value (Roots roots)) fit = true-false (sym fit)
+fetch-has-end (Value Primed) fit = true-false (sym fit)
 fetch-has-end (Fault code message) fit = (Err message, refl)
 fetch-has-end (Cancelled saw) fit = (Err (codes "cancelled"), refl)
 fetch-has-end NoMemory fit = (Err (codes "out of memory"), refl)

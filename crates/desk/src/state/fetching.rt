@@ -19,7 +19,11 @@ fn found_in(value: &JobValue) -> Result<Option<FetchEnd>, NoMemory>
 {
     match value {
         JobValue::Workspaces(results) => Ok(Some(Ok(results.clone()?))),
-        JobValue::Json(_) | JobValue::BuildData(_) | JobValue::ProcMacros(_) => Ok(None),
+        JobValue::Json(_)
+        | JobValue::BuildData(_)
+        | JobValue::ProcMacros(_)
+        | JobValue::Roots(_)
+        | JobValue::Primed => Ok(None),
     }
 }
 
