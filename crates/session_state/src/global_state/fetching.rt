@@ -3,7 +3,8 @@ ghost use Rattle.std.specs.Prelude.{◌≡◌, IfOk};
 ghost use Rattle.turn_parts.specs.Meets.{Meets, Gives};
 ghost use Rattle.method_table.specs.declared.class.PoolClass.TheVariants.{Worker};
 ghost use Rattle.desk.specs.Steps.{handed_over};
-ghost use Rattle.session_model.specs.Machine.{at_desk, at_workspaces, begun_fetches, fetch_handed_over, fetch_kept, fetch_started, timed};
+ghost use Rattle.session_model.specs.Fetching.{fetch_kept};
+ghost use Rattle.session_model.specs.Machine.{at_desk, at_workspaces, begun_fetches, fetch_handed_over, fetch_started, timed};
 ghost use Rattle.session_model.specs.State.{discovers, fetch_kind, may_fetch, snapshot_of};
 
 use crate::global_state::GlobalState;
