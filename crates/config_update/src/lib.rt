@@ -3,10 +3,12 @@
 
 mod cause;
 mod compare;
+mod laws;
 mod projects;
 mod update;
 
 pub use cause::FetchCause;
 pub use compare::update_of;
+pub use laws::changes_ask_for_what_they_change;
 pub use plain::NoMemory;
 pub use update::ConfigUpdate;
