@@ -54,8 +54,8 @@ event-below meaning event s =
 step-below : (meaning : Meaning) (event : Event) (s : State) → IfOk (step meaning (Next event) (begun s)) (λ _. s.desk.turns < 2 ^ 64 - 1)
 unfolding step
 step-below meaning event s =
-    any-after (s.desk.turns < 2 ^ 64 - 1) (and_then (event_part meaning event (turning (begun s))) later_parts) turned
-    (any-after (s.desk.turns < 2 ^ 64 - 1) (event_part meaning event (turning (begun s))) later_parts (event-below meaning event s))
+    any-after (s.desk.turns < 2 ^ 64 - 1) (and_then (event_part meaning event (turning (begun s))) (later_parts (Next event))) turned
+    (any-after (s.desk.turns < 2 ^ 64 - 1) (event_part meaning event (turning (begun s))) (later_parts (Next event)) (event-below meaning event s))
 
 fewer : (meaning : Meaning) (old new : State) (turn : Turn) (input : Input) → turn.input ≡ input → IsLater input → Steps meaning old turn new → 2 ^ 64 - new.desk.turns < 2 ^ 64 - old.desk.turns
 fewer meaning old new turn Start is later steps = absurd later

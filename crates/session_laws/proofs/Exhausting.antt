@@ -44,7 +44,7 @@ use Rattle.session_model.specs.Headline.{NeedsMore, fetches_in, files_told, row,
 use Rattle.session_model.specs.Machine.{Turning, asked_for_settings, at_client, at_desk, at_files, batched, begin_part, begun_fetches, changed_at, client_in, closed, closed_at, closing_part, counted, desk_in, event_part}
 use Rattle.session_model.specs.Machine.{fetch_part, fetch_started, files_in, files_part, files_processed, happened, kept, later_parts, noticed, opened_at, received, start_parts, state_in, step, taken, taken_in, told, turned, turning, with_client}
 use Rattle.session_model.specs.Machine.{with_desk, with_files, with_state}
-use Rattle.session_model.specs.State.{State, columns_in, excludes_in, may_fetch, scene_of}
+use Rattle.session_model.specs.State.{State, columns_in, excludes_in, may_start, scene_of}
 use Rattle.session_model.specs.Hearing.{heard_of}
 use Rattle.session_model.specs.Run.{begun}
 use Rattle.session_model.specs.declared.facts.Facts.{Facts}
@@ -228,22 +228,23 @@ with-fetch : (handed jobs given fetches : ℕ) → given ≡ handed + jobs → 2
 with-fetch handed jobs given fetches is h = omega (arith, is, h)
 
 -- a fetch needs one job more
-fetch-part-errs : (meaning : Meaning) (s : State) (input : Input) (t : Working Turning) → ReadyTurn meaning s input t → IfErr (fetch_part t) (Needs meaning s input)
+fetch-part-errs : (meaning : Meaning) (s : State) (input : Input) (t : Working Turning) → ReadyTurn meaning s input t → IfErr (fetch_part input t) (Needs meaning s input)
 unfolding fetch_part
 fetch-part-errs meaning s input t ready =
     let given = t.state.state.desk.handed in
-    let fetch : Option (List ℕ × FetchRequest) = fetch_to_start (may_fetch t.state.state.client.settings) t.state.state.workspaces.fetches in
+    let may = may_start input t.state.state.client.settings in
+    let fetch : Option (List ℕ × FetchRequest) = fetch_to_start may t.state.state.workspaces.fetches in
     let jobs = (row meaning input (place_of s)).jobs in
     let handed : given ≡ s.desk.handed + length jobs = ap (λ (d : Desk). d.handed) ready.made.serves.desk ∙ ap (λ (js : List Job). s.desk.handed + length js) ready.spawns in
-    IfErr-within state_in with_state fetch_started t (Needs meaning s input)
-    (err-weaker (fetch_started (session_in t)) (TooManyFetches given fetch) (Needs meaning s input) (started-errs (session_in t))
+    IfErr-within state_in with_state (fetch_started may) t (Needs meaning s input)
+    (err-weaker (fetch_started may (session_in t)) (TooManyFetches given fetch) (Needs meaning s input) (started-errs may (session_in t))
     (λ c h. let many : 2 ^ 64 ≤ given + fetches_in input (place_of s) =
     subst (λ (f : Option (List ℕ × FetchRequest)). 2 ^ 64 ≤ given + (if is_some f then 1 else 0)) (ready-fetch meaning s input t ready) h.1 in
     subst (Needs meaning s input) (sym h.0) (with-fetch s.desk.handed (length jobs) given (fetches_in input (place_of s)) handed many)))
 
-fetch-close-errs : (meaning : Meaning) (s : State) (input : Input) (t : Working Turning) → ReadyTurn meaning s input t → IfErr (fetch_and_close t) (Needs meaning s input)
+fetch-close-errs : (meaning : Meaning) (s : State) (input : Input) (t : Working Turning) → ReadyTurn meaning s input t → IfErr (fetch_and_close input t) (Needs meaning s input)
 fetch-close-errs meaning s input t ready =
-    err-and_then (fetch_part t) closing_part (Needs meaning s input) (fetch-part-errs meaning s input t ready) (λ u is. closing-errs u (Needs meaning s input))
+    err-and_then (fetch_part input t) closing_part (Needs meaning s input) (fetch-part-errs meaning s input t ready) (λ u is. closing-errs u (Needs meaning s input))
 
 begin-errs : (t : Working Turning) (P : Counter → Type 0) → IfErr (begin_part t) P
 unfolding begin_part begun_fetches
@@ -253,13 +254,13 @@ step-errs : (meaning : Meaning) (s : State) (input : Input) → IfErr (step mean
 unfolding step
 step-errs meaning s Start =
     err-and_then (start_parts (turning (begun s))) turned (Needs meaning s Start)
-    (err-and_then (begin_part (turning (begun s))) fetch_and_close (Needs meaning s Start) (begin-errs (turning (begun s)) (Needs meaning s Start))
+    (err-and_then (begin_part (turning (begun s))) (fetch_and_close Start) (Needs meaning s Start) (begin-errs (turning (begun s)) (Needs meaning s Start))
     (λ t is. fetch-close-errs meaning s Start t (IfOk-at_ok (ReadyTurn meaning s Start) is (begins meaning s)))) (λ v is. tt)
 step-errs meaning s (Next event) =
-    err-and_then (and_then (event_part meaning event (turning (begun s))) later_parts) turned (Needs meaning s (Next event))
-    (err-and_then (event_part meaning event (turning (begun s))) later_parts (Needs meaning s (Next event)) (event-part-errs meaning s event)
+    err-and_then (and_then (event_part meaning event (turning (begun s))) (later_parts (Next event))) turned (Needs meaning s (Next event))
+    (err-and_then (event_part meaning event (turning (begun s))) (later_parts (Next event)) (Needs meaning s (Next event)) (event-part-errs meaning s event)
     (λ t is. let mid : MidTurn meaning s (Next event) t = IfOk-at_ok (MidTurn meaning s (Next event)) is (event-fits meaning s event) in
-    err-and_then (files_part t) fetch_and_close (Needs meaning s (Next event)) (files-part-errs meaning s event t mid)
+    err-and_then (files_part t) (fetch_and_close (Next event)) (Needs meaning s (Next event)) (files-part-errs meaning s event t mid)
     (λ u made. fetch-close-errs meaning s (Next event) u (IfOk-at_ok (ReadyTurn meaning s (Next event)) made (files-made meaning s event t mid)))))
     (λ v is. tt)
 

@@ -17,7 +17,7 @@ use Rattle.workspaces.specs.Workspaces.{Workspaces}
 use Rattle.workspaces.specs.declared.requests.FetchRequest.{FetchRequest}
 use Rattle.session_model.specs.Fetching.{fetch_jobs, with_fetches}
 use Rattle.session_model.specs.Machine.{at_desk, at_workspaces, desk_in, fetch_handed_over, fetch_started, with_desk}
-use Rattle.session_model.specs.State.{State, fetch_kind, may_fetch, snapshot_of}
+use Rattle.session_model.specs.State.{State, fetch_kind, snapshot_of}
 use Rattle.session_laws.specs.Beside.{Beside}
 use Rattle.session_laws.proofs.Beside.{beside-none}
 
@@ -84,11 +84,10 @@ unfolding fetch_handed_over
 handed-cases None w = starts-none w
 handed-cases (Some fetch) w = fetch-starts fetch w
 
-pub started-hands : (w : Working State) → let may = may_fetch w.state.client.settings in
-    IfOk (fetch_started w) (StartsFetch (fetch_to_start may w.state.workspaces.fetches) (with_fetches (start_fetch may) w.state.workspaces) w)
+pub started-hands : (may : Bool) (w : Working State)
+    → IfOk (fetch_started may w) (StartsFetch (fetch_to_start may w.state.workspaces.fetches) (with_fetches (start_fetch may) w.state.workspaces) w)
 unfolding fetch_started
-started-hands w =
-    let may = may_fetch w.state.client.settings in
+started-hands may w =
     let step : Workspaces → Workspaces = with_fetches (start_fetch may) in
     let fetch : Option (List ℕ × FetchRequest) = fetch_to_start may w.state.workspaces.fetches in
     let after : Workspaces = step w.state.workspaces in
@@ -110,9 +109,8 @@ handed-errs (Some fetch) w =
     IfErr-within desk_in with_desk (handed_over (snapshot_of w.state) Worker (fetch_kind w.state.client.settings fetch.1)) w Goal
     (err-next w.state.desk.handed JobsCounter _ Goal (λ last. (refl, one-more w.state.desk.handed last)) tt)
 
-pub started-errs : (w : Working State)
-    → IfErr (fetch_started w) (TooManyFetches w.state.desk.handed (fetch_to_start (may_fetch w.state.client.settings) w.state.workspaces.fetches))
+pub started-errs : (may : Bool) (w : Working State)
+    → IfErr (fetch_started may w) (TooManyFetches w.state.desk.handed (fetch_to_start may w.state.workspaces.fetches))
 unfolding fetch_started
-started-errs w =
-    let may = may_fetch w.state.client.settings in
+started-errs may w =
     handed-errs (fetch_to_start may w.state.workspaces.fetches) (at_workspaces (with_fetches (start_fetch may)) w)

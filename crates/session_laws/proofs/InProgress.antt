@@ -32,7 +32,7 @@ use Rattle.workspaces.specs.declared.outputs.FetchOutput.{FetchOutput}
 use Rattle.workspaces.specs.declared.requests.FetchRequest.{FetchRequest}
 use Rattle.workspaces.specs.declared.requests.WaitingFetch.{WaitingFetch}
 use Rattle.session_model.specs.Fetching.{fetch_job, fetch_jobs, fetch_kept, fetches_kept}
-use Rattle.session_model.specs.Headline.{HandsOver, Place, beginning, fetch_in, may_start, place_after, reaction_of, row, snapshot_at, workspaces_at, workspaces_told}
+use Rattle.session_model.specs.Headline.{HandsOver, Place, beginning, fetch_in, may_start_at, place_after, reaction_of, row, snapshot_at, workspaces_at, workspaces_told}
 use Rattle.session_model.specs.Run.{Steps, Turn, after_input}
 use Rattle.session_model.specs.State.{State, discovers}
 use Rattle.session_model.specs.declared.input.Event.TheVariants.{Lsp, Task, Vfs, Deferred, Timer}
@@ -296,7 +296,7 @@ turn-keeps-fetching meaning turn place does hands sound h =
     let rowed = on-others workspaces.fetches.queue.in_progress place.desk.handed jobs out (row-numbered meaning input place) none told in
     subst (λ (js : List Job). FetchIsOutIf after.workspaces.fetches.queue.in_progress (with_jobs js out)) (sym hands)
     (subst (FetchIsOutIf after.workspaces.fetches.queue.in_progress) (sym (with_jobs-append jobs fetch out))
-    (fetch-out (may_start input place.client) workspaces.fetches after.desk.handed (snapshot_at after) (with_jobs jobs out) rowed.fetching))
+    (fetch-out (may_start_at input place.client) workspaces.fetches after.desk.handed (snapshot_at after) (with_jobs jobs out) rowed.fetching))
 
 pub fetching-beginning : (settings : ConfigData) → FetchIsOut (beginning settings)
 fetching-beginning settings = λ n job there. none-some job (sym (map.get-empty _ n) ∙ there)

@@ -61,7 +61,7 @@ use Rattle.session_model.specs.Machine.{facts_of, fetch_part, fetch_started, fil
 use Rattle.session_model.specs.Machine.{turned, turning, with_client, with_desk, with_files, with_state, with_workspaces}
 use Rattle.session_model.specs.Hearing.{heard_of, told_by}
 use Rattle.session_model.specs.Run.{Turn, Steps, begun, after_input, out_after}
-use Rattle.session_model.specs.State.{State, columns_in, excludes_in, may_fetch, scene_of, snapshot_of}
+use Rattle.session_model.specs.State.{State, columns_in, excludes_in, may_start, scene_of, snapshot_of}
 use Rattle.session_model.specs.declared.facts.Facts.{Facts}
 use Rattle.session_model.specs.declared.input.Event.{Event}
 use Rattle.session_model.specs.declared.input.Event.TheVariants.{Lsp, Task, Vfs, Deferred, Timer}
@@ -652,21 +652,21 @@ fetched-now meaning s input w v fetch workspaces made h = record {
 
 -- the fetch that is to start
 pub ready-fetch : (meaning : Meaning) (s : State) (input : Input) (t : Working Turning) → ReadyTurn meaning s input t
-    → fetch_to_start (may_fetch t.state.state.client.settings) t.state.state.workspaces.fetches ≡ fetch_in input (place_of s)
-ready-fetch meaning s input t ready = λ i. fetch_to_start (may_fetch (ready.made.client i).settings) (ready.workspaces i).fetches
+    → fetch_to_start (may_start input t.state.state.client.settings) t.state.state.workspaces.fetches ≡ fetch_in input (place_of s)
+ready-fetch meaning s input t ready = λ i. fetch_to_start (may_start input (ready.made.client i).settings) (ready.workspaces i).fetches
 
-fetch-made : (meaning : Meaning) (s : State) (input : Input) (t : Working Turning) → ReadyTurn meaning s input t → IfOk (fetch_part t) (MadeTurn meaning s input)
+fetch-made : (meaning : Meaning) (s : State) (input : Input) (t : Working Turning) → ReadyTurn meaning s input t → IfOk (fetch_part input t) (MadeTurn meaning s input)
 unfolding fetch_part
 fetch-made meaning s input t ready =
-    let may = may_fetch t.state.state.client.settings in
+    let may = may_start input t.state.state.client.settings in
     let fetch : Option (List ℕ × FetchRequest) = fetch_to_start may t.state.state.workspaces.fetches in
     let after : Workspaces = with_fetches (start_fetch may) t.state.state.workspaces in
-    IfOk-within state_in with_state fetch_started t (MadeTurn meaning s input)
-    (IfOk-weaker (fetch_started (session_in t)) (StartsFetch fetch after (session_in t)) _ (started-hands (session_in t))
+    IfOk-within state_in with_state (fetch_started may) t (MadeTurn meaning s input)
+    (IfOk-weaker (fetch_started may (session_in t)) (StartsFetch fetch after (session_in t)) _ (started-hands may (session_in t))
     (λ v h. record {
       facts = ready.facts;
       made = fetched-now meaning s input (session_in t) v fetch after ready.made h;
-      workspaces = h.now ∙ (λ i. with_fetches (start_fetch (may_fetch (ready.made.client i).settings)) (ready.workspaces i));
+      workspaces = h.now ∙ (λ i. with_fetches (start_fetch (may_start input (ready.made.client i).settings)) (ready.workspaces i));
       hands = h.hands ∙ (λ i. ready.spawns i ++ fetch_jobs v.state.desk.handed (snapshot_of v.state) (ready-fetch meaning s input t ready i));
     }))
 
@@ -683,25 +683,25 @@ event-fits meaning s event =
     (IfOk-weaker _ (Mid meaning s (Next event)) _ (mid-fits meaning s event) (λ v mid. record { facts = refl; mid = mid }))
 
 -- a fetch is started, and the turn closes
-abbrev pub fetch_and_close : Working Turning → Result (Working Turning) Counter
-fetch_and_close t = and_then (fetch_part t) closing_part
+abbrev pub fetch_and_close : Input → Working Turning → Result (Working Turning) Counter
+fetch_and_close input t = and_then (fetch_part input t) closing_part
 
-fetch-fits : (meaning : Meaning) (s : State) (input : Input) (t : Working Turning) → ReadyTurn meaning s input t → IfOk (fetch_and_close t) (λ v. Fits meaning s input (session_in v))
+fetch-fits : (meaning : Meaning) (s : State) (input : Input) (t : Working Turning) → ReadyTurn meaning s input t → IfOk (fetch_and_close input t) (λ v. Fits meaning s input (session_in v))
 fetch-fits meaning s input t ready =
-    IfOk-and_then (fetch_part t) closing_part (MadeTurn meaning s input) (λ v. Fits meaning s input (session_in v))
+    IfOk-and_then (fetch_part input t) closing_part (MadeTurn meaning s input) (λ v. Fits meaning s input (session_in v))
     (fetch-made meaning s input t ready) (λ u made. closing-fits meaning s input u made)
 
 step-fits : (meaning : Meaning) (s : State) (input : Input) → IfOk (step meaning input (begun s)) (Fits meaning s input)
 unfolding step
 step-fits meaning s Start =
     IfOk-and_then (start_parts (turning (begun s))) turned (λ v. Fits meaning s Start (session_in v)) (Fits meaning s Start)
-    (IfOk-and_then (begin_part (turning (begun s))) fetch_and_close (ReadyTurn meaning s Start) (λ v. Fits meaning s Start (session_in v))
+    (IfOk-and_then (begin_part (turning (begun s))) (fetch_and_close Start) (ReadyTurn meaning s Start) (λ v. Fits meaning s Start (session_in v))
     (begins meaning s) (λ t ready. fetch-fits meaning s Start t ready)) (λ v fits. fits)
 step-fits meaning s (Next event) =
-    IfOk-and_then (and_then (event_part meaning event (turning (begun s))) later_parts) turned (λ v. Fits meaning s (Next event) (session_in v)) (Fits meaning s (Next event))
-    (IfOk-and_then (event_part meaning event (turning (begun s))) later_parts (MidTurn meaning s (Next event)) (λ v. Fits meaning s (Next event) (session_in v))
+    IfOk-and_then (and_then (event_part meaning event (turning (begun s))) (later_parts (Next event))) turned (λ v. Fits meaning s (Next event) (session_in v)) (Fits meaning s (Next event))
+    (IfOk-and_then (event_part meaning event (turning (begun s))) (later_parts (Next event)) (MidTurn meaning s (Next event)) (λ v. Fits meaning s (Next event) (session_in v))
     (event-fits meaning s event)
-    (λ t m. IfOk-and_then (files_part t) fetch_and_close (ReadyTurn meaning s (Next event)) (λ v. Fits meaning s (Next event) (session_in v))
+    (λ t m. IfOk-and_then (files_part t) (fetch_and_close (Next event)) (ReadyTurn meaning s (Next event)) (λ v. Fits meaning s (Next event) (session_in v))
     (files-made meaning s event t m) (λ u ready. fetch-fits meaning s (Next event) u ready))) (λ v fits. fits)
 
 pub steps-fit : (meaning : Meaning) (s : State) (turn : Turn) (new : State) → Steps meaning s turn new → StepFits meaning s turn new

@@ -47,7 +47,7 @@ use Rattle.workspaces.specs.Workspaces.{Workspaces, no_workspaces}
 use Rattle.workspaces.specs.declared.requests.FetchRequest.{FetchRequest}
 use Rattle.session_model.specs.Fetching.{fetch_jobs, fetch_kept, fetches_kept, with_fetches}
 use Rattle.session_model.specs.Hearing.{heard_of, told_by}
-use Rattle.session_model.specs.State.{columns_in, discovers, excludes_in, macros_loaded_in, may_fetch}
+use Rattle.session_model.specs.State.{columns_in, discovers, excludes_in, macros_loaded_in, may_start}
 use Rattle.session_model.specs.Run.{Turn, Told, AllRead, AsksLast, IsHonestInput, commands_of, fed_bytes, out_after, taking, telling}
 use Rattle.session_model.specs.declared.fault.SessionError.{SessionError}
 use Rattle.session_model.specs.declared.fault.SessionError.TheVariants.{ClientExited, BadFrame, BadMessage, HostFault, WriteFault, Exhausted, NoMemory}
@@ -171,15 +171,15 @@ abbrev pub workspaces_at : Input → Place → Workspaces
 workspaces_at input place = workspaces_told place.client.settings input place.desk.jobs place.workspaces
 
 -- behind an input fetches may start, by the settings that it leaves
-abbrev pub may_start : Input → Client → Bool
-may_start input client = may_fetch (client_after input client).settings
+abbrev pub may_start_at : Input → Client → Bool
+may_start_at input client = may_start input (client_after input client).settings
 
 -- the fetch that a turn starts: the one that is asked for behind its input, where none is in progress
 abbrev pub fetch_in : Input → Place → Option (List ℕ × FetchRequest)
-fetch_in input place = fetch_to_start (may_start input place.client) (workspaces_at input place).fetches
+fetch_in input place = fetch_to_start (may_start_at input place.client) (workspaces_at input place).fetches
 
 abbrev pub workspaces_after : Input → Place → Workspaces
-workspaces_after input place = with_fetches (start_fetch (may_start input place.client)) (workspaces_at input place)
+workspaces_after input place = with_fetches (start_fetch (may_start_at input place.client)) (workspaces_at input place)
 
 -- the last of numbers, else the one before
 abbrev pub last_of : List ℕ → ℕ → ℕ

@@ -1,5 +1,5 @@
 -- The session machine: one turn, as a chain of its parts.
-use Rattle.std.specs.Prelude.{ℕ, ◌==◌, List, [], ◌∷◌, length, Option, None, Some, is_some, Result, Ok, Err, if◌then◌else◌}
+use Rattle.std.specs.Prelude.{ℕ, ◌==◌, Bool, List, [], ◌∷◌, length, Option, None, Some, is_some, Result, Ok, Err, if◌then◌else◌}
 use Rattle.std.specs.FinMap as map
 use Rattle.lsp_frame.specs.declared.message.Message.{Message}
 use Rattle.lsp_frame.specs.declared.message.Message.TheVariants.{Request as RequestMessage, Notification as NotificationMessage, Response as ResponseMessage}
@@ -32,7 +32,7 @@ use Rattle.workspaces.specs.Workspaces.{Workspaces}
 use Rattle.workspaces.specs.declared.requests.FetchRequest.{FetchRequest}
 use Rattle.session_model.specs.Fetching.{fetch_kept, with_fetches}
 use Rattle.session_model.specs.Hearing.{heard_of}
-use Rattle.session_model.specs.State.{State, columns_in, discovers, excludes_in, fetch_kind, may_fetch, scene_of, snapshot_of}
+use Rattle.session_model.specs.State.{State, columns_in, discovers, excludes_in, fetch_kind, may_start, scene_of, snapshot_of}
 use Rattle.session_model.specs.declared.facts.Facts.{Facts}
 use Rattle.session_model.specs.declared.input.Event.{Event}
 use Rattle.session_model.specs.declared.input.Event.TheVariants.{Lsp, Task, Vfs, Deferred, Timer}
@@ -220,13 +220,11 @@ fetch_handed_over None w = Ok w
 fetch_handed_over (Some request) w = at_desk (handed_over (snapshot_of w.state) Worker (fetch_kind w.state.client.settings request.1)) w
 
 -- the fetch that waits in the queue starts, where fetches may start and none is in progress
-unfoldable pub fetch_started : Working State → Result (Working State) Counter
-fetch_started w =
-    let may = may_fetch w.state.client.settings in
-    fetch_handed_over (fetch_to_start may w.state.workspaces.fetches) (at_workspaces (with_fetches (start_fetch may)) w)
+unfoldable pub fetch_started : Bool → Working State → Result (Working State) Counter
+fetch_started may w = fetch_handed_over (fetch_to_start may w.state.workspaces.fetches) (at_workspaces (with_fetches (start_fetch may)) w)
 
-unfoldable pub fetch_part : Working Turning → Result (Working Turning) Counter
-fetch_part w = in_state fetch_started w
+unfoldable pub fetch_part : Input → Working Turning → Result (Working Turning) Counter
+fetch_part input w = in_state (fetch_started (may_start input w.state.state.client.settings)) w
 
 abbrev pub build_part : Working Turning → Result (Working Turning) Counter
 build_part w = Ok w
@@ -245,9 +243,9 @@ unfoldable pub closing_part : Working Turning → Result (Working Turning) Count
 closing_part w = in_state (closed w.state.facts) w
 
 -- the parts behind the event
-abbrev pub later_parts : Working Turning → Result (Working Turning) Counter
-later_parts w =
-    and_then (files_part w) (λ w. and_then (quiet_part w) (λ w. and_then (publish_part w) (λ w. and_then (fetch_part w)
+abbrev pub later_parts : Input → Working Turning → Result (Working Turning) Counter
+later_parts input w =
+    and_then (files_part w) (λ w. and_then (quiet_part w) (λ w. and_then (publish_part w) (λ w. and_then (fetch_part input w)
     (λ w. and_then (build_part w) (λ w. and_then (prime_part w) (λ w. and_then (status_part w) closing_part))))))
 
 -- the start asks for the first fetch, unless the projects are discovered
@@ -259,7 +257,7 @@ begin_part w = in_state begun_fetches w
 
 -- the parts of the start
 abbrev pub start_parts : Working Turning → Result (Working Turning) Counter
-start_parts w = and_then (status_part w) (λ w. and_then (begin_part w) (λ w. and_then (fetch_part w) closing_part))
+start_parts w = and_then (status_part w) (λ w. and_then (begin_part w) (λ w. and_then (fetch_part Start w) closing_part))
 
 -- the facts before a turn
 abbrev pub facts_of : Working State → Facts
@@ -275,4 +273,4 @@ turned w = Ok (record { state = w.state.state; out = w.out })
 -- one turn: a chain of nine parts. The start is a chain of its own, and uses no number of the turns
 unfoldable pub step : Meaning → Input → Working State → Result (Working State) Counter
 step meaning Start w = and_then (start_parts (turning w)) turned
-step meaning (Next event) w = and_then (and_then (event_part meaning event (turning w)) later_parts) turned
+step meaning (Next event) w = and_then (and_then (event_part meaning event (turning w)) (later_parts (Next event))) turned

@@ -1,5 +1,5 @@
 -- The session's state, as contracts see it: a record of its parts.
-use Rattle.std.specs.Prelude.{ℕ, Bool, List, [], None, false, is_some, not, ◌||◌}
+use Rattle.std.specs.Prelude.{ℕ, Bool, List, [], None, true, false, is_some, not, ◌||◌}
 use Rattle.text_core.specs.declared.position.PositionEncoding.{PositionEncoding}
 use Rattle.ra_settings.specs.declared.row.Row.TheVariants.{CargoAutoreload, DetachedFiles, FilesExclude, ProcMacroEnable, WorkspaceDiscoverConfig}
 use Rattle.ra_settings.specs.declared.value.SettingValue.{SettingValue}
@@ -16,6 +16,8 @@ use Rattle.workspaces.specs.declared.requests.FetchRequest.{FetchRequest}
 use Rattle.desk.specs.Desk.{Desk, new_desk, new_desk_at}
 use Rattle.desk.specs.declared.scene.Scene.{Scene}
 use Rattle.session_model.specs.declared.counters.Counters.{Counters}
+use Rattle.session_model.specs.declared.input.Input.{Input}
+use Rattle.session_model.specs.declared.input.Input.TheVariants.{Start, Next}
 
 pub record State : Type 0 where
   -- the settings, and what the client was asked
@@ -59,6 +61,11 @@ discovers settings = is_discovering (setting WorkspaceDiscoverConfig None settin
 -- workspaces may be fetched: the setting `cargo.autoreload`, or the projects are discovered
 abbrev pub may_fetch : ConfigData → Bool
 may_fetch settings = truth_in (setting CargoAutoreload None settings.settings) || discovers settings
+
+-- the same behind an input; the first fetch of a session may start in any case
+abbrev pub may_start : Input → ConfigData → Bool
+may_start Start settings = true
+may_start (Next event) settings = may_fetch settings
 
 -- what a fetch is for: the projects of the session, and the files that stand alone
 abbrev pub fetch_kind : ConfigData → FetchRequest → JobKind

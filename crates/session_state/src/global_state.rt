@@ -271,7 +271,7 @@ impl GlobalState {
     {
         let facts = self.facts(out);
         self.begin_fetches(out)?;
-        self.start_fetch(out)?;
+        self.start_fetch(true, out)?;
         self.close_turn(facts, out)
     }
 
@@ -288,7 +288,8 @@ impl GlobalState {
         let facts = self.facts(out);
         self.take_in(event, analysis, out)?;
         self.process(out)?;
-        self.start_fetch(out)?;
+        let may = self.may_fetch();
+        self.start_fetch(may, out)?;
         self.close_turn(facts, out)
     }
 }

@@ -38,7 +38,7 @@ impl GlobalState {
     }
 
     // Whether workspaces may be fetched.
-    fn may_fetch(&self) -> bool
+    pub(super) fn may_fetch(&self) -> bool
         ensures { result ≡ may_fetch self.now.client.settings }
     {
         self.client.settings().cargo_autoreload() || self.discovers()
@@ -120,10 +120,9 @@ impl GlobalState {
 
     // Starts the fetch that waits in the queue, where fetches may start and none is in progress.
     #[tactic(auto, unfolding(session_model::specs::Machine::fetch_started))]
-    pub(super) fn start_fetch(&mut self, out: &mut TurnOut) -> Result<(), TurnError>
-        ensures { Meets result (fetch_started (record { state = self.old; out = out.old })) self.new out.new }
+    pub(super) fn start_fetch(&mut self, may: bool, out: &mut TurnOut) -> Result<(), TurnError>
+        ensures { Meets result (fetch_started may (record { state = self.old; out = out.old })) self.new out.new }
     {
-        let may = self.may_fetch();
         let started = self.workspaces.start_fetch(may);
         self.hand_over_fetch(started, out)
     }
