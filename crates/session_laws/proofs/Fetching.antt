@@ -1,5 +1,5 @@
 -- What a fetch of workspaces does within a turn: it hands over at most one job, which is for no request.
-use Rattle.std.proofs.Common.{◌≡◌, ℕ, ◌+◌, ◌-◌, ◌^◌, ◌≤◌, List, [], ◌++◌, refl, sym, ◌∙◌, append-nil, arith}
+use Rattle.std.proofs.Common.{Bool, ◌≡◌, ℕ, ◌+◌, ◌-◌, ◌^◌, ◌≤◌, List, [], ◌++◌, refl, sym, ◌∙◌, append-nil, arith}
 use Rattle.std.specs.Prelude.{IfOk, IfErr, Option, None, Some, is_some, if◌then◌else◌}
 use Rattle.std.specs.List.{filter_map}
 use Rattle.session_port.specs.Events.{revision_of}
