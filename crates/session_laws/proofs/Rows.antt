@@ -17,7 +17,7 @@ use Rattle.analysis_host.specs.HostData.{HostData}
 use Rattle.session_port.specs.Events.{revision_of}
 use Rattle.session_port.specs.Jobs.{Jobs, after_message, after_batch}
 use Rattle.session_port.specs.Record.{spawned, with_jobs}
-use Rattle.session_port.specs.declared.command.Command.TheVariants.{Invalidate, Revise}
+use Rattle.session_port.specs.declared.command.Command.TheVariants.{Revise}
 use Rattle.session_port.specs.declared.command.LogCode.{LogCode}
 use Rattle.session_port.specs.declared.command.LogCode.TheVariants.{BadPath}
 use Rattle.session_port.specs.declared.event.LoaderMsg.{LoaderMsg}

@@ -253,7 +253,7 @@ row meaning (Next (Timer ticket)) place = silent
 abbrev pub HandsOver : Meaning → Turn → Place → Type 0
 HandsOver meaning turn place =
     spawned turn.commands ≡ (row meaning turn.input place).jobs
-        ++ fetch_jobs (place_after turn place).desk.handed (snapshot_at (place_after turn place)) (fetch_in turn.input place)
+    ++ fetch_jobs (place_after turn place).desk.handed (snapshot_at (place_after turn place)) (fetch_in turn.input place)
 
 -- ---- what holds between turns
 

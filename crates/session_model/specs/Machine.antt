@@ -2,7 +2,6 @@
 use Rattle.std.specs.Prelude.{ℕ, ◌==◌, List, [], ◌∷◌, length, Option, None, Some, is_some, Result, Ok, Err, if◌then◌else◌}
 use Rattle.std.specs.FinMap as map
 use Rattle.lsp_frame.specs.declared.message.Request.{Request}
-use Rattle.lsp_frame.specs.declared.message.RequestId.{RequestId}
 use Rattle.lsp_frame.specs.declared.message.Message.{Message}
 use Rattle.lsp_frame.specs.declared.message.Message.TheVariants.{Request as RequestMessage, Notification as NotificationMessage, Response as ResponseMessage}
 use Rattle.plain.specs.Texts.{text_cmp}
@@ -13,7 +12,7 @@ use Rattle.session_port.specs.declared.command.LogCode.TheVariants.{MalformedNot
 use Rattle.session_port.specs.declared.command.LogCode.TheVariants.{BadPath}
 use Rattle.session_port.specs.declared.event.TaskMsg.{TaskMsg}
 use Rattle.method_table.specs.declared.class.PoolClass.TheVariants.{Worker}
-use Rattle.turn_parts.specs.Working.{Working, and_then, ordered, logged, put_back, within}
+use Rattle.turn_parts.specs.Working.{Working, and_then, ordered, logged, within}
 use Rattle.turn_parts.specs.declared.fault.Counter.{Counter}
 use Rattle.client.specs.Client.{Client}
 use Rattle.client.specs.Steps.{asked_for, answered, folders_changed}
