@@ -41,7 +41,7 @@ use Rattle.session_files.specs.Steps.{changed, closed as closed_document, loaded
 use Rattle.workspaces.specs.Fetches.{fetch_to_start}
 use Rattle.workspaces.specs.declared.requests.FetchRequest.{FetchRequest}
 use Rattle.session_model.specs.Headline.{NeedsMore, fetches_in, files_told, row, batch_row, place_past, scene_at}
-use Rattle.session_model.specs.Machine.{Turning, asked_for_settings, at_client, at_desk, at_files, batched, begin_part, begun_fetches, changed_at, client_in, closed, closed_at, closing_part, counted, desk_in, event_part}
+use Rattle.session_model.specs.Machine.{Turning, asked, asked_for_settings, at_client, at_desk, at_files, batched, begin_part, begun_fetches, changed_at, client_in, closed, closed_at, closing_part, counted, desk_in, event_part}
 use Rattle.session_model.specs.Machine.{fetch_part, fetch_started, files_in, files_part, files_processed, happened, kept, later_parts, noticed, opened_at, received, start_parts, state_in, step, taken, taken_in, told, turned, turning, with_client}
 use Rattle.session_model.specs.Machine.{with_desk, with_files, with_state}
 use Rattle.session_model.specs.State.{State, columns_in, excludes_in, may_start, scene_of}
@@ -99,12 +99,14 @@ needs-jobs meaning s input done counter is h =
     subst (Needs meaning s input) (sym h.0)
     (subst (λ (d : Reaction). 2 ^ 64 ≤ s.desk.handed + length d.jobs + fetches_in input (place_of s)) (sym is) (no-less (s.desk.handed + length done.jobs) (fetches_in input (place_of s)) h.1))
 
-read-errs : (meaning : Meaning) (s : State) (r : Request) → IfErr (at_desk (requested meaning (scene_of s) r) (counted_turn s)) (Needs meaning s (Next (Lsp (RequestMessage r))))
+read-errs : (meaning : Meaning) (s : State) (r : Request) → IfErr (asked meaning r (counted_turn s)) (Needs meaning s (Next (Lsp (RequestMessage r))))
 read-errs meaning s r =
     let done = request_row meaning (scene_of s) (counted_turn s).state.desk (s.desk.turns + 1) r in
-    IfErr-within desk_in with_desk (requested meaning (scene_of s) r) (counted_turn s) _
+    err-and_then (at_desk (requested meaning (scene_of s) r) (counted_turn s)) _ (Needs meaning s (Next (Lsp (RequestMessage r))))
+    (IfErr-within desk_in with_desk (requested meaning (scene_of s) r) (counted_turn s) _
     (err-weaker _ (TooMany s.desk.handed done) _ (request-errs meaning (scene_of s) r (at (counted_turn s)))
-    (λ c h. needs-jobs meaning s (Next (Lsp (RequestMessage r))) done c (sym (request-turns meaning (scene_of s) s.desk (s.desk.turns + 1) (s.desk.turns + 1) r)) h))
+    (λ c h. needs-jobs meaning s (Next (Lsp (RequestMessage r))) done c (sym (request-turns meaning (scene_of s) s.desk (s.desk.turns + 1) (s.desk.turns + 1) r)) h)))
+    (λ v is. tt)
 
 -- ---- notifications
 

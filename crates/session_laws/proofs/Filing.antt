@@ -1,7 +1,7 @@
 -- What is done with the files of a session answers nobody, and leaves the world as it is until they are processed.
-use Rattle.std.proofs.Common.{◌≡◌, ◌+◌, ◌-◌, ◌^◌, ◌≤◌, ℕ, List, [], ◌∷◌, Bool, true, false, refl, sym, ap, ◌∙◌, subst}
+use Rattle.std.proofs.Common.{◌≡◌, ◌+◌, ◌-◌, ◌^◌, ◌≤◌, ℕ, List, [], ◌∷◌, Bool, true, false, refl, sym, subst}
 use Rattle.std.proofs.lemmas.Bool.{ltb-false}
-use Rattle.std.specs.Prelude.{ℤ, Option, None, Some, Result, Ok, Err, IfOk, IfErr, ltb, if◌then◌else◌}
+use Rattle.std.specs.Prelude.{ℤ, Option, Some, Result, Ok, Err, IfOk, IfErr, ltb, if◌then◌else◌}
 use Rattle.std.specs.FinMap as map
 use Rattle.docs_vfs.specs.Files.{Files, changes}
 use Rattle.docs_vfs.specs.declared.file_kinds.ChangedFile.{ChangedFile}
@@ -16,14 +16,14 @@ use Rattle.session_port.specs.declared.command.LogCode.TheVariants.{DuplicateOpe
 use Rattle.session_port.specs.declared.event.LoadedFile.{LoadedFile}
 use Rattle.session_port.specs.declared.event.LoaderMsg.{LoaderMsg}
 use Rattle.session_port.specs.declared.event.LoaderMsg.TheVariants.{Changed, Loaded, Progress}
-use Rattle.turn_parts.specs.Working.{Working, and_then, logged, ordered}
+use Rattle.turn_parts.specs.Working.{Working, logged, ordered}
 use Rattle.turn_parts.specs.declared.fault.Counter.{Counter}
 use Rattle.turn_parts.specs.declared.fault.Counter.TheVariants.{Files as FilesCounter, Revisions}
 use Rattle.desk_laws.proofs.Refusing.{err-and_then}
 use Rattle.desk_laws.proofs.Results.{IfOk-if}
 use Rattle.session_files.specs.Changing.{has_skipped}
 use Rattle.session_files.specs.Folds.{after_changed, after_closing, after_each_changed, after_each_loaded, after_editing, after_loaded, after_message, after_messages, after_opening, after_processing}
-use Rattle.session_files.specs.Folds.{after_turn, contents_put, is_open, made_of, mark_put, table_put, text_edited, with_changes, world_put}
+use Rattle.session_files.specs.Folds.{after_turn, contents_put, is_open, mark_put, table_put, text_edited, with_changes, world_put}
 use Rattle.session_files.specs.SessionFiles.{SessionFiles}
 use Rattle.session_files.specs.Steps.{become, changed, close_noted, closed, edited, loaded, open_noted, opened, processed, skip_noted}
 use Rattle.session_files.proofs.SoundLemmas.{editing_keeps, messages_keep, opening_keeps, turned}

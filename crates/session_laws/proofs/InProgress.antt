@@ -3,6 +3,7 @@ use Rattle.std.proofs.Common.{◌≡◌, ◌≢◌, ℕ, ◌+◌, ◌≤◌, Lis
 use Rattle.std.proofs.lemmas.Bool.{true≢false}
 use Rattle.std.specs.Prelude.{codes, cond, Option, None, Some, is_some, option_and_then, Ok, Err, if◌then◌else◌}
 use Rattle.std.specs.FinMap as map
+use Rattle.lsp_frame.specs.declared.message.Message.TheVariants.{Request as RequestMessage, Notification as NotificationMessage, Response as ResponseMessage}
 use Rattle.analysis_host.specs.SnapshotData.{SnapshotData}
 use Rattle.op_board.specs.Queue.{Queue}
 use Rattle.ra_config.specs.Config.{ConfigData}
@@ -16,6 +17,7 @@ use Rattle.session_port.specs.declared.job.JobKind.TheVariants.{Request, FetchWo
 use Rattle.session_port.specs.declared.job.JobResult.{JobResult}
 use Rattle.session_port.specs.declared.job.JobResult.TheVariants.{Value, Fault, Cancelled, NoMemory}
 use Rattle.session_port.specs.declared.job.JobValue.TheVariants.{Json, Roots, Primed, Workspaces as WorkspacesValue, BuildData, ProcMacros}
+use Rattle.desk.specs.Desk.{Desk}
 use Rattle.desk.specs.Fetching.{FetchEnd, fetch_end, fetch_end_of, fetch_ended, fetch_told}
 use Rattle.desk.specs.Folds.{asked_among, is_asked}
 use Rattle.desk.specs.Meaning.{Meaning}
@@ -31,7 +33,7 @@ use Rattle.workspaces.specs.Workspaces.{Fetches, Workspaces}
 use Rattle.workspaces.specs.declared.outputs.FetchOutput.{FetchOutput}
 use Rattle.workspaces.specs.declared.requests.FetchRequest.{FetchRequest}
 use Rattle.workspaces.specs.declared.requests.WaitingFetch.{WaitingFetch}
-use Rattle.session_model.specs.Fetching.{fetch_job, fetch_jobs, fetch_kept, fetches_kept}
+use Rattle.session_model.specs.Fetching.{fetch_job, fetch_jobs, fetch_kept, fetches_kept, reloaded_if, reloads}
 use Rattle.session_model.specs.Headline.{HandsOver, Place, beginning, fetch_in, may_start_at, place_after, reaction_of, row, snapshot_at, workspaces_at, workspaces_told}
 use Rattle.session_model.specs.Run.{Steps, Turn, after_input}
 use Rattle.session_model.specs.State.{State, discovers}
@@ -157,14 +159,20 @@ fire-cases false asked f same = refl
 fire-same : (ticket : ℕ) (f : Fetches) → (fire ticket f).queue.in_progress ≡ f.queue.in_progress
 fire-same ticket f = fire-cases (fires ticket f.waiting) (ask_waiting f.waiting f) f (ask-same f.waiting f)
 
-told-out : (settings : ConfigData) (input : Input) (out : Jobs) (workspaces : Workspaces) → FetchIsOutIf workspaces.fetches.queue.in_progress out
-    → FetchIsOutIf (workspaces_told settings input out workspaces).fetches.queue.in_progress (after_input input out)
-told-out settings Start out workspaces h = subst (λ b. FetchIsOutIf b out) (sym (begin-same (discovers settings) workspaces.fetches)) h
-told-out settings (Next (Lsp message)) out workspaces h = h
-told-out settings (Next (Task batch)) out workspaces h = batch-out batch out workspaces h
-told-out settings (Next (Vfs messages)) out workspaces h = h
-told-out settings (Next (Deferred tasks)) out workspaces h = h
-told-out settings (Next (Timer ticket)) out workspaces h = subst (λ b. FetchIsOutIf b out) (sym (fire-same ticket workspaces.fetches)) h
+reload-same : (b : Bool) (workspaces : Workspaces) → (reloaded_if b workspaces).fetches.queue.in_progress ≡ workspaces.fetches.queue.in_progress
+reload-same true workspaces = refl
+reload-same false workspaces = refl
+
+told-out : (settings : ConfigData) (input : Input) (desk : Desk) (workspaces : Workspaces) → FetchIsOutIf workspaces.fetches.queue.in_progress desk.jobs
+    → FetchIsOutIf (workspaces_told settings input desk workspaces).fetches.queue.in_progress (after_input input desk.jobs)
+told-out settings Start desk workspaces h = subst (λ b. FetchIsOutIf b desk.jobs) (sym (begin-same (discovers settings) workspaces.fetches)) h
+told-out settings (Next (Lsp (RequestMessage r))) desk workspaces h = subst (λ b. FetchIsOutIf b desk.jobs) (sym (reload-same (reloads r desk) workspaces)) h
+told-out settings (Next (Lsp (NotificationMessage n))) desk workspaces h = h
+told-out settings (Next (Lsp (ResponseMessage r))) desk workspaces h = h
+told-out settings (Next (Task batch)) desk workspaces h = batch-out batch desk.jobs workspaces h
+told-out settings (Next (Vfs messages)) desk workspaces h = h
+told-out settings (Next (Deferred tasks)) desk workspaces h = h
+told-out settings (Next (Timer ticket)) desk workspaces h = subst (λ b. FetchIsOutIf b desk.jobs) (sym (fire-same ticket workspaces.fetches)) h
 
 -- ---- jobs with the next numbers
 
@@ -291,7 +299,7 @@ turn-keeps-fetching meaning turn place does hands sound h =
     let none : AreNoFetches jobs = subst AreNoFetches (ap (λ (r : Reaction). r.jobs) does) (asked-none (spawned turn.commands)) in
     let told : IsSo workspaces.fetches.queue.in_progress place.desk.handed out = record {
       low = given-input place.desk.handed input place.desk.jobs sound.numbers;
-      fetching = told-out place.client.settings input place.desk.jobs place.workspaces h;
+      fetching = told-out place.client.settings input place.desk place.workspaces h;
     } in
     let rowed = on-others workspaces.fetches.queue.in_progress place.desk.handed jobs out (row-numbered meaning input place) none told in
     subst (λ (js : List Job). FetchIsOutIf after.workspaces.fetches.queue.in_progress (with_jobs js out)) (sym hands)

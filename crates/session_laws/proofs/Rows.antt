@@ -52,11 +52,11 @@ use Rattle.session_files.specs.Steps.{changed, closed as closed_document, loaded
 use Rattle.workspaces.specs.Fetches.{fetch_to_start, start_fetch}
 use Rattle.workspaces.specs.Workspaces.{Workspaces}
 use Rattle.workspaces.specs.declared.requests.FetchRequest.{FetchRequest}
-use Rattle.session_model.specs.Fetching.{fetch_jobs, fetch_kept, fetches_kept, with_fetches}
+use Rattle.session_model.specs.Fetching.{fetch_jobs, fetch_kept, fetches_kept, reloaded_if, reloads, with_fetches}
 use Rattle.session_model.specs.Headline.{Place, reaction_of, row, notice_row, batch_row, desk_after, place_after, place_past, client_after, last_of, revision_after, scene_at, snapshot_at}
 use Rattle.session_model.specs.Headline.{are_due, is_changed, fetch_in, workspaces_after, workspaces_at, files_after, files_made, files_told, files_turned, or_before}
 use Rattle.session_model.specs.Inputs.{cancelled_by, request_in, turns_after}
-use Rattle.session_model.specs.Machine.{Turning, asked_for_settings, at_client, at_desk, at_files, at_workspaces, batched, begin_part, begun_fetches, changed_at, client_in, closed, closed_at, closing_part, counted, desk_in, event_part}
+use Rattle.session_model.specs.Machine.{Turning, asked, asked_for_settings, at_client, at_desk, at_files, at_workspaces, batched, begin_part, begun_fetches, changed_at, client_in, closed, closed_at, closing_part, counted, desk_in, event_part}
 use Rattle.session_model.specs.Machine.{facts_of, fetch_part, fetch_started, file_changed, files_changed, files_in, files_part, files_processed, happened, kept, later_parts, noticed, opened_at, received, revised, start_parts, state_in, step, taken, taken_in, timed, told}
 use Rattle.session_model.specs.Machine.{turned, turning, with_client, with_desk, with_files, with_state, with_workspaces}
 use Rattle.session_model.specs.Hearing.{heard_of, told_by}
@@ -225,12 +225,17 @@ files-mid meaning s input work r serves client told host untold does =
 abbrev request_input : Request → Input
 request_input r = Next (Lsp (RequestMessage r))
 
-requested-mid : (meaning : Meaning) (s : State) (r : Request) → IfOk (at_desk (requested meaning (scene_of s) r) (counted_turn s)) (Mid meaning s (request_input r))
+requested-mid : (meaning : Meaning) (s : State) (r : Request) → IfOk (asked meaning r (counted_turn s)) (Mid meaning s (request_input r))
 requested-mid meaning s r =
-    IfOk-within desk_in with_desk (requested meaning (scene_of s) r) (counted_turn s) (Mid meaning s (request_input r))
-    (IfOk-weaker _ (λ v. Settled (Some r) (counted_desk s.desk) v (request_row meaning (scene_of s) (counted_desk s.desk).state (s.desk.turns + 1) r) s.desk.jobs) (λ v. Mid meaning s (request_input r) (desk_now s v))
+    let done = request_row meaning (scene_of s) (counted_desk s.desk).state (s.desk.turns + 1) r in
+    let told : Working State → Working State = at_workspaces (reloaded_if (reloads r s.desk)) in
+    IfOk-and_then (at_desk (requested meaning (scene_of s) r) (counted_turn s)) (λ v. Ok (told v)) (λ v. Mid meaning s (request_input r) (told v)) (Mid meaning s (request_input r))
+    (IfOk-within desk_in with_desk (requested meaning (scene_of s) r) (counted_turn s) (λ v. Mid meaning s (request_input r) (told v))
+    (IfOk-weaker _ (λ v. Settled (Some r) (counted_desk s.desk) v done s.desk.jobs) (λ v. Mid meaning s (request_input r) (told (desk_now s v)))
     (request-settles meaning (scene_of s) r (counted_desk s.desk))
-    (λ v a. desk-mid meaning s (request_input r) (request_row meaning (scene_of s) (counted_desk s.desk).state (s.desk.turns + 1) r) v refl (sym (request-turns meaning (scene_of s) s.desk (s.desk.turns + 1) (s.desk.turns + 1) r)) (record { client = refl; files = refl; workspaces = refl }) a))
+    (λ v a. both-mid meaning s (request_input r) done v (reloaded_if (reloads r s.desk) s.workspaces) refl (sym (request-turns meaning (scene_of s) s.desk (s.desk.turns + 1) (s.desk.turns + 1) r))
+    (record { client = refl; files = refl }) refl a)))
+    (λ v mid. mid)
 
 -- ---- notifications
 

@@ -7,7 +7,6 @@ use Rattle.docs_vfs.specs.Files.{contents_at}
 use Rattle.docs_vfs.specs.FileUrls.{path_of}
 use Rattle.docs_vfs.specs.Paths.{path_cmp}
 use Rattle.docs_vfs.specs.declared.file_url.UrlFault.{UrlFault}
-use Rattle.lsp_frame.specs.declared.message.Message.{Message}
 use Rattle.ra_config.specs.Config.{ConfigData}
 use Rattle.turn_parts.specs.declared.fault.Counter.{Counter}
 use Rattle.notify.specs.declared.notice.DidChange.{DidChange}

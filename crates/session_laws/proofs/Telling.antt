@@ -25,7 +25,6 @@ use Rattle.client.specs.declared.handler.ReqHandler.TheVariants.{Ignore, Setting
 use Rattle.notify.specs.declared.outgo.Outgo.{Outgo}
 use Rattle.notify.specs.declared.outgo.Outgo.TheVariants.{OpenLogs as OpenLogsMessage}
 use Rattle.outgoing.specs.Outgoing.{number_limit}
-use Rattle.desk.specs.Desk.{Desk}
 use Rattle.desk.specs.Folds.{asked_among}
 use Rattle.desk_laws.specs.Numbers.{AreNumbered}
 use Rattle.desk_laws.proofs.Appends.{responses-append, revisions-append, spawned-append}

@@ -1,11 +1,20 @@
 -- What is told of fetches of workspaces, and the job of one.
-use Rattle.std.specs.Prelude.{ℕ, true, List, [], ◌∷◌, Option, None, Some, if◌then◌else◌}
+use Rattle.std.specs.Prelude.{ℕ, ◌==◌, ◌&&◌, ◌||◌, Bool, true, false, not, List, [], ◌∷◌, Option, None, Some, if◌then◌else◌}
+use Rattle.std.specs.Option.{option_map_or}
+use Rattle.lsp_frame.specs.Pending.{is_pending}
+use Rattle.lsp_frame.specs.declared.message.Request.{Request}
 use Rattle.analysis_host.specs.SnapshotData.{SnapshotData}
+use Rattle.method_table.specs.Rows.{row_of}
 use Rattle.method_table.specs.declared.class.PoolClass.TheVariants.{Worker}
+use Rattle.method_table.specs.declared.named.TheConstants.{RELOAD_WORKSPACE}
+use Rattle.method_table.specs.declared.row_id.RowId.{RowId}
 use Rattle.session_port.specs.Jobs.{Jobs, after_message}
 use Rattle.session_port.specs.declared.event.TaskMsg.{TaskMsg}
 use Rattle.session_port.specs.declared.job.Job.{Job}
+use Rattle.state_params.specs.Unit.{is_unit}
+use Rattle.desk.specs.Desk.{Desk}
 use Rattle.desk.specs.Fetching.{FetchEnd, fetch_ended}
+use Rattle.workspaces.specs.Builds.{reload}
 use Rattle.workspaces.specs.Fetches.{end_fetch}
 use Rattle.workspaces.specs.Workspaces.{Fetches, Workspaces}
 use Rattle.workspaces.specs.declared.requests.FetchRequest.{FetchRequest}
@@ -25,6 +34,24 @@ fetch_kept (Some found) workspaces =
 abbrev pub fetches_kept : List TaskMsg → Jobs → Workspaces → Workspaces
 fetches_kept [] out workspaces = workspaces
 fetches_kept (message ∷ messages) out workspaces = fetches_kept messages (after_message message out) (fetch_kept (fetch_ended message out) workspaces)
+
+-- ---- requests to reload
+
+abbrev pub is_reload : Option RowId → Bool
+is_reload row = option_map_or (λ r. r.0 == RELOAD_WORKSPACE.0) row false
+
+-- a request is taken whose id doesn't wait, until a shutdown is requested
+abbrev pub takes : Request → Desk → Bool
+takes r desk = not (desk.shutdown || is_pending r.id desk.pending)
+
+-- a request asks for the workspaces anew, and is taken
+abbrev pub reloads : Request → Desk → Bool
+reloads r desk = is_reload (row_of r.method) && is_unit r.params && takes r desk
+
+abbrev pub reloaded_if : Bool → Workspaces → Workspaces
+reloaded_if reloads workspaces = if reloads then reload workspaces else workspaces
+
+-- ---- the job of a fetch
 
 -- the job of a fetch, with this number, on this snapshot
 abbrev pub fetch_job : ℕ → SnapshotData → FetchRequest → Job

@@ -45,7 +45,7 @@ use Rattle.session_files.specs.SessionFiles.{SessionFiles, no_files}
 use Rattle.workspaces.specs.Fetches.{fetch_to_start, fire, start_fetch, start_up}
 use Rattle.workspaces.specs.Workspaces.{Workspaces, no_workspaces}
 use Rattle.workspaces.specs.declared.requests.FetchRequest.{FetchRequest}
-use Rattle.session_model.specs.Fetching.{fetch_jobs, fetch_kept, fetches_kept, with_fetches}
+use Rattle.session_model.specs.Fetching.{fetch_jobs, fetch_kept, fetches_kept, reloaded_if, reloads, with_fetches}
 use Rattle.session_model.specs.Hearing.{heard_of, told_by}
 use Rattle.session_model.specs.State.{columns_in, discovers, excludes_in, macros_loaded_in, may_start}
 use Rattle.session_model.specs.Run.{Turn, Told, AllRead, AsksLast, IsHonestInput, commands_of, fed_bytes, out_after, taking, telling}
@@ -158,17 +158,20 @@ client_answered (Some response) client = after_answer response client
 abbrev pub client_after : Input → Client → Client
 client_after input client = client_answered (response_in input) (client_told (notice_in input) client)
 
--- what an input tells of the workspaces, by the jobs that are out: the start asks for a fetch, a job's message may end one, and a timer may ask for one
-abbrev pub workspaces_told : ConfigData → Input → Jobs → Workspaces → Workspaces
-workspaces_told settings Start out workspaces = with_fetches (start_up (discovers settings)) workspaces
-workspaces_told settings (Next (Lsp message)) out workspaces = workspaces
-workspaces_told settings (Next (Task batch)) out workspaces = fetches_kept batch out workspaces
-workspaces_told settings (Next (Vfs messages)) out workspaces = workspaces
-workspaces_told settings (Next (Deferred tasks)) out workspaces = workspaces
-workspaces_told settings (Next (Timer ticket)) out workspaces = with_fetches (fire ticket) workspaces
+-- what an input tells of the workspaces, by the requests that wait and the jobs that are out: the start and a request to reload ask for a fetch, a job's
+-- message may end one, and a timer may ask for one
+abbrev pub workspaces_told : ConfigData → Input → Desk → Workspaces → Workspaces
+workspaces_told settings Start desk workspaces = with_fetches (start_up (discovers settings)) workspaces
+workspaces_told settings (Next (Lsp (RequestMessage r))) desk workspaces = reloaded_if (reloads r desk) workspaces
+workspaces_told settings (Next (Lsp (NotificationMessage n))) desk workspaces = workspaces
+workspaces_told settings (Next (Lsp (ResponseMessage r))) desk workspaces = workspaces
+workspaces_told settings (Next (Task batch)) desk workspaces = fetches_kept batch desk.jobs workspaces
+workspaces_told settings (Next (Vfs messages)) desk workspaces = workspaces
+workspaces_told settings (Next (Deferred tasks)) desk workspaces = workspaces
+workspaces_told settings (Next (Timer ticket)) desk workspaces = with_fetches (fire ticket) workspaces
 
 abbrev pub workspaces_at : Input → Place → Workspaces
-workspaces_at input place = workspaces_told place.client.settings input place.desk.jobs place.workspaces
+workspaces_at input place = workspaces_told place.client.settings input place.desk place.workspaces
 
 -- behind an input fetches may start, by the settings that it leaves
 abbrev pub may_start_at : Input → Client → Bool

@@ -1,6 +1,7 @@
 -- The session machine: one turn, as a chain of its parts.
 use Rattle.std.specs.Prelude.{ℕ, ◌==◌, Bool, List, [], ◌∷◌, length, Option, None, Some, is_some, Result, Ok, Err, if◌then◌else◌}
 use Rattle.std.specs.FinMap as map
+use Rattle.lsp_frame.specs.declared.message.Request.{Request}
 use Rattle.lsp_frame.specs.declared.message.Message.{Message}
 use Rattle.lsp_frame.specs.declared.message.Message.TheVariants.{Request as RequestMessage, Notification as NotificationMessage, Response as ResponseMessage}
 use Rattle.plain.specs.Texts.{text_cmp}
@@ -30,7 +31,7 @@ use Rattle.session_files.specs.Steps.{changed, closed as closed_document, loaded
 use Rattle.workspaces.specs.Fetches.{fetch_to_start, fire, start_fetch, start_up}
 use Rattle.workspaces.specs.Workspaces.{Workspaces}
 use Rattle.workspaces.specs.declared.requests.FetchRequest.{FetchRequest}
-use Rattle.session_model.specs.Fetching.{fetch_kept, with_fetches}
+use Rattle.session_model.specs.Fetching.{fetch_kept, reloaded_if, reloads, with_fetches}
 use Rattle.session_model.specs.Hearing.{heard_of}
 use Rattle.session_model.specs.State.{State, columns_in, discovers, excludes_in, fetch_kind, may_start, scene_of, snapshot_of}
 use Rattle.session_model.specs.declared.facts.Facts.{Facts}
@@ -90,6 +91,14 @@ with_workspaces workspaces state = record state { workspaces = workspaces }
 abbrev pub at_workspaces : (Workspaces → Workspaces) → Working State → Working State
 at_workspaces step w = record w { state = with_workspaces (step w.state.workspaces) w.state }
 
+-- ---- requests
+
+-- a request, on the present snapshot; one to reload asks for a fetch
+abbrev pub asked : Meaning → Request → Working State → Result (Working State) Counter
+asked meaning r w =
+    and_then (at_desk (requested meaning (scene_of w.state) r) w)
+    (λ v. Ok (at_workspaces (reloaded_if (reloads r w.state.desk)) v))
+
 -- ---- notifications
 
 -- a URL that names no path is logged, and the item is skipped
@@ -136,7 +145,7 @@ noticed Unhandled method w = Ok (logged UnhandledNotification method w)
 noticed Silent method w = Ok w
 
 unfoldable pub received : Meaning → Message → Working State → Result (Working State) Counter
-received meaning (RequestMessage r) w = at_desk (requested meaning (scene_of w.state) r) w
+received meaning (RequestMessage r) w = asked meaning r w
 received meaning (NotificationMessage n) w = noticed (heard_of n) n.method w
 received meaning (ResponseMessage r) w = at_client (λ c. Ok (answered r c)) w
 

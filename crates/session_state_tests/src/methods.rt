@@ -16,6 +16,9 @@ const REFUSED: &str =
 
 const NULL: &str = r#"Content-Length: 38\r\n\r\n{"id":5,"jsonrpc":"2.0","result":null}"#;
 
+// A request to reload hands over a fetch too.
+const RELOADS: &str = r#"Content-Length: 38\r\n\r\n{"id":5,"jsonrpc":"2.0","result":null}Worker"#;
+
 const ECHOED: &str = r#"Content-Length: 36\r\n\r\n{"id":5,"jsonrpc":"2.0","result":{}}"#;
 
 // The response that a default is.
@@ -46,6 +49,9 @@ fn answer_to(facts: &Facts, place: &str) -> &'static str {
     }
     if place.contains("shutdown") {
         return REFUSED;
+    }
+    if facts.method == "rust-analyzer/reloadWorkspace" {
+        return RELOADS;
     }
     match facts.class {
         Class::State | Class::OnLoop => NULL,

@@ -10,7 +10,7 @@ loading then ask textDocument/hover 1.5 > Content-Length: 38\r\n\r\n{"id":5,"jso
 ask textDocument/hover 1.5 > Content-Length: 75\r\n\r\n{"error":{"code":-32602,"message":"invalid params"},"id":5,"jsonrpc":"2.0"}
 loading then ask x/y null > Content-Length: 76\r\n\r\n{"error":{"code":-32601,"message":"unknown request"},"id":5,"jsonrpc":"2.0"}log
 ask experimental/runTest [] > Content-Length: 75\r\n\r\n{"error":{"code":-32602,"message":"invalid params"},"id":5,"jsonrpc":"2.0"}
-loading then ask rust-analyzer/reloadWorkspace [] > Content-Length: 38\r\n\r\n{"id":5,"jsonrpc":"2.0","result":null}"#;
+loading then ask rust-analyzer/reloadWorkspace [] > Content-Length: 38\r\n\r\n{"id":5,"jsonrpc":"2.0","result":null}Worker"#;
 
 #[test]
 fn requests_while_files_are_loading_and_not(rt: HostRuntime) {

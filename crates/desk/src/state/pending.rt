@@ -1,5 +1,5 @@
 // The requests that wait, by their tickets and by their ids.
-ghost use Rattle.std.specs.Prelude.{◌≡◌, IfOk, OnOk, MatchOption, Some, is_some, not};
+ghost use Rattle.std.specs.Prelude.{◌≡◌, ◌||◌, IfOk, OnOk, MatchOption, Some, is_some, not};
 ghost use Rattle.lsp_frame.specs.Pending.{closed, id_of, is_pending};
 ghost use Rattle.lsp_frame.specs.Written.{AreWritable};
 ghost use Rattle.lsp_frame.specs.declared.message.Message.TheVariants.{Response as ResponseMessage};
@@ -62,6 +62,13 @@ impl Desk {
         let response = canceled_by_client(self.alloc, id)?;
         out.reply(response)?;
         Ok(true)
+    }
+
+    /// Whether a request of this id is taken: none waits under it, and no shutdown was requested.
+    pub fn takes(&self, id: &RequestId) -> bool
+        ensures { result ≡ not (self.now.shutdown || is_pending id.now self.now.pending) }
+    {
+        !(self.shutdown || self.pending.has_id(id))
     }
 
     /// Whether no request waits under a ticket.

@@ -3,7 +3,7 @@ ghost use Rattle.std.specs.Prelude.{◌≡◌, IfOk};
 ghost use Rattle.turn_parts.specs.Meets.{Meets, Gives};
 ghost use Rattle.method_table.specs.declared.class.PoolClass.TheVariants.{Worker};
 ghost use Rattle.desk.specs.Steps.{handed_over};
-ghost use Rattle.session_model.specs.Fetching.{fetch_kept};
+ghost use Rattle.session_model.specs.Fetching.{fetch_kept, reloaded_if};
 ghost use Rattle.session_model.specs.Machine.{at_desk, at_workspaces, begun_fetches, fetch_handed_over, fetch_started, timed};
 ghost use Rattle.session_model.specs.State.{discovers, fetch_kind, may_fetch, snapshot_of};
 
@@ -59,6 +59,16 @@ impl GlobalState {
         ensures { Gives result (timed ticket (record { state = self.old; out = out.old })) self.new out.new }
     {
         self.workspaces.fire(ticket)?;
+        Ok(())
+    }
+
+    // Asks for the workspaces anew, where this flag is set.
+    pub(super) fn reload_if(&mut self, reloads: bool, out: &mut TurnOut) -> Result<(), TurnError>
+        ensures { Gives result (at_workspaces (reloaded_if reloads) (record { state = self.old; out = out.old })) self.new out.new }
+    {
+        if reloads {
+            self.workspaces.reload()?;
+        }
         Ok(())
     }
 

@@ -4,19 +4,33 @@ ghost use Rattle.lsp_frame.specs.Pending.{IsAbove};
 ghost use Rattle.turn_parts.specs.Meets.{Meets};
 ghost use Rattle.desk.specs.Meaning.{meaning_of};
 ghost use Rattle.desk.specs.Steps.{requested, taken as taken_at_desk};
-ghost use Rattle.session_model.specs.Machine.{at_desk, batched, received, taken};
+ghost use Rattle.session_model.specs.Fetching.{is_reload, reloads};
+ghost use Rattle.session_model.specs.Machine.{asked, at_desk, batched, received, taken};
 ghost use Rattle.session_model.specs.State.{scene_of};
 
 use crate::global_state::GlobalState;
 use analysis_host::Analysis;
 use lsp_frame::{Message, Request};
+use method_table::{RELOAD_WORKSPACE, RowId, row_of};
 use plain::Items;
 use session_model::TurnError;
 use session_port::TaskMsg;
+use state_params::is_unit;
 use turn_parts::TurnOut;
 
+// Whether this is the row of requests that ask for the workspaces anew.
+fn is_reload(row: Option<RowId>) -> bool
+    ensures { result ≡ is_reload row }
+{
+    match row {
+        None => false,
+        Some(row) => row == RELOAD_WORKSPACE,
+    }
+}
+
 impl GlobalState {
-    fn on_request<A: Analysis>(
+    // A request, at the desk.
+    fn ask<A: Analysis>(
         &mut self,
         request: Request,
         analysis: &A,
@@ -27,6 +41,30 @@ impl GlobalState {
     {
         let scene = self.scene()?;
         self.desk.on_request(&scene, request, analysis, out)
+    }
+
+    // Whether a request asks for the workspaces anew, and is taken.
+    fn reloads(&self, request: &Request) -> bool
+        ensures { result ≡ reloads request.now self.now.desk }
+    {
+        is_reload(row_of(request.method.as_str()))
+            && is_unit(&request.params)
+            && self.desk.takes(&request.id)
+    }
+
+    // A request. One to reload asks for a fetch.
+    fn on_request<A: Analysis>(
+        &mut self,
+        request: Request,
+        analysis: &A,
+        out: &mut TurnOut,
+    ) -> Result<(), TurnError>
+        requires { IsAbove self.old.desk.turns self.old.desk.pending }
+        ensures { Meets result (asked (meaning_of A.decodes A.answer) request (record { state = self.old; out = out.old })) self.new out.new }
+    {
+        let reloads = self.reloads(&request);
+        self.ask(request, analysis, out)?;
+        self.reload_if(reloads, out)
     }
 
     #[tactic(auto, unfolding(session_model::specs::Machine::received))]

@@ -3,7 +3,7 @@ use Rattle.desk.specs.Meaning.{meaning_of}
 use Rattle.desk.specs.Steps.{requested}
 use Rattle.session_model.specs.State.{scene_of}
 use Rattle.session_state.proofs.AtDesk.{desk_meets}
-use Rattle.session_state.proofs.global_state.GlobalState.on_request.Goals as goal
+use Rattle.session_state.proofs.global_state.GlobalState.ask.Goals as goal
 
 pub returns : goal.returns
 returns g c =
