@@ -63,11 +63,7 @@ impl GlobalState {
     }
 
     // Asks for the workspaces anew, where this flag is set.
-    pub(super) fn reload_if(
-        &mut self,
-        reloads: bool,
-        out: &mut TurnOut,
-    ) -> Result<(), TurnError>
+    pub(super) fn reload_if(&mut self, reloads: bool, out: &mut TurnOut) -> Result<(), TurnError>
         ensures { Gives result (at_workspaces (reloaded_if reloads) (record { state = self.old; out = out.old })) self.new out.new }
     {
         if reloads {
