@@ -11,7 +11,6 @@ pub mod NumberLaws
 pub mod ParseFile
 pub mod PartLemmas
 pub mod PathLemmas
-pub mod PlainUrls
 pub mod PutLemmas
 pub mod ResolveLaws
 pub mod Resolved

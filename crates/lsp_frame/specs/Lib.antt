@@ -4,7 +4,6 @@ pub mod Grammar
 pub mod Frames
 pub mod Rules
 pub mod Written
-pub mod Exact
 pub mod Reader
 pub mod Kept
 pub mod Ids
