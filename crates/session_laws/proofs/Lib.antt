@@ -21,3 +21,5 @@ pub mod Same
 pub mod Seeing
 pub mod Telling
 pub mod Stretches
+pub mod Switching
+pub mod Versions
