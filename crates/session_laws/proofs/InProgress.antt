@@ -34,7 +34,7 @@ use Rattle.workspaces.specs.declared.outputs.FetchOutput.{FetchOutput}
 use Rattle.workspaces.specs.declared.requests.FetchRequest.{FetchRequest}
 use Rattle.workspaces.specs.declared.requests.WaitingFetch.{WaitingFetch}
 use Rattle.session_model.specs.Fetching.{fetch_job, fetch_jobs, fetch_kept, fetches_kept, reloaded_if, reloads}
-use Rattle.session_model.specs.Headline.{HandsOver, Place, beginning, fetch_in, may_start_at, place_after, reaction_of, row, snapshot_at, workspaces_switched, workspaces_told}
+use Rattle.session_model.specs.Headline.{HandsOver, Place, beginning, fetch_in, may_start_at, place_after, reaction_of, row, snapshot_at, workspaces_at, workspaces_told}
 use Rattle.session_model.specs.Run.{Steps, Turn, after_input}
 use Rattle.session_model.specs.State.{State, discovers}
 use Rattle.session_model.specs.declared.input.Event.TheVariants.{Lsp, Task, Vfs, Deferred, Timer}
@@ -44,7 +44,6 @@ use Rattle.session_laws.specs.Invariant.{FetchIsOut, FetchIsOutIf, IsFetchOut, I
 use Rattle.session_laws.proofs.Each.{asked-here, asked-there}
 use Rattle.session_laws.proofs.Numbered.{row-numbered}
 use Rattle.session_laws.proofs.Rows.{steps-fit}
-use Rattle.session_laws.proofs.Switching.{switch-moves}
 
 some-same : {X : Type 0} (x y : X) → Some x ≡ Some y → x ≡ y
 some-same x y e = cc
@@ -293,15 +292,14 @@ pub turn-keeps-fetching : (meaning : Meaning) (turn : Turn) (place : Place) → 
 turn-keeps-fetching meaning turn place does hands sound h =
     let input = turn.input in
     let after = place_after turn place in
-    let workspaces = workspaces_switched input place in
+    let workspaces = workspaces_at input place in
     let jobs = (row meaning input place).jobs in
     let fetch = fetch_jobs after.desk.handed (snapshot_at after) (fetch_in input place) in
     let out = after_input input place.desk.jobs in
     let none : AreNoFetches jobs = subst AreNoFetches (ap (λ (r : Reaction). r.jobs) does) (asked-none (spawned turn.commands)) in
     let told : IsSo workspaces.fetches.queue.in_progress place.desk.handed out = record {
       low = given-input place.desk.handed input place.desk.jobs sound.numbers;
-      fetching = subst (λ (f : Fetches). FetchIsOutIf f.queue.in_progress out) (sym (switch-moves input place).fetches)
-          (told-out place.client.settings input place.desk place.workspaces h);
+      fetching = told-out place.client.settings input place.desk place.workspaces h;
     } in
     let rowed = on-others workspaces.fetches.queue.in_progress place.desk.handed jobs out (row-numbered meaning input place) none told in
     subst (λ (js : List Job). FetchIsOutIf after.workspaces.fetches.queue.in_progress (with_jobs js out)) (sym hands)

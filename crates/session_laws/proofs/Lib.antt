@@ -21,5 +21,3 @@ pub mod Same
 pub mod Seeing
 pub mod Telling
 pub mod Stretches
-pub mod Switching
-pub mod Versions

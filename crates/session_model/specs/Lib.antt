@@ -7,5 +7,4 @@ pub mod Inputs
 pub mod Machine
 pub mod Run
 pub mod State
-pub mod Switching
 pub mod Texts

@@ -2,6 +2,7 @@
 #![tactic(auto)]
 
 mod global_state;
+mod no_workspaces;
 
 pub use global_state::GlobalState;
 pub use plain::NoMemory;
