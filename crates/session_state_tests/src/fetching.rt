@@ -9,7 +9,7 @@ start then fetched then fetched > log
 start then start
 start then fetched then start > Worker
 start then timer
-tell workspace/didChangeConfiguration {} then answer [{"cargo":{"autoreload":false}}] then start
+tell workspace/didChangeConfiguration {} then answer [{"cargo":{"autoreload":false}}] then start > Worker
 start then ask textDocument/hover {"a":1} then fetched
 start then ask rust-analyzer/reloadWorkspace null > Content-Length: 38\r\n\r\n{"id":5,"jsonrpc":"2.0","result":null}
 start then ask rust-analyzer/reloadWorkspace null then fetched > Worker
