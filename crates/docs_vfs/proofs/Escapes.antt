@@ -15,7 +15,7 @@ beyond b not_ascii = grind (arith, nat_tests)
 within : (b : ℕ) → is_ascii b ≡ true → b < 128
 within b ascii = grind (arith, nat_tests)
 
-above : (b : ℕ) → nat_lt 126 b ≡ true → is_escaped b ≡ true
+pub above : (b : ℕ) → nat_lt 126 b ≡ true → is_escaped b ≡ true
 above b high = ap (λ x. x || list_any (λ mark. mark == b) (34 ∷ 92 ∷ codes " #%<>?`{}")) (or_right (nat_lt b 32) (nat_lt 126 b) high)
 
 pub escapes : (b : ℕ) → should_percent_encode ESCAPED b ≡ is_escaped b

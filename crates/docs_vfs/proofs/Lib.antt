@@ -11,6 +11,7 @@ pub mod NumberLaws
 pub mod ParseFile
 pub mod PartLemmas
 pub mod PathLemmas
+pub mod PlainUrls
 pub mod PutLemmas
 pub mod ResolveLaws
 pub mod Resolved

@@ -184,13 +184,9 @@ fn touch(before: &mut ByPath<FileWas>, path: &VfsPath, row: &FileRow) -> Result<
     ensures ok { OnOk result (before.new ≡ before_of before.old path.now (was_of row.now)) }
     ensures err { OnErr result (before.new ≡ before.old) }
 {
-    if before.contains(path) {
-        return Ok(());
-    }
     let contents = share(contents_of(&row.kept))?;
     let file = row.file;
-    before.insert(path.clone()?, FileWas { file, contents })?;
-    Ok(())
+    before.insert_new(path.clone()?, FileWas { file, contents })
 }
 
 /// Keeps this in a path's row. Without memory all stays.

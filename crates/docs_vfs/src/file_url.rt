@@ -1,16 +1,16 @@
 ghost use Rattle.std.specs.Prelude.{ℕ, ◌≡◌, ◌≤◌, ◌<◌, All, false, length, Ok, IfOk};
-ghost use Rattle.std.specs.Prelude.{◌⊎◌, IfErr, OnOk, ◌++◌, ◌∷◌, [], ◌&&◌, true};
+ghost use Rattle.std.specs.Prelude.{◌⊎◌, IfErr, OnOk, MatchOption, List, ◌++◌, ◌∷◌, [], ◌&&◌, true};
 ghost use Rattle.std.specs.List.{list_any, list_all};
 ghost use Rattle.percent_encoding.specs.Percent.{percent_decode};
 ghost use Rattle.percent_encoding.specs.AsciiSet.{should_percent_encode};
 ghost use Rattle.docs_vfs.specs.declared.file_url.TheConstants.{ESCAPED};
 ghost use Rattle.docs_vfs.specs.Paths.{is_slash};
 ghost use Rattle.std.specs.Str.{is_utf8};
-ghost use Rattle.docs_vfs.specs.FileUrls.{is_escaped, max_url, url_of, path_of, path_of_parts, path_of_segments, url_segments, decoded_segments, is_text_segment, joined, begins_with_drive, fault_by, decode_fault_by, Answers, LacksText};
+ghost use Rattle.docs_vfs.specs.FileUrls.{is_escaped, is_plain, is_plain_path, max_url, url_front, url_of, path_of, path_of_parts, path_of_segments, url_segments, decoded_segments, is_text_segment, joined, begins_with_drive, fault_by, decode_fault_by, Answers, LacksText};
 ghost use Rattle.docs_vfs.specs.declared.file_url.UrlFault.TheVariants.{NoMemory, NotFile};
 
 use crate::path::VfsPath;
-use crate::path_text::{has_slash_text, is_segment_text};
+use crate::path_text::{has_slash_text, is_path_text, is_segment_text};
 use percent_encoding::{
     AsciiSet, CONTROLS, DecodeError, ascii_set, percent_decode, percent_encode,
 };
@@ -145,12 +145,45 @@ fn fault_of(e: ParseError) -> UrlFault
     }
 }
 
+/// Whether a URL holds a byte of a path as it is, wherever it stands.
+fn is_plain_byte(byte: u8) -> bool
+    ensures { result ≡ is_plain byte }
+{
+    !ESCAPED.should_percent_encode(byte) && byte != b'|'
+}
+
+/// Whether a text is a path of plain bytes.
+fn is_plain_path(text: &str) -> bool
+    ensures { result ≡ is_plain_path text.now }
+{
+    text.as_bytes().iter().all(|byte| is_plain_byte(*byte)) && is_path_text(text)
+}
+
+/// What stands before the path in a `file` URL without a host.
+const URL_FRONT: &str = "file://";
+
+/// The path of a text that is the URL of a path of plain bytes.
+fn plain_path(url: &str) -> Option<&str>
+    ensures { MatchOption result ((path : List ℕ) → url.now ≡ url_front ++ path → is_plain_path path ≡ false)
+        (λ path. (url.now ≡ url_front ++ path.now) × (is_plain_path path.now ≡ true)) }
+{
+    let path = url.strip_prefix(URL_FRONT)?;
+    if is_plain_path(path) {
+        Some(path)
+    } else {
+        None
+    }
+}
+
 /// The path that a text names as a `file` URL.
 pub fn path_of_url(alloc: Global, url: &str) -> Result<VfsPath, UrlFault>
     ensures { Answers result (path_of url.now) }
 {
     if url.len() > MAX_URL {
         return Err(UrlFault::NotFile);
+    }
+    if let Some(path) = plain_path(url) {
+        return Ok(VfsPath::from_str(alloc, path)?);
     }
     match Url::parse(alloc, url) {
         Ok(url) => path_of_url_parts(alloc, &url),
@@ -163,7 +196,7 @@ pub fn path_of_url(alloc: Global, url: &str) -> Result<VfsPath, UrlFault>
 pub fn url_of_path(alloc: Global, path: &VfsPath) -> Result<Text, AllocError>
     ensures { IfOk result (λ url. url ≡ url_of path.now) }
 {
-    let mut url = String::from_str(alloc, "file://")?;
+    let mut url = String::from_str(alloc, URL_FRONT)?;
     percent_encode(path.as_str().as_bytes(), ESCAPED).append_to(&mut url)?;
     Ok(Text::from_string(url))
 }

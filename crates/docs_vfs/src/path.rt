@@ -52,7 +52,7 @@ impl VfsPath {
     }
 
     /// A copy of a text that is a path.
-    fn from_str(alloc: Global, text: &str) -> Result<VfsPath, AllocError>
+    pub(crate) fn from_str(alloc: Global, text: &str) -> Result<VfsPath, AllocError>
         requires { is_path text.now ≡ true }
         ensures { IfOk result (λ path. path ≡ text.now) }
     {

@@ -15,6 +15,11 @@ path > file:///a/%2e%2E/b > /b
 path > file:///\u{e9} > /\u{e9}
 path > file:///C|/x > /C:/x
 path > file:/// > /
+path > file:///c:/~d+e@1.0/.f/g_h-i.rs > /c:/~d+e@1.0/.f/g_h-i.rs
+path > file:///a|b/c > /a|b/c
+path > file:///./a/... > /a/...
+path > file:///a/b/.. > /a
+path > file:////a > /a
 path > file: > /
 path >  > not a file
 path > /w/a.rs > not a file

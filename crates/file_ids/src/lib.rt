@@ -112,29 +112,46 @@ impl FileIds {
         ensures ok { OnOk result (self.new ≡ set_in_map self.old path entry) }
         ensures err { OnErr result (self.new ≡ map.empty) }
     {
-        self.put_uncounted::<Brand>(path, entry, Blank::new(1))
+        let old = self.get(&path);
+        self.replace(path, old, entry)
+    }
+
+    /// The same of a path whose entry is known, which is not searched first.
+    pub fn replace(
+        &mut self,
+        path: VfsPath,
+        old: Option<(FileId, FileExcluded)>,
+        entry: Option<(FileId, FileExcluded)>,
+    ) -> Result<(), NoMemory>
+        requires old { map.get self.old path ≡ old }
+        requires free { IsFree path (file_of entry) self.old }
+        ensures ok { OnOk result (self.new ≡ set_in_map self.old path entry) }
+        ensures err { OnErr result (self.new ≡ map.empty) }
+    {
+        self.replace_uncounted::<Brand>(path, old, entry, Blank::new(1))
     }
 
     /// The same where nobody counts the steps.
-    fn put_uncounted<L: Ledger>(
+    fn replace_uncounted<L: Ledger>(
         &mut self,
         path: VfsPath,
+        old: Option<(FileId, FileExcluded)>,
         entry: Option<(FileId, FileExcluded)>,
         blank: Blank,
     ) -> Result<(), NoMemory>
         requires name { blank.name ≡ L.name }
         requires parts { blank.parts ≡ L.parts }
         requires some { 0 < L.parts }
+        requires old { map.get self.old path ≡ old }
         requires free { IsFree path (file_of entry) self.old }
         ensures ok { OnOk result (self.new ≡ set_in_map self.old path entry) }
         ensures err { OnErr result (self.new ≡ map.empty) }
     {
         let mut steps = Steps::<L>::new(blank);
         let _in_order = (self.files.len(), self.paths.len());
-        let old = number(self.get(&path));
         let mut files = self.files.take();
         let mut paths = self.paths.take();
-        renumber(&mut paths, &path, old, number(entry), &mut steps)?;
+        renumber(&mut paths, &path, number(old), number(entry), &mut steps)?;
         files.put(path, entry, &mut steps)?;
         self.files = files;
         self.paths = paths;

@@ -96,6 +96,31 @@ fn another_number(rt: HostRuntime) -> Result<(), Fail> {
 }
 
 #[test]
+fn replaced(rt: HostRuntime) -> Result<(), Fail> {
+    let alloc = rt.alloc();
+    let both = two_files(alloc)?;
+    let mut ids = both.clone()?;
+    let path = path_at(alloc, "/a")?;
+    let entry = ids.get(&path);
+    if is_free(&ids, &path, FileId(3)) {
+        ids.replace(path, entry, Some((FileId(3), FileExcluded::Yes)))?;
+    }
+    assert_eq!(rt; told(alloc, &ids)?.as_str(), "3 Yes, 2 Yes: none /b /a");
+    let path = path_at(alloc, "/b")?;
+    let entry = ids.get(&path);
+    ids.replace(path, entry, None)?;
+    assert_eq!(rt; told(alloc, &ids)?.as_str(), "3 Yes, none: none none /a");
+    let path = path_at(alloc, "/b")?;
+    let entry = ids.get(&path);
+    if is_free(&ids, &path, FileId(1)) {
+        ids.replace(path, entry, Some((FileId(1), FileExcluded::No)))?;
+    }
+    assert_eq!(rt; told(alloc, &ids)?.as_str(), "3 Yes, 1 No: /b none /a");
+    assert_eq!(rt; told(alloc, &both)?.as_str(), "1 No, 2 Yes: /a /b none");
+    Ok(())
+}
+
+#[test]
 fn taken_number(rt: HostRuntime) -> Result<(), Fail> {
     let alloc = rt.alloc();
     let both = two_files(alloc)?;

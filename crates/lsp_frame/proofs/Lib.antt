@@ -9,6 +9,8 @@ pub mod Streams
 pub mod Turns
 pub mod Written
 pub mod Bodies
+pub mod Exact
+pub mod Texts
 pub mod InStep
 pub mod Above
 pub mod Rows

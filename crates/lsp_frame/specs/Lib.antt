@@ -4,6 +4,7 @@ pub mod Grammar
 pub mod Frames
 pub mod Rules
 pub mod Written
+pub mod Exact
 pub mod Reader
 pub mod Kept
 pub mod Ids

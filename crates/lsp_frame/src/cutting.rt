@@ -1,5 +1,6 @@
 // The first frame of a byte string.
 ghost use Rattle.std.specs.Prelude.{◌≡◌, ◌+◌, ◌≤◌, length, IfSome, None, Some};
+ghost use Rattle.memchr.specs.Find.{FindsNeedle};
 ghost use Rattle.lsp_frame.specs.Find.{place_of};
 ghost use Rattle.lsp_frame.specs.Frames.{empty_line, header_limit, window, head_of, cut_at, cut_of, NoneBelow, LiesWithin};
 
@@ -9,6 +10,9 @@ use memchr::memmem;
 
 /// The bytes within which a frame's empty line ends.
 pub const HEADER_LIMIT: usize = 4096;
+
+/// What ends a header.
+const EMPTY_LINE: [u8; 4] = *b"\r\n\r\n";
 
 #[tactic(auto, using(std::proofs::lemmas::List::take_all), unfolding(crate::specs::Frames::window))]
 fn header_window(bytes: &[u8]) -> &[u8]
@@ -23,6 +27,16 @@ fn header_window(bytes: &[u8]) -> &[u8]
     }
 }
 
+/// The first empty line. No search is begun where there are too few bytes for one.
+fn first_empty_line(bytes: &[u8]) -> Option<usize>
+    ensures { FindsNeedle bytes.now empty_line 0 result }
+{
+    if bytes.len() < EMPTY_LINE.len() {
+        return None;
+    }
+    memmem::find(bytes, &EMPTY_LINE)
+}
+
 /// The first empty line, where none begins below `from`.
 fn find_empty_line(bytes: &[u8], from: usize) -> Option<usize>
     requires within { from ≤ length (window bytes.now) }
@@ -32,7 +46,7 @@ fn find_empty_line(bytes: &[u8], from: usize) -> Option<usize>
     ensures within { IfSome result (λ k. k + 4 ≤ length bytes.now) }
 {
     let window = header_window(bytes);
-    match memmem::find(&window[from..], b"\r\n\r\n") {
+    match first_empty_line(&window[from..]) {
         Some(place) => Some(from + place),
         None => None,
     }

@@ -1,115 +1,125 @@
-// The body that is written for a message.
-ghost use Rattle.std.specs.Prelude.{◌≡◌, Some, IfOk, OnOk};
-ghost use Rattle.lsp_frame.specs.Rules.{message_of, data_message, id_of, optional_id, optional_error};
-ghost use Rattle.lsp_frame.specs.Written.{data_of, body_of, call_members, error_data, id_data, optional_id_data, put_some, version, AreWritable};
+// The body that is written for a message: its own members as bytes, around the texts of its values.
+ghost use Rattle.std.specs.Prelude.{◌≡◌, ◌++◌, Some, option_map, IfOk, IfSome, OnOk};
+ghost use Rattle.serde_json.specs.Data.{string};
+ghost use Rattle.serde_json.specs.Written.{compact_text};
+ghost use Rattle.lsp_frame.specs.Exact.{IsExact, some_text, call_text, error_text};
+ghost use Rattle.lsp_frame.specs.Rules.{message_of, data_message, id_of, optional_id, optional_error, error_of};
+ghost use Rattle.lsp_frame.specs.Written.{data_of, body_of, error_data, id_data, optional_id_data, params_data, AreWritable, IsWritable, IsWritableIfSome, IsErrorWritable};
 
 use crate::message::{Message, Notification, Request, RequestId, Response, ResponseError};
-use plain::{Json, Members, Text};
+use plain::{Json, Text};
 use std::alloc::{AllocError, Global};
 
+// The room for a body at first.
+const FIRST_ROOM: usize = 256;
+
 /// A message's body, which reads as the message. No value of it is copied.
+#[tactic(auto, unfolding(crate::specs::Written::body_of))]
 pub fn encode(alloc: Global, message: Message) -> Result<Vec<u8>, AllocError>
     requires { AreWritable message }
     ensures value { IfOk result (λ body. body.items ≡ body_of message) }
     ensures reads_back { OnOk result (message_of (body_of message) ≡ Some message) }
 {
-    let json = json_of(alloc, message)?;
-    let body = json.as_value().to_vec(alloc)?;
+    let mut body = Vec::with_capacity(alloc, FIRST_ROOM)?;
+    write_body(message, &mut body)?;
     Ok(body)
 }
 
-/// A message as JSON.
-#[tactic(auto, unfolding(crate::specs::Written::data_of))]
-fn json_of(alloc: Global, message: Message) -> Result<Json, AllocError>
-    ensures value { IfOk result (λ json. json ≡ data_of message) }
+fn write_body(message: Message, into: &mut Vec<u8>) -> Result<(), AllocError>
+    requires { AreWritable message }
+    ensures text { OnOk result (into.new.items ≡ into.old.items ++ compact_text (data_of message)) }
+    ensures exact { OnOk result (IsExact (data_of message)) }
     ensures reads_back { OnOk result (data_message (data_of message) ≡ Some message) }
 {
     match message {
-        Message::Request(Request { id, method, params }) => {
-            let mut members = call(alloc, method, params)?;
-            members.put(alloc, "id", id_json(id))?;
-            Ok(members.into_json())
-        }
-        Message::Notification(Notification { method, params }) => {
-            let members = call(alloc, method, params)?;
-            Ok(members.into_json())
-        }
-        Message::Response(response) => response_json(alloc, response),
+        Message::Request(request) => write_request(request, into),
+        Message::Notification(notification) => write_notification(notification, into),
+        Message::Response(response) => write_response(response, into),
     }
 }
 
-fn call(alloc: Global, method: Text, params: Json) -> Result<Members, AllocError>
-    ensures { IfOk result (λ members. members ≡ call_members method params) }
+fn write_request(request: Request, into: &mut Vec<u8>) -> Result<(), AllocError>
+    requires { IsWritable request.params }
+    ensures text { OnOk result (into.new.items ≡ into.old.items ++ compact_text (data_of (Message.Request request))) }
+    ensures exact { OnOk result (IsExact (data_of (Message.Request request))) }
+    ensures reads_back { OnOk result (data_message (data_of (Message.Request request))
+        ≡ Some (Message.Request request)) }
 {
-    let mut members = versioned(alloc)?;
-    members.put(alloc, "method", Json::from_text(method))?;
-    if !params.is_null() {
-        members.put(alloc, "params", params)?;
-    }
-    Ok(members)
+    let Request { id, method, params } = request;
+    write_value(b"{\"id\":", id_json(id), into)?;
+    into.extend_from_slice(b",")?;
+    write_call(method, params, into)?;
+    Ok(())
 }
 
-fn versioned(alloc: Global) -> Result<Members, AllocError>
-    ensures { IfOk result (λ members. members ≡ version) }
+fn write_notification(notification: Notification, into: &mut Vec<u8>) -> Result<(), AllocError>
+    requires { IsWritable notification.params }
+    ensures text { OnOk result (into.new.items ≡ into.old.items ++ compact_text (data_of (Message.Notification notification))) }
+    ensures exact { OnOk result (IsExact (data_of (Message.Notification notification))) }
+    ensures reads_back { OnOk result (data_message (data_of (Message.Notification notification))
+        ≡ Some (Message.Notification notification)) }
 {
-    let mut members = Members::new(alloc);
-    let number = Text::from_str(alloc, "2.0")?;
-    members.put(alloc, "jsonrpc", Json::from_text(number))?;
-    Ok(members)
+    let Notification { method, params } = notification;
+    into.extend_from_slice(b"{")?;
+    write_call(method, params, into)?;
+    Ok(())
 }
 
-#[tactic(auto, unfolding(crate::specs::Written::data_of))]
-fn response_json(alloc: Global, response: Response) -> Result<Json, AllocError>
-    ensures value { IfOk result (λ json. json ≡ data_of (Message.Response response)) }
+/// Appends the members of a call behind its id, and the end.
+fn write_call(method: Text, params: Json, into: &mut Vec<u8>) -> Result<(), AllocError>
+    requires { IsWritable params }
+    ensures text { OnOk result (into.new.items ≡ into.old.items ++ call_text method (params_data params)) }
+    ensures method { OnOk result (IsExact (string method)) }
+    ensures params { OnOk result (IfSome (params_data params) IsExact) }
+{
+    write_value(
+        b"\"jsonrpc\":\"2.0\",\"method\":",
+        Json::from_text(method),
+        into,
+    )?;
+    write_some(b",\"params\":", params_json(params), into)?;
+    into.extend_from_slice(b"}")?;
+    Ok(())
+}
+
+fn write_response(response: Response, into: &mut Vec<u8>) -> Result<(), AllocError>
+    requires result { IsWritableIfSome response.result }
+    requires error { IsErrorWritable response.error }
+    ensures text { OnOk result (into.new.items ≡ into.old.items ++ compact_text (data_of (Message.Response response))) }
+    ensures exact { OnOk result (IsExact (data_of (Message.Response response))) }
     ensures reads_back { OnOk result (data_message (data_of (Message.Response response))
         ≡ Some (Message.Response response)) }
 {
     let Response { id, result, error } = response;
-    let mut members = versioned(alloc)?;
-    members.put(alloc, "id", optional_id_json(id))?;
-    put_some(alloc, &mut members, "result", result)?;
-    if let Some(error) = error {
-        members.put(alloc, "error", error_json(alloc, error)?)?;
-    }
-    Ok(members.into_json())
-}
-
-fn put_some(
-    alloc: Global,
-    members: &mut Members,
-    key: &str,
-    value: Option<Json>,
-) -> Result<(), AllocError>
-    ensures { OnOk result (members.new ≡ put_some key.now value members.old) }
-{
-    if let Some(value) = value {
-        members.put(alloc, key, value)?;
-    }
+    into.extend_from_slice(b"{")?;
+    write_first_error(error, into)?;
+    write_value(b"\"id\":", optional_id_json(id), into)?;
+    into.extend_from_slice(b",\"jsonrpc\":\"2.0\"")?;
+    write_some(b",\"result\":", result, into)?;
+    into.extend_from_slice(b"}")?;
     Ok(())
 }
 
-fn optional_id_json(id: Option<RequestId>) -> Json
-    ensures value { result ≡ optional_id_data id }
-    ensures reads_back { optional_id (optional_id_data id) ≡ Some id }
+/// Appends an error before the other members of a response, if there is one.
+fn write_first_error(error: Option<ResponseError>, into: &mut Vec<u8>) -> Result<(), AllocError>
+    requires { IsErrorWritable error }
+    ensures text { OnOk result (into.new.items ≡ into.old.items ++ error_text (option_map error_data error)) }
+    ensures exact { OnOk result (IfSome (option_map error_data error) IsExact) }
+    ensures reads_back { OnOk result (error_of (option_map error_data error) ≡ Some error) }
 {
-    match id {
-        Some(id) => id_json(id),
-        None => Json::null(),
-    }
+    let Some(error) = error else {
+        return Ok(());
+    };
+    into.extend_from_slice(b"\"error\":")?;
+    write_error(error, into)?;
+    into.extend_from_slice(b",")?;
+    Ok(())
 }
 
-fn id_json(id: RequestId) -> Json
-    ensures value { result ≡ id_data id }
-    ensures reads_back { id_of (id_data id) ≡ Some id }
-{
-    match id {
-        RequestId::Number(number) => Json::from_i32(number),
-        RequestId::Text(text) => Json::from_text(text),
-    }
-}
-
-fn error_json(alloc: Global, error: ResponseError) -> Result<Json, AllocError>
-    ensures value { IfOk result (λ json. json ≡ error_data error) }
+fn write_error(error: ResponseError, into: &mut Vec<u8>) -> Result<(), AllocError>
+    requires { IsWritableIfSome error.extra }
+    ensures text { OnOk result (into.new.items ≡ into.old.items ++ compact_text (error_data error)) }
+    ensures exact { OnOk result (IsExact (error_data error)) }
     ensures reads_back { OnOk result (optional_error (error_data error)
         ≡ Some (Some error)) }
 {
@@ -118,9 +128,65 @@ fn error_json(alloc: Global, error: ResponseError) -> Result<Json, AllocError>
         message,
         extra,
     } = error;
-    let mut members = Members::new(alloc);
-    members.put(alloc, "code", Json::from_i32(code))?;
-    members.put(alloc, "message", Json::from_text(message))?;
-    put_some(alloc, &mut members, "data", extra)?;
-    Ok(members.into_json())
+    write_value(b"{\"code\":", Json::from_i32(code), into)?;
+    write_some(b",\"data\":", extra, into)?;
+    write_value(b",\"message\":", Json::from_text(message), into)?;
+    into.extend_from_slice(b"}")?;
+    Ok(())
+}
+
+/// Appends some bytes and a value's text.
+fn write_value(before: &[u8], value: Json, into: &mut Vec<u8>) -> Result<(), AllocError>
+    requires { IsWritable value }
+    ensures text { OnOk result (into.new.items ≡ into.old.items ++ (before.now ++ compact_text value)) }
+    ensures exact { OnOk result (IsExact value) }
+{
+    let text = value.as_value().to_vec(*into.allocator())?;
+    into.extend_from_slice(before)?;
+    into.extend_from_slice(&text)?;
+    Ok(())
+}
+
+/// The same where there is a value.
+fn write_some(before: &[u8], value: Option<Json>, into: &mut Vec<u8>) -> Result<(), AllocError>
+    requires { IsWritableIfSome value }
+    ensures text { OnOk result (into.new.items ≡ into.old.items ++ some_text before.now value) }
+    ensures exact { OnOk result (IfSome value IsExact) }
+{
+    match value {
+        Some(value) => write_value(before, value, into),
+        None => Ok(()),
+    }
+}
+
+/// Null params are left out.
+fn params_json(params: Json) -> Option<Json>
+    ensures value { result ≡ params_data params }
+    ensures writable { IsWritable params → IsWritableIfSome result }
+{
+    if params.is_null() { None } else { Some(params) }
+}
+
+#[tactic(auto, using(crate::proofs::Bodies::optional_id_IsWritable))]
+fn optional_id_json(id: Option<RequestId>) -> Json
+    ensures value { result ≡ optional_id_data id }
+    ensures reads_back { optional_id (optional_id_data id) ≡ Some id }
+    ensures writable { IsWritable (optional_id_data id) }
+{
+    match id {
+        Some(id) => id_json(id),
+        None => Json::null(),
+    }
+}
+
+#[tactic(auto, using(crate::proofs::Bodies::id_IsWritable))]
+fn id_json(id: RequestId) -> Json
+    ensures value { result ≡ id_data id }
+    ensures reads_back { id_of (id_data id) ≡ Some id }
+    ensures writable { IsWritable (id_data id) }
+{
+    match id {
+        RequestId::Number(number) => Json::from_i32(number),
+        RequestId::Text(text) => Json::from_text(text),
+    }
 }

@@ -1,6 +1,6 @@
 -- A tree's entries by the texts of their keys.
-use Rattle.std.proofs.Common.{◌≡◌, ◌<◌, ◌≤◌, ℕ, suc, List, [], ◌∷◌, length, true, refl, sym, ap, ◌∙◌, Ordering, Less, Equal, Greater}
-use Rattle.std.specs.Prelude.{Option, Some, None, IsSome, IfSome, MatchOption, cond, map as each}
+use Rattle.std.proofs.Common.{◌≡◌, ◌<◌, ◌≤◌, ℕ, suc, List, [], ◌∷◌, length, true, refl, sym, ap, ◌∙◌, ⊎_elim, Ordering, Less, Equal, Greater}
+use Rattle.std.specs.Prelude.{Option, Some, None, IsSome, IfSome, MatchOption, cond, map as each, is_some, unwrap_or, if◌then◌else◌}
 use Rattle.std.specs.List.{AllByRecursion, AllZip}
 use Rattle.std.specs.List.Sorted.{IsStrictlySortedBy}
 use Rattle.std.specs.Map.{lookup, keys_of, remove_entry, set_value}
@@ -12,6 +12,7 @@ use Rattle.std.specs.Cmp.{eq_by_cmp_equiv}
 use Rattle.std.specs.Cmp.Lexicographic.{nat_list_cmp_total}
 use Rattle.std.specs.FinMap as map
 use Rattle.std.specs.FinMap.Entries.{by_order, find-put}
+use Rattle.std.proofs.lemmas.Bool.{cases_Bool, cond-true, cond-false}
 use Rattle.std.proofs.lemmas.Map.{lookup-set_value, lookup-remove_entry}
 use Rattle.std.proofs.lemmas.Map.Keys.{IsDistinct-from_sorted}
 use Rattle.std.proofs.lemmas.List.Elements.{same_from_all_zip}
@@ -43,6 +44,20 @@ module _ {V : Type 0} where
       ∙ ap (map.find text_cmp q) (sym (put_is_insert k v es))
       ∙ find-put text_cmp nat_list_cmp_total q k v es
       ∙ sym (map.get-insert nat_list_cmp_total (map.from_entries es) k v q ∙ ap (cond (eq_by_cmp text_cmp q k) (Some v)) (map.get-from_entries nat_list_cmp_total es q)))
+
+  -- what is there already may be inserted again
+  inserted_again : (m : map.FinMap text_cmp V) (k : List ℕ) (v : V) → map.get m k ≡ Some v → map.insert m k v ≡ m
+  inserted_again m k v is = map.same_map nat_list_cmp_total same_texts _ _ (λ q.
+      map.get-insert nat_list_cmp_total m k v q
+      ∙ ⊎_elim
+      (λ same. cond-true _ _ _ same ∙ sym is ∙ ap (map.get m) (sym (at_key q k same)))
+      (λ other. cond-false _ _ _ other)
+      (cases_Bool (eq_by_cmp text_cmp q k)))
+
+  -- what is put where there is nothing, and stays where there is something
+  pub put_once : (m : map.FinMap text_cmp V) (k : List ℕ) (v w : V) (o : Option V) → map.get m k ≡ o → w ≡ unwrap_or o v → map.insert m k w ≡ (if is_some o then m else map.insert m k v)
+  put_once m k v w None is same = ap (map.insert m k) same
+  put_once m k v w (Some x) is same = ap (map.insert m k) same ∙ inserted_again m k x is
 
 -- ---- a tree whose keys stand for texts
 

@@ -1,4 +1,4 @@
-ghost use Rattle.std.specs.Prelude.{◌≡◌, ◌↔◌, ℕ, List, map as each, [], ◌∷◌, OnOk, OnErr, IfOk, IsTrue, MatchOption, is_some};
+ghost use Rattle.std.specs.Prelude.{◌≡◌, ◌↔◌, ℕ, List, map as each, [], ◌∷◌, OnOk, OnErr, IfOk, IsTrue, MatchOption, is_some, if◌then◌else◌};
 ghost use Rattle.std.specs.Borrow.{sem};
 ghost use Rattle.std.specs.Map.Iter.{ShowsInOrder, deref};
 ghost use Rattle.std.specs.Option.{option_copied, option_copied_mut};
@@ -99,6 +99,18 @@ impl<K: TextKey, V> ByText<K, V> {
         ensures err { OnErr result (self.new ≡ self.old) }
     {
         Ok(self.rows.insert(key, value)?)
+    }
+
+    /// Puts a value at a key that has none, by one search. A key that has one keeps it.
+    pub fn insert_new(&mut self, key: K, value: V) -> Result<(), NoMemory>
+    where
+        K: Drop,
+        V: Drop,
+        ensures ok { OnOk result (self.new ≡ (if is_some (map.get self.old (K.text key)) then self.old else map.insert self.old (K.text key) value)) }
+        ensures err { OnErr result (self.new ≡ self.old) }
+    {
+        self.rows.entry(key)?.or_insert(value);
+        Ok(())
     }
 
     pub fn remove(&mut self, key: &K) -> Option<V>

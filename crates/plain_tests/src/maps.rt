@@ -123,6 +123,12 @@ fn add_at(map: &mut Texts, key: &Option<Text>, more: u32) -> Option<u32> {
     Some(*value)
 }
 
+/// Puts a value at a key that has none, and counts the keys.
+fn put_new(map: &mut Texts, key: Option<Text>, value: u32) -> Option<u32> {
+    map.insert_new(key, value).ok()?;
+    count(map.len())
+}
+
 /// The length of the last key.
 fn last_len(map: &Texts) -> Option<u32> {
     let mut len = 0;
@@ -162,6 +168,7 @@ fn answer_at(map: &mut Texts, call: &str, key: Option<Text>, value: u32) -> Opti
     match call {
         "put" => map.insert(key, value).ok()?,
         "add" => add_at(map, &key, value),
+        "put new" => put_new(map, key, value),
         "remove" => map.remove(&key),
         "first" => first(map),
         _ => read(map, call, &key),
@@ -184,6 +191,9 @@ last,,0 > 2
 values,,0 > 342
 add,bb,5 > 7
 add,b,5 > none
+put new,d,6 > 4
+put new,d,9 > 4
+remove,d,0 > 6
 remove,b,0 > none
 remove,a,0 > 4
 first,,0 > 3

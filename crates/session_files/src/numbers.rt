@@ -45,7 +45,7 @@ fn put_number(
     if are_same(before, after) {
         return Ok(());
     }
-    match ids.put(path, after) {
+    match ids.replace(path, before, after) {
         Ok(()) => Ok(()),
         Err(_) => {
             *table = FileTable::new(alloc);

@@ -188,10 +188,14 @@ impl<'a, S: Source, A: Analysis> Host<A> for InlineHost<'a, S, A> {
         ensures faults { self.new.faults ≡ self.old.faults }
         ensures memory { IfErr result (λ e. e ≡ HostError.NoMemory) }
     {
-        self.jobs.take(commands.as_slice())?;
         keep_orders(&mut self.orders, commands.as_slice())?;
-        if let Some(calls) = &mut self.calls {
-            calls.push(RecordedCall::of_commands(commands))?;
+        // The jobs are copied only where the record holds them too.
+        match &mut self.calls {
+            Some(calls) => {
+                self.jobs.take_copies(commands.as_slice())?;
+                calls.push(RecordedCall::of_commands(commands))?;
+            }
+            None => self.jobs.take(commands)?,
         }
         Ok(())
     }

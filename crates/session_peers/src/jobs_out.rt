@@ -94,8 +94,30 @@ impl JobsOut {
         Ok(())
     }
 
+    /// Takes the jobs that commands hand over.
+    pub fn take(&mut self, commands: Items<Command>) -> Result<(), AllocError>
+        requires { AreRising self.old.handed (spawned commands) }
+        ensures out { OnOk result (self.new.out ≡ after_order commands self.old.out) }
+        ensures handed { OnOk result (self.new.handed
+            ≡ last_number self.old.handed (spawned commands)) }
+    {
+        for command in commands.into_vec() {
+            match command {
+                Command::Spawn(job) => self.push(job)?,
+                Command::Revise(_)
+                | Command::Invalidate(_)
+                | Command::Log(..)
+                | Command::Defer(_)
+                | Command::SetLoader { .. }
+                | Command::Timer(_)
+                | Command::Stop => {}
+            }
+        }
+        Ok(())
+    }
+
     /// Takes copies of the jobs that commands hand over, which share their params and snapshots.
-    pub fn take(&mut self, commands: &[Command]) -> Result<(), AllocError>
+    pub fn take_copies(&mut self, commands: &[Command]) -> Result<(), AllocError>
         requires { AreRising self.old.handed (spawned commands.now) }
         ensures out { OnOk result (self.new.out ≡ after_order commands.now self.old.out) }
         ensures handed { OnOk result (self.new.handed

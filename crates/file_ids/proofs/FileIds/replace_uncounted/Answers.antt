@@ -7,15 +7,15 @@ use Rattle.shared_map.proofs.AsMap.{get-view, set-view}
 use Rattle.docs_vfs.specs.Paths.{path_cmp}
 use Rattle.file_ids.specs.Numbers.{file_of}
 use Rattle.file_ids.proofs.Inverse.{renumbered, free_number}
-use Rattle.file_ids.proofs.FileIds.put_uncounted.Goals as goal
+use Rattle.file_ids.proofs.FileIds.replace_uncounted.Goals as goal
 
 pub invariant_of-self-2 : goal.invariant_of-self-2
 invariant_of-self-2 g c =
     let files = c.self.inside.files in
     let seen : (q : List ℕ) → map.get c.args.self.now q ≡ find path_cmp q files = λ q. ap (λ m. map.get m q) (sym c.self.view_is) ∙ get-view nat_list_cmp_total files q in
     let free = free_number c.args.entry c.args.path c.args.self.now files c.requires.free seen in
-    let old : c.number-old.result ≡ file_of (find path_cmp c.args.path files) = c.number-old.ensures ∙ ap file_of (c.get.ensures.entry ∙ seen c.args.path) in
-    rw c.in_ok-put.ensures.ok (rw c.take-files.ensures.value (rw c.in_ok-renumber.ensures (rw c.take-paths.ensures.value (rw old (rw c.number.ensures (
+    let old : c.number.result ≡ file_of (find path_cmp c.args.path files) = c.number.ensures ∙ ap file_of (sym c.requires.old ∙ seen c.args.path) in
+    rw c.in_ok-put.ensures.ok (rw c.take-files.ensures.value (rw c.in_ok-renumber.ensures (rw c.take-paths.ensures.value (rw old (rw c.number-2.ensures (
     renumbered files c.self.inside.paths c.args.path c.args.entry c.self.invariant c.len.ensures.order c.len-2.ensures.order free
     ))))))
 
