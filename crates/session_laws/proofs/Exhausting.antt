@@ -8,6 +8,7 @@ use Rattle.docs_vfs.specs.declared.file_url.UrlFault.{UrlFault}
 use Rattle.lsp_frame.specs.declared.message.Notification.{Notification}
 use Rattle.lsp_frame.specs.declared.message.Request.{Request}
 use Rattle.lsp_frame.specs.declared.message.Message.TheVariants.{Request as RequestMessage, Notification as NotificationMessage, Response as ResponseMessage}
+use Rattle.lsp_frame.specs.declared.message.Response.{Response}
 use Rattle.analysis_host.specs.HostData.{HostData}
 use Rattle.session_port.specs.Jobs.{after_message}
 use Rattle.session_port.specs.declared.event.TaskMsg.{TaskMsg}
@@ -41,8 +42,8 @@ use Rattle.session_files.specs.Steps.{changed, closed as closed_document, loaded
 use Rattle.workspaces.specs.Fetches.{fetch_to_start}
 use Rattle.workspaces.specs.declared.requests.FetchRequest.{FetchRequest}
 use Rattle.session_model.specs.Headline.{NeedsMore, fetches_in, files_told, row, batch_row, place_past, scene_at}
-use Rattle.session_model.specs.Machine.{Turning, asked, asked_for_settings, at_client, at_desk, at_files, batched, begin_part, begun_fetches, changed_at, client_in, closed, closed_at, closing_part, counted, desk_in, event_part}
-use Rattle.session_model.specs.Machine.{fetch_part, fetch_started, files_in, files_part, files_processed, happened, kept, later_parts, noticed, opened_at, received, start_parts, state_in, step, taken, taken_in, told, turned, turning, with_client}
+use Rattle.session_model.specs.Machine.{Turning, answer_taken, asked, asked_for_settings, at_client, at_desk, at_files, batched, begin_part, begun_fetches, changed_at, client_in, closed, closed_at, closing_part, counted, desk_in, event_part}
+use Rattle.session_model.specs.Machine.{fetch_part, fetch_started, files_in, files_part, files_processed, folders_taken, happened, kept, later_parts, noticed, opened_at, received, start_parts, state_in, step, taken, taken_in, told, turned, turning, with_client}
 use Rattle.session_model.specs.Machine.{with_desk, with_files, with_state}
 use Rattle.session_model.specs.State.{State, columns_in, excludes_in, may_start, scene_of}
 use Rattle.session_model.specs.Hearing.{heard_of}
@@ -154,6 +155,17 @@ asking-errs meaning s input =
     (err-weaker _ (λ counter. (counter ≡ Outgoing) × (number_limit ≤ s.client.asked.given)) (Needs meaning s input)
     (asked-errs Configuration Settings (record { state = s.client; out = nothing_done }) (s.client.asked.given == number_limit) refl) (λ c h. subst (Needs meaning s input) (sym h.0) h.1))
 
+-- no counter refuses folders and answers
+refolding-errs : (meaning : Meaning) (s : State) (input : Input) (added removed : List (List ℕ)) → IfErr (folders_taken added removed (counted_turn s)) (Needs meaning s input)
+refolding-errs meaning s input added removed =
+    err-and_then (at_client (λ c. Ok (folders_changed added removed c)) (counted_turn s)) _ (Needs meaning s input)
+    (IfErr-within client_in with_client (λ c. Ok (folders_changed added removed c)) (counted_turn s) (Needs meaning s input) tt) (λ v is. tt)
+
+answer-errs : (meaning : Meaning) (s : State) (input : Input) (r : Response) → IfErr (answer_taken r (counted_turn s)) (Needs meaning s input)
+answer-errs meaning s input r =
+    err-and_then (at_client (λ c. Ok (answered r c)) (counted_turn s)) _ (Needs meaning s input)
+    (IfErr-within client_in with_client (λ c. Ok (answered r c)) (counted_turn s) (Needs meaning s input) tt) (λ v is. tt)
+
 told-errs : (meaning : Meaning) (s : State) (n : Notification) (notice : Notice) → heard_of n ≡ Told notice → IfErr (told notice (counted_turn s)) (Needs meaning s (notification_input n))
 unfolding told
 told-errs meaning s n (notices.CancelRequest id) heard = IfErr-within desk_in with_desk (λ d. Ok (cancelled id d)) (counted_turn s) _ tt
@@ -163,7 +175,7 @@ told-errs meaning s n (notices.DidChange change) heard = change-path-errs meanin
 told-errs meaning s n (notices.DidClose uri) heard = close-path-errs meaning s n uri (path_of uri)
 told-errs meaning s n (notices.DidSave uri) heard = tt
 told-errs meaning s n notices.DidChangeConfiguration heard = asking-errs meaning s (notification_input n)
-told-errs meaning s n (notices.DidChangeWorkspaceFolders added removed) heard = IfErr-within client_in with_client (λ c. Ok (folders_changed added removed c)) (counted_turn s) _ tt
+told-errs meaning s n (notices.DidChangeWorkspaceFolders added removed) heard = refolding-errs meaning s (notification_input n) added removed
 told-errs meaning s n (notices.DidChangeWatchedFiles changes) heard = tt
 told-errs meaning s n notices.CancelFlycheck heard = tt
 told-errs meaning s n notices.ClearFlycheck heard = tt
@@ -183,7 +195,7 @@ event-errs : (meaning : Meaning) (s : State) (event : Event) → IfErr (happened
 unfolding happened received
 event-errs meaning s (Lsp (RequestMessage r)) = read-errs meaning s r
 event-errs meaning s (Lsp (NotificationMessage n)) = heard-errs meaning s n (heard_of n) refl
-event-errs meaning s (Lsp (ResponseMessage r)) = IfErr-within client_in with_client (λ c. Ok (answered r c)) (counted_turn s) _ tt
+event-errs meaning s (Lsp (ResponseMessage r)) = answer-errs meaning s (Next (Lsp (ResponseMessage r))) r
 event-errs meaning s (Task batch) =
     let done = batch_row meaning batch (place_of s) in
     err-weaker _ (TooMany s.desk.handed done) _ (batch-errs meaning s.desk.turns batch (counted_turn s)) (λ c h. needs-jobs meaning s (Next (Task batch)) done c refl h)

@@ -52,16 +52,16 @@ use Rattle.session_files.specs.Steps.{changed, closed as closed_document, loaded
 use Rattle.workspaces.specs.Fetches.{fetch_to_start, start_fetch}
 use Rattle.workspaces.specs.Workspaces.{Workspaces}
 use Rattle.workspaces.specs.declared.requests.FetchRequest.{FetchRequest}
-use Rattle.session_model.specs.Fetching.{fetch_jobs, fetch_kept, fetches_kept, reloaded_if, reloads, with_fetches}
+use Rattle.session_model.specs.Fetching.{fetch_jobs, fetch_kept, fetches_kept, folders_told_if, reloaded_if, reloads, settings_told, with_fetches}
 use Rattle.session_model.specs.Headline.{Place, reaction_of, row, notice_row, batch_row, desk_after, place_after, place_past, client_after, last_of, revision_after, scene_at, snapshot_at}
 use Rattle.session_model.specs.Headline.{are_due, is_changed, fetch_in, workspaces_after, workspaces_at, files_after, files_made, files_told, files_turned, or_before}
 use Rattle.session_model.specs.Inputs.{cancelled_by, request_in, turns_after}
-use Rattle.session_model.specs.Machine.{Turning, asked, asked_for_settings, at_client, at_desk, at_files, at_workspaces, batched, begin_part, begun_fetches, changed_at, client_in, closed, closed_at, closing_part, counted, desk_in, event_part}
-use Rattle.session_model.specs.Machine.{facts_of, fetch_part, fetch_started, file_changed, files_changed, files_in, files_part, files_processed, happened, kept, later_parts, noticed, opened_at, received, revised, start_parts, state_in, step, taken, taken_in, timed, told}
+use Rattle.session_model.specs.Machine.{Turning, answer_taken, asked, asked_for_settings, at_client, at_desk, at_files, at_workspaces, batched, begin_part, begun_fetches, changed_at, client_in, closed, closed_at, closing_part, counted, desk_in, event_part}
+use Rattle.session_model.specs.Machine.{facts_of, fetch_part, fetch_started, file_changed, files_changed, files_in, files_part, files_processed, folders_taken, happened, kept, later_parts, noticed, opened_at, received, revised, start_parts, state_in, step, taken, taken_in, timed, told}
 use Rattle.session_model.specs.Machine.{turned, turning, with_client, with_desk, with_files, with_state, with_workspaces}
 use Rattle.session_model.specs.Hearing.{heard_of, told_by}
 use Rattle.session_model.specs.Run.{Turn, Steps, begun, after_input, out_after}
-use Rattle.session_model.specs.State.{State, columns_in, excludes_in, may_start, scene_of, snapshot_of}
+use Rattle.session_model.specs.State.{State, columns_in, excludes_in, goes_by_folders, may_start, scene_of, snapshot_of}
 use Rattle.session_model.specs.declared.facts.Facts.{Facts}
 use Rattle.session_model.specs.declared.input.Event.{Event}
 use Rattle.session_model.specs.declared.input.Event.TheVariants.{Lsp, Task, Vfs, Deferred, Timer}
@@ -195,16 +195,16 @@ logged-mid meaning s input code text serves still = still-mid meaning s input (l
 abbrev client_turn : State → Working Client
 client_turn s = record { state = s.client; out = nothing_done }
 
--- the session where it has come to this
-abbrev client_now : State → Working Client → Working State
-client_now s v = record { state = with_client v.state (counted_turn s).state; out = v.out }
+-- the session where it and the workspaces have come to this
+abbrev client_now : State → Working Client → Workspaces → Working State
+client_now s v workspaces = record { state = record (counted_turn s).state { client = v.state; workspaces = workspaces }; out = v.out }
 
 -- a turn that changes nothing else
-client-mid : (meaning : Meaning) (s : State) (input : Input) (v : Working Client) (client : Client) → Serves meaning s input (after_input input s.desk.jobs) (counted_turn s)
-    → client ≡ client_after input s.client → files_told s.client.settings input s.files ≡ Ok s.files → workspaces_at input (place_of s) ≡ s.workspaces
-    → DoesForClient (client_turn s) v client → Mid meaning s input (client_now s v)
-client-mid meaning s input v client serves is same untold does =
-    told-mid meaning s input (client_now s v) serves does.tells refl (does.is ∙ is) same refl (sym untold)
+client-mid : (meaning : Meaning) (s : State) (input : Input) (v : Working Client) (client : Client) (workspaces : Workspaces)
+    → Serves meaning s input (after_input input s.desk.jobs) (counted_turn s) → client ≡ client_after input s.client → files_told s.client.settings input s.files ≡ Ok s.files
+    → workspaces ≡ workspaces_at input (place_of s) → DoesForClient (client_turn s) v client → Mid meaning s input (client_now s v workspaces)
+client-mid meaning s input v client workspaces serves is same told does =
+    told-mid meaning s input (client_now s v workspaces) serves does.tells refl (does.is ∙ is) same refl told
 
 -- the files, at the beginning of a turn
 abbrev files_turn : State → Working SessionFiles
@@ -251,32 +251,32 @@ opened-cases : (meaning : Meaning) (s : State) (n : Notification) (document : Di
     → IfOk (opened_at o document (counted_turn s)) (Mid meaning s (notification_input n))
 unfolding opened_at
 opened-cases meaning s n document (Err fault) heard is =
-    logged-mid meaning s (notification_input n) _ _ (silent-serves meaning s n (rw heard refl)) (record { client = rw heard refl; files = rw (heard, is) refl; workspaces = refl })
+    logged-mid meaning s (notification_input n) _ _ (silent-serves meaning s n (rw heard refl)) (record { client = rw heard refl; files = rw (heard, is) refl; workspaces = rw heard refl })
 opened-cases meaning s n document (Ok path) heard is =
     let excludes = excludes_in s.client.settings in
     files-mid meaning s (notification_input n) (opened excludes path document.version document.text) (after_opening excludes path document.version document.text s.files)
-    (silent-serves meaning s n (rw heard refl)) (rw heard refl) (rw (heard, is) refl) (opening-host excludes path document.version document.text s.files) refl
+    (silent-serves meaning s n (rw heard refl)) (rw heard refl) (rw (heard, is) refl) (opening-host excludes path document.version document.text s.files) (rw heard refl)
     (opened-does excludes path document.version document.text (files_turn s))
 
 changed-cases : (meaning : Meaning) (s : State) (n : Notification) (change : DidChange) (o : Result (List ℕ) UrlFault) → heard_of n ≡ Told (notices.DidChange change) → path_of change.uri ≡ o
     → IfOk (changed_at o change (counted_turn s)) (Mid meaning s (notification_input n))
 unfolding changed_at
 changed-cases meaning s n change (Err fault) heard is =
-    logged-mid meaning s (notification_input n) _ _ (silent-serves meaning s n (rw heard refl)) (record { client = rw heard refl; files = rw (heard, is) refl; workspaces = refl })
+    logged-mid meaning s (notification_input n) _ _ (silent-serves meaning s n (rw heard refl)) (record { client = rw heard refl; files = rw (heard, is) refl; workspaces = rw heard refl })
 changed-cases meaning s n change (Ok path) heard is =
     let columns = columns_in s.client.settings in
     files-mid meaning s (notification_input n) (changed columns path change.version change.changes) (change_of columns path change.version change.changes s.files)
-    (silent-serves meaning s n (rw heard refl)) (rw heard refl) (rw (heard, is) refl) (change-host columns path change.version change.changes s.files) refl
+    (silent-serves meaning s n (rw heard refl)) (rw heard refl) (rw (heard, is) refl) (change-host columns path change.version change.changes s.files) (rw heard refl)
     (changed-does columns path change.version change.changes (files_turn s))
 
 closed-cases : (meaning : Meaning) (s : State) (n : Notification) (uri : List ℕ) (o : Result (List ℕ) UrlFault) → heard_of n ≡ Told (notices.DidClose uri) → path_of uri ≡ o
     → IfOk (closed_at o uri (counted_turn s)) (Mid meaning s (notification_input n))
 unfolding closed_at
 closed-cases meaning s n uri (Err fault) heard is =
-    logged-mid meaning s (notification_input n) _ _ (silent-serves meaning s n (rw heard refl)) (record { client = rw heard refl; files = rw (heard, is) refl; workspaces = refl })
+    logged-mid meaning s (notification_input n) _ _ (silent-serves meaning s n (rw heard refl)) (record { client = rw heard refl; files = rw (heard, is) refl; workspaces = rw heard refl })
 closed-cases meaning s n uri (Ok path) heard is =
     files-mid meaning s (notification_input n) (λ f. Ok (closed_document path f)) (Ok (after_closing path s.files))
-    (silent-serves meaning s n (rw heard refl)) (rw heard refl) (rw (heard, is) refl) refl refl (closed-does path (files_turn s))
+    (silent-serves meaning s n (rw heard refl)) (rw heard refl) (rw (heard, is) refl) refl (rw heard refl) (closed-does path (files_turn s))
 
 -- the loader brings files
 loaded-mid : (meaning : Meaning) (s : State) (messages : List LoaderMsg) → IfOk (at_files (loaded messages) (counted_turn s)) (Mid meaning s (Next (Vfs messages)))
@@ -290,22 +290,27 @@ cancel-mid : (meaning : Meaning) (s : State) (n : Notification) (id : RequestId)
 cancel-mid meaning s n id heard =
     IfOk-within desk_in with_desk (λ d. Ok (cancelled id d)) (counted_turn s) (Mid meaning s (notification_input n))
     (desk-mid meaning s (notification_input n) (cancel_row id s.desk) (cancelled id (counted_desk s.desk)) refl (rw heard refl)
-    (record { client = rw heard refl; files = rw heard refl; workspaces = refl }) (cancel-settles id (counted_desk s.desk)))
+    (record { client = rw heard refl; files = rw heard refl; workspaces = rw heard refl }) (cancel-settles id (counted_desk s.desk)))
 
 -- the client is asked for its settings
 asking-mid : (meaning : Meaning) (s : State) (n : Notification) → heard_of n ≡ Told notices.DidChangeConfiguration → IfOk (at_client asked_for_settings (counted_turn s)) (Mid meaning s (notification_input n))
 asking-mid meaning s n heard =
     IfOk-within client_in with_client asked_for_settings (counted_turn s) (Mid meaning s (notification_input n))
-    (IfOk-weaker _ (λ v. DoesForClient (client_turn s) v (after_asking Settings s.client)) (λ v. Mid meaning s (notification_input n) (client_now s v)) (asked-does Configuration Settings (client_turn s))
-    (λ v does. client-mid meaning s (notification_input n) v (after_asking Settings s.client) (silent-serves meaning s n (rw heard refl)) (sym (rw heard refl)) (rw heard refl) refl does))
+    (IfOk-weaker _ (λ v. DoesForClient (client_turn s) v (after_asking Settings s.client)) (λ v. Mid meaning s (notification_input n) (client_now s v s.workspaces)) (asked-does Configuration Settings (client_turn s))
+    (λ v does. client-mid meaning s (notification_input n) v (after_asking Settings s.client) s.workspaces (silent-serves meaning s n (rw heard refl)) (sym (rw heard refl)) (rw heard refl) (sym (rw heard refl)) does))
 
 -- the folders of its workspaces change
 folders-mid : (meaning : Meaning) (s : State) (n : Notification) (added removed : List (List ℕ)) → heard_of n ≡ Told (notices.DidChangeWorkspaceFolders added removed)
-    → IfOk (at_client (λ c. Ok (folders_changed added removed c)) (counted_turn s)) (Mid meaning s (notification_input n))
+    → IfOk (folders_taken added removed (counted_turn s)) (Mid meaning s (notification_input n))
 folders-mid meaning s n added removed heard =
-    IfOk-within client_in with_client (λ c. Ok (folders_changed added removed c)) (counted_turn s) (Mid meaning s (notification_input n))
-    (client-mid meaning s (notification_input n) _ (after_folders added removed s.client) (silent-serves meaning s n (rw heard refl)) (sym (rw heard refl)) (rw heard refl) refl
-    (folders-do added removed (client_turn s)))
+    let input = notification_input n in
+    let refetched : Workspaces → Workspaces = folders_told_if (goes_by_folders s.client.settings) in
+    let told : Working State → Working State = at_workspaces refetched in
+    IfOk-and_then (at_client (λ c. Ok (folders_changed added removed c)) (counted_turn s)) (λ v. Ok (told v)) (λ v. Mid meaning s input (told v)) (Mid meaning s input)
+    (IfOk-within client_in with_client (λ c. Ok (folders_changed added removed c)) (counted_turn s) (λ v. Mid meaning s input (told v))
+    (client-mid meaning s input _ (after_folders added removed s.client) (refetched s.workspaces) (silent-serves meaning s n (rw heard refl)) (sym (rw heard refl)) (rw heard refl) (sym (rw heard refl))
+    (folders-do added removed (client_turn s))))
+    (λ v mid. mid)
 
 -- files are to be read anew
 file-tells : (url : List ℕ) (o : Result (List ℕ) UrlFault) (w : Working State) → Tells w.out (file_changed url o w).out
@@ -347,7 +352,7 @@ files-same seen (url ∷ urls) w =
 watched-mid : (meaning : Meaning) (s : State) (n : Notification) (changes : List (List ℕ)) → heard_of n ≡ Told (notices.DidChangeWatchedFiles changes)
     → Mid meaning s (notification_input n) (files_changed map.empty changes (counted_turn s))
 watched-mid meaning s n changes heard =
-    still-mid meaning s (notification_input n) _ (silent-serves meaning s n (rw heard refl)) (record { client = rw heard refl; files = rw heard refl; workspaces = refl })
+    still-mid meaning s (notification_input n) _ (silent-serves meaning s n (rw heard refl)) (record { client = rw heard refl; files = rw heard refl; workspaces = rw heard refl })
     (files-tell map.empty changes (counted_turn s)) (files-same map.empty changes (counted_turn s))
 
 -- a notice that changes nothing
@@ -357,25 +362,25 @@ pass-mid meaning s n quiet still = still-mid meaning s (notification_input n) (c
 told-cases : (meaning : Meaning) (s : State) (n : Notification) (notice : Notice) → heard_of n ≡ Told notice → IfOk (told notice (counted_turn s)) (Mid meaning s (notification_input n))
 unfolding told
 told-cases meaning s n (notices.CancelRequest id) heard = cancel-mid meaning s n id heard
-told-cases meaning s n (notices.CancelProgress token) heard = pass-mid meaning s n (rw heard refl) (record { client = rw heard refl; files = rw heard refl; workspaces = refl })
+told-cases meaning s n (notices.CancelProgress token) heard = pass-mid meaning s n (rw heard refl) (record { client = rw heard refl; files = rw heard refl; workspaces = rw heard refl })
 told-cases meaning s n (notices.DidOpen document) heard = opened-cases meaning s n document (path_of document.uri) heard refl
 told-cases meaning s n (notices.DidChange change) heard = changed-cases meaning s n change (path_of change.uri) heard refl
 told-cases meaning s n (notices.DidClose uri) heard = closed-cases meaning s n uri (path_of uri) heard refl
-told-cases meaning s n (notices.DidSave uri) heard = pass-mid meaning s n (rw heard refl) (record { client = rw heard refl; files = rw heard refl; workspaces = refl })
+told-cases meaning s n (notices.DidSave uri) heard = pass-mid meaning s n (rw heard refl) (record { client = rw heard refl; files = rw heard refl; workspaces = rw heard refl })
 told-cases meaning s n notices.DidChangeConfiguration heard = asking-mid meaning s n heard
 told-cases meaning s n (notices.DidChangeWorkspaceFolders added removed) heard = folders-mid meaning s n added removed heard
 told-cases meaning s n (notices.DidChangeWatchedFiles changes) heard = watched-mid meaning s n changes heard
-told-cases meaning s n notices.CancelFlycheck heard = pass-mid meaning s n (rw heard refl) (record { client = rw heard refl; files = rw heard refl; workspaces = refl })
-told-cases meaning s n notices.ClearFlycheck heard = pass-mid meaning s n (rw heard refl) (record { client = rw heard refl; files = rw heard refl; workspaces = refl })
-told-cases meaning s n (notices.RunFlycheck uri) heard = pass-mid meaning s n (rw heard refl) (record { client = rw heard refl; files = rw heard refl; workspaces = refl })
-told-cases meaning s n notices.AbortRunTest heard = pass-mid meaning s n (rw heard refl) (record { client = rw heard refl; files = rw heard refl; workspaces = refl })
+told-cases meaning s n notices.CancelFlycheck heard = pass-mid meaning s n (rw heard refl) (record { client = rw heard refl; files = rw heard refl; workspaces = rw heard refl })
+told-cases meaning s n notices.ClearFlycheck heard = pass-mid meaning s n (rw heard refl) (record { client = rw heard refl; files = rw heard refl; workspaces = rw heard refl })
+told-cases meaning s n (notices.RunFlycheck uri) heard = pass-mid meaning s n (rw heard refl) (record { client = rw heard refl; files = rw heard refl; workspaces = rw heard refl })
+told-cases meaning s n notices.AbortRunTest heard = pass-mid meaning s n (rw heard refl) (record { client = rw heard refl; files = rw heard refl; workspaces = rw heard refl })
 
 heard-cases : (meaning : Meaning) (s : State) (n : Notification) (heard : Heard) → heard_of n ≡ heard → IfOk (noticed heard n.method (counted_turn s)) (Mid meaning s (notification_input n))
 unfolding noticed
 heard-cases meaning s n (Told notice) is = told-cases meaning s n notice is
-heard-cases meaning s n Malformed is = logged-mid meaning s (notification_input n) _ _ (silent-serves meaning s n (rw is refl)) (record { client = rw is refl; files = rw is refl; workspaces = refl })
-heard-cases meaning s n Unhandled is = logged-mid meaning s (notification_input n) _ _ (silent-serves meaning s n (rw is refl)) (record { client = rw is refl; files = rw is refl; workspaces = refl })
-heard-cases meaning s n Silent is = pass-mid meaning s n (rw is refl) (record { client = rw is refl; files = rw is refl; workspaces = refl })
+heard-cases meaning s n Malformed is = logged-mid meaning s (notification_input n) _ _ (silent-serves meaning s n (rw is refl)) (record { client = rw is refl; files = rw is refl; workspaces = rw is refl })
+heard-cases meaning s n Unhandled is = logged-mid meaning s (notification_input n) _ _ (silent-serves meaning s n (rw is refl)) (record { client = rw is refl; files = rw is refl; workspaces = rw is refl })
+heard-cases meaning s n Silent is = pass-mid meaning s n (rw is refl) (record { client = rw is refl; files = rw is refl; workspaces = rw is refl })
 
 -- ---- batches
 
@@ -470,12 +475,17 @@ batch-mid meaning s batch =
 
 -- ---- whole turns
 
-response-mid : (meaning : Meaning) (s : State) (r : Response) → IfOk (at_client (λ c. Ok (answered r c)) (counted_turn s)) (Mid meaning s (Next (Lsp (ResponseMessage r))))
+response-mid : (meaning : Meaning) (s : State) (r : Response) → IfOk (answer_taken r (counted_turn s)) (Mid meaning s (Next (Lsp (ResponseMessage r))))
 response-mid meaning s r =
     let input : Input = Next (Lsp (ResponseMessage r)) in
-    IfOk-within client_in with_client (λ c. Ok (answered r c)) (counted_turn s) (Mid meaning s input)
-    (client-mid meaning s input _ (after_answer r s.client) (serves-desk meaning s input silent (counted_desk s.desk) refl refl (nothing-settles (counted_desk s.desk))) refl refl refl
-    (answered-does r (client_turn s)))
+    let asked_by : Client → Workspaces = λ c. settings_told s.client.settings c.settings s.workspaces in
+    let told : Working State → Working State = λ v. at_workspaces (settings_told s.client.settings v.state.client.settings) v in
+    let does : DoesForClient (client_turn s) (answered r (client_turn s)) (after_answer r s.client) = answered-does r (client_turn s) in
+    IfOk-and_then (at_client (λ c. Ok (answered r c)) (counted_turn s)) (λ v. Ok (told v)) (λ v. Mid meaning s input (told v)) (Mid meaning s input)
+    (IfOk-within client_in with_client (λ c. Ok (answered r c)) (counted_turn s) (λ v. Mid meaning s input (told v))
+    (client-mid meaning s input _ (after_answer r s.client) (asked_by (answered r (client_turn s)).state)
+    (serves-desk meaning s input silent (counted_desk s.desk) refl refl (nothing-settles (counted_desk s.desk))) refl refl (ap asked_by does.is) does))
+    (λ v mid. mid)
 
 message-mid : (meaning : Meaning) (s : State) (message : Message) → IfOk (received meaning message (counted_turn s)) (Mid meaning s (Next (Lsp message)))
 unfolding received

@@ -45,9 +45,9 @@ use Rattle.session_files.specs.SessionFiles.{SessionFiles, no_files}
 use Rattle.workspaces.specs.Fetches.{fetch_to_start, fire, start_fetch, start_up}
 use Rattle.workspaces.specs.Workspaces.{Workspaces, no_workspaces}
 use Rattle.workspaces.specs.declared.requests.FetchRequest.{FetchRequest}
-use Rattle.session_model.specs.Fetching.{fetch_jobs, fetch_kept, fetches_kept, reloaded_if, reloads, with_fetches}
+use Rattle.session_model.specs.Fetching.{fetch_jobs, fetch_kept, fetches_kept, folders_told_if, reloaded_if, reloads, settings_told, with_fetches}
 use Rattle.session_model.specs.Hearing.{heard_of, told_by}
-use Rattle.session_model.specs.State.{columns_in, discovers, excludes_in, macros_loaded_in, may_start}
+use Rattle.session_model.specs.State.{columns_in, discovers, excludes_in, goes_by_folders, macros_loaded_in, may_start}
 use Rattle.session_model.specs.Run.{Turn, Told, AllRead, AsksLast, IsHonestInput, commands_of, fed_bytes, out_after, taking, telling}
 use Rattle.session_model.specs.declared.fault.SessionError.{SessionError}
 use Rattle.session_model.specs.declared.fault.SessionError.TheVariants.{ClientExited, BadFrame, BadMessage, HostFault, WriteFault, Exhausted, NoMemory}
@@ -158,20 +158,26 @@ client_answered (Some response) client = after_answer response client
 abbrev pub client_after : Input → Client → Client
 client_after input client = client_answered (response_in input) (client_told (notice_in input) client)
 
--- what an input tells of the workspaces, by the requests that wait and the jobs that are out: the start and a request to reload ask for a fetch, a job's
--- message may end one, and a timer may ask for one
-abbrev pub workspaces_told : ConfigData → Input → Desk → Workspaces → Workspaces
-workspaces_told settings Start desk workspaces = with_fetches (start_up (discovers settings)) workspaces
-workspaces_told settings (Next (Lsp (RequestMessage r))) desk workspaces = reloaded_if (reloads r desk) workspaces
-workspaces_told settings (Next (Lsp (NotificationMessage n))) desk workspaces = workspaces
-workspaces_told settings (Next (Lsp (ResponseMessage r))) desk workspaces = workspaces
-workspaces_told settings (Next (Task batch)) desk workspaces = fetches_kept batch desk.jobs workspaces
-workspaces_told settings (Next (Vfs messages)) desk workspaces = workspaces
-workspaces_told settings (Next (Deferred tasks)) desk workspaces = workspaces
-workspaces_told settings (Next (Timer ticket)) desk workspaces = with_fetches (fire ticket) workspaces
+-- where the client's folders say what the workspaces are, others ask for a fetch
+abbrev pub folders_told : ConfigData → Option Notice → Workspaces → Workspaces
+folders_told settings None workspaces = workspaces
+folders_told settings (Some (notices.DidChangeWorkspaceFolders added removed)) workspaces = folders_told_if (goes_by_folders settings) workspaces
+folders_told settings (Some other) workspaces = workspaces
+
+-- what an input tells of the workspaces, by the client, the requests that wait and the jobs that are out: the start and a request to reload ask for a fetch,
+-- so do other folders and other settings, a job's message may end one, and a timer may ask for one
+abbrev pub workspaces_told : Client → Input → Desk → Workspaces → Workspaces
+workspaces_told client Start desk workspaces = with_fetches (start_up (discovers client.settings)) workspaces
+workspaces_told client (Next (Lsp (RequestMessage r))) desk workspaces = reloaded_if (reloads r desk) workspaces
+workspaces_told client (Next (Lsp (NotificationMessage n))) desk workspaces = folders_told client.settings (told_by (heard_of n)) workspaces
+workspaces_told client (Next (Lsp (ResponseMessage r))) desk workspaces = settings_told client.settings (after_answer r client).settings workspaces
+workspaces_told client (Next (Task batch)) desk workspaces = fetches_kept batch desk.jobs workspaces
+workspaces_told client (Next (Vfs messages)) desk workspaces = workspaces
+workspaces_told client (Next (Deferred tasks)) desk workspaces = workspaces
+workspaces_told client (Next (Timer ticket)) desk workspaces = with_fetches (fire ticket) workspaces
 
 abbrev pub workspaces_at : Input → Place → Workspaces
-workspaces_at input place = workspaces_told place.client.settings input place.desk place.workspaces
+workspaces_at input place = workspaces_told place.client input place.desk place.workspaces
 
 -- behind an input fetches may start, by the settings that it leaves
 abbrev pub may_start_at : Input → Client → Bool

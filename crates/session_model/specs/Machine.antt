@@ -4,6 +4,7 @@ use Rattle.std.specs.FinMap as map
 use Rattle.lsp_frame.specs.declared.message.Request.{Request}
 use Rattle.lsp_frame.specs.declared.message.Message.{Message}
 use Rattle.lsp_frame.specs.declared.message.Message.TheVariants.{Request as RequestMessage, Notification as NotificationMessage, Response as ResponseMessage}
+use Rattle.lsp_frame.specs.declared.message.Response.{Response}
 use Rattle.plain.specs.Texts.{text_cmp}
 use Rattle.docs_vfs.specs.FileUrls.{path_of}
 use Rattle.docs_vfs.specs.declared.file_url.UrlFault.{UrlFault}
@@ -31,9 +32,9 @@ use Rattle.session_files.specs.Steps.{changed, closed as closed_document, loaded
 use Rattle.workspaces.specs.Fetches.{fetch_to_start, fire, start_fetch, start_up}
 use Rattle.workspaces.specs.Workspaces.{Workspaces}
 use Rattle.workspaces.specs.declared.requests.FetchRequest.{FetchRequest}
-use Rattle.session_model.specs.Fetching.{fetch_kept, reloaded_if, reloads, with_fetches}
+use Rattle.session_model.specs.Fetching.{fetch_kept, folders_told_if, reloaded_if, reloads, settings_told, with_fetches}
 use Rattle.session_model.specs.Hearing.{heard_of}
-use Rattle.session_model.specs.State.{State, columns_in, discovers, excludes_in, fetch_kind, may_start, scene_of, snapshot_of}
+use Rattle.session_model.specs.State.{State, columns_in, discovers, excludes_in, fetch_kind, goes_by_folders, may_start, scene_of, snapshot_of}
 use Rattle.session_model.specs.declared.facts.Facts.{Facts}
 use Rattle.session_model.specs.declared.input.Event.{Event}
 use Rattle.session_model.specs.declared.input.Event.TheVariants.{Lsp, Task, Vfs, Deferred, Timer}
@@ -99,6 +100,20 @@ asked meaning r w =
     and_then (at_desk (requested meaning (scene_of w.state) r) w)
     (λ v. Ok (at_workspaces (reloaded_if (reloads r w.state.desk)) v))
 
+-- ---- the client's settings and folders
+
+-- an answer of the client; other settings than before ask for fetches
+abbrev pub answer_taken : Response → Working State → Result (Working State) Counter
+answer_taken r w =
+    and_then (at_client (λ c. Ok (answered r c)) w)
+    (λ v. Ok (at_workspaces (settings_told w.state.client.settings v.state.client.settings) v))
+
+-- its folders change; where they say what the workspaces are, that asks for a fetch
+abbrev pub folders_taken : List (List ℕ) → List (List ℕ) → Working State → Result (Working State) Counter
+folders_taken added removed w =
+    and_then (at_client (λ c. Ok (folders_changed added removed c)) w)
+    (λ v. Ok (at_workspaces (folders_told_if (goes_by_folders w.state.client.settings)) v))
+
 -- ---- notifications
 
 -- a URL that names no path is logged, and the item is skipped
@@ -133,7 +148,7 @@ told (notices.DidOpen document) w = opened_at (path_of document.uri) document w
 told (notices.DidChange change) w = changed_at (path_of change.uri) change w
 told (notices.DidClose uri) w = closed_at (path_of uri) uri w
 told notices.DidChangeConfiguration w = at_client asked_for_settings w
-told (notices.DidChangeWorkspaceFolders added removed) w = at_client (λ c. Ok (folders_changed added removed c)) w
+told (notices.DidChangeWorkspaceFolders added removed) w = folders_taken added removed w
 told (notices.DidChangeWatchedFiles changes) w = Ok (files_changed map.empty changes w)
 told other w = Ok w
 
@@ -147,7 +162,7 @@ noticed Silent method w = Ok w
 unfoldable pub received : Meaning → Message → Working State → Result (Working State) Counter
 received meaning (RequestMessage r) w = asked meaning r w
 received meaning (NotificationMessage n) w = noticed (heard_of n) n.method w
-received meaning (ResponseMessage r) w = at_client (λ c. Ok (answered r c)) w
+received meaning (ResponseMessage r) w = answer_taken r w
 
 -- ---- results
 

@@ -1,11 +1,13 @@
 -- The session's state, as contracts see it: a record of its parts.
-use Rattle.std.specs.Prelude.{ℕ, Bool, List, [], None, true, false, is_some, not, ◌||◌}
+use Rattle.std.specs.Prelude.{ℕ, Bool, List, [], length, None, true, false, is_some, not, ◌==◌, ◌&&◌, ◌||◌}
 use Rattle.text_core.specs.declared.position.PositionEncoding.{PositionEncoding}
-use Rattle.ra_settings.specs.declared.row.Row.TheVariants.{CargoAutoreload, DetachedFiles, FilesExclude, ProcMacroEnable, WorkspaceDiscoverConfig}
+use Rattle.ra_settings.specs.declared.row.Row.TheVariants.{CargoAutoreload, DetachedFiles, FilesExclude}
+use Rattle.ra_settings.specs.declared.row.Row.TheVariants.{LinkedProjects, ProcMacroEnable, WorkspaceDiscoverConfig}
+use Rattle.ra_settings.specs.declared.value.LinkedProject.{LinkedProject}
 use Rattle.ra_settings.specs.declared.value.SettingValue.{SettingValue}
 use Rattle.ra_settings.specs.declared.value.SettingValue.TheVariants.{Discover, Paths, Truth}
 use Rattle.layered_settings.specs.Search.{setting}
-use Rattle.ra_config.specs.Config.{ConfigData, projects_of}
+use Rattle.ra_config.specs.Config.{ConfigData, linked_in, projects_of}
 use Rattle.analysis_host.specs.SnapshotData.{SnapshotData}
 use Rattle.session_port.specs.declared.job.JobKind.{JobKind}
 use Rattle.session_port.specs.declared.job.JobKind.TheVariants.{FetchWorkspaces}
@@ -67,10 +69,20 @@ abbrev pub may_start : Input → ConfigData → Bool
 may_start Start settings = true
 may_start (Next event) settings = may_fetch settings
 
+-- the projects that are linked, and the files that stand alone: the settings `linkedProjects` and `detachedFiles`
+abbrev pub linked_of : ConfigData → List LinkedProject
+linked_of settings = linked_in (setting LinkedProjects None settings.settings)
+
+abbrev pub detached_of : ConfigData → List (List ℕ)
+detached_of settings = paths_in (setting DetachedFiles None settings.settings)
+
+-- the client's folders say what the workspaces are: no project is linked, and no file stands alone
+abbrev pub goes_by_folders : ConfigData → Bool
+goes_by_folders settings = length (linked_of settings) == 0 && length (detached_of settings) == 0
+
 -- what a fetch is for: the projects of the session, and the files that stand alone
 abbrev pub fetch_kind : ConfigData → FetchRequest → JobKind
-fetch_kind settings request =
-    FetchWorkspaces (projects_of settings) (paths_in (setting DetachedFiles None settings.settings)) request.path request.force
+fetch_kind settings request = FetchWorkspaces (projects_of settings) (detached_of settings) request.path request.force
 
 -- the snapshot of the present; it shows no workspaces yet
 abbrev pub snapshot_of : State → SnapshotData

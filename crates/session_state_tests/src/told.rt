@@ -16,7 +16,7 @@ tell workspace/didChangeConfiguration {} then answer [null]
 tell workspace/didChangeConfiguration {} then answer [1.5] > log
 answer [] > log
 tell workspace/didChangeConfiguration {} then answer [] then answer [] > log
-tell workspace/didChangeWorkspaceFolders {"event":{"added":[{"uri":"file:///x"}],"removed":[{"uri":"x"}]}} > log
+tell workspace/didChangeWorkspaceFolders {"event":{"added":[{"uri":"file:///x"}],"removed":[{"uri":"x"}]}} > logWorker
 tell workspace/didChangeWatchedFiles {"changes":[{"uri":"file:///w/a"},{"uri":"file:///w/a"},{"uri":"a"}]} > invalidatelog
 tell x/y null then tell $/x null"#;
 

@@ -4,7 +4,7 @@ ghost use Rattle.notify.specs.Writing.{HoldsPlain};
 ghost use Rattle.turn_parts.specs.Meets.{Meets};
 ghost use Rattle.turn_parts.specs.Working.{written};
 ghost use Rattle.client.specs.Steps.{answered, asked_for, folders_changed, notification_of};
-ghost use Rattle.session_model.specs.Machine.{asked_for_settings, at_client};
+ghost use Rattle.session_model.specs.Machine.{answer_taken, asked_for_settings, at_client, folders_taken};
 
 use crate::global_state::GlobalState;
 use client::ReqHandler;
@@ -12,6 +12,7 @@ use lsp_frame::Response;
 use notify::Outgo;
 use plain::{Items, NoMemory, Text};
 use session_model::TurnError;
+use std::sync::Arc;
 use turn_parts::TurnOut;
 
 impl GlobalState {
@@ -45,19 +46,29 @@ impl GlobalState {
         self.client.tell(message, out)
     }
 
-    /// The client answers what it was asked. That no request has the answer's id is logged. After an `Err` the state is spent.
-    pub fn complete_request(
-        &mut self,
-        response: Response,
-        out: &mut TurnOut,
-    ) -> Result<(), TurnError>
+    // An answer, to what is agreed with the client.
+    fn take_answer(&mut self, response: Response, out: &mut TurnOut) -> Result<(), TurnError>
         ensures { Meets result (at_client (λ c. Ok (answered response c)) (record { state = self.old; out = out.old })) self.new out.new }
     {
         self.client.complete(response, out)
     }
 
-    // The folders of the client's workspaces change.
-    pub(super) fn change_folders(
+    /// The client answers what it was asked. Other settings than before ask for a fetch. That no request has the answer's id
+    /// is logged. After an `Err` the state is spent.
+    pub fn complete_request(
+        &mut self,
+        response: Response,
+        out: &mut TurnOut,
+    ) -> Result<(), TurnError>
+        ensures { Meets result (answer_taken response (record { state = self.old; out = out.old })) self.new out.new }
+    {
+        let before = Arc::try_clone(self.client.settings())?;
+        self.take_answer(response, out)?;
+        self.tell_settings(&before, out)
+    }
+
+    // The folders of the client's workspaces change, in what is agreed with it.
+    fn change_folders(
         &mut self,
         added: Items<Text>,
         removed: Items<Text>,
@@ -66,5 +77,19 @@ impl GlobalState {
         ensures { Meets result (at_client (λ c. Ok (folders_changed added removed c)) (record { state = self.old; out = out.old })) self.new out.new }
     {
         self.client.change_folders(added, removed, out)
+    }
+
+    // The folders of the client's workspaces change. Where they say what the workspaces are, that asks for a fetch.
+    pub(super) fn on_folders(
+        &mut self,
+        added: Items<Text>,
+        removed: Items<Text>,
+        out: &mut TurnOut,
+    ) -> Result<(), TurnError>
+        ensures { Meets result (folders_taken added removed (record { state = self.old; out = out.old })) self.new out.new }
+    {
+        let counts = self.goes_by_folders();
+        self.change_folders(added, removed, out)?;
+        self.tell_folders_if(counts, out)
     }
 }

@@ -1,17 +1,19 @@
 // Fetches of workspaces.
-ghost use Rattle.std.specs.Prelude.{◌≡◌, IfOk};
+ghost use Rattle.std.specs.Prelude.{◌≡◌, IfOk, OnOk};
 ghost use Rattle.turn_parts.specs.Meets.{Meets, Gives};
 ghost use Rattle.method_table.specs.declared.class.PoolClass.TheVariants.{Worker};
 ghost use Rattle.desk.specs.Steps.{handed_over};
-ghost use Rattle.session_model.specs.Fetching.{fetch_kept, reloaded_if};
+ghost use Rattle.session_model.specs.Fetching.{fetch_asked, fetch_caused, fetch_kept, folders_told_if, reloaded_if, settings_told};
 ghost use Rattle.session_model.specs.Machine.{at_desk, at_workspaces, begun_fetches, fetch_handed_over, fetch_started, timed};
-ghost use Rattle.session_model.specs.State.{discovers, fetch_kind, may_fetch, snapshot_of};
+ghost use Rattle.session_model.specs.State.{discovers, fetch_kind, goes_by_folders, may_fetch, snapshot_of};
 
 use crate::global_state::GlobalState;
+use config_update::{FetchCause, update_of};
 use desk::FetchEnd;
 use docs_vfs::VfsPath;
 use method_table::PoolClass;
 use plain::{Items, Text};
+use ra_config::Config;
 use session_model::TurnError;
 use session_port::JobKind;
 use std::alloc::{AllocError, Global};
@@ -68,6 +70,59 @@ impl GlobalState {
     {
         if reloads {
             self.workspaces.reload()?;
+        }
+        Ok(())
+    }
+
+    // Asks for a fetch, for this cause.
+    fn ask_fetch(&mut self, cause: &str) -> Result<(), AllocError>
+        ensures { OnOk result (self.new ≡ record self.old { workspaces = fetch_asked cause.now self.old.workspaces }) }
+    {
+        let cause = Text::from_str(self.alloc, cause)?;
+        self.workspaces.ask_fetch(cause, FetchRequest::unforced());
+        Ok(())
+    }
+
+    // Asks for the fetch of a change of settings, where it asks for one.
+    fn tell_cause(&mut self, cause: Option<FetchCause>, out: &mut TurnOut) -> Result<(), TurnError>
+        ensures { Gives result (at_workspaces (fetch_caused cause) (record { state = self.old; out = out.old })) self.new out.new }
+    {
+        if let Some(cause) = cause {
+            self.ask_fetch(cause.text())?;
+        }
+        Ok(())
+    }
+
+    // The settings were these before. Others ask for a fetch.
+    pub(super) fn tell_settings(
+        &mut self,
+        before: &Config,
+        out: &mut TurnOut,
+    ) -> Result<(), TurnError>
+        ensures { Gives result (at_workspaces (settings_told before.now self.old.client.settings) (record { state = self.old; out = out.old })) self.new out.new }
+    {
+        let update = update_of(self.alloc, before, self.client.settings())?;
+        self.tell_cause(update.fetch_cause(), out)
+    }
+
+    // Whether the client's folders say what the workspaces are: no project is linked, and no file stands alone.
+    pub(super) fn goes_by_folders(&self) -> bool
+        ensures { result ≡ goes_by_folders self.now.client.settings }
+    {
+        let settings = self.client.settings();
+        settings.linked_projects().is_empty() && settings.detached_files().is_empty()
+    }
+
+    // The client's folders have changed, and say what the workspaces are where this flag is set.
+    pub(super) fn tell_folders_if(
+        &mut self,
+        counts: bool,
+        out: &mut TurnOut,
+    ) -> Result<(), TurnError>
+        ensures { Gives result (at_workspaces (folders_told_if counts) (record { state = self.old; out = out.old })) self.new out.new }
+    {
+        if counts {
+            self.ask_fetch("client workspaces changed")?;
         }
         Ok(())
     }

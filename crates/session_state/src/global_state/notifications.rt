@@ -37,7 +37,7 @@ impl GlobalState {
             Notice::DidClose { uri } => self.on_close(uri, out),
             Notice::DidChangeConfiguration => self.ask_for_settings(out),
             Notice::DidChangeWorkspaceFolders { added, removed } => {
-                self.change_folders(added, removed, out)
+                self.on_folders(added, removed, out)
             }
             Notice::DidChangeWatchedFiles { changes } => self.change_files(changes, out),
             Notice::CancelProgress(_)

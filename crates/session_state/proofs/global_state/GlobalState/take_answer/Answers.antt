@@ -2,7 +2,7 @@ use Rattle.std.proofs.Common.{rules}
 use Rattle.std.specs.Prelude.{Ok}
 use Rattle.client.specs.Steps.{answered}
 use Rattle.session_state.proofs.AtClient.{client_meets}
-use Rattle.session_state.proofs.global_state.GlobalState.complete_request.Goals as goal
+use Rattle.session_state.proofs.global_state.GlobalState.take_answer.Goals as goal
 
 pub returns : goal.returns
 returns c =
