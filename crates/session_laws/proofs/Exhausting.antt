@@ -16,7 +16,7 @@ use Rattle.session_port.specs.declared.job.Job.{Job}
 use Rattle.turn_parts.specs.Working.{Working, and_then, within, written}
 use Rattle.turn_parts.specs.Written.{nothing_done}
 use Rattle.turn_parts.specs.declared.fault.Counter.{Counter}
-use Rattle.turn_parts.specs.declared.fault.Counter.TheVariants.{Turns, Outgoing}
+use Rattle.turn_parts.specs.declared.fault.Counter.TheVariants.{LoaderSettings, Turns, Outgoing}
 use Rattle.notify.specs.declared.outgo.Outgo.{Outgo}
 use Rattle.notify.specs.declared.outgo.Outgo.TheVariants.{Configuration}
 use Rattle.outgoing.specs.Outgoing.{number_limit}
@@ -41,9 +41,10 @@ use Rattle.session_files.specs.SessionFiles.{SessionFiles}
 use Rattle.session_files.specs.Steps.{changed, closed as closed_document, loaded, opened, processed}
 use Rattle.workspaces.specs.Fetches.{fetch_to_start}
 use Rattle.workspaces.specs.declared.requests.FetchRequest.{FetchRequest}
-use Rattle.session_model.specs.Headline.{NeedsMore, fetches_in, files_told, row, batch_row, place_past, scene_at}
-use Rattle.session_model.specs.Machine.{Turning, answer_taken, asked, asked_for_settings, at_client, at_desk, at_files, batched, begin_part, begun_fetches, changed_at, client_in, closed, closed_at, closing_part, counted, desk_in, event_part}
-use Rattle.session_model.specs.Machine.{fetch_part, fetch_started, files_in, files_part, files_processed, folders_taken, happened, kept, later_parts, noticed, opened_at, received, start_parts, state_in, step, taken, taken_in, told, turned, turning, with_client}
+use Rattle.session_model.specs.Headline.{batch_row, fetches_in, files_told, NeedsMore, place_past, row, scene_at, switch_in}
+use Rattle.session_model.specs.Machine.{answer_taken, asked, asked_for_settings, at_client, at_desk, at_files, batched, begin_part, begun_fetches, changed_at, client_in, closed, closed_at, closing_part, counted, desk_in}
+use Rattle.session_model.specs.Machine.{event_part, fetch_part, fetch_started, files_in, files_part, files_processed, folders_taken, happened, kept, later_parts, noticed, opened_at, received, start_parts, state_in, step}
+use Rattle.session_model.specs.Machine.{switch_done, switch_part, switched_to, taken, taken_in, told, turned, Turning, turning, with_client}
 use Rattle.session_model.specs.Machine.{with_desk, with_files, with_state}
 use Rattle.session_model.specs.State.{State, columns_in, excludes_in, may_start, scene_of}
 use Rattle.session_model.specs.Hearing.{heard_of}
@@ -58,7 +59,9 @@ use Rattle.session_model.specs.declared.heard.Heard.TheVariants.{Told, Malformed
 use Rattle.session_laws.specs.Invariant.{place_of}
 use Rattle.session_laws.proofs.Filing.{AtLast, IsFull, change_of, changed-step-errs, full-err, loaded-errs-by, opened-errs, processed-errs}
 use Rattle.session_laws.proofs.Fetching.{TooManyFetches, started-errs}
-use Rattle.session_laws.proofs.Rows.{DoesAtDesk, MidTurn, ReadyTurn, at, begins, counted-is, counted_turn, event-fits, fetch_and_close, files-made, kept_past, notification_input, place_at, ready-fetch, session_in, settled-place, taken-settles}
+use Rattle.session_laws.proofs.Rows.{BehindTurn, DoesAtDesk, MidTurn, ReadyTurn, at, begins, counted-is, counted_turn, event-fits, fetch_and_close, files-made, files_and_on, kept_past, mid-switch, notification_input, place_at, ready-fetch, session_in, settled-place, switch-made, taken-settles}
+use Rattle.session_laws.proofs.Switching.{made-errs, switched-errs}
+use Rattle.session_model.specs.Switching.{switch_made}
 
 -- ---- jobs
 
@@ -229,14 +232,25 @@ closing-errs : (t : Working Turning) (P : Counter → Type 0) → IfErr (closing
 unfolding closing_part
 closing-errs t P = IfErr-within state_in with_state (closed t.state.facts) t P (closed-errs t.state.facts _ P)
 
+-- a switch needs a version more
+switch-part-errs : (meaning : Meaning) (s : State) (event : Event) (t : Working Turning) → MidTurn meaning s (Next event) t → IfErr (switch_part t) (Needs meaning s (Next event))
+unfolding switch_part switch_done
+switch-part-errs meaning s event t m =
+    let u = session_in t in
+    let made = switch_made u.state.client.settings u.state.files u.state.workspaces in
+    IfErr-within state_in with_state switch_done t (Needs meaning s (Next event))
+    (err-weaker (switched_to made u) (λ counter. made ≡ Err counter) (Needs meaning s (Next event)) (switched-errs made u)
+    (λ counter refused. let is : counter ≡ LoaderSettings = IfErr-at_err (λ c. c ≡ LoaderSettings) refused (made-errs u.state.client.settings u.state.files u.state.workspaces) in
+    subst (Needs meaning s (Next event)) (sym is) (sym (mid-switch meaning s event u m.mid) ∙ refused ∙ ap Err is)))
+
 -- the world is to change at the last revision
-files-part-errs : (meaning : Meaning) (s : State) (event : Event) (t : Working Turning) → MidTurn meaning s (Next event) t → IfErr (files_part t) (Needs meaning s (Next event))
+files-part-errs : (meaning : Meaning) (s : State) (event : Event) (t : Working Turning) → BehindTurn meaning s event t → IfErr (files_part t) (Needs meaning s (Next event))
 unfolding files_part files_processed
 files-part-errs meaning s event t m =
     IfErr-within state_in with_state files_processed t (Needs meaning s (Next event))
     (IfErr-within files_in with_files processed (session_in t) (Needs meaning s (Next event))
     (err-weaker _ (AtLast t.state.state.files.host.revision) (Needs meaning s (Next event)) (processed-errs _)
-    (λ c h. subst (Needs meaning s (Next event)) (sym h.0) (subst (λ (host : HostData). 2 ^ 64 - 1 ≤ host.revision) m.mid.host h.1))))
+    (λ c h. subst (Needs meaning s (Next event)) (sym h.0) (subst (λ (host : HostData). 2 ^ 64 - 1 ≤ host.revision) m.behind.host h.1))))
 
 with-fetch : (handed jobs given fetches : ℕ) → given ≡ handed + jobs → 2 ^ 64 ≤ given + fetches → 2 ^ 64 ≤ handed + jobs + fetches
 with-fetch handed jobs given fetches is h = omega (arith, is, h)
@@ -260,6 +274,11 @@ fetch-close-errs : (meaning : Meaning) (s : State) (input : Input) (t : Working 
 fetch-close-errs meaning s input t ready =
     err-and_then (fetch_part input t) closing_part (Needs meaning s input) (fetch-part-errs meaning s input t ready) (λ u is. closing-errs u (Needs meaning s input))
 
+files-on-errs : (meaning : Meaning) (s : State) (event : Event) (t : Working Turning) → BehindTurn meaning s event t → IfErr (files_and_on (Next event) t) (Needs meaning s (Next event))
+files-on-errs meaning s event t behind =
+    err-and_then (files_part t) (fetch_and_close (Next event)) (Needs meaning s (Next event)) (files-part-errs meaning s event t behind)
+    (λ u made. fetch-close-errs meaning s (Next event) u (IfOk-at_ok (ReadyTurn meaning s (Next event)) made (files-made meaning s event t behind)))
+
 begin-errs : (t : Working Turning) (P : Counter → Type 0) → IfErr (begin_part t) P
 unfolding begin_part begun_fetches
 begin-errs t P = IfErr-within state_in with_state begun_fetches t P tt
@@ -274,8 +293,8 @@ step-errs meaning s (Next event) =
     err-and_then (and_then (event_part meaning event (turning (begun s))) (later_parts (Next event))) turned (Needs meaning s (Next event))
     (err-and_then (event_part meaning event (turning (begun s))) (later_parts (Next event)) (Needs meaning s (Next event)) (event-part-errs meaning s event)
     (λ t is. let mid : MidTurn meaning s (Next event) t = IfOk-at_ok (MidTurn meaning s (Next event)) is (event-fits meaning s event) in
-    err-and_then (files_part t) (fetch_and_close (Next event)) (Needs meaning s (Next event)) (files-part-errs meaning s event t mid)
-    (λ u made. fetch-close-errs meaning s (Next event) u (IfOk-at_ok (ReadyTurn meaning s (Next event)) made (files-made meaning s event t mid)))))
+    err-and_then (switch_part t) (files_and_on (Next event)) (Needs meaning s (Next event)) (switch-part-errs meaning s event t mid)
+    (λ u behind. files-on-errs meaning s event u (IfOk-at_ok (BehindTurn meaning s event) behind (switch-made meaning s event t mid)))))
     (λ v is. tt)
 
 -- where the machine can't take a turn, one more of the counter that it names is needed than there are

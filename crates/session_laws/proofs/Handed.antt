@@ -13,6 +13,7 @@ use Rattle.session_port.specs.declared.event.TaskMsg.{TaskMsg}
 use Rattle.session_port.specs.declared.job.Job.{Job}
 use Rattle.session_port.specs.declared.job.JobResult.{JobResult}
 use Rattle.desk.specs.Desk.{waiting_for}
+use Rattle.desk.specs.Fetching.{fetch_ended}
 use Rattle.desk.specs.Meaning.{Meaning}
 use Rattle.desk.specs.Reactions.{Reaction, says, silent, new_row, ticket_row, final_row, fitting_row, message_row}
 use Rattle.desk.specs.Replies.{already_pending, canceled_by_client, finished_reply}
@@ -31,6 +32,7 @@ use Rattle.session_model.specs.declared.input.Input.{Input}
 use Rattle.session_model.specs.declared.input.Input.TheVariants.{Start, Next}
 use Rattle.session_laws.specs.Invariant.{SoundAt}
 use Rattle.session_laws.proofs.Each.{Each, each-append, each-asked, each-one, each-weaker, no-ticket}
+use Rattle.session_laws.proofs.Versions.{kept-shows}
 
 some-same : {X : Type 0} (x y : X) → Some x ≡ Some y → x ≡ y
 some-same x y e = cc
@@ -97,6 +99,12 @@ past-below : (place : Place) (message : TaskMsg) (done : Reaction) → IsBelow p
 unfolding IsBelow
 past-below place message done below = λ n job ticket there its. below n job ticket (message-out message place.desk.jobs n job there) its
 
+-- what a message leaves is shown as before
+past-snapshot : (place : Place) (message : TaskMsg) (done : Reaction) → snapshot_at (place_past message done place) ≡ snapshot_at place
+past-snapshot place message done =
+    let same = kept-shows (fetch_ended message place.desk.jobs) place.workspaces in
+    λ i. record (snapshot_at place) { workspaces = same.present i; workspaces_version = same.version i }
+
 batch-due : (meaning : Meaning) (batch : List TaskMsg) (place : Place) → IsBelow place → AreDue place (batch_row meaning batch place).jobs
 batch-due meaning [] place below = tt
 batch-due meaning (m ∷ ms) place below =
@@ -105,7 +113,7 @@ batch-due meaning (m ∷ ms) place below =
     let later = (batch_row meaning ms past).jobs in
     each-append (IsDueIfAsked place) done.jobs later
     (fitting-due meaning place (fitting_job m place.desk.jobs) m refl below)
-    (each-weaker (IsDueIfAsked past) (IsDueIfAsked place) later (λ job due ticket its. let d = due ticket its in record { not_before = d.not_before; snapshot = d.snapshot })
+    (each-weaker (IsDueIfAsked past) (IsDueIfAsked place) later (λ job due ticket its. let d = due ticket its in record { not_before = d.not_before; snapshot = d.snapshot ∙ past-snapshot place m done })
     (batch-due meaning ms past (past-below place m done below)))
 
 either-due : (place : Place) (b : Bool) (x y : Reaction) → AreDue place x.jobs → AreDue place y.jobs → AreDue place (if b then x else y).jobs

@@ -7,8 +7,6 @@ use Rattle.lsp_frame.specs.declared.message.Message.TheVariants.{Request as Requ
 use Rattle.analysis_host.specs.SnapshotData.{SnapshotData}
 use Rattle.op_board.specs.Queue.{Queue}
 use Rattle.ra_config.specs.Config.{ConfigData}
-use Rattle.config_update.specs.Update.{cause_of, update_of}
-use Rattle.config_update.specs.declared.cause.FetchCause.{FetchCause}
 use Rattle.session_port.specs.Jobs.{Jobs, after_batch, after_message, final_of, fits, fits_final, fitting_job, has_workspaces, if_fits, if_value, ticket_of, without_fitting}
 use Rattle.session_port.specs.Record.{spawned, with_jobs}
 use Rattle.session_port.specs.declared.event.TaskBody.{TaskBody}
@@ -21,8 +19,6 @@ use Rattle.session_port.specs.declared.job.JobResult.TheVariants.{Value, Fault, 
 use Rattle.session_port.specs.declared.job.JobValue.TheVariants.{Json, Roots, Primed, Workspaces as WorkspacesValue, BuildData, ProcMacros}
 use Rattle.client.specs.Client.{Client}
 use Rattle.client.specs.Folds.{after_answer}
-use Rattle.notify.specs.declared.notice.Notice.{Notice}
-use Rattle.notify.specs.declared.notice.Notice.TheVariants as notices
 use Rattle.desk.specs.Desk.{Desk}
 use Rattle.desk.specs.Fetching.{FetchEnd, fetch_end, fetch_end_of, fetch_ended, fetch_told}
 use Rattle.desk.specs.Folds.{asked_among, is_asked}
@@ -39,18 +35,20 @@ use Rattle.workspaces.specs.Workspaces.{Fetches, Workspaces}
 use Rattle.workspaces.specs.declared.outputs.FetchOutput.{FetchOutput}
 use Rattle.workspaces.specs.declared.requests.FetchRequest.{FetchRequest}
 use Rattle.workspaces.specs.declared.requests.WaitingFetch.{WaitingFetch}
-use Rattle.session_model.specs.Fetching.{fetch_caused, fetch_job, fetch_jobs, fetch_kept, fetches_kept, folders_told_if, reloaded_if, reloads}
-use Rattle.session_model.specs.Headline.{HandsOver, Place, beginning, fetch_in, folders_told, may_start_at, place_after, reaction_of, row, snapshot_at, workspaces_at, workspaces_told}
+use Rattle.session_model.specs.Fetching.{fetch_job, fetch_jobs, fetch_kept, fetches_kept, reloaded_if, reloads}
+use Rattle.session_model.specs.Headline.{beginning, fetch_in, HandsOver, may_start_at, Place, place_after, reaction_of, row, snapshot_at, workspaces_at, workspaces_switched, workspaces_told}
 use Rattle.session_model.specs.Hearing.{heard_of, told_by}
 use Rattle.session_model.specs.Run.{Steps, Turn, after_input}
-use Rattle.session_model.specs.State.{State, discovers, goes_by_folders}
+use Rattle.session_model.specs.State.{State, discovers}
 use Rattle.session_model.specs.declared.input.Event.TheVariants.{Lsp, Task, Vfs, Deferred, Timer}
 use Rattle.session_model.specs.declared.input.Input.{Input}
 use Rattle.session_model.specs.declared.input.Input.TheVariants.{Start, Next}
 use Rattle.session_laws.specs.Invariant.{FetchIsOut, FetchIsOutIf, IsFetchOut, IsNoFetchOut, SoundAt, is_fetch, place_of}
+use Rattle.session_laws.proofs.Changing.{folders-asks, settings-asks}
 use Rattle.session_laws.proofs.Each.{asked-here, asked-there}
 use Rattle.session_laws.proofs.Numbered.{row-numbered}
 use Rattle.session_laws.proofs.Rows.{steps-fit}
+use Rattle.session_laws.proofs.Switching.{switch-moves}
 
 some-same : {X : Type 0} (x y : X) → Some x ≡ Some y → x ≡ y
 some-same x y e = cc
@@ -170,39 +168,14 @@ reload-same : (b : Bool) (workspaces : Workspaces) → (reloaded_if b workspaces
 reload-same true workspaces = refl
 reload-same false workspaces = refl
 
-caused-same : (cause : Option FetchCause) (workspaces : Workspaces) → (fetch_caused cause workspaces).fetches.queue.in_progress ≡ workspaces.fetches.queue.in_progress
-caused-same None workspaces = refl
-caused-same (Some cause) workspaces = refl
-
-folders-same-if : (b : Bool) (workspaces : Workspaces) → (folders_told_if b workspaces).fetches.queue.in_progress ≡ workspaces.fetches.queue.in_progress
-folders-same-if true workspaces = refl
-folders-same-if false workspaces = refl
-
-folders-same : (settings : ConfigData) (notice : Option Notice) (workspaces : Workspaces)
-    → (folders_told settings notice workspaces).fetches.queue.in_progress ≡ workspaces.fetches.queue.in_progress
-folders-same settings None workspaces = refl
-folders-same settings (Some (notices.CancelRequest id)) workspaces = refl
-folders-same settings (Some (notices.CancelProgress token)) workspaces = refl
-folders-same settings (Some (notices.DidOpen document)) workspaces = refl
-folders-same settings (Some (notices.DidChange change)) workspaces = refl
-folders-same settings (Some (notices.DidClose uri)) workspaces = refl
-folders-same settings (Some (notices.DidSave uri)) workspaces = refl
-folders-same settings (Some notices.DidChangeConfiguration) workspaces = refl
-folders-same settings (Some (notices.DidChangeWorkspaceFolders added removed)) workspaces = folders-same-if (goes_by_folders settings) workspaces
-folders-same settings (Some (notices.DidChangeWatchedFiles changes)) workspaces = refl
-folders-same settings (Some notices.CancelFlycheck) workspaces = refl
-folders-same settings (Some notices.ClearFlycheck) workspaces = refl
-folders-same settings (Some (notices.RunFlycheck uri)) workspaces = refl
-folders-same settings (Some notices.AbortRunTest) workspaces = refl
-
 told-out : (client : Client) (input : Input) (desk : Desk) (workspaces : Workspaces) → FetchIsOutIf workspaces.fetches.queue.in_progress desk.jobs
     → FetchIsOutIf (workspaces_told client input desk workspaces).fetches.queue.in_progress (after_input input desk.jobs)
 told-out client Start desk workspaces h = subst (λ b. FetchIsOutIf b desk.jobs) (sym (begin-same (discovers client.settings) workspaces.fetches)) h
 told-out client (Next (Lsp (RequestMessage r))) desk workspaces h = subst (λ b. FetchIsOutIf b desk.jobs) (sym (reload-same (reloads r desk) workspaces)) h
 told-out client (Next (Lsp (NotificationMessage n))) desk workspaces h =
-    subst (λ b. FetchIsOutIf b desk.jobs) (sym (folders-same client.settings (told_by (heard_of n)) workspaces)) h
+    subst (λ b. FetchIsOutIf b desk.jobs) (sym (folders-asks client.settings (told_by (heard_of n)) workspaces).in_progress) h
 told-out client (Next (Lsp (ResponseMessage r))) desk workspaces h =
-    subst (λ b. FetchIsOutIf b desk.jobs) (sym (caused-same (cause_of (update_of client.settings (after_answer r client).settings)) workspaces)) h
+    subst (λ b. FetchIsOutIf b desk.jobs) (sym (settings-asks client.settings (after_answer r client).settings workspaces).in_progress) h
 told-out client (Next (Task batch)) desk workspaces h = batch-out batch desk.jobs workspaces h
 told-out client (Next (Vfs messages)) desk workspaces h = h
 told-out client (Next (Deferred tasks)) desk workspaces h = h
@@ -326,14 +299,15 @@ pub turn-keeps-fetching : (meaning : Meaning) (turn : Turn) (place : Place) → 
 turn-keeps-fetching meaning turn place does hands sound h =
     let input = turn.input in
     let after = place_after turn place in
-    let workspaces = workspaces_at input place in
+    let workspaces = workspaces_switched input place in
     let jobs = (row meaning input place).jobs in
     let fetch = fetch_jobs after.desk.handed (snapshot_at after) (fetch_in input place) in
     let out = after_input input place.desk.jobs in
     let none : AreNoFetches jobs = subst AreNoFetches (ap (λ (r : Reaction). r.jobs) does) (asked-none (spawned turn.commands)) in
     let told : IsSo workspaces.fetches.queue.in_progress place.desk.handed out = record {
       low = given-input place.desk.handed input place.desk.jobs sound.numbers;
-      fetching = told-out place.client input place.desk place.workspaces h;
+      fetching = subst (λ (f : Fetches). FetchIsOutIf f.queue.in_progress out) (sym (switch-moves input place).fetches)
+          (told-out place.client input place.desk place.workspaces h);
     } in
     let rowed = on-others workspaces.fetches.queue.in_progress place.desk.handed jobs out (row-numbered meaning input place) none told in
     subst (λ (js : List Job). FetchIsOutIf after.workspaces.fetches.queue.in_progress (with_jobs js out)) (sym hands)

@@ -3,6 +3,7 @@ pub mod Answered
 pub mod Asking
 pub mod Beside
 pub mod Causes
+pub mod Changing
 pub mod Counted
 pub mod Courses
 pub mod Each
@@ -21,3 +22,5 @@ pub mod Same
 pub mod Seeing
 pub mod Telling
 pub mod Stretches
+pub mod Switching
+pub mod Versions

@@ -54,12 +54,14 @@ use Rattle.workspaces.specs.Workspaces.{Workspaces}
 use Rattle.workspaces.specs.declared.requests.FetchRequest.{FetchRequest}
 use Rattle.session_model.specs.Fetching.{fetch_jobs, fetch_kept, fetches_kept, folders_told_if, reloaded_if, reloads, settings_told, with_fetches}
 use Rattle.session_model.specs.Headline.{Place, reaction_of, row, notice_row, batch_row, desk_after, place_after, place_past, client_after, last_of, revision_after, scene_at, snapshot_at}
-use Rattle.session_model.specs.Headline.{are_due, is_changed, fetch_in, workspaces_after, workspaces_at, files_after, files_made, files_told, files_turned, or_before}
+use Rattle.session_model.specs.Headline.{are_due, is_changed, fetch_in, left_or, switch_in, workspaces_after, workspaces_at, workspaces_switched, files_after, files_made, files_told, files_turned, or_before}
 use Rattle.session_model.specs.Inputs.{cancelled_by, request_in, turns_after}
-use Rattle.session_model.specs.Machine.{Turning, answer_taken, asked, asked_for_settings, at_client, at_desk, at_files, at_workspaces, batched, begin_part, begun_fetches, changed_at, client_in, closed, closed_at, closing_part, counted, desk_in, event_part}
-use Rattle.session_model.specs.Machine.{facts_of, fetch_part, fetch_started, file_changed, files_changed, files_in, files_part, files_processed, folders_taken, happened, kept, later_parts, noticed, opened_at, received, revised, start_parts, state_in, step, taken, taken_in, timed, told}
+use Rattle.session_model.specs.Machine.{answer_taken, asked, asked_for_settings, at_client, at_desk, at_files, at_workspaces, batched, begin_part, begun_fetches, changed_at, client_in, closed, closed_at, closing_part, counted}
+use Rattle.session_model.specs.Machine.{desk_in, event_part, facts_of, fetch_part, fetch_started, file_changed, files_changed, files_in, files_part, files_processed, folders_taken, happened, kept, later_parts, noticed, opened_at}
+use Rattle.session_model.specs.Machine.{received, revised, start_parts, state_in, step, switch_done, switch_part, taken, taken_in, timed, told, Turning}
 use Rattle.session_model.specs.Machine.{turned, turning, with_client, with_desk, with_files, with_state, with_workspaces}
 use Rattle.session_model.specs.Hearing.{heard_of, told_by}
+use Rattle.session_model.specs.Switching.{switch_made}
 use Rattle.session_model.specs.Run.{Turn, Steps, begun, after_input, out_after}
 use Rattle.session_model.specs.State.{State, columns_in, excludes_in, goes_by_folders, may_start, scene_of, snapshot_of}
 use Rattle.session_model.specs.declared.facts.Facts.{Facts}
@@ -77,6 +79,7 @@ use Rattle.session_laws.proofs.Filing.{DoesForFiles, KeepsHost, Processes, chang
 use Rattle.session_laws.proofs.Filing.{processed-does, revision_by, revision_now, turn-revises}
 use Rattle.session_laws.proofs.Numbered.{row-numbered}
 use Rattle.session_laws.proofs.Same.{none-handed, same_desk, same_place}
+use Rattle.session_laws.proofs.Switching.{Switches, switched-does}
 use Rattle.session_laws.proofs.Telling.{DoesForClient, answered-does, asked-does, beside-told, folders-do, tells-invalidated, tells-logged, tells-none, tells-on}
 
 -- the turn is counted, and nothing else was done
@@ -100,6 +103,17 @@ pub record Mid (meaning : Meaning) (s : State) (input : Input) (u : Working Stat
   pub workspaces : u.state.workspaces ≡ workspaces_at input (place_of s)
   -- all jobs so far are for requests
   pub spawns : spawned u.out.commands ≡ (row meaning input (place_of s)).jobs
+
+-- a turn behind its switch
+pub record Behind (meaning : Meaning) (s : State) (event : Event) (u : Working State) : Type 0 where
+  pub serves : Serves meaning s (Next event) (after_input (Next event) s.desk.jobs) u
+  pub client : u.state.client ≡ client_after (Next event) s.client
+  pub files : files_told s.client.settings (Next event) s.files ≡ Ok u.state.files
+  pub unrevised : filter_map revision_of u.out.commands ≡ []
+  pub host : KeepsHost s.files u.state.files
+  pub workspaces : u.state.workspaces ≡ workspaces_switched (Next event) (place_of s)
+  -- all jobs so far are for requests
+  pub spawns : spawned u.out.commands ≡ (row meaning (Next event) (place_of s)).jobs
 
 -- a turn before it closes
 pub record Made (meaning : Meaning) (s : State) (input : Input) (u : Working State) : Type 0 where
@@ -594,8 +608,30 @@ close-fits : (meaning : Meaning) (s : State) (input : Input) (u : Working State)
 unfolding revised kept kept_at_desk within
 close-fits meaning s input u made workspaces hands = close-cases meaning s input u (u.state.files.host.revision == s.files.host.revision) refl made workspaces hands
 
+-- the switch is made
+pub mid-switch : (meaning : Meaning) (s : State) (event : Event) (u : Working State) → Mid meaning s (Next event) u
+    → switch_made u.state.client.settings u.state.files u.state.workspaces ≡ switch_in (Next event) (place_of s)
+mid-switch meaning s event u mid =
+    (λ i. switch_made (mid.client i).settings u.state.files (mid.workspaces i))
+    ∙ sym (ap (λ r. and_then r (λ files. switch_made (client_after (Next event) s.client).settings files (workspaces_at (Next event) (place_of s)))) mid.files)
+
+switched-behind : (meaning : Meaning) (s : State) (event : Event) (u : Working State) → Mid meaning s (Next event) u → IfOk (switch_done u) (Behind meaning s event)
+unfolding switch_done
+switched-behind meaning s event u mid =
+    let made = switch_made u.state.client.settings u.state.files u.state.workspaces in
+    IfOk-weaker _ (Switches (left_or u.state.workspaces made) u) (Behind meaning s event) (switched-does made u)
+    (λ v does. record {
+      serves = beside-fits meaning s (Next event) (after_input (Next event) s.desk.jobs) u v (beside-told u v does.tells (ap (λ (t : State). t.desk) does.state)) mid.serves;
+      client = ap (λ (t : State). t.client) does.state ∙ mid.client;
+      files = mid.files ∙ sym (ap (λ (t : State). Ok t.files) does.state);
+      unrevised = ap (filter_map revision_of) does.tells.ordered ∙ revisions-append u.out.commands does.tells.commands ∙ (λ i. mid.unrevised i ++ does.tells.revises_none i);
+      host = ap (λ (t : State). t.files.host) does.state ∙ mid.host;
+      workspaces = ap (λ (t : State). t.workspaces) does.state ∙ (λ i. left_or (mid.workspaces i) (mid-switch meaning s event u mid i));
+      spawns = ap spawned does.tells.ordered ∙ spawned-append u.out.commands does.tells.commands ∙ (λ i. mid.spawns i ++ does.tells.spawns_none i) ∙ append-nil _;
+    })
+
 -- the files are processed
-made-now : (meaning : Meaning) (s : State) (event : Event) (u : Working State) (v : Working SessionFiles) → Mid meaning s (Next event) u → Processes (record { state = u.state.files; out = u.out }) v
+made-now : (meaning : Meaning) (s : State) (event : Event) (u : Working State) (v : Working SessionFiles) → Behind meaning s event u → Processes (record { state = u.state.files; out = u.out }) v
     → Made meaning s (Next event) (record { state = with_files v.state u.state; out = v.out })
 made-now meaning s event u v mid p =
     let told = mid.files in
@@ -621,6 +657,10 @@ pub record MidTurn (meaning : Meaning) (s : State) (input : Input) (t : Working 
   pub facts : t.state.facts ≡ facts_of (begun s)
   pub mid : Mid meaning s input (session_in t)
 
+pub record BehindTurn (meaning : Meaning) (s : State) (event : Event) (t : Working Turning) : Type 0 where
+  pub facts : t.state.facts ≡ facts_of (begun s)
+  pub behind : Behind meaning s event (session_in t)
+
 record MadeTurn (meaning : Meaning) (s : State) (input : Input) (t : Working Turning) : Type 0 where
   facts : t.state.facts ≡ facts_of (begun s)
   made : Made meaning s input (session_in t)
@@ -631,10 +671,16 @@ record MadeTurn (meaning : Meaning) (s : State) (input : Input) (t : Working Tur
 pub record ReadyTurn (meaning : Meaning) (s : State) (input : Input) (t : Working Turning) : Type 0 where
   pub facts : t.state.facts ≡ facts_of (begun s)
   pub made : Made meaning s input (session_in t)
-  pub workspaces : t.state.state.workspaces ≡ workspaces_at input (place_of s)
+  pub workspaces : t.state.state.workspaces ≡ workspaces_switched input (place_of s)
   pub spawns : spawned t.out.commands ≡ (row meaning input (place_of s)).jobs
 
-pub files-made : (meaning : Meaning) (s : State) (event : Event) (t : Working Turning) → MidTurn meaning s (Next event) t → IfOk (files_part t) (ReadyTurn meaning s (Next event))
+pub switch-made : (meaning : Meaning) (s : State) (event : Event) (t : Working Turning) → MidTurn meaning s (Next event) t → IfOk (switch_part t) (BehindTurn meaning s event)
+unfolding switch_part
+switch-made meaning s event t m =
+    IfOk-within state_in with_state switch_done t (BehindTurn meaning s event)
+    (IfOk-weaker _ (Behind meaning s event) _ (switched-behind meaning s event (session_in t) m.mid) (λ v behind. record { facts = m.facts; behind = behind }))
+
+pub files-made : (meaning : Meaning) (s : State) (event : Event) (t : Working Turning) → BehindTurn meaning s event t → IfOk (files_part t) (ReadyTurn meaning s (Next event))
 unfolding files_part files_processed
 files-made meaning s event t m =
     IfOk-within state_in with_state files_processed t (ReadyTurn meaning s (Next event))
@@ -642,9 +688,9 @@ files-made meaning s event t m =
     (IfOk-weaker _ (Processes (record { state = t.state.state.files; out = t.out })) _ (processed-does _)
     (λ v p. record {
       facts = m.facts;
-      made = made-now meaning s event (session_in t) v m.mid p;
-      workspaces = m.mid.workspaces;
-      spawns = ap (λ (o : Written). spawned o.commands) p.out ∙ m.mid.spawns;
+      made = made-now meaning s event (session_in t) v m.behind p;
+      workspaces = m.behind.workspaces;
+      spawns = ap (λ (o : Written). spawned o.commands) p.out ∙ m.behind.spawns;
     })))
 
 -- the start asks for a fetch
@@ -706,6 +752,15 @@ fetch-fits meaning s input t ready =
     IfOk-and_then (fetch_part input t) closing_part (MadeTurn meaning s input) (λ v. Fits meaning s input (session_in v))
     (fetch-made meaning s input t ready) (λ u made. closing-fits meaning s input u made)
 
+-- what has changed goes into the world, and the turn goes on
+abbrev pub files_and_on : Input → Working Turning → Result (Working Turning) Counter
+files_and_on input t = and_then (files_part t) (fetch_and_close input)
+
+files-fit : (meaning : Meaning) (s : State) (event : Event) (t : Working Turning) → BehindTurn meaning s event t → IfOk (files_and_on (Next event) t) (λ v. Fits meaning s (Next event) (session_in v))
+files-fit meaning s event t behind =
+    IfOk-and_then (files_part t) (fetch_and_close (Next event)) (ReadyTurn meaning s (Next event)) (λ v. Fits meaning s (Next event) (session_in v))
+    (files-made meaning s event t behind) (λ u ready. fetch-fits meaning s (Next event) u ready)
+
 step-fits : (meaning : Meaning) (s : State) (input : Input) → IfOk (step meaning input (begun s)) (Fits meaning s input)
 unfolding step
 step-fits meaning s Start =
@@ -716,8 +771,8 @@ step-fits meaning s (Next event) =
     IfOk-and_then (and_then (event_part meaning event (turning (begun s))) (later_parts (Next event))) turned (λ v. Fits meaning s (Next event) (session_in v)) (Fits meaning s (Next event))
     (IfOk-and_then (event_part meaning event (turning (begun s))) (later_parts (Next event)) (MidTurn meaning s (Next event)) (λ v. Fits meaning s (Next event) (session_in v))
     (event-fits meaning s event)
-    (λ t m. IfOk-and_then (files_part t) (fetch_and_close (Next event)) (ReadyTurn meaning s (Next event)) (λ v. Fits meaning s (Next event) (session_in v))
-    (files-made meaning s event t m) (λ u ready. fetch-fits meaning s (Next event) u ready))) (λ v fits. fits)
+    (λ t m. IfOk-and_then (switch_part t) (files_and_on (Next event)) (BehindTurn meaning s event) (λ v. Fits meaning s (Next event) (session_in v))
+    (switch-made meaning s event t m) (λ u behind. files-fit meaning s event u behind))) (λ v fits. fits)
 
 pub steps-fit : (meaning : Meaning) (s : State) (turn : Turn) (new : State) → Steps meaning s turn new → StepFits meaning s turn new
 steps-fit meaning s turn new steps =

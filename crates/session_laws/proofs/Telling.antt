@@ -94,7 +94,7 @@ tells-request r w = record {
   revises_none = refl;
 }
 
-tells-notification : {S : Type 0} (n : Notification) (w : Working S) → Tells w.out (written (NotificationMessage n) w).out
+pub tells-notification : {S : Type 0} (n : Notification) (w : Working S) → Tells w.out (written (NotificationMessage n) w).out
 unfolding written
 tells-notification n w = record {
   messages = NotificationMessage n ∷ [];

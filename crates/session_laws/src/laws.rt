@@ -16,7 +16,7 @@ ghost use Rattle.desk.specs.Meaning.{Meaning};
 ghost use Rattle.desk_laws.specs.Answering.{AllDiffer, answered_in};
 ghost use Rattle.desk_laws.specs.Numbers.{AreNumbered};
 ghost use Rattle.session_model.specs.Course.{course_of};
-ghost use Rattle.session_model.specs.Headline.{NeedsMore, Place, beginning, place_after, reaction_of, row};
+ghost use Rattle.session_model.specs.Headline.{NeedsMore, Place, beginning, place_after, place_after_all, reaction_of, row};
 ghost use Rattle.session_model.specs.Machine.{step};
 ghost use Rattle.session_model.specs.Run.{Turn, Runs, Steps, begun};
 ghost use Rattle.session_model.specs.State.{State, fresh};
@@ -69,6 +69,11 @@ pub fn fetches_in_progress_are_out()
     ensures beginning { (settings : ConfigData) → FetchIsOut (beginning settings) }
     ensures kept { (meaning : Meaning) (old : State) (turn : Turn) (new : State)
         → Steps meaning old turn new → SoundAt (place_of old) → FetchIsOut (place_of old) → FetchIsOut (place_of new) }
+{}
+
+/// The workspaces have had no more versions than there were turns.
+pub fn versions_never_pass_the_turns()
+    ensures { (settings : ConfigData) (turns : List Turn) → let place = place_after_all turns (beginning settings) in place.workspaces.version ≤ place.desk.turns }
 {}
 
 /// No request is answered twice in a run; and where each response answers a pending request, so many are answered as there are

@@ -21,7 +21,7 @@ use Rattle.session_port.specs.declared.job.Job.{Job}
 use Rattle.turn_parts.specs.Working.{and_then}
 use Rattle.turn_parts.specs.Written.{responses_in}
 use Rattle.turn_parts.specs.declared.fault.Counter.{Counter}
-use Rattle.turn_parts.specs.declared.fault.Counter.TheVariants.{Turns, Bytes, Jobs as JobsCounter, Revisions, Outgoing, Files}
+use Rattle.turn_parts.specs.declared.fault.Counter.TheVariants.{Turns, Bytes, Jobs as JobsCounter, Revisions, Outgoing, Files, LoaderSettings}
 use Rattle.outgoing.specs.Outgoing.{number_limit}
 use Rattle.client.specs.Client.{Client, new_client}
 use Rattle.client.specs.Folds.{after_answer, after_asking, after_folders}
@@ -44,10 +44,13 @@ use Rattle.session_files.specs.Folds.{after_closing, after_editing, after_messag
 use Rattle.session_files.specs.SessionFiles.{SessionFiles, no_files}
 use Rattle.workspaces.specs.Fetches.{fetch_to_start, fire, start_fetch, start_up}
 use Rattle.workspaces.specs.Workspaces.{Workspaces, no_workspaces}
+use Rattle.workspaces.specs.declared.follows.Follows.{Follows}
+use Rattle.workspaces.specs.declared.follows.Follows.TheVariants.{Nothing}
 use Rattle.workspaces.specs.declared.requests.FetchRequest.{FetchRequest}
 use Rattle.session_model.specs.Fetching.{fetch_jobs, fetch_kept, fetches_kept, folders_told_if, reloaded_if, reloads, settings_told, with_fetches}
 use Rattle.session_model.specs.Hearing.{heard_of, told_by}
 use Rattle.session_model.specs.State.{columns_in, discovers, excludes_in, goes_by_folders, macros_loaded_in, may_start}
+use Rattle.session_model.specs.Switching.{switch_made}
 use Rattle.session_model.specs.Run.{Turn, Told, AllRead, AsksLast, IsHonestInput, commands_of, fed_bytes, out_after, taking, telling}
 use Rattle.session_model.specs.declared.fault.SessionError.{SessionError}
 use Rattle.session_model.specs.declared.fault.SessionError.TheVariants.{ClientExited, BadFrame, BadMessage, HostFault, WriteFault, Exhausted, NoMemory}
@@ -66,7 +69,7 @@ pub record Place : Type 0 where
   pub revision : ℕ
   -- the turns, the requests that are read and not answered, the jobs handed over and not ended
   pub desk : Desk
-  -- what is known of the workspaces, and the fetches of them that are asked for
+  -- the workspaces, and the fetches of them that are asked for
   pub workspaces : Workspaces
 
 abbrev pub beginning : ConfigData → Place
@@ -76,7 +79,7 @@ beginning settings = record { client = new_client settings; files = no_files; re
 abbrev pub next_turn : Place → ℕ
 next_turn place = place.desk.turns + 1
 
--- what a job works on that is handed over here; it shows no workspaces yet
+-- what a job works on that is handed over here
 abbrev pub snapshot_at : Place → SnapshotData
 snapshot_at place = record {
   world = place.files.host.world;
@@ -84,8 +87,8 @@ snapshot_at place = record {
   versions = place.files.versions;
   config = place.client.settings;
   proc_macros_loaded = macros_loaded_in place.client.settings;
-  workspaces = [];
-  workspaces_version = 0;
+  workspaces = place.workspaces.present;
+  workspaces_version = place.workspaces.version;
   revision = place.revision;
 }
 
@@ -179,16 +182,32 @@ workspaces_told client (Next (Timer ticket)) desk workspaces = with_fetches (fir
 abbrev pub workspaces_at : Input → Place → Workspaces
 workspaces_at input place = workspaces_told place.client input place.desk place.workspaces
 
+-- the switch that a turn makes, if it makes one, by the settings and the files that its input leaves; the start makes none
+abbrev pub switch_in : Input → Place → Result (Follows × Workspaces) Counter
+switch_in Start place = Ok (Nothing, workspaces_at Start place)
+switch_in (Next event) place =
+    and_then (files_told place.client.settings (Next event) place.files)
+    (λ files. switch_made (client_after (Next event) place.client).settings files (workspaces_at (Next event) place))
+
+-- a turn that needs one more of a counter than there are doesn't come to be
+abbrev pub left_or : Workspaces → Result (Follows × Workspaces) Counter → Workspaces
+left_or workspaces (Ok made) = made.1
+left_or workspaces (Err counter) = workspaces
+
+-- the workspaces behind the switch
+abbrev pub workspaces_switched : Input → Place → Workspaces
+workspaces_switched input place = left_or (workspaces_at input place) (switch_in input place)
+
 -- behind an input fetches may start, by the settings that it leaves
 abbrev pub may_start_at : Input → Client → Bool
 may_start_at input client = may_start input (client_after input client).settings
 
--- the fetch that a turn starts: the one that is asked for behind its input, where none is in progress
+-- the fetch that a turn starts: the one that is asked for behind its input and its switch, where none is in progress
 abbrev pub fetch_in : Input → Place → Option (List ℕ × FetchRequest)
-fetch_in input place = fetch_to_start (may_start_at input place.client) (workspaces_at input place).fetches
+fetch_in input place = fetch_to_start (may_start_at input place.client) (workspaces_switched input place).fetches
 
 abbrev pub workspaces_after : Input → Place → Workspaces
-workspaces_after input place = with_fetches (start_fetch (may_start_at input place.client)) (workspaces_at input place)
+workspaces_after input place = with_fetches (start_fetch (may_start_at input place.client)) (workspaces_switched input place)
 
 -- the last of numbers, else the one before
 abbrev pub last_of : List ℕ → ℕ → ℕ
@@ -343,7 +362,8 @@ abbrev pub fetches_in : Input → Place → ℕ
 fetches_in input place = if is_some (fetch_in input place) then 1 else 0
 
 -- a turn needs one more of a counter than there are: its number is past the last one, it hands over more jobs, for requests and for a fetch, it asks the
--- client where all numbers of requests were given, it changes the world at the last revision, or one of its files needs a number where all were given
+-- client where all numbers of requests were given, it changes the world at the last revision, one of its files needs a number where all were given, or its
+-- switch a version
 abbrev pub NeedsMore : Meaning → Place → Input → Counter → Type 0
 NeedsMore meaning place input Turns = 2 ^ 64 ≤ next_turn place
 NeedsMore meaning place input Bytes = ⊥
@@ -351,6 +371,7 @@ NeedsMore meaning place input JobsCounter = 2 ^ 64 ≤ place.desk.handed + lengt
 NeedsMore meaning place input Revisions = 2 ^ 64 - 1 ≤ place.revision
 NeedsMore meaning place input Outgoing = number_limit ≤ place.client.asked.given
 NeedsMore meaning place input Files = files_told place.client.settings input place.files ≡ Err Files
+NeedsMore meaning place input LoaderSettings = switch_in input place ≡ Err LoaderSettings
 
 -- one more of a counter was needed than there are, by the turn of the next input, or for the bytes that were given
 abbrev pub IsUsedUp : Meaning → ConfigData → Reader → List HostCall → List Turn → Course → Counter → Type 0

@@ -1,5 +1,5 @@
 -- The session machine: one turn, as a chain of its parts.
-use Rattle.std.specs.Prelude.{ℕ, ◌==◌, Bool, List, [], ◌∷◌, length, Option, None, Some, is_some, Result, Ok, Err, if◌then◌else◌}
+use Rattle.std.specs.Prelude.{ℕ, ◌==◌, Bool, not, List, [], ◌∷◌, length, Option, None, Some, is_some, Result, Ok, Err, if◌then◌else◌}
 use Rattle.std.specs.FinMap as map
 use Rattle.lsp_frame.specs.declared.message.Request.{Request}
 use Rattle.lsp_frame.specs.declared.message.Message.{Message}
@@ -8,17 +8,18 @@ use Rattle.lsp_frame.specs.declared.message.Response.{Response}
 use Rattle.plain.specs.Texts.{text_cmp}
 use Rattle.docs_vfs.specs.FileUrls.{path_of}
 use Rattle.docs_vfs.specs.declared.file_url.UrlFault.{UrlFault}
-use Rattle.session_port.specs.declared.command.Command.TheVariants.{Revise, Invalidate}
+use Rattle.session_port.specs.declared.command.Command.TheVariants.{Revise, Invalidate, SetLoader}
 use Rattle.session_port.specs.declared.command.LogCode.TheVariants.{MalformedNotification, UnhandledNotification}
 use Rattle.session_port.specs.declared.command.LogCode.TheVariants.{BadPath}
 use Rattle.session_port.specs.declared.event.TaskMsg.{TaskMsg}
 use Rattle.method_table.specs.declared.class.PoolClass.TheVariants.{Worker}
-use Rattle.turn_parts.specs.Working.{Working, and_then, ordered, logged, within}
+use Rattle.turn_parts.specs.Working.{Working, and_then, ordered, logged, within, written}
 use Rattle.turn_parts.specs.declared.fault.Counter.{Counter}
 use Rattle.client.specs.Client.{Client}
-use Rattle.client.specs.Steps.{asked_for, answered, folders_changed}
+use Rattle.client.specs.Steps.{asked_for, answered, folders_changed, notification_of}
 use Rattle.client.specs.declared.handler.ReqHandler.TheVariants.{Settings}
-use Rattle.notify.specs.declared.outgo.Outgo.TheVariants.{Configuration}
+use Rattle.notify.specs.declared.outgo.MessageKind.TheVariants.{Warning}
+use Rattle.notify.specs.declared.outgo.Outgo.TheVariants.{Configuration, ShowMessage}
 use Rattle.notify.specs.declared.notice.DidChange.{DidChange}
 use Rattle.notify.specs.declared.notice.DidOpen.{DidOpen}
 use Rattle.notify.specs.declared.notice.Notice.{Notice}
@@ -30,11 +31,15 @@ use Rattle.desk.specs.Steps.{requested, cancelled, counted as counted_at_desk, h
 use Rattle.session_files.specs.SessionFiles.{SessionFiles}
 use Rattle.session_files.specs.Steps.{changed, closed as closed_document, loaded, opened, processed}
 use Rattle.workspaces.specs.Fetches.{fetch_to_start, fire, start_fetch, start_up}
+use Rattle.workspaces.specs.Roots.{loader_roots}
 use Rattle.workspaces.specs.Workspaces.{Workspaces}
+use Rattle.workspaces.specs.declared.follows.Follows.{Follows}
+use Rattle.workspaces.specs.declared.follows.Follows.TheVariants.{Nothing, CrateData, Wait, GoOn}
 use Rattle.workspaces.specs.declared.requests.FetchRequest.{FetchRequest}
 use Rattle.session_model.specs.Fetching.{fetch_kept, folders_told_if, reloaded_if, reloads, settings_told, with_fetches}
 use Rattle.session_model.specs.Hearing.{heard_of}
-use Rattle.session_model.specs.State.{State, columns_in, discovers, excludes_in, fetch_kind, goes_by_folders, may_start, scene_of, snapshot_of}
+use Rattle.session_model.specs.State.{client_watches, columns_in, discovers, excludes_in, fetch_kind, goes_by_folders, may_start, scene_of, snapshot_of, State}
+use Rattle.session_model.specs.Switching.{switch_made}
 use Rattle.session_model.specs.declared.facts.Facts.{Facts}
 use Rattle.session_model.specs.declared.input.Event.{Event}
 use Rattle.session_model.specs.declared.input.Event.TheVariants.{Lsp, Task, Vfs, Deferred, Timer}
@@ -225,6 +230,36 @@ kept before w = at_desk (λ d. Ok (kept_at_desk before d)) w
 unfoldable pub event_part : Meaning → Event → Working Turning → Result (Working Turning) Counter
 event_part meaning event w = in_state (taken_in meaning event) w
 
+-- the user is told of each compiler that is too old
+unfoldable pub warned : List (List ℕ) → Working State → Working State
+warned [] w = w
+warned (text ∷ texts) w = warned texts (written (notification_of (ShowMessage text Warning)) w)
+
+-- the host is to load the files of the workspaces that are present, as settings of this version, and to watch them unless the client does
+unfoldable pub loader_set : ℕ → Working State → Working State
+loader_set version w =
+    let settings = w.state.client.settings in
+    ordered (SetLoader (loader_roots (excludes_in settings) w.state.workspaces.present) (not (client_watches settings)) version) w
+
+-- what follows a switch; crate data is not built yet
+unfoldable pub followed : Follows → Working State → Working State
+followed Nothing w = w
+followed CrateData w = w
+followed (Wait msrv) w = warned msrv w
+followed (GoOn msrv version initial) w = loader_set version (warned msrv w)
+
+-- a switch leaves these workspaces, and what follows it is done
+unfoldable pub switched_to : Result (Follows × Workspaces) Counter → Working State → Result (Working State) Counter
+switched_to (Err counter) w = Err counter
+switched_to (Ok made) w = Ok (followed made.0 (at_workspaces (λ before. made.1) w))
+
+-- the switch that is wanted is made, unless files are loading
+unfoldable pub switch_done : Working State → Result (Working State) Counter
+switch_done w = switched_to (switch_made w.state.client.settings w.state.files w.state.workspaces) w
+
+unfoldable pub switch_part : Working Turning → Result (Working Turning) Counter
+switch_part w = in_state switch_done w
+
 -- what has changed goes into the world, unless files are loading
 unfoldable pub files_processed : Working State → Result (Working State) Counter
 files_processed w = at_files processed w
@@ -269,8 +304,8 @@ closing_part w = in_state (closed w.state.facts) w
 -- the parts behind the event
 abbrev pub later_parts : Input → Working Turning → Result (Working Turning) Counter
 later_parts input w =
-    and_then (files_part w) (λ w. and_then (quiet_part w) (λ w. and_then (publish_part w) (λ w. and_then (fetch_part input w)
-    (λ w. and_then (build_part w) (λ w. and_then (prime_part w) (λ w. and_then (status_part w) closing_part))))))
+    and_then (switch_part w) (λ w. and_then (files_part w) (λ w. and_then (quiet_part w) (λ w. and_then (publish_part w)
+    (λ w. and_then (fetch_part input w) (λ w. and_then (build_part w) (λ w. and_then (prime_part w) (λ w. and_then (status_part w) closing_part)))))))
 
 -- the start asks for the first fetch, unless the projects are discovered
 unfoldable pub begun_fetches : Working State → Result (Working State) Counter
@@ -294,7 +329,7 @@ turning w = record { state = record { state = w.state; facts = facts_of w }; out
 abbrev pub turned : Working Turning → Result (Working State) Counter
 turned w = Ok (record { state = w.state.state; out = w.out })
 
--- one turn: a chain of nine parts. The start is a chain of its own, and uses no number of the turns
+-- one turn: a chain of ten parts. The start is a chain of its own, and uses no number of the turns
 unfoldable pub step : Meaning → Input → Working State → Result (Working State) Counter
 step meaning Start w = and_then (start_parts (turning w)) turned
 step meaning (Next event) w = and_then (and_then (event_part meaning event (turning w)) (later_parts (Next event))) turned

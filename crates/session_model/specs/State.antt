@@ -1,11 +1,11 @@
 -- The session's state, as contracts see it: a record of its parts.
-use Rattle.std.specs.Prelude.{ℕ, Bool, List, [], length, None, true, false, is_some, not, ◌==◌, ◌&&◌, ◌||◌}
+use Rattle.std.specs.Prelude.{[], Bool, false, is_some, length, List, None, not, true, ℕ, ◌&&◌, ◌==◌, ◌||◌}
 use Rattle.text_core.specs.declared.position.PositionEncoding.{PositionEncoding}
-use Rattle.ra_settings.specs.declared.row.Row.TheVariants.{CargoAutoreload, DetachedFiles, FilesExclude}
-use Rattle.ra_settings.specs.declared.row.Row.TheVariants.{LinkedProjects, ProcMacroEnable, WorkspaceDiscoverConfig}
+use Rattle.ra_settings.specs.declared.row.Row.TheVariants.{CargoAutoreload, CargoBuildScriptsEnable, DetachedFiles, FilesExclude, FilesWatcher, LinkedProjects, ProcMacroEnable, WorkspaceDiscoverConfig}
 use Rattle.ra_settings.specs.declared.value.LinkedProject.{LinkedProject}
+use Rattle.ra_settings.specs.declared.value.FilesWatcher.TheVariants.{Client as ByClient, Server as ByServer}
 use Rattle.ra_settings.specs.declared.value.SettingValue.{SettingValue}
-use Rattle.ra_settings.specs.declared.value.SettingValue.TheVariants.{Discover, Paths, Truth}
+use Rattle.ra_settings.specs.declared.value.SettingValue.TheVariants.{Discover, Paths, Truth, Watcher}
 use Rattle.layered_settings.specs.Search.{setting}
 use Rattle.ra_config.specs.Config.{ConfigData, linked_in, projects_of}
 use Rattle.analysis_host.specs.SnapshotData.{SnapshotData}
@@ -13,7 +13,7 @@ use Rattle.session_port.specs.declared.job.JobKind.{JobKind}
 use Rattle.session_port.specs.declared.job.JobKind.TheVariants.{FetchWorkspaces}
 use Rattle.client.specs.Client.{Client, new_client, new_client_at}
 use Rattle.session_files.specs.SessionFiles.{SessionFiles, no_files, no_files_at}
-use Rattle.workspaces.specs.Workspaces.{Workspaces, no_workspaces}
+use Rattle.workspaces.specs.Workspaces.{Workspaces, no_workspaces, no_workspaces_at}
 use Rattle.workspaces.specs.declared.requests.FetchRequest.{FetchRequest}
 use Rattle.desk.specs.Desk.{Desk, new_desk, new_desk_at}
 use Rattle.desk.specs.declared.scene.Scene.{Scene}
@@ -80,11 +80,25 @@ detached_of settings = paths_in (setting DetachedFiles None settings.settings)
 abbrev pub goes_by_folders : ConfigData → Bool
 goes_by_folders settings = length (linked_of settings) == 0 && length (detached_of settings) == 0
 
+-- build scripts are run: the setting `cargo.buildScripts.enable`
+abbrev pub builds_scripts : ConfigData → Bool
+builds_scripts settings = truth_in (setting CargoBuildScriptsEnable None settings.settings)
+
+-- the setting `files.watcher` is `client`
+abbrev pub is_by_client : SettingValue → Bool
+is_by_client (Watcher ByClient) = true
+is_by_client (Watcher ByServer) = false
+is_by_client other = false
+
+-- the client watches files: the settings leave it to the client, and it watches when it is asked
+abbrev pub client_watches : ConfigData → Bool
+client_watches settings = is_by_client (setting FilesWatcher None settings.settings) && settings.capabilities.watched_files_registration
+
 -- what a fetch is for: the projects of the session, and the files that stand alone
 abbrev pub fetch_kind : ConfigData → FetchRequest → JobKind
 fetch_kind settings request = FetchWorkspaces (projects_of settings) (detached_of settings) request.path request.force
 
--- the snapshot of the present; it shows no workspaces yet
+-- the snapshot of the present
 abbrev pub snapshot_of : State → SnapshotData
 snapshot_of state = record {
   world = state.files.host.world;
@@ -92,8 +106,8 @@ snapshot_of state = record {
   versions = state.files.versions;
   config = state.client.settings;
   proc_macros_loaded = macros_loaded_in state.client.settings;
-  workspaces = [];
-  workspaces_version = 0;
+  workspaces = state.workspaces.present;
+  workspaces_version = state.workspaces.version;
   revision = state.files.host.revision;
 }
 
@@ -111,5 +125,5 @@ fresh_at used settings = record {
   client = new_client_at used.outgoing settings;
   files = no_files_at used.files used.revisions;
   desk = new_desk_at used.turns used.jobs;
-  workspaces = no_workspaces;
+  workspaces = no_workspaces_at used.loader_settings;
 }

@@ -17,9 +17,9 @@ mod fetching;
 mod filing;
 mod messages;
 mod notifications;
+mod switching;
 mod watching;
 
-use crate::no_workspaces::NoWorkspaces;
 use analysis_host::{Analysis, GlobalStateSnapshot, SnapshotParts};
 use client::Client;
 use desk::{Desk, Scene};
@@ -43,8 +43,6 @@ pub struct GlobalState {
     files: SessionFiles,
     desk: Desk,
     workspaces: Workspaces,
-    /// What snapshots show of the workspaces.
-    shown: NoWorkspaces,
 }
 
 impl Model for GlobalState {
@@ -72,8 +70,7 @@ impl GlobalState {
             client: Client::new(alloc, settings)?,
             files: SessionFiles::new(alloc)?,
             desk: Desk::new(alloc),
-            workspaces: Workspaces::new(alloc),
-            shown: NoWorkspaces::new(alloc)?,
+            workspaces: Workspaces::new(alloc)?,
         })
     }
 
@@ -87,8 +84,7 @@ impl GlobalState {
             client: Client::new_at(alloc, used.outgoing, settings)?,
             files: SessionFiles::new_at(alloc, used.files, used.revisions)?,
             desk: Desk::new_at(alloc, used.turns, used.jobs),
-            workspaces: Workspaces::new(alloc),
-            shown: NoWorkspaces::new(alloc)?,
+            workspaces: Workspaces::new_at(alloc, used.loader_settings)?,
         })
     }
 
@@ -99,7 +95,7 @@ impl GlobalState {
         !self.client.settings().proc_macro_enable()
     }
 
-    /// The snapshot of the present. It shows no workspaces yet.
+    /// The snapshot of the present.
     pub fn snapshot(&self) -> Result<GlobalStateSnapshot, AllocError>
         ensures { IfOk result (λ snapshot. snapshot ≡ snapshot_of self.now) }
     {
@@ -109,8 +105,8 @@ impl GlobalState {
             versions: self.files.versions()?,
             config: Arc::try_clone(self.client.settings())?,
             proc_macros_loaded: self.macros_loaded(),
-            workspaces: self.shown.share()?,
-            workspaces_version: 0,
+            workspaces: self.workspaces.share_present()?,
+            workspaces_version: self.workspaces.version(),
             revision: self.files.revision(),
         }))
     }
@@ -276,7 +272,7 @@ impl GlobalState {
     }
 
     /// One turn. After an `Err` the state is spent.
-    #[tactic(auto, unfolding(session_model::specs::Machine::step, session_model::specs::Machine::event_part, session_model::specs::Machine::files_part, session_model::specs::Machine::fetch_part, session_model::specs::Machine::closing_part, turn_parts::specs::Working::within))]
+    #[tactic(auto, unfolding(session_model::specs::Machine::step, session_model::specs::Machine::event_part, session_model::specs::Machine::switch_part, session_model::specs::Machine::files_part, session_model::specs::Machine::fetch_part, session_model::specs::Machine::closing_part, turn_parts::specs::Working::within))]
     pub fn handle_event<A: Analysis>(
         &mut self,
         event: Event,
@@ -287,6 +283,7 @@ impl GlobalState {
     {
         let facts = self.facts(out);
         self.take_in(event, analysis, out)?;
+        self.switch_workspaces(out)?;
         self.process(out)?;
         let may = self.may_fetch();
         self.start_fetch(may, out)?;

@@ -2,7 +2,6 @@
 #![tactic(auto)]
 
 mod global_state;
-mod no_workspaces;
 
 pub use global_state::GlobalState;
 pub use plain::NoMemory;

@@ -1,6 +1,6 @@
 // Sessions whose events are told in words, and what comes of the last of them. Each call answers none also where memory
 // runs out.
-use crate::words::{cut, event_of, fault, is_fault, settings_text, words};
+use crate::words::{cut, event_of, fault, is_fault, settings_text, shown_text, words};
 use docs_vfs::VfsPath;
 use ra_config::Config;
 use session_model::{Counters, Event, TurnError};
@@ -48,6 +48,10 @@ fn settings_of(alloc: Global, state: &GlobalState) -> Option<String> {
     settings_text(alloc, snapshot.config())
 }
 
+fn shown(alloc: Global, state: &GlobalState) -> Option<String> {
+    shown_text(alloc, &state.snapshot().ok()?)
+}
+
 /// Turn 0, in words.
 fn start(alloc: Global, state: &mut GlobalState) -> Option<String> {
     let mut out = TurnOut::new(alloc);
@@ -57,10 +61,12 @@ fn start(alloc: Global, state: &mut GlobalState) -> Option<String> {
     }
 }
 
-/// What comes of an event. The words `settings` and `start` are none: they ask for the settings, and for turn 0.
+/// What comes of an event. The words `settings`, `shown` and `start` are none: they ask for the settings, for the
+/// workspaces that are shown, and for turn 0.
 fn outcome(alloc: Global, state: &mut GlobalState, event: &str) -> Option<String> {
     match event {
         "settings" => settings_of(alloc, state),
+        "shown" => shown(alloc, state),
         "start" => start(alloc, state),
         _ => turn(alloc, state, event_of(alloc, event)?),
     }

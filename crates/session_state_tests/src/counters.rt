@@ -10,10 +10,11 @@ const NONE_USED: Counters = Counters {
     revisions: 0,
     outgoing: 0,
     files: 0,
+    loader_settings: 0,
 };
 
 /// So many of one counter are used, by its width, and none of the others.
-fn used(counter: &str, long: u64, outgoing: u32, files: u32) -> Option<Counters> {
+fn used(counter: &str, long: u64, outgoing: u32, short: u32) -> Option<Counters> {
     match counter {
         "turns" => Some(Counters {
             turns: long,
@@ -31,7 +32,14 @@ fn used(counter: &str, long: u64, outgoing: u32, files: u32) -> Option<Counters>
             outgoing,
             ..NONE_USED
         }),
-        "files" => Some(Counters { files, ..NONE_USED }),
+        "files" => Some(Counters {
+            files: short,
+            ..NONE_USED
+        }),
+        "loader settings" => Some(Counters {
+            loader_settings: short,
+            ..NONE_USED
+        }),
         _ => None,
     }
 }
@@ -60,7 +68,8 @@ jobs > ask textDocument/hover {"a":1} > Worker > Worker
 jobs > start > Worker > Worker
 revisions > open > revise > revise
 outgoing > tell workspace/didChangeConfiguration null > Content-Length: 108\r\n\r\n{"id":0,"jsonrpc":"2.0","method":"workspace/configuration","params":{"items":[{"section":"rust-analyzer"}]}} > Content-Length: 117\r\n\r\n{"id":2147483647,"jsonrpc":"2.0","method":"workspace/configuration","params":{"items":[{"section":"rust-analyzer"}]}}
-files > open > revise > revise"#;
+files > open > revise > revise
+loader settings > start then brought /w/Cargo.toml > load > load anew"#;
 
 fn does(alloc: Global, used: Counters, event: &str, wanted: &str) -> Option<bool> {
     Some(done_at(alloc, used, event)?.as_str() == wanted)

@@ -14,6 +14,8 @@ mod methods;
 #[cfg(test)]
 mod results;
 #[cfg(test)]
+mod switching;
+#[cfg(test)]
 mod told;
 #[cfg(test)]
 mod words;

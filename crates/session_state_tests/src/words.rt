@@ -1,13 +1,18 @@
 // Events from words, and what a turn did in words.
+use analysis_host::GlobalStateSnapshot;
+use docs_vfs::VfsPath;
 use lsp_frame::{Message, Notification, Request, RequestId, Response};
 use method_table::PoolClass;
 use plain::{Items, Json, Text};
+use project_model::ProjectWorkspace;
 use ra_config::Config;
+use ra_settings::LinkedProject;
 use session_model::{Counter, Event, TurnError};
 use session_port::{
     Command, Job, JobResult, JobValue, LoaderMsg, LoadingProgress, TaskBody, TaskMsg,
 };
 use session_state::TurnOut;
+use small_project::workspaces_of;
 use std::alloc::Global;
 
 /// What stands before the first mark in a text, and what stands behind it.
@@ -64,13 +69,13 @@ fn told(alloc: Global, words: &str) -> Option<Event> {
     notification(alloc, method, params)
 }
 
-/// Files begin to load.
-fn loading(alloc: Global) -> Option<Event> {
+/// How far the loader is.
+fn progress(alloc: Global, n_done: LoadingProgress) -> Option<Event> {
     let mut messages = Items::new(alloc);
     messages
         .push(LoaderMsg::Progress {
             n_total: 1,
-            n_done: LoadingProgress::Started,
+            n_done,
             dir: None,
             config_version: 1,
         })
@@ -78,28 +83,66 @@ fn loading(alloc: Global) -> Option<Event> {
     Some(Event::Vfs(messages))
 }
 
-/// The final result of the first job.
-fn ended(alloc: Global, outcome: JobResult) -> Option<Event> {
+/// The final result of a job.
+fn ended_as(alloc: Global, job: u64, outcome: JobResult) -> Option<Event> {
     let mut batch = Items::new(alloc);
     batch
         .push(TaskMsg {
-            job: 1,
+            job,
             body: TaskBody::Final(outcome),
         })
         .ok()?;
     Some(Event::Task(batch))
 }
 
+/// The final result of the first job.
+fn ended(alloc: Global, outcome: JobResult) -> Option<Event> {
+    ended_as(alloc, 1, outcome)
+}
+
+/// What a host that runs no build system answers for one manifest.
+fn workspaces_at(alloc: Global, manifest: &str) -> Option<Items<ProjectWorkspace>> {
+    let mut projects = Items::new(alloc);
+    projects
+        .push(LinkedProject::ProjectManifest(VfsPath::new(alloc, manifest).ok()??))
+        .ok()?;
+    workspaces_of(alloc, projects.as_slice()).ok()
+}
+
+/// The same, each with a compiler of this version, if one is named.
+fn fetched_at(
+    alloc: Global,
+    manifest: &str,
+    toolchain: &str,
+) -> Option<Items<Result<ProjectWorkspace, Text>>> {
+    let mut fetched = Items::new(alloc);
+    for mut workspace in workspaces_at(alloc, manifest)?.into_vec() {
+        if !toolchain.is_empty() {
+            workspace.toolchain = Some(text_of(alloc, toolchain)?);
+        }
+        fetched.push(Ok(workspace)).ok()?;
+    }
+    Some(fetched)
+}
+
+fn brought(alloc: Global, job: u64, words: &str) -> Option<Event> {
+    let (manifest, toolchain) = cut(words, " ");
+    let found = fetched_at(alloc, manifest, toolchain)?;
+    ended_as(alloc, job, JobResult::Value(JobValue::Workspaces(found)))
+}
+
 /// `ask` and `tell` with a method and its params, `answer` with the result in the response to the session's request 0,
-/// `loading` where files begin to load, `open` where `/w/a.rs` is opened, `null` and `stopped` as results of the first
-/// job, `fetched` and `builds` as results that are no request's, `deferred` and `timer`, and `shutdown` as a request.
+/// `loading` and `loaded` where files begin to load and are loaded, `open` where `/w/a.rs` is opened, `null` and `stopped` as results of the first
+/// job, `fetched` and `builds` as results that are no request's, `brought` and `brought next` where the first and the
+/// second job bring the workspace of a manifest, perhaps with the version of its compiler, `deferred` and `timer`, and `shutdown` as a request.
 pub fn event_of(alloc: Global, words: &str) -> Option<Event> {
     let (kind, rest) = cut(words, " ");
     match kind {
         "ask" => asked(alloc, rest),
         "tell" => told(alloc, rest),
         "answer" => response(alloc, rest),
-        "loading" => loading(alloc),
+        "loading" => progress(alloc, LoadingProgress::Started),
+        "loaded" => progress(alloc, LoadingProgress::Finished),
         "open" => notification(
             alloc,
             "textDocument/didOpen",
@@ -115,6 +158,10 @@ pub fn event_of(alloc: Global, words: &str) -> Option<Event> {
             alloc,
             JobResult::Value(JobValue::BuildData(Items::new(alloc))),
         ),
+        "brought" => match rest.strip_prefix("next ") {
+            None => brought(alloc, 1, rest),
+            Some(words) => brought(alloc, 2, words),
+        },
         "deferred" => Some(Event::Deferred(Items::new(alloc))),
         "timer" => Some(Event::Timer(1)),
         "shutdown" => request(alloc, 1, "shutdown", "null"),
@@ -141,7 +188,9 @@ fn command_name(command: &Command) -> &'static str {
         Command::Log(_, _) => "log",
         Command::Revise(_) => "revise",
         Command::Invalidate(_) => "invalidate",
-        Command::Defer(_) | Command::SetLoader { .. } | Command::Timer(_) => "other",
+        Command::SetLoader { version: 1, .. } => "load",
+        Command::SetLoader { .. } => "load anew",
+        Command::Defer(_) | Command::Timer(_) => "other",
         Command::Stop => "stop",
     }
 }
@@ -178,6 +227,7 @@ fn counter_name(counter: Counter) -> &'static str {
         Counter::Revisions => "no more revisions",
         Counter::Outgoing => "no more outgoing",
         Counter::Files => "no more files",
+        Counter::LoaderSettings => "no more loader settings",
     }
 }
 
@@ -210,5 +260,20 @@ fn settings_name(is_checked: bool, folders: usize) -> &'static str {
 /// Whether checks run when a file is saved, and how many folders there are.
 pub fn settings_text(alloc: Global, config: &Config) -> Option<String> {
     let name = settings_name(config.check_on_save(None), config.workspace_roots().len());
+    String::from_str(alloc, name).ok()
+}
+
+fn shown_name(workspaces: usize, version: u64) -> &'static str {
+    match (workspaces, version) {
+        (0, 0) => "none yet",
+        (1, 1) => "one, first version",
+        (1, 2) => "one, second version",
+        _ => "other workspaces",
+    }
+}
+
+/// How many workspaces a snapshot shows, and their version.
+pub fn shown_text(alloc: Global, snapshot: &GlobalStateSnapshot) -> Option<String> {
+    let name = shown_name(snapshot.workspaces().len(), snapshot.workspaces_version());
     String::from_str(alloc, name).ok()
 }

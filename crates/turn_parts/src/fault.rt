@@ -15,6 +15,8 @@ pub enum Counter {
     Outgoing,
     /// The numbers of files.
     Files,
+    /// The versions of the loader's settings.
+    LoaderSettings,
 }
 
 /// Why a turn was broken off. The state is spent after it.

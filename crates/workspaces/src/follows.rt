@@ -3,7 +3,7 @@ ghost use Rattle.std.specs.Prelude.{◌≡◌};
 ghost use Rattle.workspaces.specs.declared.follows.SwitchFault.TheVariants.{NoMemory as OutOfMemory};
 
 use plain::{Items, Text};
-use std::alloc::AllocError;
+use std::alloc::{AllocError, AllocFailed};
 
 /// What follows a switch.
 #[derive(Debug, Drop)]
@@ -39,6 +39,14 @@ impl From<AllocError> for SwitchFault {
     ghost from_gives = { λ _ e. e ≡ OutOfMemory };
 
     fn from(_: AllocError) -> Self {
+        SwitchFault::NoMemory
+    }
+}
+
+impl<T: Drop> From<AllocFailed<T>> for SwitchFault {
+    ghost from_gives = { λ _ e. e ≡ OutOfMemory };
+
+    fn from(_: AllocFailed<T>) -> Self {
         SwitchFault::NoMemory
     }
 }

@@ -1,4 +1,5 @@
 // What a session knows of its workspaces.
+ghost use Rattle.std.specs.Arc.{arc_value};
 ghost use Rattle.std.specs.Prelude.{◌≡◌, is_some, IfOk};
 ghost use Rattle.std.specs.FinMap as map;
 ghost use Rattle.workspaces.specs.Roots.{loader_roots};
@@ -16,8 +17,9 @@ use docs_vfs::{ByPath, Root, VfsPath};
 use op_board::OpQueue;
 use plain::{Items, NoMemory};
 use project_model::ProjectWorkspace;
-use std::alloc::Global;
+use std::alloc::{AllocError, Global};
 use std::marker::Model;
+use std::sync::Arc;
 
 /// The workspaces of a session, with what is fetched, built and loaded to renew them.
 #[derive(Drop)]
@@ -34,7 +36,8 @@ pub struct Workspaces {
     loads: OpQueue<LoadRequest, bool>,
     /// The crate data of the load in progress.
     loading: Option<WaitingCrates>,
-    present: Items<ProjectWorkspace>,
+    /// The workspaces that are present, which snapshots share.
+    present: Arc<Items<ProjectWorkspace>, Global>,
     version: u64,
     loader_version: u32,
     /// The paths that the last build of crate data asked for.
@@ -45,6 +48,7 @@ pub struct Workspaces {
 }
 
 impl Model for Workspaces {
+    ghost use Rattle.std.specs.Arc.{arc_value};
     ghost use Rattle.std.specs.Coded.{codes};
     ghost use Rattle.std.specs.FinMap as map;
     ghost use Rattle.project_model.specs.contracts.build.BuildScripts as scripts;
@@ -75,7 +79,7 @@ impl Model for Workspaces {
       fetches = record { queue = w.fetches; forced = w.forced; waiting = w.planned };
       builds = record { queue = w.builds; version = w.build_version };
       loads = record { queue = w.loads; waiting = w.loading };
-      present = w.present;
+      present = arc_value w.present;
       version = w.version;
       loader_version = w.loader_version;
       asked = w.asked;
@@ -84,22 +88,22 @@ impl Model for Workspaces {
       build_deps_changed = w.build_deps_changed;
     } };
 
-    ghost invariant = { λ w. HasBuilt (record { queue = w.builds; version = w.build_version }) w.present w.version };
+    ghost invariant = { λ w. HasBuilt (record { queue = w.builds; version = w.build_version }) (arc_value w.present) w.version };
 }
 
 impl Workspaces {
     /// No workspaces.
-    pub fn new(alloc: Global) -> Workspaces
-        ensures { result ≡ no_workspaces }
+    pub fn new(alloc: Global) -> Result<Workspaces, AllocError>
+        ensures { IfOk result (λ made. made ≡ no_workspaces) }
     {
         Workspaces::new_at(alloc, 0)
     }
 
     /// No workspaces, where the loader got settings of this version.
-    pub fn new_at(alloc: Global, loader_version: u32) -> Workspaces
-        ensures { result ≡ no_workspaces_at loader_version }
+    pub fn new_at(alloc: Global, loader_version: u32) -> Result<Workspaces, AllocError>
+        ensures { IfOk result (λ made. made ≡ no_workspaces_at loader_version) }
     {
-        Workspaces {
+        Ok(Workspaces {
             alloc,
             fetches: OpQueue::new(),
             forced: false,
@@ -108,14 +112,14 @@ impl Workspaces {
             build_version: 0,
             loads: OpQueue::new(),
             loading: None,
-            present: Items::new(alloc),
+            present: Arc::new(alloc, Items::new(alloc))?,
             version: 0,
             loader_version,
             asked: ByPath::new(alloc),
             incomplete: false,
             switch_wanted: false,
             build_deps_changed: false,
-        }
+        })
     }
 
     /// The workspaces that are present.
@@ -123,6 +127,13 @@ impl Workspaces {
         ensures { result.now ≡ self.now.present }
     {
         self.present.as_slice()
+    }
+
+    /// The same list, shared.
+    pub fn share_present(&self) -> Result<Arc<Items<ProjectWorkspace>, Global>, AllocError>
+        ensures { IfOk result (λ list. arc_value list ≡ self.now.present) }
+    {
+        Arc::try_clone(&self.present)
     }
 
     /// Their roots, each of which excludes these paths too.

@@ -266,7 +266,7 @@ fn act_each(alloc: Global, all: &mut Workspaces, out: &mut String, words: &str) 
 pub(crate) fn agrees(alloc: Global, loader_version: u32, line: &str) -> Option<bool> {
     let (words, want) = cut(line, " > ");
     let mut out = String::new(alloc);
-    let mut all = Workspaces::new_at(alloc, loader_version);
+    let mut all = Workspaces::new_at(alloc, loader_version).ok()?;
     let done = act_each(alloc, &mut all, &mut out, words);
     Some(done.is_some() && out.as_str().trim_ascii() == want)
 }

@@ -33,7 +33,7 @@ fn copied(alloc: Global, paths: &[VfsPath]) -> Result<Items<VfsPath>, AllocError
 
 impl GlobalState {
     // Whether the projects are discovered by a command.
-    fn discovers(&self) -> bool
+    pub(super) fn discovers(&self) -> bool
         ensures { result ≡ discovers self.now.client.settings }
     {
         self.client.settings().workspace_discover_config().is_some()

@@ -1,5 +1,6 @@
 // Switches to what was fetched and built.
 ghost use Rattle.std.specs.Prelude.{◌≡◌, ◌+◌, ◌<◌, ◌^◌, ◌↔◌, IsTrue, IfOk, MatchResult};
+ghost use Rattle.std.specs.Arc.{arc_value};
 ghost use Rattle.reload.specs.Switch.{is_empty};
 ghost use Rattle.workspaces.specs.Switching.{decided, new_workspaces_cause, asks_build, presents, next_version, followed, renewed_by, switch_to, switched, Gives};
 ghost use Rattle.workspaces.specs.declared.follows.SwitchFault.TheVariants.{Exhausted};
@@ -10,6 +11,8 @@ use crate::state::Workspaces;
 use plain::{Items, NoMemory, Text};
 use project_model::ProjectWorkspace;
 use reload::{Switch, switch_workspaces};
+use std::alloc::Global;
+use std::sync::Arc;
 
 fn is_empty(present: &[ProjectWorkspace]) -> bool
     ensures { result ≡ is_empty present.now }
@@ -52,9 +55,9 @@ impl Workspaces {
     }
 
     // These workspaces are present from now on.
-    fn put_present(&mut self, workspaces: Items<ProjectWorkspace>)
+    fn put_present(&mut self, workspaces: Arc<Items<ProjectWorkspace>, Global>)
         requires { self.old.version + 1 < 2 ^ 64 }
-        ensures { self.new ≡ presents workspaces self.old }
+        ensures { self.new ≡ presents (arc_value workspaces) self.old }
     {
         self.present = workspaces;
         self.version += 1;
@@ -101,6 +104,7 @@ impl Workspaces {
         let loader_version = next_version(go_on, self.loader_version)?;
         let cause = Text::from_str(self.alloc, "workspace updated")?;
         let initial = is_empty(self.present.as_slice());
+        let workspaces = Arc::new(self.alloc, workspaces)?;
         self.put_present(workspaces);
         self.ask_build_if(ask_build, cause);
         Ok(self.follow(msrv, initial, loader_version))

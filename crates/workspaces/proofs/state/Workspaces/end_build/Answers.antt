@@ -1,4 +1,5 @@
 use Rattle.std.proofs.Common.{length, sym, ap, subst, ◌∙◌}
+use Rattle.std.specs.Arc.{arc_value}
 use Rattle.workspaces.specs.Workspaces.{HasBuilt}
 use Rattle.workspaces.proofs.Entries.{runs_length}
 use Rattle.workspaces.proofs.state.Workspaces.end_build.Goals as goal
@@ -6,7 +7,7 @@ use Rattle.workspaces.proofs.state.Workspaces.end_build.Goals as goal
 pub invariant_of-self : goal.invariant_of-self
 invariant_of-self c =
     let w = c.self.inside in
-    subst (λ queue. HasBuilt (record { queue = queue; version = w.build_version }) w.present w.version)
+    subst (λ queue. HasBuilt (record { queue = queue; version = w.build_version }) (arc_value w.present) w.version)
     (sym c.op_completed.ensures)
     (record {
       started = c.self.invariant.started;
