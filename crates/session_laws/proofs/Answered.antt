@@ -12,8 +12,7 @@ use Rattle.session_port.specs.declared.event.HostEvent.{HostEvent}
 use Rattle.session_port.specs.declared.event.HostEvent.TheVariants.{Bytes, Ended}
 use Rattle.desk_laws.specs.Numbers.{AreNumbered}
 use Rattle.session_model.specs.Course.{Course, takes, session_course, bytes_in}
-use Rattle.session_model.specs.Headline.{AllTaken, Answers, AreHandedOver, beginning, EndsAt, HandsOver, IsAnswered, IsUsedUp, LastUntaken, NeedsMore, Place, place_after, place_after_all, reaction_of, Revises, row, SetsTimer}
-use Rattle.session_model.specs.Headline.{TellsItsStatus}
+use Rattle.session_model.specs.Headline.{Place, Answers, AllTaken, EndsAt, HandsOver, IsAnswered, IsUsedUp, LastUntaken, NeedsMore, Revises, AreHandedOver, place_after, place_after_all, beginning, reaction_of, row}
 use Rattle.desk.specs.Meaning.{Meaning}
 use Rattle.session_model.specs.Run.{Turn, Told, Runs, Steps, AreHonest, AsksLast, BreaksOffWritten, Ends, EndsBy, IsRun, MayAsk, RunsOut, Stretch, TooManyBytes, commands_of, fed_bytes, giving, taking, telling}
 use Rattle.session_model.specs.State.{State, fresh}
@@ -55,8 +54,6 @@ record Turned (meaning : Meaning) (config : ConfigData) (before : List Turn) (tu
   next : Stands config (before ++ turn ∷ []) mid
   revised : Revises turn (placed config before)
   hands_over : HandsOver meaning turn (placed config before)
-  tells_status : TellsItsStatus turn (placed config before)
-  timer : SetsTimer turn (place_after turn (placed config before))
 
 turned : (meaning : Meaning) (config : ConfigData) (s : State) (before : List Turn) (turn : Turn) (mid : State) → Stands config before s → Steps meaning s turn mid → Turned meaning config before turn mid
 turned meaning config s before turn mid stands steps =
@@ -82,8 +79,6 @@ turned meaning config s before turn mid stands steps =
       };
       revised = subst (Revises turn) stands.place fit.revised;
       hands_over = hands;
-      tells_status = subst (TellsItsStatus turn) stands.place fit.tells_status;
-      timer = subst (λ (p : Place). SetsTimer turn (place_after turn p)) stands.place fit.timer;
     }
 
 all-answer : (meaning : Meaning) (config : ConfigData) (honest : Bool) (s : State) (before turns : List Turn) (last : State) → Stands config before s
@@ -94,8 +89,6 @@ all-answer meaning config honest s before (turn ∷ turns) last stands (mid, ste
       record {
         does = t.does;
         hands_over = t.hands_over;
-        tells_status = t.tells_status;
-        timer = t.timer;
         once = turn-once meaning turn (placed config before) t.does stands.sound;
         held = t.next.sound.held;
         handed_over = stands.handed;

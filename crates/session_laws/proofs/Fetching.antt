@@ -18,25 +18,20 @@ use Rattle.workspaces.specs.declared.requests.FetchRequest.{FetchRequest}
 use Rattle.session_model.specs.Fetching.{fetch_jobs, with_fetches}
 use Rattle.session_model.specs.Machine.{at_desk, at_workspaces, desk_in, fetch_handed_over, fetch_started, with_desk}
 use Rattle.session_model.specs.State.{State, fetch_kind, snapshot_of}
-use Rattle.session_model.specs.Timing.{timer_of}
 use Rattle.session_laws.specs.Beside.{Beside}
 use Rattle.session_laws.proofs.Beside.{beside-none}
-use Rattle.session_laws.proofs.Telling.{timers-append}
 
--- nobody is answered, no file and no revision changes, the client and the status stay, and the workspaces come to these; the job of this fetch is handed over
+-- nobody is answered, no file and no revision changes, the client is told nothing, and the workspaces come to these; the job of this fetch is handed over
 pub record StartsFetch (fetch : Option (List ℕ × FetchRequest)) (workspaces : Workspaces) (w v : Working State) : Type 0 where
   pub beside : Beside w v
   pub client : v.state.client ≡ w.state.client
   pub files : v.state.files ≡ w.state.files
-  pub status : v.state.status ≡ w.state.status
   pub now : v.state.workspaces ≡ workspaces
   pub unrevised : filter_map revision_of v.out.commands ≡ filter_map revision_of w.out.commands
-  pub messages : v.out.messages ≡ w.out.messages
-  pub untimed : filter_map timer_of v.out.commands ≡ filter_map timer_of w.out.commands
   pub hands : spawned v.out.commands ≡ spawned w.out.commands ++ fetch_jobs v.state.desk.handed (snapshot_of v.state) fetch
 
 starts-none : (w : Working State) → StartsFetch None w.state.workspaces w w
-starts-none w = record { beside = beside-none w; client = refl; files = refl; status = refl; now = refl; unrevised = refl; messages = refl; untimed = refl; hands = sym (append-nil _) }
+starts-none w = record { beside = beside-none w; client = refl; files = refl; now = refl; unrevised = refl; hands = sym (append-nil _) }
 
 -- what the workspaces came to before is no matter
 starts-behind : (fetch : Option (List ℕ × FetchRequest)) (workspaces : Workspaces) (step : Workspaces → Workspaces) (w v : Working State)
@@ -54,11 +49,8 @@ starts-behind fetch workspaces step w v h = record {
   };
   client = h.client;
   files = h.files;
-  status = h.status;
   now = h.now;
   unrevised = h.unrevised;
-  messages = h.messages;
-  untimed = h.untimed;
   hands = h.hands;
 }
 
@@ -82,11 +74,8 @@ fetch-starts fetch w =
       };
       client = refl;
       files = refl;
-      status = refl;
       now = refl;
       unrevised = revisions-append w.out.commands _ ∙ append-nil _;
-      messages = refl;
-      untimed = timers-append w.out.commands _ ∙ append-nil _;
       hands = spawned-append w.out.commands _;
     }))
 

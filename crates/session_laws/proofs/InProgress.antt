@@ -36,11 +36,10 @@ use Rattle.workspaces.specs.declared.outputs.FetchOutput.{FetchOutput}
 use Rattle.workspaces.specs.declared.requests.FetchRequest.{FetchRequest}
 use Rattle.workspaces.specs.declared.requests.WaitingFetch.{WaitingFetch}
 use Rattle.session_model.specs.Fetching.{fetch_job, fetch_jobs, fetch_kept, fetches_kept, reloaded_if, reloads}
-use Rattle.session_model.specs.Headline.{beginning, fetch_in, HandsOver, may_start_at, Place, place_after, reaction_of, row, snapshot_at, workspaces_planned, workspaces_told}
+use Rattle.session_model.specs.Headline.{beginning, fetch_in, HandsOver, may_start_at, Place, place_after, reaction_of, row, snapshot_at, workspaces_at, workspaces_switched, workspaces_told}
 use Rattle.session_model.specs.Hearing.{heard_of, told_by}
 use Rattle.session_model.specs.Run.{Steps, Turn, after_input}
 use Rattle.session_model.specs.State.{State, discovers}
-use Rattle.session_model.specs.Timing.{bring_files}
 use Rattle.session_model.specs.declared.input.Event.TheVariants.{Lsp, Task, Vfs, Deferred, Timer}
 use Rattle.session_model.specs.declared.input.Input.{Input}
 use Rattle.session_model.specs.declared.input.Input.TheVariants.{Start, Next}
@@ -50,7 +49,6 @@ use Rattle.session_laws.proofs.Each.{asked-here, asked-there}
 use Rattle.session_laws.proofs.Numbered.{row-numbered}
 use Rattle.session_laws.proofs.Rows.{steps-fit}
 use Rattle.session_laws.proofs.Switching.{switch-moves}
-use Rattle.session_laws.proofs.Timing.{renewed-waits, turn-waits}
 
 some-same : {X : Type 0} (x y : X) → Some x ≡ Some y → x ≡ y
 some-same x y e = cc
@@ -179,8 +177,7 @@ told-out client (Next (Lsp (NotificationMessage n))) desk workspaces h =
 told-out client (Next (Lsp (ResponseMessage r))) desk workspaces h =
     subst (λ b. FetchIsOutIf b desk.jobs) (sym (settings-asks client.settings (after_answer r client).settings workspaces).in_progress) h
 told-out client (Next (Task batch)) desk workspaces h = batch-out batch desk.jobs workspaces h
-told-out client (Next (Vfs messages)) desk workspaces h =
-    subst (λ b. FetchIsOutIf b desk.jobs) (sym (renewed-waits (bring_files messages) (desk.turns + 1) workspaces).in_progress) h
+told-out client (Next (Vfs messages)) desk workspaces h = h
 told-out client (Next (Deferred tasks)) desk workspaces h = h
 told-out client (Next (Timer ticket)) desk workspaces h = subst (λ b. FetchIsOutIf b desk.jobs) (sym (fire-same ticket workspaces.fetches)) h
 
@@ -302,16 +299,15 @@ pub turn-keeps-fetching : (meaning : Meaning) (turn : Turn) (place : Place) → 
 turn-keeps-fetching meaning turn place does hands sound h =
     let input = turn.input in
     let after = place_after turn place in
-    let workspaces = workspaces_planned input place in
+    let workspaces = workspaces_switched input place in
     let jobs = (row meaning input place).jobs in
     let fetch = fetch_jobs after.desk.handed (snapshot_at after) (fetch_in input place) in
     let out = after_input input place.desk.jobs in
     let none : AreNoFetches jobs = subst AreNoFetches (ap (λ (r : Reaction). r.jobs) does) (asked-none (spawned turn.commands)) in
     let told : IsSo workspaces.fetches.queue.in_progress place.desk.handed out = record {
       low = given-input place.desk.handed input place.desk.jobs sound.numbers;
-      fetching = subst (λ b. FetchIsOutIf b out) (sym (turn-waits input place).in_progress)
-          (subst (λ (f : Fetches). FetchIsOutIf f.queue.in_progress out) (sym (switch-moves input place).fetches)
-          (told-out place.client input place.desk place.workspaces h));
+      fetching = subst (λ (f : Fetches). FetchIsOutIf f.queue.in_progress out) (sym (switch-moves input place).fetches)
+          (told-out place.client input place.desk place.workspaces h);
     } in
     let rowed = on-others workspaces.fetches.queue.in_progress place.desk.handed jobs out (row-numbered meaning input place) none told in
     subst (λ (js : List Job). FetchIsOutIf after.workspaces.fetches.queue.in_progress (with_jobs js out)) (sym hands)

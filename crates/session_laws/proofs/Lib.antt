@@ -21,9 +21,6 @@ pub mod Rows
 pub mod Same
 pub mod Seeing
 pub mod Telling
-pub mod Statuses
 pub mod Stretches
 pub mod Switching
-pub mod Tickets
-pub mod Timing
 pub mod Versions

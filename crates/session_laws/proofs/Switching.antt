@@ -34,7 +34,7 @@ unfolding warned
 warned-tells [] w = tells-none w.out
 warned-tells (text ∷ texts) w =
     let v = written (notification_of (ShowMessage text Warning)) w in
-    tells-on _ _ _ (tells-notification [] _ w refl) (warned-tells texts v)
+    tells-on _ _ _ (tells-notification _ w) (warned-tells texts v)
 
 warned-same : (texts : List (List ℕ)) (w : Working State) → (warned texts w).state ≡ w.state
 unfolding warned written
@@ -51,8 +51,6 @@ loader-tells version w = record {
   answers_none = refl;
   spawns_none = refl;
   revises_none = refl;
-  tells = refl;
-  times_none = refl;
 }
 
 loader-same : (version : ℕ) (w : Working State) → (loader_set version w).state ≡ w.state

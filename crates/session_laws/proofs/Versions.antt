@@ -12,17 +12,15 @@ use Rattle.workspaces.specs.Builds.{reload}
 use Rattle.workspaces.specs.Fetches.{end_fetch}
 use Rattle.workspaces.specs.Workspaces.{Workspaces}
 use Rattle.session_model.specs.Fetching.{fetch_kept, fetches_kept, reloaded_if, reloads}
-use Rattle.session_model.specs.Headline.{Place, place_after, place_after_all, workspaces_at, workspaces_planned, workspaces_switched, workspaces_told}
+use Rattle.session_model.specs.Headline.{Place, place_after, place_after_all, workspaces_at, workspaces_switched, workspaces_told}
 use Rattle.session_model.specs.Hearing.{heard_of, told_by}
 use Rattle.session_model.specs.Inputs.{turns_after}
 use Rattle.session_model.specs.Run.{Turn}
-use Rattle.session_model.specs.Timing.{bring_files}
 use Rattle.session_model.specs.declared.input.Event.TheVariants.{Lsp, Task, Vfs, Deferred, Timer}
 use Rattle.session_model.specs.declared.input.Input.{Input}
 use Rattle.session_model.specs.declared.input.Input.TheVariants.{Start, Next}
 use Rattle.session_laws.proofs.Changing.{folders-asks, settings-asks}
 use Rattle.session_laws.proofs.Switching.{switch-moves}
-use Rattle.session_laws.proofs.Timing.{renewed-waits, turn-waits}
 
 -- what snapshots show of the workspaces is the same
 pub record ShowsSame (before after : Workspaces) : Type 0 where
@@ -51,20 +49,17 @@ told-version client (Next (Lsp (RequestMessage r))) desk workspaces = (kept-case
 told-version client (Next (Lsp (NotificationMessage n))) desk workspaces = (folders-asks client.settings (told_by (heard_of n)) workspaces).version
 told-version client (Next (Lsp (ResponseMessage r))) desk workspaces = (settings-asks client.settings (after_answer r client).settings workspaces).version
 told-version client (Next (Task batch)) desk workspaces = batch-version batch desk.jobs workspaces
-told-version client (Next (Vfs messages)) desk workspaces = (renewed-waits (bring_files messages) (desk.turns + 1) workspaces).version
+told-version client (Next (Vfs messages)) desk workspaces = refl
 told-version client (Next (Deferred tasks)) desk workspaces = refl
 told-version client (Next (Timer ticket)) desk workspaces = refl
 
 -- and a turn gives at most one
-switched-version : (input : Input) (place : Place) → place.workspaces.version ≤ place.desk.turns → (workspaces_switched input place).version ≤ turns_after input place.desk.turns
-switched-version Start place h = h
-switched-version (Next event) place h =
+input-version : (input : Input) (place : Place) → place.workspaces.version ≤ place.desk.turns → (workspaces_switched input place).version ≤ turns_after input place.desk.turns
+input-version Start place h = h
+input-version (Next event) place h =
     let same : (workspaces_at (Next event) place).version ≡ place.workspaces.version = told-version place.client (Next event) place.desk place.workspaces in
     let most = (switch-moves (Next event) place).version in
     omega (arith, same, most, h)
-
-input-version : (input : Input) (place : Place) → place.workspaces.version ≤ place.desk.turns → (workspaces_planned input place).version ≤ turns_after input place.desk.turns
-input-version input place h = let le = switched-version input place h in omega (arith, le, (turn-waits input place).version)
 
 pub turns-version : (turns : List Turn) (place : Place) → place.workspaces.version ≤ place.desk.turns
     → (place_after_all turns place).workspaces.version ≤ (place_after_all turns place).desk.turns

@@ -1,5 +1,5 @@
 -- The turn invariant: what holds of the lists between turns, and carries what is said of requests and answers.
-use Rattle.std.specs.Prelude.{◌≡◌, ◌≤◌, ℕ, Bool, true, false, List, Option, None, Some}
+use Rattle.std.specs.Prelude.{◌≡◌, ◌≤◌, ℕ, Bool, true, false, List, Some}
 use Rattle.std.specs.FinMap as map
 use Rattle.ra_config.specs.Config.{ConfigData}
 use Rattle.session_port.specs.Jobs.{Jobs}
@@ -7,11 +7,10 @@ use Rattle.session_port.specs.Record.{spawned}
 use Rattle.session_port.specs.declared.job.Job.{Job}
 use Rattle.session_port.specs.declared.job.JobKind.{JobKind}
 use Rattle.session_port.specs.declared.job.JobKind.TheVariants.{Request, FetchWorkspaces, FetchBuildData, LoadProcMacros}
-use Rattle.workspaces.specs.declared.requests.WaitingFetch.{WaitingFetch}
 use Rattle.desk.specs.Meaning.{Meaning}
 use Rattle.desk_laws.specs.Invariant.{Sound}
 use Rattle.desk_laws.specs.Numbers.{AreNumbered}
-use Rattle.session_model.specs.Headline.{AreHandedOver, beginning, HandsOver, Place, place_after, place_after_all, reaction_of, Revises, row, SetsTimer, TellsItsStatus}
+use Rattle.session_model.specs.Headline.{Place, AreHandedOver, HandsOver, Revises, beginning, place_after, place_after_all, reaction_of, row}
 use Rattle.session_model.specs.Run.{Turn}
 use Rattle.session_model.specs.State.{State}
 use Rattle.session_laws.specs.Answering.{answered_by, AreAccountedFor}
@@ -28,7 +27,6 @@ place_of s = record {
   revision = s.files.host.revision;
   desk = s.desk;
   workspaces = s.workspaces;
-  status = s.status;
 }
 
 -- ---- fetches
@@ -60,11 +58,6 @@ FetchIsOutIf false jobs = IsNoFetchOut jobs
 abbrev pub FetchIsOut : Place → Type 0
 FetchIsOut place = FetchIsOutIf place.workspaces.fetches.queue.in_progress place.desk.jobs
 
--- a fetch that waits for a timer has the number of one of so many turns
-abbrev pub IsOfTurns : ℕ → Option WaitingFetch → Type 0
-IsOfTurns turns None = Unit {0}
-IsOfTurns turns (Some fetch) = fetch.ticket ≤ turns
-
 -- ---- turns
 
 -- a turn of the machine is its row of the reply table, the jobs that it hands over have the next numbers, and what it leaves is the next place
@@ -75,8 +68,6 @@ pub record StepFits (meaning : Meaning) (s : State) (turn : Turn) (new : State) 
   pub later : s.files.host.revision ≤ new.files.host.revision
   pub revised : Revises turn (place_of s)
   pub hands_over : HandsOver meaning turn (place_of s)
-  pub tells_status : TellsItsStatus turn (place_of s)
-  pub timer : SetsTimer turn (place_after turn (place_of s))
 
 -- after some turns of a fresh machine: it stands where the lists say, the invariant holds, a fetch is in progress exactly where a job out is one, and each
 -- job out for a request was handed over by one of the turns, for a request that waits or was answered

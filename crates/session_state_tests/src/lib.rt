@@ -14,11 +14,7 @@ mod methods;
 #[cfg(test)]
 mod results;
 #[cfg(test)]
-mod statuses;
-#[cfg(test)]
 mod switching;
-#[cfg(test)]
-mod timing;
 #[cfg(test)]
 mod told;
 #[cfg(test)]

@@ -15,7 +15,7 @@ start then loading then brought /w/Cargo.toml
 start then loading then brought /w/Cargo.toml then shown > none yet
 start then loading then brought /w/Cargo.toml then loaded > load
 start then brought /w/Cargo.toml then deferred
-start then brought /w/Cargo.toml 1.77.2 > Content-Length: 331\r\n\r\n{"jsonrpc":"2.0","method":"window/showMessage","params":{"message":"Workspace `/w/Cargo.toml` is using an outdated toolchain version `1.77.2` but rust-analyzer only supports `1.78.0` and higher.\nConsider using the rust-analyzer rustup component for your toolchain or\nupgrade your toolchain to a supported version.\n\n","type":2}}Content-Length: 327\r\n\r\n{"jsonrpc":"2.0","method":"window/showMessage","params":{"message":"Workspace `/w/Cargo.toml` is using an outdated toolchain version `1.77.2` but rust-analyzer only supports `1.78.0` and higher.\nConsider using the rust-analyzer rustup component for your toolchain or\nupgrade your toolchain to a supported version.","type":2}}load
+start then brought /w/Cargo.toml 1.77.2 > Content-Length: 331\r\n\r\n{"jsonrpc":"2.0","method":"window/showMessage","params":{"message":"Workspace `/w/Cargo.toml` is using an outdated toolchain version `1.77.2` but rust-analyzer only supports `1.78.0` and higher.\nConsider using the rust-analyzer rustup component for your toolchain or\nupgrade your toolchain to a supported version.\n\n","type":2}}load
 start then brought /w/Cargo.toml 1.78.0 > load"#;
 
 #[test]
