@@ -1,4 +1,3 @@
-pub mod Building
 pub mod Codes
 pub mod Desk
 pub mod Fetching

@@ -54,10 +54,8 @@ pub fn load(
     files.load(messages, out)
 }
 
-/// Whether some files have changed.
 pub fn process(files: &mut SessionFiles, out: &mut TurnOut) -> Result<bool, TurnError> {
-    let changed = files.process(out)?;
-    Ok(!changed.is_empty())
+    files.process(out)
 }
 
 pub fn world_of(files: &SessionFiles) -> Option<World> {

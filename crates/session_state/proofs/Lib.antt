@@ -2,4 +2,3 @@ pub mod AtClient
 pub mod AtDesk
 pub mod AtFiles
 pub mod Heard
-pub mod Projects

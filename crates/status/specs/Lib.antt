@@ -1,5 +1,4 @@
 pub mod Drafts
 pub mod Facts
 pub mod Health
-pub mod Same
 pub mod Texts
