@@ -1,7 +1,7 @@
 -- The machine's turns are the rows of the reply table.
-use Rattle.std.proofs.Common.{◌≡◌, ℕ, ◌+◌, ◌≤◌, List, [], ◌∷◌, ◌++◌, length, Bool, true, false, refl, sym, ap, ◌∙◌, subst, arith, eqb-true, append-nil, append_assoc}
+use Rattle.std.proofs.Common.{◌≡◌, ℕ, ◌+◌, ◌≤◌, List, [], ◌∷◌, ◌++◌, length, Bool, true, false, refl, sym, ap, ◌∙◌, subst, arith, eq-eqb, eqb-true, append-nil, append_assoc}
 use Rattle.plain.specs.Texts.{text_cmp}
-use Rattle.std.specs.Prelude.{Result, Ok, Err, IfOk, Option, None, Some, ◌==◌, is_some, map as list_map, if◌then◌else◌}
+use Rattle.std.specs.Prelude.{Result, Ok, Err, IfOk, Option, None, Some, ◌==◌, is_some, not, ◌||◌, map as list_map, if◌then◌else◌}
 use Rattle.std.specs.FinMap as map
 use Rattle.std.specs.List.{filter_map}
 use Rattle.std.proofs.lemmas.Result.{IfOk-at_ok}
@@ -49,29 +49,35 @@ use Rattle.desk_laws.specs.Settled.{Settled}
 use Rattle.desk_laws.proofs.Appends.{spawned-append, revisions-append}
 use Rattle.desk_laws.proofs.Results.{IfOk-and_then, IfOk-next, IfOk-weaker, IfOk-within}
 use Rattle.desk_laws.proofs.Settling.{cancel-settles, message-settles, message-turns, nothing-settles, request-settles, request-turns, settled-on}
-use Rattle.session_files.specs.Folds.{after_closing, after_messages, after_opening, due_changes}
+use Rattle.session_files.specs.Folds.{after_closing, after_messages, after_opening, after_turn, due_changes}
 use Rattle.session_files.specs.SessionFiles.{SessionFiles}
 use Rattle.session_files.specs.Steps.{changed, closed as closed_document, loaded, opened, processed}
 use Rattle.status.specs.declared.status.Status.{Status}
 use Rattle.workspaces.specs.Fetches.{fetch_to_start, fires, start_fetch, start_up}
 use Rattle.workspaces.specs.Workspaces.{Workspaces}
 use Rattle.workspaces.specs.declared.requests.FetchRequest.{FetchRequest}
-use Rattle.session_model.specs.Building.{build_due, build_jobs, end_kept, ends_kept, request_told, with_due_build}
+use Rattle.session_model.specs.Asking.{client_refreshed_if, client_registered, client_watching, is_refresh_due}
+use Rattle.session_model.specs.Building.{build_due, end_kept, ends_kept, request_told, with_due_build}
+use Rattle.session_model.specs.Crates.{files_with_crates, is_built_by}
 use Rattle.session_model.specs.Fetching.{fetch_jobs, folders_told_if, settings_told, with_fetches}
 use Rattle.session_model.specs.Headline.{Place, reaction_of, row, notice_row, batch_row, desk_after, place_after, place_past, client_after, last_of, revision_after, scene_at, snapshot_at}
-use Rattle.session_model.specs.Headline.{are_due, build_in, changes_due, changes_in, client_left, fetch_in, files_after, files_made, files_told, files_turned, is_changed, jobs_started, left_or, may_start_at, or_before, SetsTimer}
-use Rattle.session_model.specs.Headline.{status_after, statuses_at, switch_in, workspaces_after, workspaces_at, workspaces_fetched, workspaces_planned, workspaces_switched}
+use Rattle.session_model.specs.Headline.{are_due, build_in, builds_crates_in, changes_due, changes_in, changes_world, client_asked, client_filed, client_left, client_switched, fetch_in, files_after, files_made, files_switched, files_told, files_turned}
+use Rattle.session_model.specs.Headline.{is_changed, jobs_started, left_or, load_in, may_start_at, or_before, refreshes_at, revisions_in, run_jobs, SetsTimer}
+use Rattle.session_model.specs.Headline.{sources_filed, sources_switched, status_after, statuses_at, switch_in, workspaces_after, workspaces_at, workspaces_fetched, workspaces_planned, workspaces_switched}
 use Rattle.session_model.specs.Inputs.{cancelled_by, request_in, turns_after}
-use Rattle.session_model.specs.Machine.{answer_taken, asked, asked_for_settings, at_client, at_desk, at_files, at_workspaces, batched, begin_part, begun_fetches, brought, build_part, build_started, changed_at, client_in, closed}
-use Rattle.session_model.specs.Machine.{closed_at, closing_part, counted, desk_in, event_part, facts_of, fetch_part, fetch_started, file_changed, files_changed, files_in, files_part, files_planned, files_processed, folders_taken}
-use Rattle.session_model.specs.Machine.{happened, kept, later_parts, noticed, opened_at, received, revised, start_parts, state_in, status_done, status_part, step, switch_done, switch_part, taken, taken_in, timed, timer_set, told}
+use Rattle.session_model.specs.Machine.{answer_taken, asked, asked_for_settings, at_client, at_desk, at_files, at_workspaces, batched, begin_part, begun_fetches, brought, build_part, changed_at, client_in, closed}
+use Rattle.session_model.specs.Machine.{closed_at, closing_part, counted, desk_in, event_part, facts_of, fetch_part, fetch_started, file_changed, files_changed, files_followed, files_in, files_part, files_processed, folders_taken}
+use Rattle.session_model.specs.Machine.{happened, has_new_world, kept, later_parts, noticed, opened_at, quiet_done, quiet_part, received, register_part, revised, runs_started, saves_registered, start_parts, state_in}
+use Rattle.session_model.specs.Machine.{status_done, status_part, step, switch_done, switch_part, taken, taken_in, timed, timer_set, told}
 use Rattle.session_model.specs.Machine.{turned, Turning, turning, with_client, with_desk, with_files, with_state, with_workspaces}
 use Rattle.session_model.specs.Hearing.{heard_of, told_by}
+use Rattle.session_model.specs.Loading.{MacroPaths, load_due, with_due_load}
+use Rattle.session_model.specs.Sources.{change_by, client_with, sources_after, sources_left}
 use Rattle.session_model.specs.Switching.{switch_made}
 use Rattle.session_model.specs.Timing.{bring_files, planned_by, renewed_if, timer_of}
 use Rattle.session_model.specs.Run.{Turn, Steps, begun, after_input, out_after}
-use Rattle.session_model.specs.State.{State, columns_in, discovers, excludes_in, goes_by_folders, macros_loaded_in, may_start, scene_of, snapshot_of}
-use Rattle.session_model.specs.Status.{client_after_status, status_now, statuses_due, statuses_in}
+use Rattle.session_model.specs.State.{State, columns_in, discovers, excludes_in, goes_by_folders, macros_loaded_in, may_start, scene_of, snapshot_of, Sources}
+use Rattle.session_model.specs.Status.{client_after_status, is_quiescent, status_now, statuses_due, statuses_in}
 use Rattle.session_model.specs.declared.facts.Facts.{Facts}
 use Rattle.session_model.specs.declared.input.Event.{Event}
 use Rattle.session_model.specs.declared.input.Event.TheVariants.{Lsp, Task, Vfs, Deferred, Timer}
@@ -82,16 +88,19 @@ use Rattle.session_model.specs.declared.heard.Heard.TheVariants.{Told, Malformed
 use Rattle.session_laws.specs.Beside.{Serves, Tells, TellsOnly, turn_of}
 use Rattle.session_laws.specs.Invariant.{StepFits, place_of}
 use Rattle.session_laws.proofs.Beside.{beside-fits, beside-revised}
-use Rattle.session_laws.proofs.Building.{built-hands, jobs_of_build, no-build, same-fetch}
+use Rattle.session_laws.proofs.Building.{jobs_of_runs, no-build, no-load, runs-hand, same-fetch}
+use Rattle.session_laws.proofs.Clients.{begun_client, left-settings, quiet-settings, switched-settings}
 use Rattle.session_laws.proofs.Fetching.{jobs_of_fetch, started-hands}
 use Rattle.session_laws.proofs.Filing.{DoesForFiles, KeepsHost, Processes, change-host, change_of, changed-does, closed-does, loaded-does, messages-host, opened-does, opening-host}
 use Rattle.session_laws.proofs.Filing.{processed-does, revision_by, revision_now, turn-revises}
+use Rattle.session_laws.proofs.Following.{FollowsFiles, followed-does}
 use Rattle.session_laws.proofs.Numbered.{row-numbered}
+use Rattle.session_laws.proofs.Requests.{due_in, quiet-does, registered-does, TellsClient}
 use Rattle.session_laws.proofs.Same.{none-handed, same_desk, same_place}
-use Rattle.session_laws.proofs.Statuses.{left-settings, status-does, TellsStatus, told-settings}
+use Rattle.session_laws.proofs.Statuses.{status-does, TellsStatus, told-settings}
 use Rattle.session_laws.proofs.Starting.{StartsJobs}
-use Rattle.session_laws.proofs.Switching.{Switches, switched-does}
-use Rattle.session_laws.proofs.Telling.{answered-does, asked-does, beside-told, DoesForClient, folders-do, statuses-append, tells-invalidated, tells-logged, tells-none, tells-on, timers-append}
+use Rattle.session_laws.proofs.Switching.{Switches, made-follows, switched-does}
+use Rattle.session_laws.proofs.Telling.{answered-does, asked-does, beside-told, DoesForClient, folders-do, statuses-append, tells-invalidated, tells-logged, tells-more, tells-none, tells-on, timers-append}
 
 -- the turn is counted, and nothing else was done
 abbrev pub counted_desk : Desk → Working Desk
@@ -115,20 +124,25 @@ pub record Mid (meaning : Meaning) (s : State) (input : Input) (u : Working Stat
   pub untimed : filter_map timer_of u.out.commands ≡ []
   pub host : KeepsHost s.files u.state.files
   pub workspaces : u.state.workspaces ≡ workspaces_at input (place_of s)
+  pub sources : u.state.sources ≡ s.sources
   -- all jobs so far are for requests
   pub spawns : spawned u.out.commands ≡ (row meaning input (place_of s)).jobs
 
 -- a turn behind its switch
 pub record Behind (meaning : Meaning) (s : State) (event : Event) (u : Working State) : Type 0 where
   pub serves : Serves meaning s (Next event) (after_input (Next event) s.desk.jobs) u
-  pub client : u.state.client ≡ client_after (Next event) s.client
+  pub client : u.state.client ≡ client_switched (Next event) (place_of s)
   pub status : u.state.status ≡ s.status
-  pub files : files_told s.client.settings (Next event) s.files ≡ Ok u.state.files
+  pub files : files_switched (Next event) (place_of s) ≡ Ok u.state.files
   pub unrevised : filter_map revision_of u.out.commands ≡ []
   pub untold : statuses_in u.out.messages ≡ []
   pub untimed : filter_map timer_of u.out.commands ≡ []
-  pub host : KeepsHost s.files u.state.files
+  -- crate data that was built has made a revision, and nothing has changed of what is due
+  pub revision : u.state.files.host.revision ≡ s.files.host.revision + (if builds_crates_in (Next event) (place_of s) then 1 else 0)
+  pub due : is_changed s.client.settings (Next event) s.files ≡ are_due (Ok u.state.files)
+  pub changes : changes_in (Next event) (place_of s) ≡ due_changes u.state.files
   pub workspaces : u.state.workspaces ≡ workspaces_switched (Next event) (place_of s)
+  pub sources : u.state.sources ≡ sources_switched (Next event) (place_of s)
   -- all jobs so far are for requests
   pub spawns : spawned u.out.commands ≡ (row meaning (Next event) (place_of s)).jobs
 
@@ -137,13 +151,14 @@ pub record Made (meaning : Meaning) (s : State) (input : Input) (asked : Client)
   pub serves : Serves meaning s input (after_input input s.desk.jobs) u
   pub client : u.state.client ≡ asked
   pub status : u.state.status ≡ last
-  -- the settings are those that the input leaves
-  pub settings : asked.settings ≡ (client_after input s.client).settings
-  pub files : files_made s.client.settings input s.files ≡ Ok u.state.files
+  -- the settings are those that the input and its files leave
+  pub settings : asked.settings ≡ (client_filed input (place_of s)).settings
+  pub sources : u.state.sources ≡ sources_filed input (place_of s)
+  pub files : files_made input (place_of s) ≡ Ok u.state.files
   pub unrevised : filter_map revision_of u.out.commands ≡ []
   pub told : statuses_in u.out.messages ≡ sent
   pub untimed : filter_map timer_of u.out.commands ≡ []
-  pub revised : u.state.files.host.revision ≡ revision_now (is_changed s.client.settings input s.files) s.files
+  pub revised : u.state.files.host.revision ≡ s.files.host.revision + revisions_in input (place_of s)
 
 -- ---- the desk
 
@@ -198,6 +213,7 @@ both-mid meaning s input done v workspaces number is quiet told a =
       untimed = a.others timer_of (record { jobs = λ job. refl; logs = λ code text. refl });
       host = refl;
       workspaces = sym told;
+      sources = refl;
       spawns = a.spawns ∙ ap (λ (d : Reaction). d.jobs) (sym is);
     }
 
@@ -210,8 +226,8 @@ desk-mid meaning s input done v number is still a =
 -- a turn that leaves the desk as it is, once it is counted
 told-mid : (meaning : Meaning) (s : State) (input : Input) (u : Working State) → Serves meaning s input (after_input input s.desk.jobs) (counted_turn s) → Tells nothing_done u.out
     → u.state.desk ≡ (counted_turn s).state.desk → u.state.client ≡ client_after input s.client → u.state.status ≡ s.status → files_told s.client.settings input s.files ≡ Ok u.state.files
-    → KeepsHost s.files u.state.files → u.state.workspaces ≡ workspaces_at input (place_of s) → Mid meaning s input u
-told-mid meaning s input u serves tells desk client status files host workspaces = record {
+    → KeepsHost s.files u.state.files → u.state.workspaces ≡ workspaces_at input (place_of s) → u.state.sources ≡ s.sources → Mid meaning s input u
+told-mid meaning s input u serves tells desk client status files host workspaces sources = record {
   serves = beside-fits meaning s input (after_input input s.desk.jobs) (counted_turn s) u (beside-told (counted_turn s) u tells desk) serves;
   client = client;
   status = status;
@@ -221,6 +237,7 @@ told-mid meaning s input u serves tells desk client status files host workspaces
   untimed = ap (filter_map timer_of) tells.ordered ∙ tells.times_none;
   host = host;
   workspaces = workspaces;
+  sources = sources;
   spawns = ap spawned tells.ordered ∙ tells.spawns_none ∙ ap (λ (d : Reaction). d.jobs) serves.does;
 }
 
@@ -230,7 +247,7 @@ still-mid : (meaning : Meaning) (s : State) (input : Input) (u : Working State) 
 still-mid meaning s input u serves still tells same =
     told-mid meaning s input u serves tells (ap (λ (t : State). t.desk) same) (ap (λ (t : State). t.client) same ∙ sym still.client) (ap (λ (t : State). t.status) same)
     (subst (λ (t : State). files_told s.client.settings input s.files ≡ Ok t.files) (sym same) still.files) (ap (λ (t : State). t.files.host) same)
-    (ap (λ (t : State). t.workspaces) same ∙ sym still.workspaces)
+    (ap (λ (t : State). t.workspaces) same ∙ sym still.workspaces) (ap (λ (t : State). t.sources) same)
 
 -- with a log line
 logged-mid : (meaning : Meaning) (s : State) (input : Input) (code : LogCode) (text : List ℕ) → Serves meaning s input (after_input input s.desk.jobs) (counted_turn s) → IsStill s input
@@ -251,7 +268,7 @@ client-mid : (meaning : Meaning) (s : State) (input : Input) (v : Working Client
     → Serves meaning s input (after_input input s.desk.jobs) (counted_turn s) → client ≡ client_after input s.client → files_told s.client.settings input s.files ≡ Ok s.files
     → workspaces ≡ workspaces_at input (place_of s) → DoesForClient (client_turn s) v client → Mid meaning s input (client_now s v workspaces)
 client-mid meaning s input v client workspaces serves is same told does =
-    told-mid meaning s input (client_now s v workspaces) serves does.tells refl (does.is ∙ is) refl same refl told
+    told-mid meaning s input (client_now s v workspaces) serves does.tells refl (does.is ∙ is) refl same refl told refl
 
 -- the files, at the beginning of a turn
 abbrev files_turn : State → Working SessionFiles
@@ -265,7 +282,7 @@ files-mid : (meaning : Meaning) (s : State) (input : Input) (work : Working Sess
 files-mid meaning s input work r serves client told host untold does =
     IfOk-within files_in with_files work (counted_turn s) (Mid meaning s input)
     (IfOk-weaker _ (λ v. DoesForFiles (files_turn s) v r) _ does
-    (λ v d. told-mid meaning s input _ serves d.tells refl (sym client) refl (told ∙ d.is) (IfOk-at_ok (KeepsHost s.files) d.is host) (sym untold)))
+    (λ v d. told-mid meaning s input _ serves d.tells refl (sym client) refl (told ∙ d.is) (IfOk-at_ok (KeepsHost s.files) d.is host) (sym untold) refl))
 
 -- ---- requests
 
@@ -334,7 +351,7 @@ brought-mid meaning s messages =
     (IfOk-within files_in with_files (loaded messages) (counted_turn s) (λ v. Mid meaning s input (told v))
     (IfOk-weaker _ (λ v. DoesForFiles (files_turn s) v (after_messages messages s.files)) _ (loaded-does messages (files_turn s))
     (λ v d. told-mid meaning s input _ (serves-desk meaning s input silent (counted_desk s.desk) refl refl (nothing-settles (counted_desk s.desk)))
-    d.tells refl refl refl d.is (IfOk-at_ok (KeepsHost s.files) d.is (messages-host messages s.files)) refl)))
+    d.tells refl refl refl d.is (IfOk-at_ok (KeepsHost s.files) d.is (messages-host messages s.files)) refl refl)))
     (λ v mid. mid)
 
 cancel-mid : (meaning : Meaning) (s : State) (n : Notification) (id : RequestId) → heard_of n ≡ Told (notices.CancelRequest id)
@@ -482,7 +499,8 @@ pub settled-place : (turns : ℕ) (message : TaskMsg) (w v : Working State) (don
     → DoesAtDesk w v done (after_message message w.state.desk.jobs) (kept_past message w.state) → place_at turns v.state ≡ place_past message done (place_at turns w.state)
 settled-place turns message w v done a = same_place _ _
     (ap (λ (s : State). s.client) a.rest) (ap (λ (s : State). s.files) a.rest) (ap (λ (s : State). s.files.host.revision) a.rest)
-    (same_desk _ _ refl a.desk.pending a.desk.out a.desk.handed a.desk.shutdown) (ap (λ (s : State). s.workspaces) a.rest) (ap (λ (s : State). s.status) a.rest)
+    (same_desk _ _ refl a.desk.pending a.desk.out a.desk.handed a.desk.shutdown) (ap (λ (s : State). s.workspaces) a.rest) (ap (λ (s : State). s.sources) a.rest)
+    (ap (λ (s : State). s.status) a.rest)
 
 does-on : (w v u : Working State) (a b : Reaction) (js ks : Jobs) (first last : Workspaces) → DoesAtDesk w v a js first → DoesAtDesk v u b ks last → DoesAtDesk w u (joined a b) ks last
 does-on w v u a b js ks first last p q = record {
@@ -565,20 +583,24 @@ mid-fits meaning s event =
     IfOk-and_then (counted (begun s)) (happened meaning event) (λ v. v ≡ counted_turn s) (Mid meaning s (Next event)) (counted-is s)
     (λ v is. subst (λ w. IfOk (happened meaning event w) (Mid meaning s (Next event))) (sym is) (event-mid meaning s event))
 
+none-more : (n : ℕ) → n ≡ n + (0 + 0)
+none-more n = omega arith
+
 -- the start, once its status was told
 start-made : (meaning : Meaning) (s : State) (u : Working State) → TellsOnly (statuses_at Start (place_of s)) nothing_done u.out → u.state.client ≡ client_left Start (place_of s)
-    → u.state.status ≡ status_after Start (place_of s) → u.state.files ≡ s.files → u.state.desk ≡ s.desk
+    → u.state.status ≡ status_after Start (place_of s) → u.state.files ≡ s.files → u.state.desk ≡ s.desk → u.state.sources ≡ s.sources
     → Made meaning s Start (client_left Start (place_of s)) (status_after Start (place_of s)) (statuses_at Start (place_of s)) u
-start-made meaning s u tells client status files desk = record {
+start-made meaning s u tells client status files desk sources = record {
   serves = beside-fits meaning s Start s.desk.jobs (begun s) u (beside-told (begun s) u tells desk) (record { does = refl; numbered = tt; desk = none-handed s.desk });
   client = client;
   status = status;
   settings = left-settings Start (place_of s);
+  sources = sources;
   files = sym (ap (λ (f : SessionFiles). Ok f) files);
   unrevised = ap (filter_map revision_of) tells.ordered ∙ tells.revises_none;
   untimed = ap (filter_map timer_of) tells.ordered ∙ tells.times_none;
   told = ap statuses_in tells.written ∙ tells.tells;
-  revised = ap (λ (f : SessionFiles). f.host.revision) files;
+  revised = ap (λ (f : SessionFiles). f.host.revision) files ∙ none-more s.files.host.revision;
 }
 
 -- a turn hands over the jobs of its row, and behind them those that it starts, on what it has left
@@ -592,7 +614,7 @@ pub record Fits (meaning : Meaning) (s : State) (input : Input) (v : Working Sta
   pub numbered : AreNumbered s.desk.handed (spawned v.out.commands)
   pub place : place_of v.state ≡ place_after (turn_of input v) (place_of s)
   pub later : s.files.host.revision ≤ v.state.files.host.revision
-  pub revised : v.state.files.host.revision ≡ revision_now (is_changed s.client.settings input s.files) s.files
+  pub revised : v.state.files.host.revision ≡ s.files.host.revision + revisions_in input (place_of s)
   pub hands : Hands meaning s input v
   pub told : statuses_in v.out.messages ≡ statuses_at input (place_of s)
 
@@ -617,13 +639,12 @@ abbrev pub Left : Meaning → State → Input → Working State → Type 0
 Left meaning s input u = Made meaning s input (client_left input (place_of s)) (status_after input (place_of s)) (statuses_at input (place_of s)) u
 
 -- the files that a turn makes are those after it
-files-now : (s : State) (input : Input) (now : SessionFiles) → files_made s.client.settings input s.files ≡ Ok now → now ≡ files_after s.client.settings input s.files
+files-now : (s : State) (input : Input) (now : SessionFiles) → files_made input (place_of s) ≡ Ok now → now ≡ files_after input (place_of s)
 files-now s input now made = sym (ap (or_before s.files) made)
 
 -- a revision doesn't fall
-no-less : (due : Bool) (files : SessionFiles) (revision : ℕ) → revision ≡ revision_now due files → files.host.revision ≤ revision
-no-less true files revision is = omega (arith, is)
-no-less false files revision is = omega (arith, is)
+no-less : (more before revision : ℕ) → revision ≡ before + more → before ≤ revision
+no-less more before revision is = omega (arith, is)
 
 close-cases : (meaning : Meaning) (s : State) (input : Input) (u : Working State) (b : Bool) → (u.state.files.host.revision == s.files.host.revision) ≡ b → Left meaning s input u
     → u.state.workspaces ≡ workspaces_after input (place_of s) → Hands meaning s input u
@@ -635,8 +656,8 @@ close-cases meaning s input u true h made workspaces hands =
     record {
       does = serves.does;
       numbered = serves.numbered;
-      place = same_place _ _ made.client (files-now s input u.state.files made.files) same serves.desk workspaces made.status;
-      later = no-less _ s.files _ made.revised;
+      place = same_place _ _ made.client (files-now s input u.state.files made.files) same serves.desk workspaces made.sources made.status;
+      later = no-less (revisions_in input (place_of s)) s.files.host.revision u.state.files.host.revision made.revised;
       revised = made.revised;
       hands = hands;
       told = made.told;
@@ -653,8 +674,8 @@ close-cases meaning s input u false h made workspaces hands =
       does = serves.does;
       numbered = serves.numbered;
       place = same_place _ _ made.client (files-now s input u.state.files made.files) (sym (ap (λ ns. last_of ns s.files.host.revision) numbers))
-          (serves.desk ∙ ap (λ js. record (desk_after (turn_of input v) s.desk) { jobs = js }) jobs) workspaces made.status;
-      later = no-less _ s.files _ made.revised;
+          (serves.desk ∙ ap (λ js. record (desk_after (turn_of input v) s.desk) { jobs = js }) jobs) workspaces made.sources made.status;
+      later = no-less (revisions_in input (place_of s)) s.files.host.revision u.state.files.host.revision made.revised;
       revised = made.revised;
       hands = spawns ∙ hands;
       told = made.told;
@@ -677,7 +698,7 @@ timer-fits meaning s input ticket v fits =
     let revisions : filter_map revision_of more ≡ filter_map revision_of v.out.commands = revisions-append v.out.commands _ ∙ append-nil _ in
     let next : place_after (turn_of input (ordered (SetTimer ticket) v)) place ≡ place_after (turn_of input v) place =
     same_place _ _ refl refl (ap (λ ns. last_of ns s.files.host.revision) revisions)
-    (same_desk _ _ refl refl (ap (λ js. with_jobs js (after_input input s.desk.jobs)) spawns) (ap (λ (js : List Job). s.desk.handed + length js) spawns) refl) refl refl in
+    (same_desk _ _ refl refl (ap (λ js. with_jobs js (after_input input s.desk.jobs)) spawns) (ap (λ (js : List Job). s.desk.handed + length js) spawns) refl) refl refl refl in
     record {
       does = ap (λ (js : List Job). record { responses = (reaction_of (turn_of input v)).responses; jobs = asked_among js }) spawns ∙ fits.does;
       numbered = subst (AreNumbered s.desk.handed) (sym spawns) fits.numbered;
@@ -730,43 +751,75 @@ mid-switch meaning s event u mid =
 switched-behind : (meaning : Meaning) (s : State) (event : Event) (u : Working State) → Mid meaning s (Next event) u → IfOk (switch_done u) (Behind meaning s event)
 unfolding switch_done
 switched-behind meaning s event u mid =
+    let input : Input = Next event in
     let made = switch_made u.state.client.settings u.state.files u.state.workspaces in
-    IfOk-weaker _ (Switches (left_or u.state.workspaces made) u) (Behind meaning s event) (switched-does made u)
-    (λ v does. record {
+    let is : made ≡ switch_in input (place_of s) = mid-switch meaning s event u mid in
+    IfOk-weaker _ (Switches made u) (Behind meaning s event) (switched-does made u)
+    (λ v does. let follows = made-follows made u.state.client.settings u.state.files v.state.files does.files in record {
       serves = beside-fits meaning s (Next event) (after_input (Next event) s.desk.jobs) u v (beside-told u v does.tells (ap (λ (t : State). t.desk) does.state)) mid.serves;
-      client = ap (λ (t : State). t.client) does.state ∙ mid.client;
+      client = ap (λ (t : State). t.client) does.state ∙ (λ i. client_watching (is i) (mid.client i));
       status = ap (λ (t : State). t.status) does.state ∙ mid.status;
-      files = mid.files ∙ sym (ap (λ (t : State). Ok t.files) does.state);
+      files = ap (λ r. and_then r (λ files. and_then (switch_in input (place_of s)) (files_with_crates (client_after input s.client).settings files))) mid.files
+          ∙ sym (λ i. and_then (is i) (files_with_crates (mid.client i).settings u.state.files)) ∙ does.files;
       unrevised = ap (filter_map revision_of) does.tells.ordered ∙ revisions-append u.out.commands does.tells.commands ∙ (λ i. mid.unrevised i ++ does.tells.revises_none i);
       untold = ap statuses_in does.tells.written ∙ statuses-append u.out.messages does.tells.messages ∙ (λ i. mid.untold i ++ does.tells.tells i);
       untimed = ap (filter_map timer_of) does.tells.ordered ∙ timers-append u.out.commands does.tells.commands ∙ (λ i. mid.untimed i ++ does.tells.times_none i);
-      host = ap (λ (t : State). t.files.host) does.state ∙ mid.host;
-      workspaces = ap (λ (t : State). t.workspaces) does.state ∙ (λ i. left_or (mid.workspaces i) (mid-switch meaning s event u mid i));
+      revision = follows.revision ∙ (λ i. (mid.host i).revision + (if is_built_by (is i) then 1 else 0));
+      due = ap are_due mid.files ∙ follows.due;
+      changes = ap changes_due mid.files ∙ follows.changes;
+      workspaces = ap (λ (t : State). t.workspaces) does.state ∙ (λ i. left_or (mid.workspaces i) (is i));
+      sources = ap (λ (t : State). t.sources) does.state ∙ (λ i. sources_left (mid.client i).settings (is i) (mid.sources i));
       spawns = ap spawned does.tells.ordered ∙ spawned-append u.out.commands does.tells.commands ∙ (λ i. mid.spawns i ++ does.tells.spawns_none i) ∙ append-nil _;
     })
 
--- the files are processed, and what the workspaces come to then is no matter
-made-now : (meaning : Meaning) (s : State) (event : Event) (u : Working State) (v : Working SessionFiles) (workspaces : Workspaces) → Behind meaning s event u
-    → Processes (record { state = u.state.files; out = u.out }) v
-    → Made meaning s (Next event) (client_after (Next event) s.client) s.status [] (record { state = with_workspaces workspaces (with_files v.state u.state); out = v.out })
-made-now meaning s event u v workspaces mid p =
-    let told = mid.files in
-    let due : is_changed s.client.settings (Next event) s.files ≡ are_due (Ok u.state.files) = ap are_due told in
-    let rises : v.state.host.revision ≡ revision_now (are_due (Ok u.state.files)) u.state.files = IfOk-at_ok (λ f. f.host.revision ≡ revision_now (are_due (Ok u.state.files)) u.state.files) p.is (turn-revises u.state.files) in
+rises-by : (due : Bool) (host : HostData) (before built : ℕ) → host.revision ≡ before + built → revision_by due host ≡ before + (built + (if due then 1 else 0))
+rises-by true host before built is = omega (arith, is)
+rises-by false host before built is = omega (arith, is)
+
+-- the session where the files have come to this
+abbrev pub files_now : State → Working SessionFiles → Working State
+files_now s v = record { state = with_files v.state s; out = v.out }
+
+-- the files that a turn puts into the world
+changed-now : (meaning : Meaning) (s : State) (event : Event) (u : Working State) → Behind meaning s event u → due_changes u.state.files ≡ changes_in (Next event) (place_of s)
+changed-now meaning s event u behind = sym behind.changes
+
+-- the files are processed
+processed-serves : (meaning : Meaning) (s : State) (event : Event) (u : Working State) (v : Working SessionFiles) → Behind meaning s event u
+    → Processes u.state.sources.roots (record { state = u.state.files; out = u.out }) v → Serves meaning s (Next event) (after_input (Next event) s.desk.jobs) (files_now u.state v)
+processed-serves meaning s event u v behind p = record {
+  does = ap (λ (o : Written). reaction_of (turn_of (Next event) (record { state = u.state; out = o }))) p.out ∙ behind.serves.does;
+  numbered = subst (λ (o : Written). AreNumbered s.desk.handed (spawned o.commands)) (sym p.out) behind.serves.numbered;
+  desk = behind.serves.desk ∙ ap (λ (o : Written). record (desk_after (turn_of (Next event) (record { state = u.state; out = o })) s.desk) { jobs = after_input (Next event) s.desk.jobs }) (sym p.out);
+}
+
+-- and what follows from them is done
+made-now : (meaning : Meaning) (s : State) (event : Event) (u : Working State) (v : Working SessionFiles) (x : Working State) → Behind meaning s event u
+    → Processes u.state.sources.roots (record { state = u.state.files; out = u.out }) v → FollowsFiles (due_changes u.state.files) (files_now u.state v) x
+    → Made meaning s (Next event) (client_filed (Next event) (place_of s)) s.status [] x
+made-now meaning s event u v x behind p f =
+    let told = behind.files in
+    let w = files_now u.state v in
+    let changed = changed-now meaning s event u behind in
+    let built : ℕ = if builds_crates_in (Next event) (place_of s) then 1 else 0 in
+    let rises : v.state.host.revision ≡ revision_now (are_due (Ok u.state.files)) u.state.files = IfOk-at_ok (λ f. f.host.revision ≡ revision_now (are_due (Ok u.state.files)) u.state.files) p.is (turn-revises u.state.sources.roots u.state.files) in
+    let unrevised : filter_map revision_of v.out.commands ≡ [] = ap (λ (o : Written). filter_map revision_of o.commands) p.out ∙ behind.unrevised in
+    let untold : statuses_in v.out.messages ≡ [] = ap (λ (o : Written). statuses_in o.messages) p.out ∙ behind.untold in
+    let untimed : filter_map timer_of v.out.commands ≡ [] = ap (λ (o : Written). filter_map timer_of o.commands) p.out ∙ behind.untimed in
     record {
-      serves = record {
-        does = ap (λ (o : Written). reaction_of (turn_of (Next event) (record { state = u.state; out = o }))) p.out ∙ mid.serves.does;
-        numbered = subst (λ (o : Written). AreNumbered s.desk.handed (spawned o.commands)) (sym p.out) mid.serves.numbered;
-        desk = mid.serves.desk ∙ ap (λ (o : Written). record (desk_after (turn_of (Next event) (record { state = u.state; out = o })) s.desk) { jobs = after_input (Next event) s.desk.jobs }) (sym p.out);
-      };
-      client = mid.client;
-      status = mid.status;
+      serves = beside-fits meaning s (Next event) (after_input (Next event) s.desk.jobs) w x
+          (beside-told w x f.tells (ap (λ (t : State). t.desk) f.state)) (processed-serves meaning s event u v behind p);
+      client = ap (λ (t : State). t.client) f.state ∙ (λ i. client_with (change_by (changed i) (behind.sources i) (behind.workspaces i).present) (behind.client i));
+      status = ap (λ (t : State). t.status) f.state ∙ behind.status;
       settings = refl;
-      files = ap (λ r. and_then r (files_turned (Next event))) told ∙ p.is;
-      unrevised = ap (λ (o : Written). filter_map revision_of o.commands) p.out ∙ mid.unrevised;
-      told = ap (λ (o : Written). statuses_in o.messages) p.out ∙ mid.untold;
-      untimed = ap (λ (o : Written). filter_map timer_of o.commands) p.out ∙ mid.untimed;
-      revised = rises ∙ ap (λ (h : HostData). revision_by (are_due (Ok u.state.files)) h) mid.host ∙ ap (λ b. revision_now b s.files) (sym due);
+      sources = ap (λ (t : State). t.sources) f.state ∙ (λ i. sources_after (changed i) (behind.sources i));
+      files = ap (λ r. and_then r (files_turned (sources_switched (Next event) (place_of s)).roots (Next event))) told
+          ∙ ap (λ (x : Sources). after_turn x.roots u.state.files) (sym behind.sources) ∙ p.is ∙ sym (ap (λ (t : State). Ok t.files) f.state);
+      unrevised = ap (filter_map revision_of) f.tells.ordered ∙ revisions-append v.out.commands f.tells.commands ∙ (λ i. unrevised i ++ f.tells.revises_none i);
+      told = ap statuses_in f.tells.written ∙ statuses-append v.out.messages f.tells.messages ∙ (λ i. untold i ++ f.tells.tells i);
+      untimed = ap (filter_map timer_of) f.tells.ordered ∙ timers-append v.out.commands f.tells.commands ∙ (λ i. untimed i ++ f.tells.times_none i);
+      revised = ap (λ (t : State). t.files.host.revision) f.state ∙ rises ∙ rises-by (are_due (Ok u.state.files)) u.state.files.host s.files.host.revision built behind.revision
+          ∙ ap (λ b. s.files.host.revision + (built + (if b then 1 else 0))) (sym behind.due);
     }
 
 -- the session within a turn
@@ -806,15 +859,19 @@ pub record FetchedTurn (meaning : Meaning) (s : State) (input : Input) (asked : 
   pub workspaces : t.state.state.workspaces ≡ workspaces_fetched input (place_of s)
   pub hands : spawned t.out.commands ≡ (row meaning input (place_of s)).jobs ++ fetch_jobs t.state.state.desk.handed (snapshot_of t.state.state) (fetch_in input (place_of s))
 
+-- a turn behind its quiet part
+abbrev pub QuietTurn : Meaning → State → Event → Working Turning → Type 0
+QuietTurn meaning s event t = ReadyTurn meaning s (Next event) (client_asked (Next event) (place_of s)) s.status [] t
+
 -- these behind an event, whose status comes last
 abbrev pub ReadyBehind : Meaning → State → Event → Working Turning → Type 0
-ReadyBehind meaning s event t = ReadyTurn meaning s (Next event) (client_after (Next event) s.client) s.status [] t
+ReadyBehind meaning s event t = ReadyTurn meaning s (Next event) (client_filed (Next event) (place_of s)) s.status [] t
 
 abbrev pub FetchedBehind : Meaning → State → Event → Working Turning → Type 0
-FetchedBehind meaning s event t = FetchedTurn meaning s (Next event) (client_after (Next event) s.client) s.status [] t
+FetchedBehind meaning s event t = FetchedTurn meaning s (Next event) (client_asked (Next event) (place_of s)) s.status [] t
 
 abbrev pub MadeBehind : Meaning → State → Event → Working Turning → Type 0
-MadeBehind meaning s event t = MadeTurn meaning s (Next event) (client_after (Next event) s.client) s.status [] t
+MadeBehind meaning s event t = MadeTurn meaning s (Next event) (client_asked (Next event) (place_of s)) s.status [] t
 
 -- these of the start, whose status comes first
 abbrev pub ReadyStart : Meaning → State → Working Turning → Type 0
@@ -834,29 +891,103 @@ planned-now : (meaning : Meaning) (s : State) (event : Event) (u : Working State
     → planned_by u.state.client.settings u.state.desk.turns (due_changes u.state.files) u.state.workspaces ≡ workspaces_planned (Next event) (place_of s)
 planned-now meaning s event u behind =
     let turns : u.state.desk.turns ≡ s.desk.turns + 1 = ap (λ (d : Desk). d.turns) behind.serves.desk in
-    let changed : due_changes u.state.files ≡ changes_in (Next event) (place_of s) = sym (ap changes_due behind.files) in
-    λ i. planned_by (behind.client i).settings (turns i) (changed i) (behind.workspaces i)
+    let changed = changed-now meaning s event u behind in
+    let settings : u.state.client.settings ≡ (client_after (Next event) s.client).settings =
+    ap (λ (c : Client). c.settings) behind.client ∙ switched-settings (Next event) (place_of s) in
+    λ i. planned_by (settings i) (turns i) (changed i) (behind.workspaces i)
 
 pub files-made : (meaning : Meaning) (s : State) (event : Event) (t : Working Turning) → BehindTurn meaning s event t → IfOk (files_part t) (ReadyBehind meaning s event)
 unfolding files_part files_processed
 files-made meaning s event t m =
     let u = session_in t in
-    let told : Working State → Working State = files_planned (due_changes u.state.files) in
+    let changes = due_changes u.state.files in
     let Goal : Working State → Type 0 = λ v. ReadyBehind meaning s event (record { state = with_state v.state t.state; out = v.out }) in
     IfOk-within state_in with_state files_processed t (ReadyBehind meaning s event)
-    (IfOk-and_then (at_files processed u) (λ v. Ok (told v)) (λ v. Goal (told v)) Goal
-    (IfOk-within files_in with_files processed u (λ v. Goal (told v))
-    (IfOk-weaker _ (Processes (record { state = t.state.state.files; out = t.out })) _ (processed-does _)
-    (λ v p. record {
+    (IfOk-and_then (at_files (processed u.state.sources.roots) u) (λ v. Ok (files_followed changes v)) (λ v. Goal (files_followed changes v)) Goal
+    (IfOk-within files_in with_files (processed u.state.sources.roots) u (λ v. Goal (files_followed changes v))
+    (IfOk-weaker _ (Processes u.state.sources.roots (record { state = t.state.state.files; out = t.out })) _ (processed-does _ _)
+    (λ v p. let w = files_now u.state v in
+    let f : FollowsFiles changes w (files_followed changes w) = followed-does changes w in
+    record {
       facts = m.facts;
-      made = made-now meaning s event u v _ m.behind p;
-      workspaces = planned-now meaning s event u m.behind;
-      spawns = ap (λ (o : Written). spawned o.commands) p.out ∙ m.behind.spawns;
+      made = made-now meaning s event u v (files_followed changes w) m.behind p f;
+      workspaces = ap (λ (x : State). x.workspaces) f.state ∙ planned-now meaning s event u m.behind;
+      spawns = ap spawned f.tells.ordered ∙ spawned-append v.out.commands f.tells.commands
+          ∙ (λ i. (ap (λ (o : Written). spawned o.commands) p.out ∙ m.behind.spawns) i ++ f.tells.spawns_none i) ∙ append-nil _;
     })))
     (λ v ready. ready))
 
+-- ---- the quiet part
+
+-- the client is told something, and has come to this
+told-made : (meaning : Meaning) (s : State) (input : Input) (asked client : Client) (last : Status) (sent : List Data) (w v : Working State) → Made meaning s input asked last sent w
+    → TellsClient client [] w v → client.settings ≡ asked.settings → Made meaning s input client last sent v
+told-made meaning s input asked client last sent w v made told same = record {
+  serves = beside-fits meaning s input (after_input input s.desk.jobs) w v (beside-told w v told.tells (ap (λ (x : State). x.desk) told.state)) made.serves;
+  client = ap (λ (x : State). x.client) told.state;
+  status = ap (λ (x : State). x.status) told.state ∙ made.status;
+  settings = same ∙ made.settings;
+  sources = ap (λ (x : State). x.sources) told.state ∙ made.sources;
+  files = made.files ∙ sym (ap (λ (x : State). Ok x.files) told.state);
+  unrevised = ap (filter_map revision_of) told.tells.ordered ∙ revisions-append w.out.commands told.tells.commands ∙ (λ i. made.unrevised i ++ told.tells.revises_none i);
+  told = ap statuses_in told.tells.written ∙ statuses-append w.out.messages told.tells.messages ∙ (λ i. made.told i ++ told.tells.tells i) ∙ append-nil sent;
+  untimed = ap (filter_map timer_of) told.tells.ordered ∙ timers-append w.out.commands told.tells.commands ∙ (λ i. made.untimed i ++ told.tells.times_none i);
+  revised = ap (λ (x : State). x.files.host.revision) told.state ∙ made.revised;
+}
+
+-- a revision that rises is another
+risen : (n more : ℕ) (b : Bool) → (n + (1 + more) == n) ≡ b → b ≡ false
+risen n more true is = let same : n + (1 + more) ≡ n = eqb-true _ _ is in absurd (omega (arith, same))
+risen n more false is = refl
+
+is-risen : (built changed : Bool) (n : ℕ) → not (n + ((if built then 1 else 0) + (if changed then 1 else 0)) == n) ≡ (built || changed)
+is-risen true true n = ap not (risen n 1 (n + (1 + 1) == n) refl)
+is-risen true false n = ap not (risen n 0 (n + (1 + 0) == n) refl)
+is-risen false true n = ap not (risen n 0 (n + (0 + 1) == n) refl)
+is-risen false false n = ap not (eq-eqb (n + (0 + 0)) n (sym (none-more n)))
+
+-- what the quiet part finds is what the lists say
+pub ready-due : (meaning : Meaning) (s : State) (event : Event) (t : Working Turning) → ReadyBehind meaning s event t
+    → due_in t.state.facts t.state.state ≡ refreshes_at (Next event) (place_of s)
+ready-due meaning s event t ready =
+    let revision : ℕ = t.state.state.files.host.revision in
+    let built : Bool = builds_crates_in (Next event) (place_of s) in
+    let changed : Bool = is_changed s.client.settings (Next event) s.files in
+    let new : has_new_world t.state.facts t.state.state ≡ changes_world (Next event) (place_of s) =
+    ap (λ (f : Facts). not (revision == f.revision)) ready.facts ∙ ap (λ (n : ℕ). not (n == s.files.host.revision)) ready.made.revised
+    ∙ is-risen built changed s.files.host.revision in
+    λ i. is_refresh_due (ready.facts i).quiescent (is_quiescent (files-now s (Next event) t.state.state.files ready.made.files i) (ready.workspaces i)) (new i)
+
+-- the client that it leaves
+pub ready-client : (meaning : Meaning) (s : State) (event : Event) (t : Working Turning) → ReadyBehind meaning s event t
+    → client_refreshed_if (due_in t.state.facts t.state.state) t.state.state.client ≡ client_asked (Next event) (place_of s)
+ready-client meaning s event t ready = λ i. client_refreshed_if (ready-due meaning s event t ready i) (ready.made.client i)
+
+pub quiet-made : (meaning : Meaning) (s : State) (event : Event) (t : Working Turning) → ReadyBehind meaning s event t → IfOk (quiet_part t) (QuietTurn meaning s event)
+unfolding quiet_part
+quiet-made meaning s event t ready =
+    let w = session_in t in
+    let left : Client = client_asked (Next event) (place_of s) in
+    IfOk-within state_in with_state (quiet_done t.state.facts) t (QuietTurn meaning s event)
+    (IfOk-weaker (quiet_done t.state.facts w) (TellsClient (client_refreshed_if (due_in t.state.facts w.state) w.state.client) [] w) _ (quiet-does t.state.facts w)
+    (λ v told. let now : TellsClient left [] w v = subst (λ (c : Client). TellsClient c [] w v) (ready-client meaning s event t ready) told in
+    record {
+      facts = ready.facts;
+      made = told-made meaning s (Next event) (client_filed (Next event) (place_of s)) left s.status [] w v ready.made now (quiet-settings (Next event) (place_of s));
+      workspaces = ap (λ (x : State). x.workspaces) now.state ∙ ready.workspaces;
+      spawns = ap spawned now.tells.ordered ∙ spawned-append w.out.commands now.tells.commands ∙ (λ i. ready.spawns i ++ now.tells.spawns_none i) ∙ append-nil _;
+    }))
+
+-- ---- the start
+
 -- the start tells its status
 pub record BegunTurn (s : State) (t : Working Turning) : Type 0 where
+  pub facts : t.state.facts ≡ facts_of (begun s)
+  pub tells : TellsOnly (statuses_at Start (place_of s)) nothing_done t.out
+  pub state : t.state.state ≡ record s { client = begun_client s; status = status_after Start (place_of s) }
+
+-- and asks to be told of saved documents
+pub record RegisteredTurn (s : State) (t : Working Turning) : Type 0 where
   pub facts : t.state.facts ≡ facts_of (begun s)
   pub tells : TellsOnly (statuses_at Start (place_of s)) nothing_done t.out
   pub state : t.state.state ≡ record s { client = client_left Start (place_of s); status = status_after Start (place_of s) }
@@ -872,8 +1003,19 @@ status-begins s =
       state = told.state;
     }))
 
+pub registers : (s : State) (t : Working Turning) → BegunTurn s t → IfOk (register_part t) (RegisteredTurn s)
+unfolding register_part
+registers s t b =
+    IfOk-within state_in with_state saves_registered t (RegisteredTurn s)
+    (IfOk-weaker (saves_registered (session_in t)) (TellsClient (client_registered t.state.state.client) [] (session_in t)) _ (registered-does (session_in t))
+    (λ v told. record {
+      facts = b.facts;
+      tells = tells-more _ _ _ _ b.tells told.tells;
+      state = told.state ∙ ap (λ (x : State). with_client (client_registered x.client) x) b.state;
+    }))
+
 -- and asks for a fetch
-pub begins : (meaning : Meaning) (s : State) (t : Working Turning) → BegunTurn s t → IfOk (begin_part t) (ReadyStart meaning s)
+pub begins : (meaning : Meaning) (s : State) (t : Working Turning) → RegisteredTurn s t → IfOk (begin_part t) (ReadyStart meaning s)
 unfolding begin_part begun_fetches
 begins meaning s t b =
     let settings : t.state.state.client.settings ≡ s.client.settings = ap (λ (x : State). x.client.settings) b.state ∙ left-settings Start (place_of s) in
@@ -882,7 +1024,7 @@ begins meaning s t b =
     (record {
       facts = b.facts;
       made = start-made meaning s _ b.tells (ap (λ (x : State). x.client) b.state) (ap (λ (x : State). x.status) b.state) (ap (λ (x : State). x.files) b.state)
-          (ap (λ (x : State). x.desk) b.state);
+          (ap (λ (x : State). x.desk) b.state) (ap (λ (x : State). x.sources) b.state);
       workspaces = λ i. with_fetches (start_up (discovers (settings i))) (workspaces i);
       spawns = ap spawned b.tells.ordered ∙ b.tells.spawns_none;
     })
@@ -895,7 +1037,8 @@ started-now meaning s input asked last sent w v jobs workspaces made h = record 
   client = h.client ∙ made.client;
   status = h.status ∙ made.status;
   settings = made.settings;
-  files = subst (λ (f : SessionFiles). files_made s.client.settings input s.files ≡ Ok f) (sym h.files) made.files;
+  sources = h.sources ∙ made.sources;
+  files = subst (λ (f : SessionFiles). files_made input (place_of s) ≡ Ok f) (sym h.files) made.files;
   unrevised = h.unrevised ∙ made.unrevised;
   told = ap statuses_in h.messages ∙ made.told;
   untimed = h.untimed ∙ made.untimed;
@@ -904,7 +1047,7 @@ started-now meaning s input asked last sent w v jobs workspaces made h = record 
 
 -- the settings by which it starts
 ready-settings : (meaning : Meaning) (s : State) (input : Input) (asked : Client) (last : Status) (sent : List Data) (t : Working Turning) → ReadyTurn meaning s input asked last sent t
-    → t.state.state.client.settings ≡ (client_after input s.client).settings
+    → t.state.state.client.settings ≡ (client_filed input (place_of s)).settings
 ready-settings meaning s input asked last sent t ready = ap (λ (c : Client). c.settings) ready.made.client ∙ ready.made.settings
 
 -- the fetch that is to start
@@ -935,30 +1078,41 @@ pub fetched-build : (meaning : Meaning) (s : State) (event : Event) (t : Working
 fetched-build meaning s event t fetched = ap build_due fetched.workspaces
 
 alone : (s : State) (event : Event) → is_some (fetch_in (Next event) (place_of s)) ≡ true → build_in (Next event) (place_of s) ≡ None
-alone s event some = no-build (may_start_at (Next event) s.client) (workspaces_planned (Next event) (place_of s)) some
+alone s event some = no-build (may_start_at (Next event) (place_of s)) (workspaces_planned (Next event) (place_of s)) some
 
--- build data is started
+-- the macros that are to be loaded, which are none where a fetch starts
+pub fetched-load : (meaning : Meaning) (s : State) (event : Event) (t : Working Turning) → FetchedBehind meaning s event t
+    → load_due (build_due t.state.state.workspaces) (with_due_build t.state.state.workspaces) ≡ load_in (Next event) (place_of s)
+fetched-load meaning s event t fetched = ap (λ (w : Workspaces). load_due (build_due w) (with_due_build w)) fetched.workspaces
+
+unloaded : (s : State) (event : Event) → is_some (fetch_in (Next event) (place_of s)) ≡ true → load_in (Next event) (place_of s) ≡ None
+unloaded s event some =
+    no-load (may_start_at (Next event) (place_of s)) (build_in (Next event) (place_of s)) (workspaces_planned (Next event) (place_of s)) some
+
+-- build data is started, else macros
 pub build-made : (meaning : Meaning) (s : State) (event : Event) (t : Working Turning) → FetchedBehind meaning s event t → IfOk (build_part t) (MadeBehind meaning s event)
 unfolding build_part
 build-made meaning s event t fetched =
     let input : Input = Next event in
     let place = place_of s in
     let w = session_in t in
-    let version : Option ℕ = build_due w.state.workspaces in
-    let after : Workspaces = with_due_build w.state.workspaces in
-    let is : version ≡ build_in input place = fetched-build meaning s event t fetched in
+    let build : Option ℕ = build_due w.state.workspaces in
+    let load : Option MacroPaths = load_due build (with_due_build w.state.workspaces) in
+    let after : Workspaces = with_due_load build (with_due_build w.state.workspaces) in
+    let build_is : build ≡ build_in input place = fetched-build meaning s event t fetched in
+    let load_is : load ≡ load_in input place = fetched-load meaning s event t fetched in
     let jobs = (row meaning input place).jobs in
-    IfOk-within state_in with_state build_started t (MadeBehind meaning s event)
-    (IfOk-weaker (build_started w) (StartsJobs (jobs_of_build version) after w) _ (built-hands w)
+    IfOk-within state_in with_state runs_started t (MadeBehind meaning s event)
+    (IfOk-weaker (runs_started w) (StartsJobs (jobs_of_runs build load) after w) _ (runs-hand w)
     (λ v h. let fetch : List Job = fetch_jobs v.state.desk.handed (snapshot_of v.state) (fetch_in input place) in
-    let same = same-fetch (fetch_in input place) version w v (λ some. is ∙ alone s event some) h in
+    let same = same-fetch (fetch_in input place) build load w v (λ some. build_is ∙ alone s event some) (λ some. load_is ∙ unloaded s event some) h in
     record {
       facts = fetched.facts;
-      made = started-now meaning s input (client_after input s.client) s.status [] w v (jobs_of_build version) after fetched.made h;
-      workspaces = h.now ∙ ap with_due_build fetched.workspaces;
-      hands = h.hands ∙ ap (λ (js : List Job). js ++ build_jobs v.state.desk.handed (snapshot_of v.state) version) (fetched.hands ∙ ap (λ (js : List Job). jobs ++ js) same)
-          ∙ append_assoc jobs fetch (build_jobs v.state.desk.handed (snapshot_of v.state) version)
-          ∙ ap (λ (o : Option ℕ). jobs ++ (fetch ++ build_jobs v.state.desk.handed (snapshot_of v.state) o)) is;
+      made = started-now meaning s input (client_asked input place) s.status [] w v (jobs_of_runs build load) after fetched.made h;
+      workspaces = h.now ∙ ap (λ (w : Workspaces). with_due_load (build_due w) (with_due_build w)) fetched.workspaces;
+      hands = h.hands ∙ ap (λ (js : List Job). js ++ run_jobs v.state.desk.handed (snapshot_of v.state) build load) (fetched.hands ∙ ap (λ (js : List Job). jobs ++ js) same)
+          ∙ append_assoc jobs fetch (run_jobs v.state.desk.handed (snapshot_of v.state) build load)
+          ∙ (λ i. jobs ++ (fetch ++ run_jobs v.state.desk.handed (snapshot_of v.state) (build_is i) (load_is i)));
     }))
 
 -- the start runs none
@@ -981,7 +1135,8 @@ client-behind meaning s event t m =
 status-behind : (meaning : Meaning) (s : State) (event : Event) (t : Working Turning) → MadeBehind meaning s event t
     → status_now t.state.state.client.settings t.state.state.files t.state.state.workspaces ≡ status_after (Next event) (place_of s)
 status-behind meaning s event t m =
-    λ i. status_now (m.made.client i).settings (files-now s (Next event) t.state.state.files m.made.files i) (m.workspaces i)
+    let settings : t.state.state.client.settings ≡ (client_filed (Next event) (place_of s)).settings = ap (λ (c : Client). c.settings) m.made.client ∙ m.made.settings in
+    λ i. status_now (settings i) (files-now s (Next event) t.state.state.files m.made.files i) (m.workspaces i)
 
 -- the status that is told
 due-behind : (meaning : Meaning) (s : State) (event : Event) (t : Working Turning) → MadeBehind meaning s event t
@@ -989,7 +1144,7 @@ due-behind : (meaning : Meaning) (s : State) (event : Event) (t : Working Turnin
     ≡ statuses_at (Next event) (place_of s)
 due-behind meaning s event t m =
     let settings : t.state.state.client.settings ≡ (client_left (Next event) (place_of s)).settings =
-    ap (λ (c : Client). c.settings) m.made.client ∙ sym (left-settings (Next event) (place_of s)) in
+    ap (λ (c : Client). c.settings) m.made.client ∙ m.made.settings ∙ sym (left-settings (Next event) (place_of s)) in
     λ i. statuses_due (settings i) (m.made.status i) (status-behind meaning s event t m i)
 
 -- a snapshot has the settings of the client, and nothing else of it
@@ -1015,6 +1170,7 @@ told-now meaning s event t v m told = record {
   client = ap (λ (x : State). x.client) told.state ∙ client-behind meaning s event t m;
   status = ap (λ (x : State). x.status) told.state ∙ status-behind meaning s event t m;
   settings = left-settings (Next event) (place_of s);
+  sources = ap (λ (x : State). x.sources) told.state ∙ m.made.sources;
   files = m.made.files ∙ sym (ap (λ (x : State). Ok x.files) told.state);
   unrevised = ap (filter_map revision_of) told.tells.ordered ∙ revisions-append t.out.commands told.tells.commands ∙ (λ i. m.made.unrevised i ++ told.tells.revises_none i);
   untimed = ap (filter_map timer_of) told.tells.ordered ∙ timers-append t.out.commands told.tells.commands ∙ (λ i. m.made.untimed i ++ told.tells.times_none i);
@@ -1055,16 +1211,25 @@ event-fits meaning s event =
 abbrev pub fetch_and_close : Working Turning → Result (Working Turning) Counter
 fetch_and_close t = and_then (fetch_part Start t) closing_part
 
--- it tells its status, and asks for the fetch
+-- it asks for the fetch before
 abbrev pub begin_and_close : Working Turning → Result (Working Turning) Counter
 begin_and_close t = and_then (begin_part t) fetch_and_close
 
-start-fits : (meaning : Meaning) (s : State) (t : Working Turning) → BegunTurn s t → IfOk (begin_and_close t) (λ v. Closes meaning s Start (session_in v))
-start-fits meaning s t b =
+-- and to be told of saved documents before that
+abbrev pub register_and_on : Working Turning → Result (Working Turning) Counter
+register_and_on t = and_then (register_part t) begin_and_close
+
+begin-fits : (meaning : Meaning) (s : State) (t : Working Turning) → RegisteredTurn s t → IfOk (begin_and_close t) (λ v. Closes meaning s Start (session_in v))
+begin-fits meaning s t b =
     IfOk-and_then (begin_part t) fetch_and_close (ReadyStart meaning s) (λ v. Closes meaning s Start (session_in v)) (begins meaning s t b)
     (λ u ready. IfOk-and_then (fetch_part Start u) closing_part (FetchedStart meaning s) (λ v. Closes meaning s Start (session_in v))
     (fetch-made meaning s Start (client_left Start (place_of s)) (status_after Start (place_of s)) (statuses_at Start (place_of s)) u ready)
     (λ v fetched. closing-fits meaning s Start v (start-built meaning s v fetched)))
+
+start-fits : (meaning : Meaning) (s : State) (t : Working Turning) → BegunTurn s t → IfOk (register_and_on t) (λ v. Closes meaning s Start (session_in v))
+start-fits meaning s t b =
+    IfOk-and_then (register_part t) begin_and_close (RegisteredTurn s) (λ v. Closes meaning s Start (session_in v)) (registers s t b)
+    (λ u registered. begin-fits meaning s u registered)
 
 -- behind an event: the status is told, and the turn closes
 abbrev pub status_and_close : Working Turning → Result (Working Turning) Counter
@@ -1085,26 +1250,35 @@ build-fits meaning s event t fetched =
 abbrev pub fetch_and_on : Event → Working Turning → Result (Working Turning) Counter
 fetch_and_on event t = and_then (fetch_part (Next event) t) build_and_on
 
-fetch-fits : (meaning : Meaning) (s : State) (event : Event) (t : Working Turning) → ReadyBehind meaning s event t → IfOk (fetch_and_on event t) (λ v. Closes meaning s (Next event) (session_in v))
+fetch-fits : (meaning : Meaning) (s : State) (event : Event) (t : Working Turning) → QuietTurn meaning s event t → IfOk (fetch_and_on event t) (λ v. Closes meaning s (Next event) (session_in v))
 fetch-fits meaning s event t ready =
     IfOk-and_then (fetch_part (Next event) t) build_and_on (FetchedBehind meaning s event) (λ v. Closes meaning s (Next event) (session_in v))
-    (fetch-made meaning s (Next event) (client_after (Next event) s.client) s.status [] t ready)
+    (fetch-made meaning s (Next event) (client_asked (Next event) (place_of s)) s.status [] t ready)
     (λ u fetched. build-fits meaning s event u fetched)
+
+-- the client is asked for what it shows before that
+abbrev pub quiet_and_on : Event → Working Turning → Result (Working Turning) Counter
+quiet_and_on event t = and_then (quiet_part t) (fetch_and_on event)
+
+quiet-fits : (meaning : Meaning) (s : State) (event : Event) (t : Working Turning) → ReadyBehind meaning s event t → IfOk (quiet_and_on event t) (λ v. Closes meaning s (Next event) (session_in v))
+quiet-fits meaning s event t ready =
+    IfOk-and_then (quiet_part t) (fetch_and_on event) (QuietTurn meaning s event) (λ v. Closes meaning s (Next event) (session_in v))
+    (quiet-made meaning s event t ready) (λ u quiet. fetch-fits meaning s event u quiet)
 
 -- what has changed goes into the world before that
 abbrev pub files_and_on : Event → Working Turning → Result (Working Turning) Counter
-files_and_on event t = and_then (files_part t) (fetch_and_on event)
+files_and_on event t = and_then (files_part t) (quiet_and_on event)
 
 files-fit : (meaning : Meaning) (s : State) (event : Event) (t : Working Turning) → BehindTurn meaning s event t → IfOk (files_and_on event t) (λ v. Closes meaning s (Next event) (session_in v))
 files-fit meaning s event t behind =
-    IfOk-and_then (files_part t) (fetch_and_on event) (ReadyBehind meaning s event) (λ v. Closes meaning s (Next event) (session_in v))
-    (files-made meaning s event t behind) (λ u ready. fetch-fits meaning s event u ready)
+    IfOk-and_then (files_part t) (quiet_and_on event) (ReadyBehind meaning s event) (λ v. Closes meaning s (Next event) (session_in v))
+    (files-made meaning s event t behind) (λ u ready. quiet-fits meaning s event u ready)
 
 step-fits : (meaning : Meaning) (s : State) (input : Input) → IfOk (step meaning input (begun s)) (Closes meaning s input)
 unfolding step
 step-fits meaning s Start =
     IfOk-and_then (start_parts (turning (begun s))) turned (λ v. Closes meaning s Start (session_in v)) (Closes meaning s Start)
-    (IfOk-and_then (status_part (turning (begun s))) begin_and_close (BegunTurn s) (λ v. Closes meaning s Start (session_in v))
+    (IfOk-and_then (status_part (turning (begun s))) register_and_on (BegunTurn s) (λ v. Closes meaning s Start (session_in v))
     (status-begins s) (λ t b. start-fits meaning s t b)) (λ v fits. fits)
 step-fits meaning s (Next event) =
     IfOk-and_then (and_then (event_part meaning event (turning (begun s))) (later_parts (Next event))) turned (λ v. Closes meaning s (Next event) (session_in v)) (Closes meaning s (Next event))

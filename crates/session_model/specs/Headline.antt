@@ -1,16 +1,18 @@
 -- What a session's record says of requests and answers: by the lists of inputs, messages and commands alone.
 use Rattle.std.specs.Prelude.{◌≡◌, ◌≤◌, ◌<◌, ℕ, ◌+◌, ◌-◌, ◌^◌, ◌⊎◌, List, [], ◌∷◌, ◌++◌, length, Contains, Bool, false}
-use Rattle.std.specs.Prelude.{IsTrue, Option, None, Some, is_some, Result, Ok, Err, if◌then◌else◌}
+use Rattle.std.specs.Prelude.{◌||◌, IsTrue, Option, None, Some, is_some, Result, Ok, Err, if◌then◌else◌}
 use Rattle.std.specs.FinMap as map
 use Rattle.std.specs.List.{filter_map}
 use Rattle.serde_json.specs.Data.{Data}
 use Rattle.docs_vfs.specs.FileUrls.{path_of}
 use Rattle.docs_vfs.specs.declared.file_url.UrlFault.{UrlFault}
 use Rattle.docs_vfs.specs.declared.file_kinds.ChangedFile.{ChangedFile}
+use Rattle.docs_vfs.specs.declared.source_roots.Root.{Root}
 use Rattle.lsp_frame.specs.Reader.{Reader}
 use Rattle.lsp_frame.specs.declared.message.Message.TheVariants.{Request as RequestMessage, Notification as NotificationMessage, Response as ResponseMessage}
 use Rattle.lsp_frame.specs.declared.message.RequestId.{RequestId}
 use Rattle.lsp_frame.specs.declared.message.Response.{Response}
+use Rattle.layered_settings.specs.declared.change.ConfigChange.{ConfigChange}
 use Rattle.ra_config.specs.Config.{ConfigData}
 use Rattle.analysis_host.specs.SnapshotData.{SnapshotData}
 use Rattle.session_port.specs.Events.{revision_of}
@@ -49,11 +51,15 @@ use Rattle.workspaces.specs.Workspaces.{Workspaces, no_workspaces}
 use Rattle.workspaces.specs.declared.follows.Follows.{Follows}
 use Rattle.workspaces.specs.declared.follows.Follows.TheVariants.{Nothing}
 use Rattle.workspaces.specs.declared.requests.FetchRequest.{FetchRequest}
+use Rattle.session_model.specs.Asking.{client_refreshed_if, client_registered, client_watching, is_refresh_due}
 use Rattle.session_model.specs.Building.{build_due, build_jobs, end_kept, ends_kept, request_told, with_due_build}
+use Rattle.session_model.specs.Crates.{files_with_crates, is_built_by}
 use Rattle.session_model.specs.Fetching.{fetch_jobs, folders_told_if, settings_told, with_fetches}
 use Rattle.session_model.specs.Hearing.{heard_of, told_by}
-use Rattle.session_model.specs.State.{columns_in, discovers, excludes_in, first_status, goes_by_folders, macros_loaded_in, may_start}
-use Rattle.session_model.specs.Status.{client_after_status, status_now, statuses_due, statuses_in}
+use Rattle.session_model.specs.Loading.{MacroPaths, load_due, load_jobs, with_due_load}
+use Rattle.session_model.specs.Sources.{change_by, client_with, sources_after, sources_left}
+use Rattle.session_model.specs.State.{columns_in, discovers, excludes_in, first_status, goes_by_folders, macros_loaded_in, may_start, no_sources, Sources}
+use Rattle.session_model.specs.Status.{client_after_status, is_quiescent, status_now, statuses_due, statuses_in}
 use Rattle.session_model.specs.Switching.{switch_made}
 use Rattle.session_model.specs.Timing.{bring_files, planned_by, renewed_if, timer_of, timers_set}
 use Rattle.session_model.specs.Run.{Turn, Told, AllRead, AsksLast, IsHonestInput, commands_of, fed_bytes, out_after, taking, telling}
@@ -74,14 +80,16 @@ pub record Place : Type 0 where
   pub revision : ℕ
   -- the turns, the requests that are read and not answered, the jobs handed over and not ended
   pub desk : Desk
-  -- the workspaces, and the fetches and the build data of them that are asked for
+  -- the workspaces, and the fetches, the build data and the macros of them that are asked for
   pub workspaces : Workspaces
+  -- the source roots of the workspaces
+  pub sources : Sources
   -- the status that was told last
   pub status : Status
 
 abbrev pub beginning : ConfigData → Place
 beginning settings =
-    record { client = new_client settings; files = no_files; revision = 0; desk = new_desk; workspaces = no_workspaces; status = first_status }
+    record { client = new_client settings; files = no_files; revision = 0; desk = new_desk; workspaces = no_workspaces; sources = no_sources; status = first_status }
 
 -- the number of the next turn, from 1; the start has none
 abbrev pub next_turn : Place → ℕ
@@ -100,9 +108,9 @@ snapshot_at place = record {
   revision = place.revision;
 }
 
--- what a request meets here; the crate graph counts as complete
+-- what a request meets here
 abbrev pub scene_at : Place → Scene
-scene_at place = record { snapshot = snapshot_at place; loading = place.files.loading; incomplete = false }
+scene_at place = record { snapshot = snapshot_at place; loading = place.files.loading; incomplete = place.workspaces.incomplete }
 
 -- ---- what a turn changes of it
 
@@ -138,21 +146,21 @@ files_told settings (Next (Vfs messages)) files = after_messages messages files
 files_told settings (Next (Deferred tasks)) files = Ok files
 files_told settings (Next (Timer ticket)) files = Ok files
 
--- behind the event of a turn what has changed goes into the world, unless files are loading; the start has no event
-abbrev pub files_turned : Input → SessionFiles → Result SessionFiles Counter
-files_turned Start files = Ok files
-files_turned (Next event) files = after_turn files
+-- behind the event of a turn what has changed goes into the world, and with files that came or went these roots, unless files are loading; the start has no
+-- event
+abbrev pub files_turned : List Root → Input → SessionFiles → Result SessionFiles Counter
+files_turned roots Start files = Ok files
+files_turned roots (Next event) files = after_turn roots files
 
-abbrev pub files_made : ConfigData → Input → SessionFiles → Result SessionFiles Counter
-files_made settings input files = and_then (files_told settings input files) (files_turned input)
+-- the contents of some path aren't those that the world was last made of, and no files are loading
+abbrev pub are_due : Result SessionFiles Counter → Bool
+are_due (Ok files) = is_due files
+are_due (Err counter) = false
 
--- a turn that needs one more of a counter than there are doesn't come to be
-abbrev pub or_before : SessionFiles → Result SessionFiles Counter → SessionFiles
-or_before files (Ok made) = made
-or_before files (Err counter) = files
-
-abbrev pub files_after : ConfigData → Input → SessionFiles → SessionFiles
-files_after settings input files = or_before files (files_made settings input files)
+-- a turn changes the texts of the world
+abbrev pub is_changed : ConfigData → Input → SessionFiles → Bool
+is_changed settings Start files = false
+is_changed settings (Next event) files = are_due (files_told settings (Next event) files)
 
 -- the client is asked for its settings, or tells which folders its workspaces have
 abbrev pub client_told : Option Notice → Client → Client
@@ -177,7 +185,7 @@ folders_told settings (Some other) workspaces = workspaces
 
 -- what an input tells of the workspaces, by the client, the requests that wait and the jobs that are out: the start and a request to reload ask for a fetch,
 -- so do other folders and other settings, a loader's files renew the timer of one, and a timer may ask for one; a request to rebuild macros asks for build
--- data; and a job's message may end a fetch or a run of build data
+-- data; and a job's message may end a fetch, a run of build data or a load of macros
 abbrev pub workspaces_told : Client → Input → Desk → Workspaces → Workspaces
 workspaces_told client Start desk workspaces = with_fetches (start_up (discovers client.settings)) workspaces
 workspaces_told client (Next (Lsp (RequestMessage r))) desk workspaces = request_told r desk workspaces
@@ -203,9 +211,43 @@ abbrev pub left_or : Workspaces → Result (Follows × Workspaces) Counter → W
 left_or workspaces (Ok made) = made.1
 left_or workspaces (Err counter) = workspaces
 
+-- the client behind the switch: it may be asked to watch files
+abbrev pub client_switched : Input → Place → Client
+client_switched input place = client_watching (switch_in input place) (client_after input place.client)
+
+-- a turn builds crate data, behind its switch
+abbrev pub builds_crates_in : Input → Place → Bool
+builds_crates_in input place = is_built_by (switch_in input place)
+
+-- a turn changes the world: its crate data or its texts
+abbrev pub changes_world : Input → Place → Bool
+changes_world input place = builds_crates_in input place || is_changed place.client.settings input place.files
+
 -- the workspaces behind the switch
 abbrev pub workspaces_switched : Input → Place → Workspaces
 workspaces_switched input place = left_or (workspaces_at input place) (switch_in input place)
+
+-- the source roots behind the switch: new ones where the loader gets them, by the settings that the input leaves
+abbrev pub sources_switched : Input → Place → Sources
+sources_switched input place = sources_left (client_after input place.client).settings (switch_in input place) place.sources
+
+-- the files behind it: crate data that it builds goes into the world, by the settings that the input leaves
+abbrev pub files_switched : Input → Place → Result SessionFiles Counter
+files_switched Start place = Ok place.files
+files_switched (Next event) place =
+    and_then (files_told place.client.settings (Next event) place.files)
+    (λ files. and_then (switch_in (Next event) place) (files_with_crates (client_after (Next event) place.client).settings files))
+
+abbrev pub files_made : Input → Place → Result SessionFiles Counter
+files_made input place = and_then (files_switched input place) (files_turned (sources_switched input place).roots input)
+
+-- a turn that needs one more of a counter than there are doesn't come to be
+abbrev pub or_before : SessionFiles → Result SessionFiles Counter → SessionFiles
+or_before files (Ok made) = made
+or_before files (Err counter) = files
+
+abbrev pub files_after : Input → Place → SessionFiles
+files_after input place = or_before place.files (files_made input place)
 
 -- the files that a turn puts into the world: those that have changed behind its input, unless files are loading; the start puts none
 abbrev pub changes_due : Result SessionFiles Counter → List ChangedFile
@@ -221,38 +263,72 @@ abbrev pub workspaces_planned : Input → Place → Workspaces
 workspaces_planned input place =
     planned_by (client_after input place.client).settings (next_turn place) (changes_in input place) (workspaces_switched input place)
 
--- behind an input fetches may start, by the settings that it leaves
-abbrev pub may_start_at : Input → Client → Bool
-may_start_at input client = may_start input (client_after input client).settings
+-- the change of settings that a turn's files are: the settings files that changed, by the roots behind its switch, and the parents of new roots
+abbrev pub settings_changed : Input → Place → Option ConfigChange
+settings_changed input place = change_by (changes_in input place) (sources_switched input place) (workspaces_switched input place).present
+
+-- the client behind these files
+abbrev pub client_filed : Input → Place → Client
+client_filed input place = client_with (settings_changed input place) (client_switched input place)
+
+-- the source roots behind them
+abbrev pub sources_filed : Input → Place → Sources
+sources_filed input place = sources_after (changes_in input place) (sources_switched input place)
+
+-- a turn asks the client to ask anew for what it shows: behind its switch and its files it is quiescent, and was not before, or it changes the world. The
+-- start asks for nothing of it
+abbrev pub refreshes_at : Input → Place → Bool
+refreshes_at Start place = false
+refreshes_at (Next event) place =
+    is_refresh_due (is_quiescent place.files place.workspaces)
+    (is_quiescent (files_after (Next event) place) (workspaces_planned (Next event) place)) (changes_world (Next event) place)
+
+-- the client behind that
+abbrev pub client_asked : Input → Place → Client
+client_asked input place = client_refreshed_if (refreshes_at input place) (client_filed input place)
+
+-- behind an input and its files fetches may start, by the settings that they leave
+abbrev pub may_start_at : Input → Place → Bool
+may_start_at input place = may_start input (client_filed input place).settings
 
 -- the fetch that a turn starts: the one that is asked for behind its input, its switch and its files, where none is in progress
 abbrev pub fetch_in : Input → Place → Option (List ℕ × FetchRequest)
-fetch_in input place = fetch_to_start (may_start_at input place.client) (workspaces_planned input place).fetches
+fetch_in input place = fetch_to_start (may_start_at input place) (workspaces_planned input place).fetches
 
 -- the workspaces behind it
 abbrev pub workspaces_fetched : Input → Place → Workspaces
-workspaces_fetched input place = with_fetches (start_fetch (may_start_at input place.client)) (workspaces_planned input place)
+workspaces_fetched input place = with_fetches (start_fetch (may_start_at input place)) (workspaces_planned input place)
 
 -- the version of the workspaces on which a turn starts a run of build data, if it starts one: behind its fetch. The start starts none
 abbrev pub build_in : Input → Place → Option ℕ
 build_in Start place = None
 build_in (Next event) place = build_due (workspaces_fetched (Next event) place)
 
+-- the workspaces behind it
+abbrev pub workspaces_built : Input → Place → Workspaces
+workspaces_built Start place = workspaces_fetched Start place
+workspaces_built (Next event) place = with_due_build (workspaces_fetched (Next event) place)
+
+-- the libraries of the macros that a turn loads, if it loads some: behind its run of build data, where it starts none. The start loads none
+abbrev pub load_in : Input → Place → Option MacroPaths
+load_in Start place = None
+load_in (Next event) place = load_due (build_in (Next event) place) (workspaces_built (Next event) place)
+
 abbrev pub workspaces_after : Input → Place → Workspaces
-workspaces_after Start place = workspaces_fetched Start place
-workspaces_after (Next event) place = with_due_build (workspaces_fetched (Next event) place)
+workspaces_after Start place = workspaces_built Start place
+workspaces_after (Next event) place = with_due_load (build_in (Next event) place) (workspaces_built (Next event) place)
 
 -- the status of a turn: the start tells it first, any other turn last
 abbrev pub status_after : Input → Place → Status
 status_after Start place = status_now place.client.settings place.files place.workspaces
 status_after (Next event) place =
-    status_now (client_after (Next event) place.client).settings (files_after place.client.settings (Next event) place.files) (workspaces_after (Next event) place)
+    status_now (client_filed (Next event) place).settings (files_after (Next event) place) (workspaces_after (Next event) place)
 
--- the client behind all that a turn tells it: it may be asked whether the logs are to be opened
+-- the client behind all that a turn tells it: the start may ask it to tell of saved documents, and each turn may ask whether the logs are to be opened
 abbrev pub client_left : Input → Place → Client
-client_left Start place = client_after_status place.status place.files place.workspaces place.client
+client_left Start place = client_registered (client_after_status place.status place.files place.workspaces place.client)
 client_left (Next event) place =
-    client_after_status place.status (files_after place.client.settings (Next event) place.files) (workspaces_after (Next event) place) (client_after (Next event) place.client)
+    client_after_status place.status (files_after (Next event) place) (workspaces_after (Next event) place) (client_asked (Next event) place)
 
 -- the last of numbers, else the one before
 abbrev pub last_of : List ℕ → ℕ → ℕ
@@ -275,10 +351,11 @@ desk_after turn desk = record {
 abbrev pub place_after : Turn → Place → Place
 place_after turn place = record {
   client = client_left turn.input place;
-  files = files_after place.client.settings turn.input place.files;
+  files = files_after turn.input place;
   revision = revision_after turn.commands place.revision;
   desk = desk_after turn place.desk;
   workspaces = workspaces_after turn.input place;
+  sources = sources_filed turn.input place;
   status = status_after turn.input place;
 }
 
@@ -320,10 +397,15 @@ row meaning (Next (Vfs messages)) place = silent
 row meaning (Next (Deferred tasks)) place = silent
 row meaning (Next (Timer ticket)) place = silent
 
--- the jobs for no request that a turn hands over, with this number, on this snapshot: that of the fetch that it starts, then that of the build data that it
--- starts. It starts at most one of both, since no build data starts while a fetch is in progress
+-- the job of the run of build data and that of the load of macros that start, if they do
+abbrev pub run_jobs : ℕ → SnapshotData → Option ℕ → Option MacroPaths → List Job
+run_jobs number snapshot build load = build_jobs number snapshot build ++ load_jobs number snapshot load
+
+-- the jobs for no request that a turn hands over, with this number, on this snapshot: that of the fetch that it starts, of the build data, or of the load of
+-- macros. It starts at most one of them, since nothing else starts while a fetch is in progress, and no macros are loaded where build data starts
 abbrev pub jobs_started : Input → Place → ℕ → SnapshotData → List Job
-jobs_started input place number snapshot = fetch_jobs number snapshot (fetch_in input place) ++ build_jobs number snapshot (build_in input place)
+jobs_started input place number snapshot =
+    fetch_jobs number snapshot (fetch_in input place) ++ run_jobs number snapshot (build_in input place) (load_in input place)
 
 -- a turn hands over the jobs of its row, and behind them those that it starts: on what the turn leaves
 abbrev pub HandsOver : Meaning → Turn → Place → Type 0
@@ -361,20 +443,13 @@ abbrev pub AreHandedOver : ConfigData → List Turn → Jobs → Type 0
 AreHandedOver settings turns jobs =
     (number : ℕ) (job : Job) (ticket : ℕ) → map.get jobs number ≡ Some job → ticket_of job.kind ≡ Some ticket → WasHandedOver settings turns ticket job
 
--- the contents of some path aren't those that the world was last made of, and no files are loading
-abbrev pub are_due : Result SessionFiles Counter → Bool
-are_due (Ok files) = is_due files
-are_due (Err counter) = false
+-- the revisions that a turn makes: one where it builds crate data, and one where it changes the texts of the world
+abbrev pub revisions_in : Input → Place → ℕ
+revisions_in input place =
+    (if builds_crates_in input place then 1 else 0) + (if is_changed place.client.settings input place.files then 1 else 0)
 
--- a turn changes the world
-abbrev pub is_changed : ConfigData → Input → SessionFiles → Bool
-is_changed settings Start files = false
-is_changed settings (Next event) files = are_due (files_told settings (Next event) files)
-
--- the revision is one more where the turn changes the world, and else the same
 abbrev pub Revises : Turn → Place → Type 0
-Revises turn place =
-    (place_after turn place).revision ≡ (if is_changed place.client.settings turn.input place.files then place.revision + 1 else place.revision)
+Revises turn place = (place_after turn place).revision ≡ place.revision + revisions_in turn.input place
 
 -- the numbers of the files are the table's; and where no files are loading, the world has, of each path, its contents, normalised, where they are a text
 pub record SeesFiles (files : SessionFiles) : Type 0 where
@@ -387,7 +462,7 @@ pub record SeesFiles (files : SessionFiles) : Type 0 where
 pub record Answers (meaning : Meaning) (settings : ConfigData) (honest : Bool) (before : List Turn) (turn : Turn) : Type 0 where
   -- it answers by the reply table
   pub does : let place = place_after_all before (beginning settings) in reaction_of turn ≡ row meaning turn.input place
-  -- and it hands over no other jobs than these, that of a fetch of workspaces and that of a run of build data
+  -- and it hands over no other jobs than these, that of a fetch of workspaces, that of a run of build data and that of a load of macros
   pub hands_over : HandsOver meaning turn (place_after_all before (beginning settings))
   -- it tells a client that takes statuses its own, exactly where that is another than the one told last
   pub tells_status : TellsItsStatus turn (place_after_all before (beginning settings))
@@ -400,7 +475,7 @@ pub record Answers (meaning : Meaning) (settings : ConfigData) (honest : Bool) (
   pub held : AreHeld (place_after_all (before ++ turn ∷ []) (beginning settings)).desk
   -- each job out for a request was handed over by the turn that read it, or a later one, on the documents of all inputs before that turn
   pub handed_over : AreHandedOver settings before (place_after_all before (beginning settings)).desk.jobs
-  -- the revision rises by one exactly where the contents of some path are others than those that the world was last made of
+  -- the revision rises by one where crate data is built, and by one where the contents of some path are others than those that the world was last made of
   pub revised : Revises turn (place_after_all before (beginning settings))
   -- what queries see of the files: the snapshots that this turn hands over are made of it
   pub sees : SeesFiles (place_after_all before (beginning settings)).files
@@ -433,15 +508,19 @@ fetches_in input place = if is_some (fetch_in input place) then 1 else 0
 abbrev pub builds_in : Input → Place → ℕ
 builds_in input place = if is_some (build_in input place) then 1 else 0
 
--- a turn needs one more of a counter than there are: its number is past the last one, it hands over more jobs, for requests, for a fetch and for build data,
+-- the same, where it starts a load of macros
+abbrev pub loads_in : Input → Place → ℕ
+loads_in input place = if is_some (load_in input place) then 1 else 0
+
+-- a turn needs one more of a counter than there are: its number is past the last one, it hands over more jobs, for requests and of its own,
 -- it asks the client more than there are numbers of requests, it changes the world at the last revision, one of its files needs a number where all were
 -- given, or its switch a version
 abbrev pub NeedsMore : Meaning → Place → Input → Counter → Type 0
 NeedsMore meaning place input Turns = 2 ^ 64 ≤ next_turn place
 NeedsMore meaning place input Bytes = ⊥
 NeedsMore meaning place input JobsCounter =
-    2 ^ 64 ≤ place.desk.handed + length (row meaning input place).jobs + fetches_in input place + builds_in input place
-NeedsMore meaning place input Revisions = 2 ^ 64 - 1 ≤ place.revision
+    2 ^ 64 ≤ place.desk.handed + length (row meaning input place).jobs + fetches_in input place + (builds_in input place + loads_in input place)
+NeedsMore meaning place input Revisions = 2 ^ 64 - 1 ≤ place.revision + (if builds_crates_in input place then 1 else 0)
 NeedsMore meaning place input Outgoing = number_limit < (client_left input place).asked.given
 NeedsMore meaning place input Files = files_told place.client.settings input place.files ≡ Err Files
 NeedsMore meaning place input LoaderSettings = switch_in input place ≡ Err LoaderSettings

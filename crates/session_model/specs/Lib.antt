@@ -1,12 +1,16 @@
+pub mod Asking
 pub mod Building
 pub mod Codes
 pub mod Course
+pub mod Crates
 pub mod Fetching
 pub mod Headline
 pub mod Hearing
 pub mod Inputs
+pub mod Loading
 pub mod Machine
 pub mod Run
+pub mod Sources
 pub mod State
 pub mod Status
 pub mod Switching

@@ -8,8 +8,10 @@ use Rattle.lsp_frame.specs.declared.message.Response.{Response}
 use Rattle.plain.specs.Texts.{text_cmp}
 use Rattle.docs_vfs.specs.FileUrls.{path_of}
 use Rattle.docs_vfs.specs.declared.file_kinds.ChangedFile.{ChangedFile}
+use Rattle.docs_vfs.specs.declared.file_kinds.FileId.{FileId}
 use Rattle.docs_vfs.specs.declared.file_url.UrlFault.{UrlFault}
-use Rattle.session_port.specs.declared.command.Command.TheVariants.{Revise, Invalidate, SetLoader, Timer as SetTimer}
+use Rattle.session_port.specs.declared.command.Command.TheVariants.{Defer, Revise, Invalidate, SetLoader, Timer as SetTimer}
+use Rattle.session_port.specs.declared.command.DeferredTask.TheVariants.{CheckProcMacroSources}
 use Rattle.session_port.specs.declared.command.LogCode.TheVariants.{MalformedNotification, UnhandledNotification}
 use Rattle.session_port.specs.declared.command.LogCode.TheVariants.{BadPath}
 use Rattle.session_port.specs.declared.event.LoaderMsg.{LoaderMsg}
@@ -20,10 +22,12 @@ use Rattle.turn_parts.specs.Working.{Working, and_then, ordered, logged, within,
 use Rattle.turn_parts.specs.declared.fault.Counter.{Counter}
 use Rattle.client.specs.Client.{Client}
 use Rattle.client.specs.Steps.{asked_for, answered, folders_changed, notification_of}
-use Rattle.client.specs.declared.handler.ReqHandler.TheVariants.{OpenLogs, Settings}
+use Rattle.client.specs.declared.handler.ReqHandler.TheVariants.{Ignore, OpenLogs, Settings}
 use Rattle.notify.specs.declared.outgo.MessageKind.{MessageKind}
 use Rattle.notify.specs.declared.outgo.MessageKind.TheVariants.{Warning}
-use Rattle.notify.specs.declared.outgo.Outgo.TheVariants.{Configuration, ShowMessage, ShowMessageRequest}
+use Rattle.notify.specs.declared.outgo.Outgo.{Outgo}
+use Rattle.notify.specs.declared.outgo.Outgo.TheVariants.{CodeLensRefresh, Configuration, DiagnosticRefresh, InlayHintRefresh, RegisterSave, RegisterWatch}
+use Rattle.notify.specs.declared.outgo.Outgo.TheVariants.{SemanticTokensRefresh, ShowMessage, ShowMessageRequest}
 use Rattle.notify.specs.declared.notice.DidChange.{DidChange}
 use Rattle.notify.specs.declared.notice.DidOpen.{DidOpen}
 use Rattle.notify.specs.declared.notice.Notice.{Notice}
@@ -31,9 +35,10 @@ use Rattle.notify.specs.declared.notice.Notice.TheVariants as notices
 use Rattle.desk.specs.Desk.{Desk}
 use Rattle.desk.specs.Meaning.{Meaning}
 use Rattle.desk.specs.Steps.{requested, cancelled, counted as counted_at_desk, handed_over, taken as taken_at_desk, kept as kept_at_desk}
+use Rattle.ra_config.specs.declared.capabilities.Capabilities.{Capabilities}
 use Rattle.session_files.specs.Folds.{due_changes}
 use Rattle.session_files.specs.SessionFiles.{SessionFiles}
-use Rattle.session_files.specs.Steps.{changed, closed as closed_document, loaded, opened, processed}
+use Rattle.session_files.specs.Steps.{changed, closed as closed_document, crates_put, loaded, opened, processed}
 use Rattle.status.specs.Same.{is_same_status}
 use Rattle.status.specs.declared.status.Status.{Status}
 use Rattle.workspaces.specs.Fetches.{fetch_to_start, fire, fires, start_fetch, start_up}
@@ -42,13 +47,19 @@ use Rattle.workspaces.specs.Workspaces.{Workspaces}
 use Rattle.workspaces.specs.declared.follows.Follows.{Follows}
 use Rattle.workspaces.specs.declared.follows.Follows.TheVariants.{Nothing, CrateData, Wait, GoOn}
 use Rattle.workspaces.specs.declared.requests.FetchRequest.{FetchRequest}
+use Rattle.change_effects.specs.declared.effects.ChangeEffects.{ChangeEffects}
+use Rattle.change_effects.specs.declared.effects.SettingsFile.{SettingsFile}
+use Rattle.session_model.specs.Asking.{is_refresh_due, registers_saves, watchers_asked}
 use Rattle.session_model.specs.Building.{build_due, end_kept, request_told, with_due_build}
+use Rattle.session_model.specs.Crates.{builds_crates, crate_data}
 use Rattle.session_model.specs.Fetching.{folders_told_if, settings_told, with_fetches}
 use Rattle.session_model.specs.Hearing.{heard_of}
-use Rattle.session_model.specs.State.{client_watches, columns_in, discovers, excludes_in, fetch_kind, goes_by_folders, may_start, scene_of, snapshot_of, State}
-use Rattle.session_model.specs.Status.{opens_logs, shown_of, status_message, status_now, takes_status}
+use Rattle.session_model.specs.Loading.{MacroPaths, load_due, load_kind, with_due_load}
+use Rattle.session_model.specs.Sources.{change_for, client_with, parents_told, sources_now}
+use Rattle.session_model.specs.State.{client_watches, columns_in, discovers, excludes_in, fetch_kind, goes_by_folders, may_start, scene_of, snapshot_of, Sources, State, watched_names}
+use Rattle.session_model.specs.Status.{is_quiescent, opens_logs, shown_of, status_message, status_now, takes_status}
 use Rattle.session_model.specs.Switching.{switch_made}
-use Rattle.session_model.specs.Timing.{bring_files, planned_by, renewed_if}
+use Rattle.session_model.specs.Timing.{bring_files, effects_for, fetch_planned, renewed_if}
 use Rattle.session_model.specs.declared.facts.Facts.{Facts}
 use Rattle.session_model.specs.declared.input.Event.{Event}
 use Rattle.session_model.specs.declared.input.Event.TheVariants.{Lsp, Task, Vfs, Deferred, Timer}
@@ -85,6 +96,10 @@ asked_for_settings w = asked_for Configuration Settings w
 abbrev pub at_client : (Working Client → Result (Working Client) Counter) → Working State → Result (Working State) Counter
 at_client step w = within client_in with_client step w
 
+-- where this flag is set, the client is asked for this; nothing follows its answer
+unfoldable pub asked_if : Bool → Outgo → Working State → Result (Working State) Counter
+asked_if wanted message w = if wanted then at_client (asked_for message Ignore) w else Ok w
+
 -- ---- the files, within the session
 
 abbrev pub files_in : State → SessionFiles
@@ -105,6 +120,11 @@ with_workspaces workspaces state = record state { workspaces = workspaces }
 -- the workspaces come to this; nothing is written for it
 abbrev pub at_workspaces : (Workspaces → Workspaces) → Working State → Working State
 at_workspaces step w = record w { state = with_workspaces (step w.state.workspaces) w.state }
+
+-- ---- the source roots, within the session
+
+abbrev pub with_sources : Sources → State → State
+with_sources sources state = record state { sources = sources }
 
 -- ---- requests
 
@@ -180,7 +200,7 @@ received meaning (ResponseMessage r) w = answer_taken r w
 
 -- ---- results
 
--- a message of a job, on the present snapshot; one that ends a fetch or a run of build data is told to the workspaces
+-- a message of a job, on the present snapshot; one that ends a fetch, a run of build data or a load of macros is told to the workspaces
 abbrev pub taken : Meaning → TaskMsg → Working State → Result (Working State) Counter
 taken meaning message w =
     and_then (at_desk (taken_at_desk meaning (scene_of w.state) message) w)
@@ -256,17 +276,32 @@ loader_set version w =
     let settings = w.state.client.settings in
     ordered (SetLoader (loader_roots (excludes_in settings) w.state.workspaces.present) (not (client_watches settings)) version) w
 
--- what follows a switch; crate data is not built yet
-unfoldable pub followed : Follows → Working State → Working State
-followed Nothing w = w
-followed CrateData w = w
-followed (Wait msrv) w = warned msrv w
-followed (GoOn msrv version initial) w = loader_set version (warned msrv w)
+-- the client is asked to watch the files of the workspaces that are present, where it is the client that watches
+unfoldable pub watchers_registered : Working State → Result (Working State) Counter
+watchers_registered w =
+    let settings = w.state.client.settings in
+    asked_if (client_watches settings) (RegisterWatch (watchers_asked settings w.state.workspaces.present)) w
+
+-- the source roots are those that the loader gets
+unfoldable pub roots_renewed : Working State → Working State
+roots_renewed w = record w { state = with_sources (sources_now w.state.client.settings w.state.workspaces) w.state }
+
+-- what the user, the client and the host are told behind a switch, and the roots that it renews
+unfoldable pub followed : Follows → Working State → Result (Working State) Counter
+followed Nothing w = Ok w
+followed CrateData w = Ok w
+followed (Wait msrv) w = Ok (warned msrv w)
+followed (GoOn msrv version initial) w = and_then (watchers_registered (warned msrv w)) (λ v. Ok (roots_renewed (loader_set version v)))
+
+-- where this flag is set, crate data of the workspaces that are present goes into the world. Its macros are not loaded yet
+unfoldable pub crates_built : Bool → Working State → Result (Working State) Counter
+crates_built false w = Ok w
+crates_built true w = at_files (crates_put (crate_data w.state.client.settings w.state.files.ids w.state.workspaces.present)) w
 
 -- a switch leaves these workspaces, and what follows it is done
 unfoldable pub switched_to : Result (Follows × Workspaces) Counter → Working State → Result (Working State) Counter
 switched_to (Err counter) w = Err counter
-switched_to (Ok made) w = Ok (followed made.0 (at_workspaces (λ before. made.1) w))
+switched_to (Ok made) w = and_then (followed made.0 (at_workspaces (λ before. made.1) w)) (crates_built (builds_crates made.0))
 
 -- the switch that is wanted is made, unless files are loading
 unfoldable pub switch_done : Working State → Result (Working State) Counter
@@ -275,21 +310,57 @@ switch_done w = switched_to (switch_made w.state.client.settings w.state.files w
 unfoldable pub switch_part : Working Turning → Result (Working Turning) Counter
 switch_part w = in_state switch_done w
 
--- the fetch that changed files ask for waits for a timer
-abbrev pub files_planned : List ChangedFile → Working State → Working State
-files_planned changes w = at_workspaces (planned_by w.state.client.settings w.state.desk.turns changes) w
+-- settings files that changed, and the parents of new roots, go into the settings: they are one change of them
+unfoldable pub settings_filed : List SettingsFile → Working State → Working State
+settings_filed files w =
+    let client = client_with (change_for files w.state.sources w.state.workspaces.present) w.state.client in
+    record w { state = with_sources (parents_told w.state.sources) (with_client client w.state) }
 
--- what has changed goes into the world, unless files are loading; it may ask for a fetch
+-- the host is to ask, once there is nothing else to do, for a check of these files as sources of macros
+unfoldable pub sources_deferred : Option (List FileId) → Working State → Working State
+sources_deferred None w = w
+sources_deferred (Some files) w = ordered (Defer (CheckProcMacroSources files)) w
+
+-- a fetch that is asked for waits for a timer
+unfoldable pub fetch_waits : Option FetchRequest → Working State → Working State
+fetch_waits request w = at_workspaces (fetch_planned w.state.desk.turns request) w
+
+-- what changed files have a session do: their settings are taken, the check of sources is put off, and the fetch that they ask for waits
+unfoldable pub effects_done : ChangeEffects → Working State → Working State
+effects_done effects w = fetch_waits effects.fetch (sources_deferred effects.macro_sources (settings_filed effects.settings w))
+
+-- the same by the files that changed; without any, nothing is done
+unfoldable pub files_followed : List ChangedFile → Working State → Working State
+files_followed [] w = w
+files_followed (change ∷ changes) w = effects_done (effects_for w.state.client.settings (change ∷ changes) w.state.workspaces) w
+
+-- what has changed goes into the world, and with files that came or went the source roots, unless files are loading; and what follows from it is done
 unfoldable pub files_processed : Working State → Result (Working State) Counter
 files_processed w =
-    and_then (at_files processed w)
-    (λ v. Ok (files_planned (due_changes w.state.files) v))
+    and_then (at_files (processed w.state.sources.roots) w)
+    (λ v. Ok (files_followed (due_changes w.state.files) v))
 
 unfoldable pub files_part : Working Turning → Result (Working Turning) Counter
 files_part w = in_state files_processed w
 
-abbrev pub quiet_part : Working Turning → Result (Working Turning) Counter
-quiet_part w = Ok w
+-- the client is asked to ask anew for what it shows, for each thing where it can be asked
+unfoldable pub refreshed : Capabilities → Working State → Result (Working State) Counter
+refreshed can w =
+    and_then (asked_if can.semantic_tokens_refresh SemanticTokensRefresh w) (λ w. and_then (asked_if can.code_lens_refresh CodeLensRefresh w)
+    (λ w. and_then (asked_if can.inlay_hints_refresh InlayHintRefresh w) (asked_if can.diagnostics_refresh DiagnosticRefresh)))
+
+-- the world is another than before the event
+abbrev pub has_new_world : Facts → State → Bool
+has_new_world facts state = not (state.files.host.revision == facts.revision)
+
+-- in a session that has come to be quiescent, and in one that is and whose world has changed
+unfoldable pub quiet_done : Facts → Working State → Result (Working State) Counter
+quiet_done facts w =
+    if is_refresh_due facts.quiescent (is_quiescent w.state.files w.state.workspaces) (has_new_world facts w.state)
+    then refreshed w.state.client.settings.capabilities w else Ok w
+
+unfoldable pub quiet_part : Working Turning → Result (Working Turning) Counter
+quiet_part w = in_state (quiet_done w.state.facts) w
 
 abbrev pub publish_part : Working Turning → Result (Working Turning) Counter
 publish_part w = Ok w
@@ -315,8 +386,21 @@ build_handed_over (Some version) w = at_desk (handed_over (snapshot_of w.state) 
 unfoldable pub build_started : Working State → Result (Working State) Counter
 build_started w = build_handed_over (build_due w.state.workspaces) (at_workspaces with_due_build w)
 
+-- a load of macros that is to start is handed over on the present snapshot
+unfoldable pub load_handed_over : Option MacroPaths → Working State → Result (Working State) Counter
+load_handed_over None w = Ok w
+load_handed_over (Some paths) w = at_desk (handed_over (snapshot_of w.state) Worker (load_kind w.state.client.settings paths)) w
+
+-- the load that is asked for starts, where neither a fetch is in progress nor this run of build data starts
+unfoldable pub load_started : Option ℕ → Working State → Result (Working State) Counter
+load_started build w = load_handed_over (load_due build w.state.workspaces) (at_workspaces (with_due_load build) w)
+
+-- build data starts, else macros
+unfoldable pub runs_started : Working State → Result (Working State) Counter
+runs_started w = and_then (build_started w) (load_started (build_due w.state.workspaces))
+
 unfoldable pub build_part : Working Turning → Result (Working Turning) Counter
-build_part w = in_state build_started w
+build_part w = in_state runs_started w
 
 abbrev pub prime_part : Working Turning → Result (Working Turning) Counter
 prime_part w = Ok w
@@ -369,6 +453,13 @@ later_parts input w =
     and_then (switch_part w) (λ w. and_then (files_part w) (λ w. and_then (quiet_part w) (λ w. and_then (publish_part w)
     (λ w. and_then (fetch_part input w) (λ w. and_then (build_part w) (λ w. and_then (prime_part w) (λ w. and_then (status_part w) closing_part)))))))
 
+-- the client is asked to tell of the documents that it saves, where it can be asked: those of Rust and Cargo, and those of the names that are watched
+unfoldable pub saves_registered : Working State → Result (Working State) Counter
+saves_registered w = asked_if (registers_saves w.state.client.settings) (RegisterSave (watched_names w.state.client.settings)) w
+
+unfoldable pub register_part : Working Turning → Result (Working Turning) Counter
+register_part w = in_state saves_registered w
+
 -- the start asks for the first fetch, unless the projects are discovered
 unfoldable pub begun_fetches : Working State → Result (Working State) Counter
 begun_fetches w = Ok (at_workspaces (with_fetches (start_up (discovers w.state.client.settings))) w)
@@ -378,11 +469,16 @@ begin_part w = in_state begun_fetches w
 
 -- the parts of the start
 abbrev pub start_parts : Working Turning → Result (Working Turning) Counter
-start_parts w = and_then (status_part w) (λ w. and_then (begin_part w) (λ w. and_then (fetch_part Start w) closing_part))
+start_parts w =
+    and_then (status_part w) (λ w. and_then (register_part w) (λ w. and_then (begin_part w) (λ w. and_then (fetch_part Start w) closing_part)))
 
 -- the facts before a turn
 abbrev pub facts_of : Working State → Facts
-facts_of w = record { revision = w.state.files.host.revision; ordered = length w.out.commands }
+facts_of w = record {
+  revision = w.state.files.host.revision;
+  ordered = length w.out.commands;
+  quiescent = is_quiescent w.state.files w.state.workspaces;
+}
 
 abbrev pub turning : Working State → Working Turning
 turning w = record { state = record { state = w.state; facts = facts_of w }; out = w.out }

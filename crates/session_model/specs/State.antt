@@ -1,12 +1,13 @@
 -- The session's state, as contracts see it: a record of its parts.
 use Rattle.std.specs.Prelude.{[], Bool, false, is_some, length, List, None, not, Option, Some, true, ℕ, ◌&&◌, ◌==◌, ◌||◌}
+use Rattle.docs_vfs.specs.declared.source_roots.Root.{Root}
 use Rattle.text_core.specs.declared.position.PositionEncoding.{PositionEncoding}
-use Rattle.ra_settings.specs.declared.row.Row.TheVariants.{CargoAutoreload, CargoBuildScriptsEnable, DetachedFiles, FilesExclude, FilesWatcher, LinkedProjects, ProcMacroEnable, WorkspaceDiscoverConfig}
+use Rattle.ra_settings.specs.declared.row.Row.TheVariants.{CargoAutoreload, CargoBuildScriptsEnable, DetachedFiles, FilesExclude, FilesWatcher, LinkedProjects, ProcMacroEnable, ProcMacroIgnored, WorkspaceDiscoverConfig}
 use Rattle.ra_settings.specs.declared.value.DiscoverConfig.{DiscoverConfig}
 use Rattle.ra_settings.specs.declared.value.LinkedProject.{LinkedProject}
 use Rattle.ra_settings.specs.declared.value.FilesWatcher.TheVariants.{Client as ByClient, Server as ByServer}
 use Rattle.ra_settings.specs.declared.value.SettingValue.{SettingValue}
-use Rattle.ra_settings.specs.declared.value.SettingValue.TheVariants.{Discover, Paths, Truth, Watcher}
+use Rattle.ra_settings.specs.declared.value.SettingValue.TheVariants.{Discover, Lists, Paths, Truth, Watcher}
 use Rattle.layered_settings.specs.Search.{setting}
 use Rattle.ra_config.specs.Config.{ConfigData, linked_in, projects_of}
 use Rattle.analysis_host.specs.SnapshotData.{SnapshotData}
@@ -24,6 +25,16 @@ use Rattle.session_model.specs.declared.counters.Counters.{Counters}
 use Rattle.session_model.specs.declared.input.Input.{Input}
 use Rattle.session_model.specs.declared.input.Input.TheVariants.{Start, Next}
 
+-- the source roots, as a switch made them
+pub record Sources : Type 0 where
+  pub roots : List Root
+  -- their parents, where the settings don't have them yet
+  pub parents : Option (List (ℕ × ℕ))
+
+-- no roots, and so no parents
+abbrev pub no_sources : Sources
+no_sources = record { roots = []; parents = None }
+
 pub record State : Type 0 where
   -- the settings, and what the client was asked
   pub client : Client
@@ -33,6 +44,8 @@ pub record State : Type 0 where
   pub desk : Desk
   -- the workspaces, and what is asked for to renew them
   pub workspaces : Workspaces
+  -- the source roots of the workspaces
+  pub sources : Sources
   -- the status that was told last
   pub status : Status
 
@@ -55,6 +68,14 @@ truth_in other = false
 -- whether no proc macros are wanted: the setting `procMacro.enable`. None are loaded yet
 abbrev pub macros_loaded_in : ConfigData → Bool
 macros_loaded_in settings = not (truth_in (setting ProcMacroEnable None settings.settings))
+
+abbrev pub lists_in : SettingValue → List (List ℕ × List (List ℕ))
+lists_in (Lists lists) = lists
+lists_in other = []
+
+-- the names of the macros that are not to be expanded, by package: the setting `procMacro.ignored`
+abbrev pub ignored_macros : ConfigData → List (List ℕ × List (List ℕ))
+ignored_macros settings = lists_in (setting ProcMacroIgnored None settings.settings)
 
 -- the setting `workspace.discoverConfig` is set
 abbrev pub is_discovering : SettingValue → Bool
@@ -129,9 +150,9 @@ snapshot_of state = record {
   revision = state.files.host.revision;
 }
 
--- what a request meets; the crate graph counts as complete
+-- what a request meets
 abbrev pub scene_of : State → Scene
-scene_of state = record { snapshot = snapshot_of state; loading = state.files.loading; incomplete = false }
+scene_of state = record { snapshot = snapshot_of state; loading = state.files.loading; incomplete = state.workspaces.incomplete }
 
 -- the status that the first one is compared with: all is well, and nothing is worked on
 abbrev pub first_status : Status
@@ -139,7 +160,8 @@ first_status = record { health = health.Ok; quiescent = true; message = None }
 
 -- the state before any turn
 abbrev pub fresh : ConfigData → State
-fresh settings = record { client = new_client settings; files = no_files; desk = new_desk; workspaces = no_workspaces; status = first_status }
+fresh settings =
+    record { client = new_client settings; files = no_files; desk = new_desk; workspaces = no_workspaces; sources = no_sources; status = first_status }
 
 -- the same, where so many of each counter were used
 abbrev pub fresh_at : Counters → ConfigData → State
@@ -148,5 +170,6 @@ fresh_at used settings = record {
   files = no_files_at used.files used.revisions;
   desk = new_desk_at used.turns used.jobs;
   workspaces = no_workspaces_at used.loader_settings;
+  sources = no_sources;
   status = first_status;
 }

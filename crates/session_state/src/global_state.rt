@@ -1,5 +1,5 @@
 // The session's state and its turns.
-ghost use Rattle.std.specs.Prelude.{◌≡◌, ◌≤◌, IfOk, OnOk, Some, is_some, not};
+ghost use Rattle.std.specs.Prelude.{◌≡◌, ◌≤◌, [], IfOk, OnOk, Some, is_some, not};
 ghost use Rattle.lsp_frame.specs.Pending.{IsAbove, id_of, is_pending};
 ghost use Rattle.lsp_frame.specs.Written.{AreWritable};
 ghost use Rattle.lsp_frame.specs.declared.message.Message.TheVariants.{Response as ResponseMessage};
@@ -14,10 +14,15 @@ ghost use Rattle.session_model.specs.declared.input.Input.TheVariants.{Start, Ne
 
 mod asking;
 mod building;
+mod crates;
 mod fetching;
 mod filing;
+mod loading;
 mod messages;
 mod notifications;
+mod refreshing;
+mod registering;
+mod settings;
 mod switching;
 mod telling;
 mod timing;
@@ -26,8 +31,9 @@ mod watching;
 use analysis_host::{Analysis, GlobalStateSnapshot, SnapshotParts};
 use client::Client;
 use desk::{Desk, Scene};
+use docs_vfs::SourceRoots;
 use lsp_frame::{RequestId, Response};
-use plain::{NoMemory, Text};
+use plain::{Items, NoMemory, Text};
 use ra_config::Config;
 use session_files::SessionFiles;
 use session_model::{Counters, Event, Facts, TurnError};
@@ -47,8 +53,19 @@ pub struct GlobalState {
     files: SessionFiles,
     desk: Desk,
     workspaces: Workspaces,
+    /// The source roots of the workspaces, as a switch made them.
+    roots: SourceRoots,
+    /// Their parents, where the settings don't have them yet.
+    parents: Option<Items<(u32, u32)>>,
     /// The status that was told last.
     status: Status,
+}
+
+// No source roots.
+fn no_roots(alloc: Global) -> Result<SourceRoots, NoMemory>
+    ensures { IfOk result (λ roots. roots ≡ []) }
+{
+    SourceRoots::new(Items::new(alloc))
 }
 
 // The status that the first one is compared with: all is well, and nothing is worked on.
@@ -75,7 +92,7 @@ impl Model for GlobalState {
 
     ghost coded = { state_code handler.the_row.coded files_of.the_row.coded job.the_row.coded workspaces_of.the_row.coded status_of.the_row.coded };
 
-    ghost view = { λ g. record { client = g.client; files = g.files; desk = g.desk; workspaces = g.workspaces; status = g.status } };
+    ghost view = { λ g. record { client = g.client; files = g.files; desk = g.desk; workspaces = g.workspaces; sources = record { roots = g.roots; parents = g.parents }; status = g.status } };
 }
 
 impl GlobalState {
@@ -89,6 +106,8 @@ impl GlobalState {
             files: SessionFiles::new(alloc)?,
             desk: Desk::new(alloc),
             workspaces: Workspaces::new(alloc)?,
+            roots: no_roots(alloc)?,
+            parents: None,
             status: first_status(),
         })
     }
@@ -104,6 +123,8 @@ impl GlobalState {
             files: SessionFiles::new_at(alloc, used.files, used.revisions)?,
             desk: Desk::new_at(alloc, used.turns, used.jobs),
             workspaces: Workspaces::new_at(alloc, used.loader_settings)?,
+            roots: no_roots(alloc)?,
+            parents: None,
             status: first_status(),
         })
     }
@@ -131,14 +152,14 @@ impl GlobalState {
         }))
     }
 
-    // What a request meets. The crate graph counts as complete.
+    // What a request meets.
     fn scene(&self) -> Result<Scene, AllocError>
         ensures { IfOk result (λ scene. scene ≡ scene_of self.now) }
     {
         Ok(Scene {
             snapshot: self.snapshot()?,
             loading: self.files.is_loading(),
-            incomplete: false,
+            incomplete: self.workspaces.is_incomplete(),
         })
     }
 }
@@ -278,23 +299,25 @@ impl GlobalState {
         Facts {
             revision: self.files.revision(),
             ordered: out.commands().len(),
+            quiescent: self.is_quiescent(),
         }
     }
 
     /// Turn 0. It uses no number of the turns. After an `Err` the state is spent.
-    #[tactic(auto, unfolding(session_model::specs::Machine::step, session_model::specs::Machine::begin_part, session_model::specs::Machine::fetch_part, session_model::specs::Machine::status_part, session_model::specs::Machine::closing_part, turn_parts::specs::Working::within))]
+    #[tactic(auto, unfolding(session_model::specs::Machine::step, session_model::specs::Machine::register_part, session_model::specs::Machine::begin_part, session_model::specs::Machine::fetch_part, session_model::specs::Machine::status_part, session_model::specs::Machine::closing_part, turn_parts::specs::Working::within))]
     pub fn start(&mut self, out: &mut TurnOut) -> Result<(), TurnError>
         ensures { (meaning : Meaning) → Meets result (step meaning Start (record { state = self.old; out = out.old })) self.new out.new }
     {
         let facts = self.facts(out);
         self.report_status(out)?;
+        self.register_saves(out)?;
         self.begin_fetches(out)?;
         self.start_fetch(true, out)?;
         self.close_turn(facts, out)
     }
 
     /// One turn. After an `Err` the state is spent.
-    #[tactic(auto, unfolding(session_model::specs::Machine::step, session_model::specs::Machine::event_part, session_model::specs::Machine::switch_part, session_model::specs::Machine::files_part, session_model::specs::Machine::fetch_part, session_model::specs::Machine::build_part, session_model::specs::Machine::status_part, session_model::specs::Machine::closing_part, turn_parts::specs::Working::within))]
+    #[tactic(auto, unfolding(session_model::specs::Machine::step, session_model::specs::Machine::event_part, session_model::specs::Machine::switch_part, session_model::specs::Machine::files_part, session_model::specs::Machine::quiet_part, session_model::specs::Machine::fetch_part, session_model::specs::Machine::build_part, session_model::specs::Machine::status_part, session_model::specs::Machine::closing_part, turn_parts::specs::Working::within))]
     pub fn handle_event<A: Analysis>(
         &mut self,
         event: Event,
@@ -307,9 +330,10 @@ impl GlobalState {
         self.take_in(event, analysis, out)?;
         self.switch_workspaces(out)?;
         self.process(out)?;
+        self.refresh(facts, out)?;
         let may = self.may_fetch();
         self.start_fetch(may, out)?;
-        self.start_build(out)?;
+        self.start_runs(out)?;
         self.report_status(out)?;
         self.close_turn(facts, out)
     }

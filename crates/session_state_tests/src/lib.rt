@@ -10,11 +10,21 @@ mod building;
 #[cfg(test)]
 mod counters;
 #[cfg(test)]
+mod crates;
+#[cfg(test)]
 mod fetching;
 #[cfg(test)]
 mod methods;
 #[cfg(test)]
+mod refreshing;
+#[cfg(test)]
+mod registering;
+#[cfg(test)]
+mod reloading;
+#[cfg(test)]
 mod results;
+#[cfg(test)]
+mod roots;
 #[cfg(test)]
 mod statuses;
 #[cfg(test)]

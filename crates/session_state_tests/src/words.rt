@@ -4,15 +4,16 @@ use docs_vfs::VfsPath;
 use lsp_frame::{Message, Notification, Request, RequestId, Response};
 use method_table::PoolClass;
 use plain::{Bytes, Items, Json, Text};
-use project_model::ProjectWorkspace;
+use project_model::{CrateEntry, ProjectWorkspace, WorkspaceKind};
 use ra_config::Config;
 use ra_settings::LinkedProject;
 use session_model::{Counter, Event, TurnError};
 use session_port::{
-    Command, Job, JobResult, JobValue, LoadedFile, LoaderMsg, LoadingProgress, TaskBody, TaskMsg,
+    Command, Job, JobKind, JobResult, JobValue, LoadedFile, LoaderMsg, LoadingProgress, TaskBody,
+    TaskMsg,
 };
 use session_state::TurnOut;
-use small_project::workspaces_of;
+use small_project::{scripts_of, workspaces_of};
 use std::alloc::Global;
 
 /// What stands before the first mark in a text, and what stands behind it.
@@ -76,15 +77,15 @@ fn loader(alloc: Global, message: LoaderMsg) -> Option<Event> {
     Some(Event::Vfs(messages))
 }
 
-/// How far the loader is.
-fn progress(alloc: Global, n_done: LoadingProgress) -> Option<Event> {
+/// How far the loader is with the settings of this version.
+fn progress(alloc: Global, n_done: LoadingProgress, config_version: u32) -> Option<Event> {
     loader(
         alloc,
         LoaderMsg::Progress {
             n_total: 1,
             n_done,
             dir: None,
-            config_version: 1,
+            config_version,
         },
     )
 }
@@ -116,6 +117,15 @@ fn loaded(alloc: Global, words: &str) -> Option<Event> {
     loader(alloc, LoaderMsg::Loaded { files })
 }
 
+/// Two files that the loader has read first.
+fn both(alloc: Global) -> Option<Event> {
+    let mut list = files(alloc, "/w/a.rs fn a() {")?;
+    for file in files(alloc, "/w/b.rs )")?.into_vec() {
+        list.push(file).ok()?;
+    }
+    loader(alloc, LoaderMsg::Loaded { files: list })
+}
+
 /// The final result of a job.
 fn ended(alloc: Global, job: u64, outcome: JobResult) -> Option<Event> {
     let mut batch = Items::new(alloc);
@@ -138,23 +148,25 @@ fn job_in(words: &str) -> (u64, &str) {
     }
 }
 
-/// What a host that runs no build system answers for one manifest.
-fn workspaces_at(alloc: Global, manifest: &str) -> Option<Items<ProjectWorkspace>> {
+/// What a host that runs no build system answers for manifests, of which a comma stands between two.
+fn workspaces_at(alloc: Global, manifests: &str) -> Option<Items<ProjectWorkspace>> {
     let mut projects = Items::new(alloc);
-    projects
-        .push(LinkedProject::ProjectManifest(VfsPath::new(alloc, manifest).ok()??))
-        .ok()?;
+    for manifest in manifests.split(',') {
+        projects
+            .push(LinkedProject::ProjectManifest(VfsPath::new(alloc, manifest).ok()??))
+            .ok()?;
+    }
     workspaces_of(alloc, projects.as_slice()).ok()
 }
 
 /// The same, each with a compiler of this version, if one is named.
 fn fetched_at(
     alloc: Global,
-    manifest: &str,
+    manifests: &str,
     toolchain: &str,
 ) -> Option<Items<Result<ProjectWorkspace, Text>>> {
     let mut fetched = Items::new(alloc);
-    for mut workspace in workspaces_at(alloc, manifest)?.into_vec() {
+    for mut workspace in workspaces_at(alloc, manifests)?.into_vec() {
         if !toolchain.is_empty() {
             workspace.toolchain = Some(text_of(alloc, toolchain)?);
         }
@@ -164,16 +176,58 @@ fn fetched_at(
 }
 
 fn brought(alloc: Global, job: u64, words: &str) -> Option<Event> {
-    let (manifest, toolchain) = cut(words, " ");
-    let found = fetched_at(alloc, manifest, toolchain)?;
+    let (manifests, toolchain) = cut(words, " ");
+    let found = fetched_at(alloc, manifests, toolchain)?;
     ended(alloc, job, JobResult::Value(JobValue::Workspaces(found)))
 }
 
+/// The workspace `/w`, which is described as JSON.
+fn described(alloc: Global, job: u64) -> Option<Event> {
+    let mut fetched = Items::new(alloc);
+    for mut workspace in workspaces_at(alloc, "/w/Cargo.toml")?.into_vec() {
+        workspace.kind = WorkspaceKind::Json;
+        workspace.manifest = None;
+        fetched.push(Ok(workspace)).ok()?;
+    }
+    ended(alloc, job, JobResult::Value(JobValue::Workspaces(fetched)))
+}
+
+/// What the build scripts of one workspace made: nothing, without an error.
+fn scripts(alloc: Global, job: u64) -> Option<Event> {
+    let mut made = Items::new(alloc);
+    for scripts in scripts_of(alloc, 1).ok()?.into_vec() {
+        made.push(Ok(scripts)).ok()?;
+    }
+    ended(alloc, job, JobResult::Value(JobValue::BuildData(made)))
+}
+
+/// The crate whose root file this is.
+fn crate_at(alloc: Global, root: &str) -> Option<CrateEntry> {
+    Some(CrateEntry {
+        root: VfsPath::new(alloc, root).ok()??,
+        name: None,
+        deps: Items::new(alloc),
+        is_proc_macro: false,
+    })
+}
+
+/// `MANIFEST ROOT`: the workspace of a manifest, with the crate of this root file.
+fn with_crate(alloc: Global, job: u64, words: &str) -> Option<Event> {
+    let (manifest, root) = cut(words, " ");
+    let mut fetched = Items::new(alloc);
+    for mut workspace in workspaces_at(alloc, manifest)?.into_vec() {
+        workspace.crates.push(crate_at(alloc, root)?).ok()?;
+        fetched.push(Ok(workspace)).ok()?;
+    }
+    ended(alloc, job, JobResult::Value(JobValue::Workspaces(fetched)))
+}
+
 /// `ask` and `tell` with a method and its params, `answer` with the result in the response to the session's request 0,
-/// `loading` and `loaded` where files begin to load and are loaded, `file` and `read` with a path, and perhaps a text, where the
+/// `loading` and `loaded` where files begin to load and are loaded, `reloaded` where they are by the loader's second settings, `both` where two files are read at once, `file` and `read` with a path, and perhaps a text, where the
 /// loader tells that a file has changed and where it has read it first, `open` where `/w/a.rs` is opened, `null` and `stopped` as results of the first
-/// job, or of the `second` or the `third`, `fetched` and `builds` as results that are no request's, `brought` where such a job brings the workspace
-/// of a manifest, perhaps with the version of its compiler, `deferred`, `timer` with its ticket, and `shutdown` as a request.
+/// job, or of the `second` or the `third`, `fetched` and `builds` as results that are no request's, `brought` where such a job brings the workspaces
+/// of some manifests, perhaps with the version of their compiler, `crate` where it brings one with the crate of a root file, `described` where it brings the workspace `/w` that is described as JSON, `scripts` where build scripts made nothing, `deferred`, `timer` with its ticket,
+/// and `shutdown` as a request.
 pub fn event_of(alloc: Global, words: &str) -> Option<Event> {
     let (kind, rest) = cut(words, " ");
     let (job, found) = job_in(rest);
@@ -181,8 +235,10 @@ pub fn event_of(alloc: Global, words: &str) -> Option<Event> {
         "ask" => asked(alloc, rest),
         "tell" => told(alloc, rest),
         "answer" => response(alloc, rest),
-        "loading" => progress(alloc, LoadingProgress::Started),
-        "loaded" => progress(alloc, LoadingProgress::Finished),
+        "loading" => progress(alloc, LoadingProgress::Started, 1),
+        "loaded" => progress(alloc, LoadingProgress::Finished, 1),
+        "reloaded" => progress(alloc, LoadingProgress::Finished, 2),
+        "both" => both(alloc),
         "file" => changed(alloc, rest),
         "read" => loaded(alloc, rest),
         "open" => notification(
@@ -203,6 +259,9 @@ pub fn event_of(alloc: Global, words: &str) -> Option<Event> {
             JobResult::Value(JobValue::BuildData(Items::new(alloc))),
         ),
         "brought" => brought(alloc, job, found),
+        "crate" => with_crate(alloc, job, found),
+        "described" => described(alloc, job),
+        "scripts" => scripts(alloc, job),
         "deferred" => Some(Event::Deferred(Items::new(alloc))),
         "timer" => Some(Event::Timer(rest.parse::<u64>().unwrap_or(1))),
         "shutdown" => request(alloc, 1, "shutdown", "null"),
@@ -218,8 +277,12 @@ fn class_name(class: PoolClass) -> &'static str {
     }
 }
 
+// The class of a job; a fetch that is forced has a name of its own.
 fn class_of(job: &Job) -> &'static str {
-    class_name(job.class)
+    match &job.kind {
+        JobKind::FetchWorkspaces { force: true, .. } => "forced",
+        _ => class_name(job.class),
+    }
 }
 
 fn timer_name(ticket: u64) -> &'static str {
@@ -243,7 +306,7 @@ fn command_name(command: &Command) -> &'static str {
         Command::SetLoader { version: 1, .. } => "load",
         Command::SetLoader { .. } => "load anew",
         Command::Timer(ticket) => timer_name(*ticket),
-        Command::Defer(_) => "other",
+        Command::Defer(_) => "defer",
         Command::Stop => "stop",
     }
 }
@@ -313,6 +376,40 @@ fn settings_name(is_checked: bool, folders: usize) -> &'static str {
 /// Whether checks run when a file is saved, and how many folders there are.
 pub fn settings_text(alloc: Global, config: &Config) -> Option<String> {
     let name = settings_name(config.check_on_save(None), config.workspace_roots().len());
+    String::from_str(alloc, name).ok()
+}
+
+fn root_name(is_checked: bool, is_diagnosed: bool) -> &'static str {
+    match (is_checked, is_diagnosed) {
+        (true, true) => "checked, diagnosed",
+        (false, true) => "unchecked, diagnosed",
+        (true, false) => "checked, undiagnosed",
+        (false, false) => "unchecked, undiagnosed",
+    }
+}
+
+/// Whether files of the root with this number are checked when one is saved, and whether they have diagnostics.
+pub fn root_text(alloc: Global, config: &Config, root: u32) -> Option<String> {
+    let name = root_name(
+        config.check_on_save(Some(root)),
+        config.diagnostics_enable(Some(root)),
+    );
+    String::from_str(alloc, name).ok()
+}
+
+fn source_root_name(is_local: bool, root: u32) -> &'static str {
+    match (is_local, root) {
+        (true, 0) => "first root",
+        (true, 1) => "second root",
+        _ => "no root",
+    }
+}
+
+/// The local root of a snapshot's world in which `/w/a/b.rs` is.
+pub fn source_root_text(alloc: Global, snapshot: &GlobalStateSnapshot) -> Option<String> {
+    let path = VfsPath::new(alloc, "/w/a/b.rs").ok()??;
+    let root = snapshot.roots().root_of(&path);
+    let name = source_root_name(snapshot.roots().is_local(root), root);
     String::from_str(alloc, name).ok()
 }
 

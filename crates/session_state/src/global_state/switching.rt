@@ -1,19 +1,22 @@
 // Switches to workspaces that were fetched.
-ghost use Rattle.std.specs.Prelude.{◌≡◌, ◌⊎◌, None, Some, Ok, Err, IfOk, IfErr};
+ghost use Rattle.std.specs.Prelude.{◌≡◌, ◌⊎◌, None, Some, Ok, Err, IfOk, IfErr, OnOk};
 ghost use Rattle.turn_parts.specs.Meets.{Meets, Gives};
 ghost use Rattle.turn_parts.specs.declared.fault.Counter.TheVariants.{LoaderSettings};
 ghost use Rattle.turn_parts.specs.declared.fault.TurnError.TheVariants.{Exhausted, NoMemory as OutOfMemory};
-ghost use Rattle.session_model.specs.Machine.{followed, loader_set, switch_done, warned};
+ghost use Rattle.session_model.specs.Machine.{followed, loader_set, roots_renewed, switch_done, warned};
+ghost use Rattle.session_model.specs.Sources.{sources_now};
 ghost use Rattle.session_model.specs.State.{builds_scripts, client_watches, excludes_in};
 ghost use Rattle.session_model.specs.Switching.{switch_by, switch_made};
 
 use crate::global_state::GlobalState;
-use docs_vfs::VfsPath;
+use crate::global_state::crates::builds_crates;
+use docs_vfs::{SourceRoots, VfsPath};
 use notify::{MessageKind, Outgo};
 use plain::{Items, Text};
 use ra_config::FilesWatcher;
 use session_model::{Counter, TurnError};
 use session_port::Command;
+use std::alloc::AllocError;
 use turn_parts::TurnOut;
 use workspaces::{Follows, SwitchFault};
 
@@ -33,7 +36,7 @@ impl GlobalState {
     }
 
     // Whether the client watches files.
-    fn client_watches(&self) -> bool
+    pub(super) fn client_watches(&self) -> bool
         ensures { result ≡ client_watches self.now.client.settings }
     {
         let settings = self.client.settings();
@@ -72,10 +75,28 @@ impl GlobalState {
         )
     }
 
-    // What follows a switch.
+    // The roots that the loader gets for the workspaces that are present.
+    fn roots_now(&self) -> Result<SourceRoots, AllocError>
+        ensures { IfOk result (λ roots. roots ≡ (sources_now self.now.client.settings self.now.workspaces).roots) }
+    {
+        SourceRoots::new(self.workspaces.loader_roots(self.excludes())?)
+    }
+
+    // The source roots are those that the loader gets.
+    #[tactic(auto, unfolding(session_model::specs::Machine::roots_renewed))]
+    fn renew_roots(&mut self, out: &mut TurnOut) -> Result<(), TurnError>
+        ensures { Gives result (roots_renewed (record { state = self.old; out = out.old })) self.new out.new }
+    {
+        let roots = self.roots_now()?;
+        self.parents = Some(roots.parent_map()?);
+        self.roots = roots;
+        Ok(())
+    }
+
+    // What the user, the client and the host are told behind a switch, and the roots that it renews.
     #[tactic(auto, unfolding(session_model::specs::Machine::followed))]
     fn follow(&mut self, follows: Follows, out: &mut TurnOut) -> Result<(), TurnError>
-        ensures { Gives result (followed follows (record { state = self.old; out = out.old })) self.new out.new }
+        ensures { Meets result (followed follows (record { state = self.old; out = out.old })) self.new out.new }
     {
         match follows {
             Follows::Nothing | Follows::CrateData => Ok(()),
@@ -86,7 +107,9 @@ impl GlobalState {
                 ..
             } => {
                 self.warn(msrv, out)?;
-                self.set_loader(loader_version, out)
+                self.register_watchers(out)?;
+                self.set_loader(loader_version, out)?;
+                self.renew_roots(out)
             }
         }
     }
@@ -113,15 +136,17 @@ impl GlobalState {
         }
     }
 
-    // The same where a switch is wanted and no files are loading; else nothing follows.
+    // The same where a switch is wanted and no files are loading, with the crate data that is built behind it; else nothing follows.
     fn make_switch_if_due(&mut self) -> Result<Follows, TurnError>
         ensures made { IfOk result (λ follows. switch_made self.old.client.settings self.old.files self.old.workspaces ≡ Ok (follows, self.new.workspaces)) }
-        ensures rest { self.new ≡ record self.old { workspaces = self.new.workspaces } }
+        ensures rest { OnOk result (self.new ≡ record self.old { workspaces = self.new.workspaces }) }
         ensures err { IfErr result (λ e. (e ≡ OutOfMemory)
             ⊎ ((e ≡ Exhausted LoaderSettings) × (switch_made self.old.client.settings self.old.files self.old.workspaces ≡ Err LoaderSettings))) }
     {
         if self.workspaces.is_switch_wanted() && !self.files.is_loading() {
-            self.make_switch()
+            let follows = self.make_switch()?;
+            self.follow_crates(&follows)?;
+            Ok(follows)
         } else {
             Ok(Follows::Nothing)
         }
@@ -133,6 +158,8 @@ impl GlobalState {
         ensures { Meets result (switch_done (record { state = self.old; out = out.old })) self.new out.new }
     {
         let follows = self.make_switch_if_due()?;
-        self.follow(follows, out)
+        let built = builds_crates(&follows);
+        self.follow(follows, out)?;
+        self.build_crates(built, out)
     }
 }
