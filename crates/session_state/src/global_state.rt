@@ -129,11 +129,11 @@ impl GlobalState {
         })
     }
 
-    // Whether all macros are there that are wanted: none are, or the last load succeeded.
+    // Whether no proc macros are wanted.
     fn macros_loaded(&self) -> bool
-        ensures { result ≡ macros_loaded_in self.now.client.settings self.now.workspaces }
+        ensures { result ≡ macros_loaded_in self.now.client.settings }
     {
-        !self.loads_macros() || self.workspaces.are_macros_loaded()
+        !self.client.settings().proc_macro_enable()
     }
 
     /// The snapshot of the present.
