@@ -10,11 +10,13 @@ ghost use Rattle.lsp_frame.specs.Pending.{IsAbove};
 ghost use Rattle.lsp_frame.specs.Written.{AreWritable};
 ghost use Rattle.lsp_frame.specs.declared.message.Message.TheVariants.{Response as ResponseMessage};
 
+mod building;
 mod fetching;
 mod pending;
 mod requests;
 mod results;
 
+pub use building::BuildEnd;
 pub use fetching::FetchEnd;
 use lsp_frame::{Incoming, Response};
 use plain::{ByNumber, Text};

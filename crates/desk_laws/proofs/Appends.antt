@@ -1,7 +1,8 @@
 -- Messages, commands, responses and jobs, one list after another.
-use Rattle.std.proofs.Common.{◌≡◌, List, [], ◌∷◌, ◌++◌, refl}
+use Rattle.std.proofs.Common.{◌≡◌, ℕ, List, [], ◌∷◌, ◌++◌, refl, ◌∙◌, append-nil}
 use Rattle.std.proofs.lemmas.List.Elements.{filter-append, filter_map-append}
 use Rattle.std.specs.List.{filter_map}
+use Rattle.std.specs.Prelude.{Option, None}
 use Rattle.lsp_frame.specs.Pending.{Pending}
 use Rattle.lsp_frame.specs.declared.message.Message.{Message}
 use Rattle.lsp_frame.specs.declared.message.Response.{Response}
@@ -25,6 +26,11 @@ spawned-append xs ys = filter_map-append job_of xs ys
 
 pub revisions-append : (xs ys : List Command) → filter_map revision_of (xs ++ ys) ≡ filter_map revision_of xs ++ filter_map revision_of ys
 revisions-append xs ys = filter_map-append revision_of xs ys
+
+-- a command that is passed over
+pub passed-append : (number_of : Command → Option ℕ) (commands : List Command) (command : Command) → number_of command ≡ None
+    → filter_map number_of (commands ++ command ∷ []) ≡ filter_map number_of commands
+passed-append number_of commands command none = filter_map-append number_of commands (command ∷ []) ∙ rw none (append-nil _)
 
 pub asked-append : (xs ys : List Job) → asked_among (xs ++ ys) ≡ asked_among xs ++ asked_among ys
 asked-append xs ys = filter-append is_asked xs ys

@@ -1,10 +1,12 @@
 -- A step of the desk is its row of the reply table.
 use Rattle.std.proofs.Common.{◌≡◌, ℕ, List, ◌++◌, Bool, true, false, refl, sym, ap, ◌∙◌, subst, arith, append-nil, append_assoc}
-use Rattle.std.proofs.lemmas.List.{length-append}
-use Rattle.std.specs.Prelude.{Ok, IfOk, Option, None, Some, option_and_then, ◌&&◌, not, ltb, if◌then◌else◌}
+use Rattle.std.proofs.lemmas.List.{length-append, map-append}
+use Rattle.std.specs.Prelude.{Ok, IfOk, Option, None, Some, map as list_map, option_and_then, ◌&&◌, not, ltb, if◌then◌else◌}
 use Rattle.std.specs.FinMap as map
 use Rattle.serde_json.specs.Data.{Data, null}
 use Rattle.lsp_frame.specs.Pending.{Pending, id_of, is_pending}
+use Rattle.lsp_frame.specs.declared.message.Message.{Message}
+use Rattle.lsp_frame.specs.declared.message.Message.TheVariants.{Response as ResponseMessage}
 use Rattle.lsp_frame.specs.declared.message.Request.{Request}
 use Rattle.lsp_frame.specs.declared.message.RequestId.{RequestId}
 use Rattle.lsp_frame.specs.declared.message.Response.{Response}
@@ -45,16 +47,17 @@ use Rattle.desk.specs.Replies.{already_pending, invalid_params, unknown_request,
 use Rattle.desk.specs.Steps.{answered, answered_if, responded, noted, dispatched, echoed, queried, submitted, stated, planned, classed, unknown, asked, shut_down, admitted, requested, cancelled, stopped, settled, delivered, brought, ended, taken}
 use Rattle.desk.specs.declared.scene.Scene.{Scene}
 use Rattle.desk_laws.specs.Settled.{Settled}
-use Rattle.desk_laws.proofs.Appends.{closed_by-append, responses-append, spawned-append, revisions-append, asked-append}
+use Rattle.desk_laws.proofs.Appends.{closed_by-append, responses-append, passed-append, spawned-append, asked-append}
 use Rattle.desk_laws.proofs.Fitting.{after_message-none, after_message-some}
 use Rattle.desk_laws.proofs.Results.{IfOk-next, IfOk-weaker}
 
 pub nothing-settles : (w : Working Desk) → Settled None w w silent w.state.jobs
 nothing-settles w = record {
+  written = sym (append-nil _);
   responses = sym (append-nil _);
   spawns = sym (append-nil _);
   asked = refl;
-  unrevised = refl;
+  others = λ number_of passes. refl;
   turns = refl;
   pending = refl;
   out = refl;
@@ -65,10 +68,13 @@ nothing-settles w = record {
 -- one thing was done, and then another
 pub settled-on : (w v u : Working Desk) (a b : Reaction) (js ks : Jobs) → Settled None w v a js → Settled None v u b ks → Settled None w u (joined a b) ks
 settled-on w v u a b js ks p q = record {
+  written = q.written ∙ ap (λ (ms : List Message). ms ++ list_map ResponseMessage b.responses) p.written
+      ∙ append_assoc w.out.messages (list_map ResponseMessage a.responses) (list_map ResponseMessage b.responses)
+      ∙ ap (λ (ms : List Message). w.out.messages ++ ms) (sym (map-append ResponseMessage a.responses b.responses));
   responses = q.responses ∙ ap (λ (rs : List Response). rs ++ b.responses) p.responses ∙ append_assoc (responses_in w.out.messages) a.responses b.responses;
   spawns = q.spawns ∙ ap (λ (xs : List Job). xs ++ b.jobs) p.spawns ∙ append_assoc (spawned w.out.commands) a.jobs b.jobs;
   asked = asked-append a.jobs b.jobs ∙ (λ i. p.asked i ++ q.asked i);
-  unrevised = q.unrevised ∙ p.unrevised;
+  others = λ number_of passes. q.others number_of passes ∙ p.others number_of passes;
   turns = q.turns ∙ p.turns;
   pending = q.pending ∙ ap (closed_by b.responses) p.pending ∙ sym (closed_by-append a.responses b.responses w.state.pending);
   out = q.out;
@@ -101,10 +107,11 @@ finished-id id NoMemory response is = sym (ap (λ (r : Response). r.id) (some-sa
 pub answer-settles : (id : RequestId) (response : Response) (w : Working Desk) → response.id ≡ Some id → Settled None w (answered id response w) (says response) w.state.jobs
 unfolding answered replied
 answer-settles id response w is = record {
+  written = refl;
   responses = responses-append w.out.messages _;
   spawns = sym (append-nil _);
   asked = refl;
-  unrevised = refl;
+  others = λ number_of passes. refl;
   turns = refl;
   pending = ap (λ o. closed_with o w.state.pending) (sym is);
   out = refl;
@@ -115,10 +122,11 @@ answer-settles id response w is = record {
 pub log-settles : (code : LogCode) (text : List ℕ) (w : Working Desk) → Settled None w (logged code text w) silent w.state.jobs
 unfolding logged ordered
 log-settles code text w = record {
+  written = sym (append-nil _);
   responses = sym (append-nil _);
   spawns = spawned-append w.out.commands _;
   asked = refl;
-  unrevised = revisions-append w.out.commands _ ∙ append-nil _;
+  others = λ number_of passes. passed-append number_of w.out.commands _ (passes.logs code text);
   turns = refl;
   pending = refl;
   out = refl;
@@ -151,10 +159,11 @@ unfolding dispatched ordered
 dispatch-settles scene class ticket row params w =
     let done = hands_over w.state.handed scene.snapshot class ticket row params in
     IfOk-next w.state.handed _ _ (λ v. Settled None w v done w.state.jobs) (record {
+      written = sym (append-nil _);
       responses = sym (append-nil _);
       spawns = spawned-append w.out.commands _;
       asked = refl;
-      unrevised = revisions-append w.out.commands _ ∙ append-nil _;
+      others = λ number_of passes. passed-append number_of w.out.commands _ (passes.jobs _);
       turns = refl;
       pending = refl;
       out = refl;
@@ -207,10 +216,11 @@ read-on : (r : Request) (w v : Working Desk) (done : Reaction) → is_pending r.
     → Settled None (noted r.id w) v done w.state.jobs → Reads r w done v
 unfolding noted
 read-on r w v done new stays a = record {
+  written = a.written;
   responses = a.responses;
   spawns = a.spawns;
   asked = a.asked;
-  unrevised = a.unrevised;
+  others = a.others;
   turns = a.turns;
   pending = a.pending ∙ sym (rw new refl);
   out = a.out;
@@ -249,10 +259,11 @@ shutdown-cases r w true new named =
     let a : Settled None v (responded w.state.turns (λ id. response_with id null) v) (says (response_with r.id null)) w.state.jobs =
     respond-settles w.state.turns r.id (λ id. response_with id null) v (id_of-registered w.state.turns r.id w.state.pending) refl in
     record {
+      written = a.written;
       responses = a.responses;
       spawns = a.spawns;
       asked = a.asked;
-      unrevised = a.unrevised;
+      others = a.others;
       turns = a.turns;
       pending = a.pending ∙ sym (rw new refl);
       out = a.out;
@@ -282,10 +293,11 @@ admit-cases meaning scene r w false new other =
 refused-reads : (r : Request) (w : Working Desk) → is_pending r.id w.state.pending ≡ true → Reads r w (says (already_pending r.id)) (replied (already_pending r.id) w)
 unfolding replied
 refused-reads r w is = record {
+  written = refl;
   responses = responses-append w.out.messages _;
   spawns = sym (append-nil _);
   asked = refl;
-  unrevised = refl;
+  others = λ number_of passes. refl;
   turns = refl;
   pending = sym (rw is refl);
   out = refl;
@@ -389,10 +401,11 @@ row-without meaning scene desk jobs (Some result) job = by_request (waiting_for 
 -- what was done after a job was taken off was done
 settled-from : (w v : Working Desk) (number : ℕ) (done : Reaction) (jobs : Jobs) → Settled None (without number w) v done jobs → Settled None w v done jobs
 settled-from w v number done jobs a = record {
+  written = a.written;
   responses = a.responses;
   spawns = a.spawns;
   asked = a.asked;
-  unrevised = a.unrevised;
+  others = a.others;
   turns = a.turns;
   pending = a.pending;
   out = a.out;

@@ -142,6 +142,10 @@ after_processing files = with_changes (changes files.table) (taken_up files)
 unfoldable pub after_turn : SessionFiles → Result SessionFiles Counter
 after_turn files = if files.loading then Ok files else after_processing files
 
+-- the files whose contents aren't those of the last time, in the order of their paths, unless files are loading: the end of a turn puts them into the world
+abbrev pub due_changes : SessionFiles → List ChangedFile
+due_changes files = if files.loading then [] else changes files.table
+
 abbrev pub are_some : {X : Type 0} → List X → Bool
 are_some [] = false
 are_some (x ∷ xs) = true

@@ -93,6 +93,13 @@ impl SessionFiles {
         self.loading
     }
 
+    /// The version of the settings that the last progress of the loader spoke of, else 0.
+    pub fn progress_version(&self) -> u32
+        ensures { result ≡ self.now.progress_version }
+    {
+        self.progress_version
+    }
+
     /// The revision of the world.
     pub fn revision(&self) -> u64
         ensures { result ≡ self.now.host.revision }

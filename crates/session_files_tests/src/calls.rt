@@ -54,8 +54,10 @@ pub fn load(
     files.load(messages, out)
 }
 
+/// Whether some files have changed.
 pub fn process(files: &mut SessionFiles, out: &mut TurnOut) -> Result<bool, TurnError> {
-    files.process(out)
+    let changed = files.process(out)?;
+    Ok(!changed.is_empty())
 }
 
 pub fn world_of(files: &SessionFiles) -> Option<World> {

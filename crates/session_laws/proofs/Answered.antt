@@ -12,7 +12,8 @@ use Rattle.session_port.specs.declared.event.HostEvent.{HostEvent}
 use Rattle.session_port.specs.declared.event.HostEvent.TheVariants.{Bytes, Ended}
 use Rattle.desk_laws.specs.Numbers.{AreNumbered}
 use Rattle.session_model.specs.Course.{Course, takes, session_course, bytes_in}
-use Rattle.session_model.specs.Headline.{Place, Answers, AllTaken, EndsAt, HandsOver, IsAnswered, IsUsedUp, LastUntaken, NeedsMore, Revises, AreHandedOver, place_after, place_after_all, beginning, reaction_of, row}
+use Rattle.session_model.specs.Headline.{AllTaken, Answers, AreHandedOver, beginning, EndsAt, HandsOver, IsAnswered, IsUsedUp, LastUntaken, NeedsMore, Place, place_after, place_after_all, reaction_of, Revises, row, SetsTimer}
+use Rattle.session_model.specs.Headline.{TellsItsStatus}
 use Rattle.desk.specs.Meaning.{Meaning}
 use Rattle.session_model.specs.Run.{Turn, Told, Runs, Steps, AreHonest, AsksLast, BreaksOffWritten, Ends, EndsBy, IsRun, MayAsk, RunsOut, Stretch, TooManyBytes, commands_of, fed_bytes, giving, taking, telling}
 use Rattle.session_model.specs.State.{State, fresh}
@@ -20,13 +21,13 @@ use Rattle.turn_parts.specs.declared.fault.Counter.{Counter}
 use Rattle.session_model.specs.declared.fault.SessionError.{SessionError}
 use Rattle.session_model.specs.declared.fault.SessionError.TheVariants.{ClientExited, BadFrame, BadMessage, HostFault, WriteFault, Exhausted, NoMemory}
 use Rattle.session_laws.specs.Answering.{answered_by, AreAccountedFor}
-use Rattle.session_laws.specs.Invariant.{FetchIsOut, SoundAt, Stands, place_of}
+use Rattle.session_laws.specs.Invariant.{BuildIsOut, FetchIsOut, SoundAt, Stands, place_of}
 use Rattle.session_laws.proofs.Accounted.{accounted-beginning, turns-accounted}
 use Rattle.session_laws.proofs.Asking.{asks-on, asks-events, no-event, given-append, given-giving, taken-append, taken-giving, taking-append}
 use Rattle.session_laws.proofs.Exhausting.{step-needs}
 use Rattle.session_laws.proofs.Held.{numbered-sound, turn-once, sound-beginning}
 use Rattle.session_laws.proofs.Handed.{turn-handed, handed-beginning, after_all-append}
-use Rattle.session_laws.proofs.InProgress.{fetching-beginning, turn-keeps-fetching}
+use Rattle.session_laws.proofs.InProgress.{building-beginning, fetching-beginning, turn-keeps-building, turn-keeps-fetching}
 use Rattle.session_laws.proofs.Seeing.{places-see}
 use Rattle.session_laws.proofs.Rows.{steps-fit}
 use Rattle.session_laws.proofs.Stretches.{runs-append, read-append, honest-append, bytes-append, telling-append, telling-none}
@@ -54,6 +55,8 @@ record Turned (meaning : Meaning) (config : ConfigData) (before : List Turn) (tu
   next : Stands config (before ++ turn ∷ []) mid
   revised : Revises turn (placed config before)
   hands_over : HandsOver meaning turn (placed config before)
+  tells_status : TellsItsStatus turn (placed config before)
+  timer : SetsTimer turn (place_after turn (placed config before))
 
 turned : (meaning : Meaning) (config : ConfigData) (s : State) (before : List Turn) (turn : Turn) (mid : State) → Stands config before s → Steps meaning s turn mid → Turned meaning config before turn mid
 turned meaning config s before turn mid stands steps =
@@ -64,7 +67,8 @@ turned meaning config s before turn mid stands steps =
     let place : place_of mid ≡ place_after turn here = fit.place ∙ ap (place_after turn) stands.place in
     let rises : here.revision ≤ (place_after turn here).revision = subst (λ (p : Place). p.revision ≤ (place_after turn here).revision) stands.place (subst (λ (p : Place). s.files.host.revision ≤ p.revision) place fit.later) in
     let hands : HandsOver meaning turn here = subst (HandsOver meaning turn) stands.place fit.hands_over in
-    let fetching : FetchIsOut (place_after turn here) = turn-keeps-fetching meaning turn here does hands stands.sound stands.fetching in
+    let fetching : FetchIsOut (place_after turn here) = turn-keeps-fetching meaning turn here does numbered hands stands.sound stands.fetching in
+    let building : BuildIsOut (place_after turn here) = turn-keeps-building meaning turn here does numbered hands stands.sound stands.building in
     let sound : SoundAt (place_after turn here) = numbered-sound meaning turn here does numbered rises stands.sound in
     let handed : AreHandedOver config (before ++ turn ∷ []) (place_after turn here).desk.jobs = turn-handed meaning config before turn does stands.sound stands.handed in
     record {
@@ -73,12 +77,15 @@ turned meaning config s before turn mid stands steps =
         place = place ∙ sym (after-one config before turn);
         sound = subst SoundAt (sym (after-one config before turn)) sound;
         fetching = subst FetchIsOut (sym (after-one config before turn)) fetching;
+        building = subst BuildIsOut (sym (after-one config before turn)) building;
         handed = subst (λ (p : Place). AreHandedOver config (before ++ turn ∷ []) p.desk.jobs) (sym (after-one config before turn)) handed;
         accounted = subst (λ (p : Place). AreAccountedFor p.desk.pending (answered_by (before ++ turn ∷ []) (beginning config)) p.desk.jobs) (sym (after-one config before turn))
             (turns-accounted meaning config before turn does stands.accounted);
       };
       revised = subst (Revises turn) stands.place fit.revised;
       hands_over = hands;
+      tells_status = subst (TellsItsStatus turn) stands.place fit.tells_status;
+      timer = subst (λ (p : Place). SetsTimer turn (place_after turn p)) stands.place fit.timer;
     }
 
 all-answer : (meaning : Meaning) (config : ConfigData) (honest : Bool) (s : State) (before turns : List Turn) (last : State) → Stands config before s
@@ -89,6 +96,8 @@ all-answer meaning config honest s before (turn ∷ turns) last stands (mid, ste
       record {
         does = t.does;
         hands_over = t.hands_over;
+        tells_status = t.tells_status;
+        timer = t.timer;
         once = turn-once meaning turn (placed config before) t.does stands.sound;
         held = t.next.sound.held;
         handed_over = stands.handed;
@@ -106,7 +115,7 @@ all-stand meaning config s before (turn ∷ turns) last stands (mid, steps, runs
     subst (λ (ts : List Turn). Stands config ts last) (append_assoc before (turn ∷ []) turns) (all-stand meaning config mid (before ++ turn ∷ []) turns last t.next runs)
 
 stands-fresh : (config : ConfigData) → Stands config [] (fresh config)
-stands-fresh config = record { place = refl; sound = sound-beginning config; fetching = fetching-beginning config; handed = handed-beginning config; accounted = accounted-beginning config }
+stands-fresh config = record { place = refl; sound = sound-beginning config; fetching = fetching-beginning config; building = building-beginning config; handed = handed-beginning config; accounted = accounted-beginning config }
 
 -- after each list of turns the machine stands where they say
 pub runs-stand : (meaning : Meaning) (config : ConfigData) (turns : List Turn) (last : State) → Runs meaning (fresh config) turns last → Stands config turns last

@@ -1,8 +1,9 @@
 -- A turn that the machine can't take needs one more of a counter than there are.
-use Rattle.std.proofs.Common.{◌≡◌, ℕ, ◌+◌, ◌-◌, ◌^◌, ◌≤◌, List, [], ◌∷◌, ◌++◌, length, Bool, true, false, refl, sym, ap, ◌∙◌, subst, arith, eqb-true}
+use Rattle.std.proofs.Common.{◌≡◌, ℕ, ◌+◌, ◌-◌, ◌^◌, ◌≤◌, ◌<◌, List, [], ◌∷◌, ◌++◌, length, Bool, true, false, refl, sym, ap, ◌∙◌, subst, arith, eqb-true}
 use Rattle.std.proofs.lemmas.List.{length-append}
 use Rattle.std.proofs.lemmas.Result.{IfErr-at_err, IfOk-at_ok}
-use Rattle.std.specs.Prelude.{◌==◌, Option, is_some, Result, Ok, Err, IfErr, if◌then◌else◌}
+use Rattle.std.specs.Prelude.{Err, IfErr, if◌then◌else◌, is_some, None, Ok, Option, Result, Some, ◌==◌}
+use Rattle.serde_json.specs.Data.{Data}
 use Rattle.docs_vfs.specs.FileUrls.{path_of}
 use Rattle.docs_vfs.specs.declared.file_url.UrlFault.{UrlFault}
 use Rattle.lsp_frame.specs.declared.message.Notification.{Notification}
@@ -10,20 +11,19 @@ use Rattle.lsp_frame.specs.declared.message.Request.{Request}
 use Rattle.lsp_frame.specs.declared.message.Message.TheVariants.{Request as RequestMessage, Notification as NotificationMessage, Response as ResponseMessage}
 use Rattle.lsp_frame.specs.declared.message.Response.{Response}
 use Rattle.analysis_host.specs.HostData.{HostData}
+use Rattle.analysis_host.specs.SnapshotData.{SnapshotData}
 use Rattle.session_port.specs.Jobs.{after_message}
 use Rattle.session_port.specs.declared.event.TaskMsg.{TaskMsg}
 use Rattle.session_port.specs.declared.job.Job.{Job}
-use Rattle.turn_parts.specs.Working.{Working, and_then, within, written}
+use Rattle.turn_parts.specs.Working.{Working, and_then, within}
 use Rattle.turn_parts.specs.Written.{nothing_done}
 use Rattle.turn_parts.specs.declared.fault.Counter.{Counter}
-use Rattle.turn_parts.specs.declared.fault.Counter.TheVariants.{LoaderSettings, Turns, Outgoing}
-use Rattle.notify.specs.declared.outgo.Outgo.{Outgo}
+use Rattle.turn_parts.specs.declared.fault.Counter.TheVariants.{LoaderSettings, Turns}
 use Rattle.notify.specs.declared.outgo.Outgo.TheVariants.{Configuration}
 use Rattle.outgoing.specs.Outgoing.{number_limit}
 use Rattle.client.specs.Client.{Client}
 use Rattle.client.specs.Folds.{after_asking}
-use Rattle.client.specs.Steps.{answered, asked_for, folders_changed, request_at}
-use Rattle.client.specs.declared.handler.ReqHandler.{ReqHandler}
+use Rattle.client.specs.Steps.{answered, folders_changed}
 use Rattle.client.specs.declared.handler.ReqHandler.TheVariants.{Settings}
 use Rattle.notify.specs.declared.notice.DidChange.{DidChange}
 use Rattle.notify.specs.declared.notice.DidOpen.{DidOpen}
@@ -39,14 +39,18 @@ use Rattle.desk_laws.proofs.Settling.{message-turns, request-turns}
 use Rattle.session_files.specs.Folds.{after_messages, after_opening}
 use Rattle.session_files.specs.SessionFiles.{SessionFiles}
 use Rattle.session_files.specs.Steps.{changed, closed as closed_document, loaded, opened, processed}
+use Rattle.status.specs.declared.status.Status.{Status}
 use Rattle.workspaces.specs.Fetches.{fetch_to_start}
 use Rattle.workspaces.specs.declared.requests.FetchRequest.{FetchRequest}
-use Rattle.session_model.specs.Headline.{batch_row, fetches_in, files_told, NeedsMore, place_past, row, scene_at, switch_in}
-use Rattle.session_model.specs.Machine.{answer_taken, asked, asked_for_settings, at_client, at_desk, at_files, batched, begin_part, begun_fetches, changed_at, client_in, closed, closed_at, closing_part, counted, desk_in}
-use Rattle.session_model.specs.Machine.{event_part, fetch_part, fetch_started, files_in, files_part, files_processed, folders_taken, happened, kept, later_parts, noticed, opened_at, received, start_parts, state_in, step}
-use Rattle.session_model.specs.Machine.{switch_done, switch_part, switched_to, taken, taken_in, told, turned, Turning, turning, with_client}
-use Rattle.session_model.specs.Machine.{with_desk, with_files, with_state}
-use Rattle.session_model.specs.State.{State, columns_in, excludes_in, may_start, scene_of}
+use Rattle.session_model.specs.Building.{build_due}
+use Rattle.session_model.specs.Fetching.{fetch_jobs}
+use Rattle.session_model.specs.Headline.{batch_row, builds_in, client_after, client_left, fetch_in, fetches_in, files_told, NeedsMore, place_past, row, scene_at, status_after, statuses_at, switch_in}
+use Rattle.session_model.specs.Machine.{answer_taken, asked, asked_for_settings, at_client, at_desk, at_files, batched, begin_part, begun_fetches, build_part, build_started, changed_at, client_in, closed, closed_at}
+use Rattle.session_model.specs.Machine.{closing_part, counted, desk_in, event_part, fetch_part, fetch_started, files_in, files_part, files_processed, folders_taken, happened, kept, later_parts, noticed, opened_at, received}
+use Rattle.session_model.specs.Machine.{start_parts, state_in, status_done, status_part, step, switch_done, switch_part, switched_to, taken, taken_in, told, turned, Turning, turning, with_client, with_desk, with_files}
+use Rattle.session_model.specs.Machine.{with_state}
+use Rattle.session_model.specs.State.{columns_in, excludes_in, may_start, scene_of, snapshot_of, State}
+use Rattle.session_model.specs.Status.{client_after_status}
 use Rattle.session_model.specs.Hearing.{heard_of}
 use Rattle.session_model.specs.Run.{begun}
 use Rattle.session_model.specs.declared.facts.Facts.{Facts}
@@ -57,9 +61,14 @@ use Rattle.session_model.specs.declared.input.Input.TheVariants.{Start, Next}
 use Rattle.session_model.specs.declared.heard.Heard.{Heard}
 use Rattle.session_model.specs.declared.heard.Heard.TheVariants.{Told, Malformed, Unhandled, Silent}
 use Rattle.session_laws.specs.Invariant.{place_of}
+use Rattle.session_laws.proofs.Building.{built-errs}
 use Rattle.session_laws.proofs.Filing.{AtLast, IsFull, change_of, changed-step-errs, full-err, loaded-errs-by, opened-errs, processed-errs}
-use Rattle.session_laws.proofs.Fetching.{TooManyFetches, started-errs}
-use Rattle.session_laws.proofs.Rows.{BehindTurn, DoesAtDesk, MidTurn, ReadyTurn, at, begins, counted-is, counted_turn, event-fits, fetch_and_close, files-made, files_and_on, kept_past, mid-switch, notification_input, place_at, ready-fetch, session_in, settled-place, switch-made, taken-settles}
+use Rattle.session_laws.proofs.Fetching.{started-errs}
+use Rattle.session_laws.proofs.Rows.{at, begin_and_close, begins, BegunTurn, BehindTurn, build-made, build_and_on, client-behind, counted-is, counted_turn, DoesAtDesk, event-fits, fetch-made, fetch_and_close, fetch_and_on}
+use Rattle.session_laws.proofs.Rows.{fetched-build, FetchedBehind, files-made, files_and_on, kept_past, MadeBehind, mid-switch, MidTurn, notification_input, place_at, ready-fetch, ReadyBehind, ReadyStart, ReadyTurn}
+use Rattle.session_laws.proofs.Rows.{session_in, settled-place, status-begins, status_and_close, switch-made, taken-settles}
+use Rattle.session_laws.proofs.Statuses.{asked-errs, IsPast, left-more, status-errs}
+use Rattle.session_laws.proofs.Starting.{TooManyStarts}
 use Rattle.session_laws.proofs.Switching.{made-errs, switched-errs}
 use Rattle.session_model.specs.Switching.{switch_made}
 
@@ -95,13 +104,14 @@ batch-errs meaning turns (m ∷ ms) w =
 abbrev Needs : Meaning → State → Input → Counter → Type 0
 Needs meaning s input counter = NeedsMore meaning (place_of s) input counter
 
-no-less : (jobs fetches : ℕ) → 2 ^ 64 ≤ jobs → 2 ^ 64 ≤ jobs + fetches
-no-less jobs fetches h = omega (arith, h)
+no-less : (jobs fetches builds : ℕ) → 2 ^ 64 ≤ jobs → 2 ^ 64 ≤ jobs + fetches + builds
+no-less jobs fetches builds h = omega (arith, h)
 
 needs-jobs : (meaning : Meaning) (s : State) (input : Input) (done : Reaction) (counter : Counter) → row meaning input (place_of s) ≡ done → TooMany s.desk.handed done counter → Needs meaning s input counter
 needs-jobs meaning s input done counter is h =
     subst (Needs meaning s input) (sym h.0)
-    (subst (λ (d : Reaction). 2 ^ 64 ≤ s.desk.handed + length d.jobs + fetches_in input (place_of s)) (sym is) (no-less (s.desk.handed + length done.jobs) (fetches_in input (place_of s)) h.1))
+    (subst (λ (d : Reaction). 2 ^ 64 ≤ s.desk.handed + length d.jobs + fetches_in input (place_of s) + builds_in input (place_of s)) (sym is)
+    (no-less (s.desk.handed + length done.jobs) (fetches_in input (place_of s)) (builds_in input (place_of s)) h.1))
 
 read-errs : (meaning : Meaning) (s : State) (r : Request) → IfErr (asked meaning r (counted_turn s)) (Needs meaning s (Next (Lsp (RequestMessage r))))
 read-errs meaning s r =
@@ -145,18 +155,15 @@ unfolding closed_at
 close-path-errs meaning s n uri (Err fault) = tt
 close-path-errs meaning s n uri (Ok path) = IfErr-within files_in with_files (λ f. Ok (closed_document path f)) (counted_turn s) _ tt
 
-asked-errs : (message : Outgo) (handler : ReqHandler) (c : Working Client) (b : Bool) → (c.state.asked.given == number_limit) ≡ b
-    → IfErr (if b then Err Outgoing else Ok (written (request_at c.state.asked.given message) (record c { state = after_asking handler c.state })))
-    (λ counter. (counter ≡ Outgoing) × (number_limit ≤ c.state.asked.given))
-asked-errs message handler c true all = (refl, subst (λ n. number_limit ≤ n) (sym (eqb-true _ _ all)) (omega arith))
-asked-errs message handler c false some = tt
-
-asking-errs : (meaning : Meaning) (s : State) (input : Input) → IfErr (at_client asked_for_settings (counted_turn s)) (Needs meaning s input)
-unfolding asked_for
-asking-errs meaning s input =
+asking-errs : (meaning : Meaning) (s : State) (n : Notification) → heard_of n ≡ Told notices.DidChangeConfiguration
+    → IfErr (at_client asked_for_settings (counted_turn s)) (Needs meaning s (notification_input n))
+asking-errs meaning s n heard =
+    let input = notification_input n in
+    let told : (client_after input s.client).asked.given ≡ (after_asking Settings s.client).asked.given = rw heard refl in
+    let more = left-more input (place_of s) in
     IfErr-within client_in with_client asked_for_settings (counted_turn s) (Needs meaning s input)
-    (err-weaker _ (λ counter. (counter ≡ Outgoing) × (number_limit ≤ s.client.asked.given)) (Needs meaning s input)
-    (asked-errs Configuration Settings (record { state = s.client; out = nothing_done }) (s.client.asked.given == number_limit) refl) (λ c h. subst (Needs meaning s input) (sym h.0) h.1))
+    (err-weaker _ (IsPast (after_asking Settings s.client)) (Needs meaning s input)
+    (asked-errs Configuration Settings (record { state = s.client; out = nothing_done })) (λ c h. subst (Needs meaning s input) (sym h.0) (omega (arith, h.1, told, more))))
 
 -- no counter refuses folders and answers
 refolding-errs : (meaning : Meaning) (s : State) (input : Input) (added removed : List (List ℕ)) → IfErr (folders_taken added removed (counted_turn s)) (Needs meaning s input)
@@ -177,7 +184,7 @@ told-errs meaning s n (notices.DidOpen document) heard = open-path-errs meaning 
 told-errs meaning s n (notices.DidChange change) heard = change-path-errs meaning s n change (path_of change.uri) heard refl
 told-errs meaning s n (notices.DidClose uri) heard = close-path-errs meaning s n uri (path_of uri)
 told-errs meaning s n (notices.DidSave uri) heard = tt
-told-errs meaning s n notices.DidChangeConfiguration heard = asking-errs meaning s (notification_input n)
+told-errs meaning s n notices.DidChangeConfiguration heard = asking-errs meaning s n heard
 told-errs meaning s n (notices.DidChangeWorkspaceFolders added removed) heard = refolding-errs meaning s (notification_input n) added removed
 told-errs meaning s n (notices.DidChangeWatchedFiles changes) heard = tt
 told-errs meaning s n notices.CancelFlycheck heard = tt
@@ -203,7 +210,9 @@ event-errs meaning s (Task batch) =
     let done = batch_row meaning batch (place_of s) in
     err-weaker _ (TooMany s.desk.handed done) _ (batch-errs meaning s.desk.turns batch (counted_turn s)) (λ c h. needs-jobs meaning s (Next (Task batch)) done c refl h)
 event-errs meaning s (Vfs messages) =
-    files-errs meaning s (Next (Vfs messages)) (loaded messages) (after_messages messages s.files) refl (loaded-errs-by messages (record { state = s.files; out = nothing_done }))
+    err-and_then (at_files (loaded messages) (counted_turn s)) _ (Needs meaning s (Next (Vfs messages)))
+    (files-errs meaning s (Next (Vfs messages)) (loaded messages) (after_messages messages s.files) refl (loaded-errs-by messages (record { state = s.files; out = nothing_done })))
+    (λ v is. tt)
 event-errs meaning s (Deferred tasks) = tt
 event-errs meaning s (Timer ticket) = tt
 
@@ -248,52 +257,117 @@ files-part-errs : (meaning : Meaning) (s : State) (event : Event) (t : Working T
 unfolding files_part files_processed
 files-part-errs meaning s event t m =
     IfErr-within state_in with_state files_processed t (Needs meaning s (Next event))
+    (err-and_then (at_files processed (session_in t)) _ (Needs meaning s (Next event))
     (IfErr-within files_in with_files processed (session_in t) (Needs meaning s (Next event))
     (err-weaker _ (AtLast t.state.state.files.host.revision) (Needs meaning s (Next event)) (processed-errs _)
     (λ c h. subst (Needs meaning s (Next event)) (sym h.0) (subst (λ (host : HostData). 2 ^ 64 - 1 ≤ host.revision) m.behind.host h.1))))
+    (λ v is. tt))
 
-with-fetch : (handed jobs given fetches : ℕ) → given ≡ handed + jobs → 2 ^ 64 ≤ given + fetches → 2 ^ 64 ≤ handed + jobs + fetches
-with-fetch handed jobs given fetches is h = omega (arith, is, h)
+with-fetch : (handed jobs given fetches builds : ℕ) → given ≡ handed + jobs → 2 ^ 64 ≤ given + fetches → 2 ^ 64 ≤ handed + jobs + fetches + builds
+with-fetch handed jobs given fetches builds is h = omega (arith, is, h)
 
 -- a fetch needs one job more
-fetch-part-errs : (meaning : Meaning) (s : State) (input : Input) (t : Working Turning) → ReadyTurn meaning s input t → IfErr (fetch_part input t) (Needs meaning s input)
+fetch-part-errs : (meaning : Meaning) (s : State) (input : Input) (asked : Client) (last : Status) (sent : List Data) (t : Working Turning) → ReadyTurn meaning s input asked last sent t
+    → IfErr (fetch_part input t) (Needs meaning s input)
 unfolding fetch_part
-fetch-part-errs meaning s input t ready =
+fetch-part-errs meaning s input asked last sent t ready =
     let given = t.state.state.desk.handed in
     let may = may_start input t.state.state.client.settings in
     let fetch : Option (List ℕ × FetchRequest) = fetch_to_start may t.state.state.workspaces.fetches in
     let jobs = (row meaning input (place_of s)).jobs in
     let handed : given ≡ s.desk.handed + length jobs = ap (λ (d : Desk). d.handed) ready.made.serves.desk ∙ ap (λ (js : List Job). s.desk.handed + length js) ready.spawns in
     IfErr-within state_in with_state (fetch_started may) t (Needs meaning s input)
-    (err-weaker (fetch_started may (session_in t)) (TooManyFetches given fetch) (Needs meaning s input) (started-errs may (session_in t))
+    (err-weaker (fetch_started may (session_in t)) (TooManyStarts given fetch) (Needs meaning s input) (started-errs may (session_in t))
     (λ c h. let many : 2 ^ 64 ≤ given + fetches_in input (place_of s) =
-    subst (λ (f : Option (List ℕ × FetchRequest)). 2 ^ 64 ≤ given + (if is_some f then 1 else 0)) (ready-fetch meaning s input t ready) h.1 in
-    subst (Needs meaning s input) (sym h.0) (with-fetch s.desk.handed (length jobs) given (fetches_in input (place_of s)) handed many)))
+    subst (λ (f : Option (List ℕ × FetchRequest)). 2 ^ 64 ≤ given + (if is_some f then 1 else 0)) (ready-fetch meaning s input asked last sent t ready) h.1 in
+    subst (Needs meaning s input) (sym h.0) (with-fetch s.desk.handed (length jobs) given (fetches_in input (place_of s)) (builds_in input (place_of s)) handed many)))
 
-fetch-close-errs : (meaning : Meaning) (s : State) (input : Input) (t : Working Turning) → ReadyTurn meaning s input t → IfErr (fetch_and_close input t) (Needs meaning s input)
-fetch-close-errs meaning s input t ready =
-    err-and_then (fetch_part input t) closing_part (Needs meaning s input) (fetch-part-errs meaning s input t ready) (λ u is. closing-errs u (Needs meaning s input))
+one-fetch : (number : ℕ) (snapshot : SnapshotData) (fetch : Option (List ℕ × FetchRequest)) → length (fetch_jobs number snapshot fetch) ≡ (if is_some fetch then 1 else 0)
+one-fetch number snapshot None = refl
+one-fetch number snapshot (Some fetch) = refl
 
-files-on-errs : (meaning : Meaning) (s : State) (event : Event) (t : Working Turning) → BehindTurn meaning s event t → IfErr (files_and_on (Next event) t) (Needs meaning s (Next event))
-files-on-errs meaning s event t behind =
-    err-and_then (files_part t) (fetch_and_close (Next event)) (Needs meaning s (Next event)) (files-part-errs meaning s event t behind)
-    (λ u made. fetch-close-errs meaning s (Next event) u (IfOk-at_ok (ReadyTurn meaning s (Next event)) made (files-made meaning s event t behind)))
+with-build : (handed jobs fetches builds given hands : ℕ) → given ≡ handed + hands → hands ≡ jobs + fetches → 2 ^ 64 ≤ given + builds → 2 ^ 64 ≤ handed + jobs + fetches + builds
+with-build handed jobs fetches builds given hands is both h = omega (arith, is, both, h)
+
+-- a run of build data needs one job more
+build-part-errs : (meaning : Meaning) (s : State) (event : Event) (t : Working Turning) → FetchedBehind meaning s event t → IfErr (build_part t) (Needs meaning s (Next event))
+unfolding build_part
+build-part-errs meaning s event t fetched =
+    let input : Input = Next event in
+    let place = place_of s in
+    let given = t.state.state.desk.handed in
+    let jobs = (row meaning input place).jobs in
+    let fetch = fetch_jobs given (snapshot_of t.state.state) (fetch_in input place) in
+    let handed : given ≡ s.desk.handed + length (jobs ++ fetch) = ap (λ (d : Desk). d.handed) fetched.made.serves.desk ∙ ap (λ (js : List Job). s.desk.handed + length js) fetched.hands in
+    let both : length (jobs ++ fetch) ≡ length jobs + fetches_in input place =
+    length-append jobs fetch ∙ ap (λ (n : ℕ). length jobs + n) (one-fetch given (snapshot_of t.state.state) (fetch_in input place)) in
+    IfErr-within state_in with_state build_started t (Needs meaning s input)
+    (err-weaker (build_started (session_in t)) (TooManyStarts given (build_due t.state.state.workspaces)) (Needs meaning s input) (built-errs (session_in t))
+    (λ c h. let many : 2 ^ 64 ≤ given + builds_in input place =
+    subst (λ (o : Option ℕ). 2 ^ 64 ≤ given + (if is_some o then 1 else 0)) (fetched-build meaning s event t fetched) h.1 in
+    subst (Needs meaning s input) (sym h.0)
+    (with-build s.desk.handed (length jobs) (fetches_in input place) (builds_in input place) given (length (jobs ++ fetch)) handed both many)))
+
+-- a status may ask the client
+status-part-errs : (meaning : Meaning) (s : State) (event : Event) (t : Working Turning) → MadeBehind meaning s event t → IfErr (status_part t) (Needs meaning s (Next event))
+unfolding status_part
+status-part-errs meaning s event t m =
+    let u = session_in t in
+    let client = client_after_status u.state.status u.state.files u.state.workspaces u.state.client in
+    IfErr-within state_in with_state status_done t (Needs meaning s (Next event))
+    (err-weaker (status_done u) (IsPast client) (Needs meaning s (Next event)) (status-errs u)
+    (λ c h. subst (Needs meaning s (Next event)) (sym h.0) (subst (λ (k : Client). number_limit < k.asked.given) (client-behind meaning s event t m) h.1)))
+
+begin-status-errs : (meaning : Meaning) (s : State) → IfErr (status_part (turning (begun s))) (Needs meaning s Start)
+unfolding status_part
+begin-status-errs meaning s =
+    IfErr-within state_in with_state status_done (turning (begun s)) (Needs meaning s Start)
+    (err-weaker (status_done (begun s)) (IsPast (client_left Start (place_of s))) (Needs meaning s Start) (status-errs (begun s))
+    (λ c h. subst (Needs meaning s Start) (sym h.0) h.1))
 
 begin-errs : (t : Working Turning) (P : Counter → Type 0) → IfErr (begin_part t) P
 unfolding begin_part begun_fetches
 begin-errs t P = IfErr-within state_in with_state begun_fetches t P tt
 
+begin-close-errs : (meaning : Meaning) (s : State) (t : Working Turning) → BegunTurn s t → IfErr (begin_and_close t) (Needs meaning s Start)
+begin-close-errs meaning s t b =
+    err-and_then (begin_part t) fetch_and_close (Needs meaning s Start) (begin-errs t (Needs meaning s Start))
+    (λ u is. err-and_then (fetch_part Start u) closing_part (Needs meaning s Start)
+    (fetch-part-errs meaning s Start (client_left Start (place_of s)) (status_after Start (place_of s)) (statuses_at Start (place_of s)) u (IfOk-at_ok (ReadyStart meaning s) is (begins meaning s t b)))
+    (λ v is. closing-errs v (Needs meaning s Start)))
+
+status-close-errs : (meaning : Meaning) (s : State) (event : Event) (t : Working Turning) → MadeBehind meaning s event t → IfErr (status_and_close t) (Needs meaning s (Next event))
+status-close-errs meaning s event t m =
+    err-and_then (status_part t) closing_part (Needs meaning s (Next event)) (status-part-errs meaning s event t m) (λ u is. closing-errs u (Needs meaning s (Next event)))
+
+build-on-errs : (meaning : Meaning) (s : State) (event : Event) (t : Working Turning) → FetchedBehind meaning s event t → IfErr (build_and_on t) (Needs meaning s (Next event))
+build-on-errs meaning s event t fetched =
+    err-and_then (build_part t) status_and_close (Needs meaning s (Next event)) (build-part-errs meaning s event t fetched)
+    (λ u is. status-close-errs meaning s event u (IfOk-at_ok (MadeBehind meaning s event) is (build-made meaning s event t fetched)))
+
+fetch-on-errs : (meaning : Meaning) (s : State) (event : Event) (t : Working Turning) → ReadyBehind meaning s event t → IfErr (fetch_and_on event t) (Needs meaning s (Next event))
+fetch-on-errs meaning s event t ready =
+    err-and_then (fetch_part (Next event) t) build_and_on (Needs meaning s (Next event))
+    (fetch-part-errs meaning s (Next event) (client_after (Next event) s.client) s.status [] t ready)
+    (λ u is. build-on-errs meaning s event u
+    (IfOk-at_ok (FetchedBehind meaning s event) is (fetch-made meaning s (Next event) (client_after (Next event) s.client) s.status [] t ready)))
+
+files-on-errs : (meaning : Meaning) (s : State) (event : Event) (t : Working Turning) → BehindTurn meaning s event t → IfErr (files_and_on event t) (Needs meaning s (Next event))
+files-on-errs meaning s event t behind =
+    err-and_then (files_part t) (fetch_and_on event) (Needs meaning s (Next event)) (files-part-errs meaning s event t behind)
+    (λ u made. fetch-on-errs meaning s event u (IfOk-at_ok (ReadyBehind meaning s event) made (files-made meaning s event t behind)))
+
 step-errs : (meaning : Meaning) (s : State) (input : Input) → IfErr (step meaning input (begun s)) (Needs meaning s input)
 unfolding step
 step-errs meaning s Start =
     err-and_then (start_parts (turning (begun s))) turned (Needs meaning s Start)
-    (err-and_then (begin_part (turning (begun s))) (fetch_and_close Start) (Needs meaning s Start) (begin-errs (turning (begun s)) (Needs meaning s Start))
-    (λ t is. fetch-close-errs meaning s Start t (IfOk-at_ok (ReadyTurn meaning s Start) is (begins meaning s)))) (λ v is. tt)
+    (err-and_then (status_part (turning (begun s))) begin_and_close (Needs meaning s Start) (begin-status-errs meaning s)
+    (λ t is. begin-close-errs meaning s t (IfOk-at_ok (BegunTurn s) is (status-begins s)))) (λ v is. tt)
 step-errs meaning s (Next event) =
     err-and_then (and_then (event_part meaning event (turning (begun s))) (later_parts (Next event))) turned (Needs meaning s (Next event))
     (err-and_then (event_part meaning event (turning (begun s))) (later_parts (Next event)) (Needs meaning s (Next event)) (event-part-errs meaning s event)
     (λ t is. let mid : MidTurn meaning s (Next event) t = IfOk-at_ok (MidTurn meaning s (Next event)) is (event-fits meaning s event) in
-    err-and_then (switch_part t) (files_and_on (Next event)) (Needs meaning s (Next event)) (switch-part-errs meaning s event t mid)
+    err-and_then (switch_part t) (files_and_on event) (Needs meaning s (Next event)) (switch-part-errs meaning s event t mid)
     (λ u behind. files-on-errs meaning s event u (IfOk-at_ok (BehindTurn meaning s event) behind (switch-made meaning s event t mid)))))
     (λ v is. tt)
 

@@ -13,7 +13,6 @@ use Rattle.session_port.specs.declared.event.TaskMsg.{TaskMsg}
 use Rattle.session_port.specs.declared.job.Job.{Job}
 use Rattle.session_port.specs.declared.job.JobResult.{JobResult}
 use Rattle.desk.specs.Desk.{waiting_for}
-use Rattle.desk.specs.Fetching.{fetch_ended}
 use Rattle.desk.specs.Meaning.{Meaning}
 use Rattle.desk.specs.Reactions.{Reaction, says, silent, new_row, ticket_row, final_row, fitting_row, message_row}
 use Rattle.desk.specs.Replies.{already_pending, canceled_by_client, finished_reply}
@@ -102,7 +101,7 @@ past-below place message done below = λ n job ticket there its. below n job tic
 -- what a message leaves is shown as before
 past-snapshot : (place : Place) (message : TaskMsg) (done : Reaction) → snapshot_at (place_past message done place) ≡ snapshot_at place
 past-snapshot place message done =
-    let same = kept-shows (fetch_ended message place.desk.jobs) place.workspaces in
+    let same = kept-shows message place.desk.jobs place.workspaces in
     λ i. record (snapshot_at place) { workspaces = same.present i; workspaces_version = same.version i }
 
 batch-due : (meaning : Meaning) (batch : List TaskMsg) (place : Place) → IsBelow place → AreDue place (batch_row meaning batch place).jobs

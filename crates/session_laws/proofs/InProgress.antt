@@ -1,100 +1,64 @@
--- A fetch of workspaces is in progress exactly where one job out is a fetch: each turn keeps it.
-use Rattle.std.proofs.Common.{◌≡◌, ◌≢◌, ℕ, ◌+◌, ◌≤◌, List, [], ◌∷◌, length, Bool, true, false, refl, sym, ap, ◌∙◌, subst, arith}
-use Rattle.std.proofs.lemmas.Bool.{true≢false}
-use Rattle.std.specs.Prelude.{codes, cond, Option, None, Some, is_some, option_and_then, Ok, Err, if◌then◌else◌}
+-- A fetch of workspaces is in progress exactly where one job out is a fetch, and so is a run of build data: each turn keeps it.
+use Rattle.std.proofs.Common.{◌≡◌, ℕ, ◌+◌, List, [], ◌∷◌, ◌++◌, length, Bool, true, false, refl, sym, ap, ◌∙◌, subst}
+use Rattle.std.specs.Prelude.{codes, cond, Option, None, Some, is_some, option_and_then, option_map, Ok, Err, if◌then◌else◌}
 use Rattle.std.specs.FinMap as map
+use Rattle.lsp_frame.specs.declared.message.Request.{Request}
 use Rattle.lsp_frame.specs.declared.message.Message.TheVariants.{Request as RequestMessage, Notification as NotificationMessage, Response as ResponseMessage}
 use Rattle.analysis_host.specs.SnapshotData.{SnapshotData}
 use Rattle.op_board.specs.Queue.{Queue}
 use Rattle.ra_config.specs.Config.{ConfigData}
-use Rattle.session_port.specs.Jobs.{Jobs, after_batch, after_message, final_of, fits, fits_final, fitting_job, has_workspaces, if_fits, if_value, ticket_of, without_fitting}
+use Rattle.session_port.specs.Jobs.{Jobs, after_batch, after_message, final_of, fits_final, fitting_job, has_build_data, has_workspaces, if_value, ticket_of, without_fitting}
 use Rattle.session_port.specs.Record.{spawned, with_jobs}
-use Rattle.session_port.specs.declared.event.TaskBody.{TaskBody}
 use Rattle.session_port.specs.declared.event.TaskMsg.{TaskMsg}
 use Rattle.session_port.specs.declared.job.Job.{Job}
 use Rattle.session_port.specs.declared.job.JobKind.{JobKind}
-use Rattle.session_port.specs.declared.job.JobKind.TheVariants.{Request, FetchWorkspaces, FetchBuildData, LoadProcMacros}
+use Rattle.session_port.specs.declared.job.JobKind.TheVariants.{Request as RequestJob, FetchWorkspaces, FetchBuildData, LoadProcMacros}
 use Rattle.session_port.specs.declared.job.JobResult.{JobResult}
 use Rattle.session_port.specs.declared.job.JobResult.TheVariants.{Value, Fault, Cancelled, NoMemory}
 use Rattle.session_port.specs.declared.job.JobValue.TheVariants.{Json, Roots, Primed, Workspaces as WorkspacesValue, BuildData, ProcMacros}
 use Rattle.client.specs.Client.{Client}
 use Rattle.client.specs.Folds.{after_answer}
+use Rattle.desk.specs.Building.{BuildEnd, build_end, build_end_of, build_ended, build_told}
 use Rattle.desk.specs.Desk.{Desk}
 use Rattle.desk.specs.Fetching.{FetchEnd, fetch_end, fetch_end_of, fetch_ended, fetch_told}
-use Rattle.desk.specs.Folds.{asked_among, is_asked}
 use Rattle.desk.specs.Meaning.{Meaning}
 use Rattle.desk.specs.Reactions.{Reaction}
 use Rattle.desk_laws.specs.Numbers.{AreNumbered}
 use Rattle.desk_laws.proofs.Appends.{with_jobs-append}
 use Rattle.desk_laws.proofs.Fitting.{after_message-some}
-use Rattle.desk_laws.proofs.Held.{still-out}
-use Rattle.desk_laws.proofs.Keyed.{by_key, get-insert_same, get-insert_other, get-remove_same, get-remove_other}
-use Rattle.desk_laws.proofs.Orders.{by_number_total, by_number_same}
+use Rattle.workspaces.specs.Builds.{build_to_start, end_build, start_build}
 use Rattle.workspaces.specs.Fetches.{ask_waiting, end_fetch, fetch_to_start, fire, fires, start_fetch, start_up}
-use Rattle.workspaces.specs.Workspaces.{Fetches, Workspaces}
+use Rattle.workspaces.specs.Workspaces.{Builds, Fetches, Workspaces}
+use Rattle.workspaces.specs.declared.outputs.BuildOutput.{BuildOutput}
 use Rattle.workspaces.specs.declared.outputs.FetchOutput.{FetchOutput}
 use Rattle.workspaces.specs.declared.requests.FetchRequest.{FetchRequest}
 use Rattle.workspaces.specs.declared.requests.WaitingFetch.{WaitingFetch}
-use Rattle.session_model.specs.Fetching.{fetch_job, fetch_jobs, fetch_kept, fetches_kept, reloaded_if, reloads}
-use Rattle.session_model.specs.Headline.{beginning, fetch_in, HandsOver, may_start_at, Place, place_after, reaction_of, row, snapshot_at, workspaces_at, workspaces_switched, workspaces_told}
+use Rattle.session_model.specs.Fetching.{fetch_job, fetch_jobs, fetch_kept, reloaded_if, reloads}
+use Rattle.session_model.specs.Headline.{beginning, build_in, fetch_in, HandsOver, may_start_at, Place, place_after, reaction_of, row, snapshot_at, workspaces_after, workspaces_fetched, workspaces_planned}
+use Rattle.session_model.specs.Headline.{workspaces_told}
+use Rattle.session_model.specs.Building.{build_job, build_jobs, build_kept, end_kept, ends_kept, rebuilds, rebuilt_if, request_told}
 use Rattle.session_model.specs.Hearing.{heard_of, told_by}
 use Rattle.session_model.specs.Run.{Steps, Turn, after_input}
 use Rattle.session_model.specs.State.{State, discovers}
+use Rattle.session_model.specs.Timing.{bring_files}
 use Rattle.session_model.specs.declared.input.Event.TheVariants.{Lsp, Task, Vfs, Deferred, Timer}
 use Rattle.session_model.specs.declared.input.Input.{Input}
 use Rattle.session_model.specs.declared.input.Input.TheVariants.{Start, Next}
-use Rattle.session_laws.specs.Invariant.{FetchIsOut, FetchIsOutIf, IsFetchOut, IsNoFetchOut, SoundAt, is_fetch, place_of}
+use Rattle.session_laws.specs.Invariant.{BuildIsOut, FetchIsOut, IsOutIf, SoundAt, is_build, is_fetch, place_of}
 use Rattle.session_laws.proofs.Changing.{folders-asks, settings-asks}
-use Rattle.session_laws.proofs.Each.{asked-here, asked-there}
 use Rattle.session_laws.proofs.Numbered.{row-numbered}
+use Rattle.session_laws.proofs.OneOut.{AreNone, IsSo, asked-none, fit-true, given-input, kept-off, none-some, numbered-behind, numbered-front, off-other, on-others, on-start, still-so, true-false}
 use Rattle.session_laws.proofs.Rows.{steps-fit}
 use Rattle.session_laws.proofs.Switching.{switch-moves}
+use Rattle.session_laws.proofs.Timing.{renewed-waits, turn-waits}
 
-some-same : {X : Type 0} (x y : X) → Some x ≡ Some y → x ≡ y
-some-same x y e = cc
+abbrev fetching : Workspaces → Bool
+fetching workspaces = workspaces.fetches.queue.in_progress
 
-none-some : {X P : Type 0} (x : X) → None ≡ Some x → P
-none-some x e = absurd cc
+abbrev building : Workspaces → Bool
+building workspaces = workspaces.builds.queue.in_progress
 
-true-false : {P : Type 0} → true ≡ false → P
-true-false e = absurd (true≢false e)
-
-not-true : (b : Bool) → (b ≡ true → ⊥) → b ≡ false
-not-true true none = absurd (none refl)
-not-true false none = refl
-
--- ---- a job comes off
-
--- it is no fetch
-off-other : (b : Bool) (n : ℕ) (found : Job) (out : Jobs) → map.get out n ≡ Some found → is_fetch found.kind ≡ false → FetchIsOutIf b out → FetchIsOutIf b (map.remove out n)
-off-other true n found out is other h = record {
-  number = h.number;
-  job = h.job;
-  is_out = get-remove_other by_number_total by_number_same out n h.number
-      (λ same. true≢false (sym h.fetches ∙ ap (λ (j : Job). is_fetch j.kind) (some-same h.job found (sym h.is_out ∙ ap (map.get out) same ∙ is)) ∙ other)) ∙ h.is_out;
-  fetches = h.fetches;
-  only = λ m holder there its. h.only m holder (still-out n m out holder there) its;
-}
-off-other false n found out is other h = λ m holder there. h m holder (still-out n m out holder there)
-
--- it is the fetch
-off-fetch : (n : ℕ) (found : Job) (out : Jobs) → map.get out n ≡ Some found → is_fetch found.kind ≡ true → IsFetchOut out → IsNoFetchOut (map.remove out n)
-off-fetch n found out is fetches h = λ m holder there. not-true (is_fetch holder.kind)
-    (λ its. gone m holder there (h.only m holder (still-out n m out holder there) its ∙ sym (h.only n found is fetches)))
-  where
-    gone : (m : ℕ) (holder : Job) → map.get (map.remove out n) m ≡ Some holder → m ≢ n
-    gone m holder there = λ same. none-some holder (sym (get-remove_same by_number_total by_number_same out n) ∙ ap (map.get (map.remove out n)) (sym same) ∙ there)
-
--- ---- messages of jobs
-
--- a message fits the job that is found for it
-fit-true : (body : TaskBody) (o : Option Job) (job : Job) → option_and_then (if_fits body) o ≡ Some job → fits job body ≡ true
-fit-true body None job is = none-some job is
-fit-true body (Some found) job is = by_test (fits found body) refl is
-  where
-    by_test : (b : Bool) → fits found body ≡ b → (if b then Some found else None) ≡ Some job → fits job body ≡ true
-    by_test true its same = ap (λ (j : Job). fits j body) (sym (some-same found job same)) ∙ its
-    by_test false its none = none-some job none
+-- ---- messages of jobs that end a fetch
 
 -- a fetch ends with what it came to
 fetch-has-end : (result : JobResult) → if_value has_workspaces result ≡ true → (found : FetchEnd) × (fetch_end result ≡ Some found)
@@ -108,43 +72,107 @@ fetch-has-end (Fault code message) fit = (Err message, refl)
 fetch-has-end (Cancelled saw) fit = (Err (codes "cancelled"), refl)
 fetch-has-end NoMemory fit = (Err (codes "out of memory"), refl)
 
--- a fetch is in progress, since its job is out, and then it is not
-kept-cases : (b : Bool) (ended workspaces : Workspaces) (n : ℕ) (job : Job) (out : Jobs) → ended.fetches.queue.in_progress ≡ false → map.get out n ≡ Some job → is_fetch job.kind ≡ true → FetchIsOutIf b out
-    → FetchIsOutIf (if b then ended else workspaces).fetches.queue.in_progress (map.remove out n)
-kept-cases true ended workspaces n job out off is fetches h = subst (λ c. FetchIsOutIf c (map.remove out n)) (sym off) (off-fetch n job out is fetches h)
-kept-cases false ended workspaces n job out off is fetches h = true-false (sym fetches ∙ h n job is)
+found-out : (found : FetchEnd) (workspaces : Workspaces) (n : ℕ) (job : Job) (out : Jobs) → map.get out n ≡ Some job → is_fetch job.kind ≡ true
+    → IsOutIf is_fetch (fetching workspaces) out → IsOutIf is_fetch (fetching (fetch_kept (Some found) workspaces)) (map.remove out n)
+found-out found workspaces n job out there one h =
+    kept-off is_fetch (λ (w : Workspaces). w.fetches.queue.in_progress) workspaces.fetches.queue.in_progress
+    (record workspaces { fetches = end_fetch found workspaces.fetches; switch_wanted = true }) workspaces n job out refl there one h
 
-found-out : (found : FetchEnd) (workspaces : Workspaces) (n : ℕ) (job : Job) (out : Jobs) → map.get out n ≡ Some job → is_fetch job.kind ≡ true → FetchIsOutIf workspaces.fetches.queue.in_progress out
-    → FetchIsOutIf (fetch_kept (Some found) workspaces).fetches.queue.in_progress (map.remove out n)
-found-out found workspaces n job out is fetches h =
-    kept-cases workspaces.fetches.queue.in_progress (record workspaces { fetches = end_fetch found workspaces.fetches; switch_wanted = true }) workspaces n job out refl is fetches h
-
--- the job of a message ends
-ended-out : (workspaces : Workspaces) (n : ℕ) (job : Job) (out : Jobs) (kind : JobKind) (final : Option JobResult) → job.kind ≡ kind → map.get out n ≡ Some job → fits_final kind final ≡ true
-    → FetchIsOutIf workspaces.fetches.queue.in_progress out → FetchIsOutIf (fetch_kept (option_and_then (fetch_end_of kind) final) workspaces).fetches.queue.in_progress (map.remove out n)
-ended-out workspaces n job out kind None its is fit h = true-false (sym fit)
-ended-out workspaces n job out (Request ticket row params) (Some result) its is fit h = off-other workspaces.fetches.queue.in_progress n job out is (ap is_fetch its) h
-ended-out workspaces n job out (FetchBuildData version) (Some result) its is fit h = off-other workspaces.fetches.queue.in_progress n job out is (ap is_fetch its) h
-ended-out workspaces n job out (LoadProcMacros paths ignored) (Some result) its is fit h = off-other workspaces.fetches.queue.in_progress n job out is (ap is_fetch its) h
-ended-out workspaces n job out (FetchWorkspaces projects detached path force) (Some result) its is fit h =
+fetch-ends : (workspaces : Workspaces) (n : ℕ) (job : Job) (out : Jobs) (kind : JobKind) (final : Option JobResult) → job.kind ≡ kind → map.get out n ≡ Some job → fits_final kind final ≡ true
+    → IsOutIf is_fetch (fetching workspaces) out → IsOutIf is_fetch (fetching (fetch_kept (option_and_then (fetch_end_of kind) final) workspaces)) (map.remove out n)
+fetch-ends workspaces n job out kind None its there fit h = true-false (sym fit)
+fetch-ends workspaces n job out (RequestJob ticket row params) (Some result) its there fit h = off-other is_fetch workspaces.fetches.queue.in_progress n job out there (ap is_fetch its) h
+fetch-ends workspaces n job out (FetchBuildData version) (Some result) its there fit h = off-other is_fetch workspaces.fetches.queue.in_progress n job out there (ap is_fetch its) h
+fetch-ends workspaces n job out (LoadProcMacros paths ignored) (Some result) its there fit h = off-other is_fetch workspaces.fetches.queue.in_progress n job out there (ap is_fetch its) h
+fetch-ends workspaces n job out (FetchWorkspaces projects detached path force) (Some result) its there fit h =
     let end = fetch-has-end result fit in
-    subst (λ (o : Option FetchEnd). FetchIsOutIf (fetch_kept o workspaces).fetches.queue.in_progress (map.remove out n)) (sym end.1)
-    (found-out end.0 workspaces n job out is (ap is_fetch its) h)
+    subst (λ (o : Option FetchEnd). IsOutIf is_fetch (fetching (fetch_kept o workspaces)) (map.remove out n)) (sym end.1)
+    (found-out end.0 workspaces n job out there (ap is_fetch its) h)
 
-fitting-out : (message : TaskMsg) (out : Jobs) (workspaces : Workspaces) (o : Option Job) → fitting_job message out ≡ o → FetchIsOutIf workspaces.fetches.queue.in_progress out
-    → FetchIsOutIf (fetch_kept (fetch_told message o) workspaces).fetches.queue.in_progress (without_fitting o message out)
-fitting-out message out workspaces None is h = h
-fitting-out message out workspaces (Some job) is h =
-    ended-out workspaces message.job job out job.kind (final_of message.body) refl (after_message-some message out job is).1 (fit-true message.body (map.get out message.job) job is) h
+fetch-fitting : (message : TaskMsg) (out : Jobs) (workspaces : Workspaces) (o : Option Job) → fitting_job message out ≡ o → IsOutIf is_fetch (fetching workspaces) out
+    → IsOutIf is_fetch (fetching (fetch_kept (fetch_told message o) workspaces)) (without_fitting o message out)
+fetch-fitting message out workspaces None is h = h
+fetch-fitting message out workspaces (Some job) is h =
+    fetch-ends workspaces message.job job out job.kind (final_of message.body) refl (after_message-some message out job is).1 (fit-true message.body (map.get out message.job) job is) h
 
-message-out : (message : TaskMsg) (out : Jobs) (workspaces : Workspaces) → FetchIsOutIf workspaces.fetches.queue.in_progress out
-    → FetchIsOutIf (fetch_kept (fetch_ended message out) workspaces).fetches.queue.in_progress (after_message message out)
-message-out message out workspaces h = fitting-out message out workspaces (fitting_job message out) refl h
+-- an end of build data leaves the fetches
+build-leaves : (end : Option BuildEnd) (workspaces : Workspaces) → (build_kept end workspaces).fetches ≡ workspaces.fetches
+build-leaves None workspaces = refl
+build-leaves (Some made) workspaces =
+    if-leaves workspaces.builds.queue.in_progress (record workspaces { builds = end_build made workspaces.present workspaces.builds; switch_wanted = true }) workspaces refl
+  where
+    if-leaves : (b : Bool) (ended workspaces : Workspaces) → ended.fetches ≡ workspaces.fetches → (if b then ended else workspaces).fetches ≡ workspaces.fetches
+    if-leaves true ended workspaces same = same
+    if-leaves false ended workspaces same = refl
 
-batch-out : (batch : List TaskMsg) (out : Jobs) (workspaces : Workspaces) → FetchIsOutIf workspaces.fetches.queue.in_progress out
-    → FetchIsOutIf (fetches_kept batch out workspaces).fetches.queue.in_progress (after_batch batch out)
-batch-out [] out workspaces h = h
-batch-out (m ∷ ms) out workspaces h = batch-out ms (after_message m out) (fetch_kept (fetch_ended m out) workspaces) (message-out m out workspaces h)
+fetch-message : (message : TaskMsg) (out : Jobs) (workspaces : Workspaces) → IsOutIf is_fetch (fetching workspaces) out
+    → IsOutIf is_fetch (fetching (end_kept message out workspaces)) (after_message message out)
+fetch-message message out workspaces h =
+    subst (λ (f : Fetches). IsOutIf is_fetch f.queue.in_progress (after_message message out)) (sym (build-leaves (build_ended message out) (fetch_kept (fetch_ended message out) workspaces)))
+    (fetch-fitting message out workspaces (fitting_job message out) refl h)
+
+fetch-batch : (batch : List TaskMsg) (out : Jobs) (workspaces : Workspaces) → IsOutIf is_fetch (fetching workspaces) out
+    → IsOutIf is_fetch (fetching (ends_kept batch out workspaces)) (after_batch batch out)
+fetch-batch [] out workspaces h = h
+fetch-batch (m ∷ ms) out workspaces h = fetch-batch ms (after_message m out) (end_kept m out workspaces) (fetch-message m out workspaces h)
+
+-- ---- messages of jobs that end a run of build data
+
+-- a run ends with what it came to
+build-has-end : (result : JobResult) → if_value has_build_data result ≡ true → (made : BuildEnd) × (build_end result ≡ Some made)
+build-has-end (Value (Json value)) fit = true-false (sym fit)
+build-has-end (Value (Roots paths)) fit = true-false (sym fit)
+build-has-end (Value Primed) fit = true-false (sym fit)
+build-has-end (Value (WorkspacesValue results)) fit = true-false (sym fit)
+build-has-end (Value (BuildData results)) fit = (Ok results, refl)
+build-has-end (Value (ProcMacros macros)) fit = true-false (sym fit)
+build-has-end (Fault code message) fit = (Err message, refl)
+build-has-end (Cancelled saw) fit = (Err (codes "cancelled"), refl)
+build-has-end NoMemory fit = (Err (codes "out of memory"), refl)
+
+made-out : (made : BuildEnd) (workspaces : Workspaces) (n : ℕ) (job : Job) (out : Jobs) → map.get out n ≡ Some job → is_build job.kind ≡ true
+    → IsOutIf is_build (building workspaces) out → IsOutIf is_build (building (build_kept (Some made) workspaces)) (map.remove out n)
+made-out made workspaces n job out there one h =
+    kept-off is_build (λ (w : Workspaces). w.builds.queue.in_progress) workspaces.builds.queue.in_progress
+    (record workspaces { builds = end_build made workspaces.present workspaces.builds; switch_wanted = true }) workspaces n job out refl there one h
+
+build-ends : (workspaces : Workspaces) (n : ℕ) (job : Job) (out : Jobs) (kind : JobKind) (final : Option JobResult) → job.kind ≡ kind → map.get out n ≡ Some job → fits_final kind final ≡ true
+    → IsOutIf is_build (building workspaces) out → IsOutIf is_build (building (build_kept (option_and_then (build_end_of kind) final) workspaces)) (map.remove out n)
+build-ends workspaces n job out kind None its there fit h = true-false (sym fit)
+build-ends workspaces n job out (RequestJob ticket row params) (Some result) its there fit h = off-other is_build workspaces.builds.queue.in_progress n job out there (ap is_build its) h
+build-ends workspaces n job out (FetchWorkspaces projects detached path force) (Some result) its there fit h = off-other is_build workspaces.builds.queue.in_progress n job out there (ap is_build its) h
+build-ends workspaces n job out (LoadProcMacros paths ignored) (Some result) its there fit h = off-other is_build workspaces.builds.queue.in_progress n job out there (ap is_build its) h
+build-ends workspaces n job out (FetchBuildData version) (Some result) its there fit h =
+    let end = build-has-end result fit in
+    subst (λ (o : Option BuildEnd). IsOutIf is_build (building (build_kept o workspaces)) (map.remove out n)) (sym end.1)
+    (made-out end.0 workspaces n job out there (ap is_build its) h)
+
+build-fitting : (message : TaskMsg) (out : Jobs) (workspaces : Workspaces) (o : Option Job) → fitting_job message out ≡ o → IsOutIf is_build (building workspaces) out
+    → IsOutIf is_build (building (build_kept (build_told message o) workspaces)) (without_fitting o message out)
+build-fitting message out workspaces None is h = h
+build-fitting message out workspaces (Some job) is h =
+    build-ends workspaces message.job job out job.kind (final_of message.body) refl (after_message-some message out job is).1 (fit-true message.body (map.get out message.job) job is) h
+
+-- an end of a fetch leaves the builds
+fetch-leaves : (end : Option FetchEnd) (workspaces : Workspaces) → (fetch_kept end workspaces).builds ≡ workspaces.builds
+fetch-leaves None workspaces = refl
+fetch-leaves (Some found) workspaces =
+    if-leaves workspaces.fetches.queue.in_progress (record workspaces { fetches = end_fetch found workspaces.fetches; switch_wanted = true }) workspaces refl
+  where
+    if-leaves : (b : Bool) (ended workspaces : Workspaces) → ended.builds ≡ workspaces.builds → (if b then ended else workspaces).builds ≡ workspaces.builds
+    if-leaves true ended workspaces same = same
+    if-leaves false ended workspaces same = refl
+
+build-message : (message : TaskMsg) (out : Jobs) (workspaces : Workspaces) → IsOutIf is_build (building workspaces) out
+    → IsOutIf is_build (building (end_kept message out workspaces)) (after_message message out)
+build-message message out workspaces h =
+    build-fitting message out (fetch_kept (fetch_ended message out) workspaces) (fitting_job message out) refl
+    (subst (λ (b : Builds). IsOutIf is_build b.queue.in_progress out) (sym (fetch-leaves (fetch_ended message out) workspaces)) h)
+
+build-batch : (batch : List TaskMsg) (out : Jobs) (workspaces : Workspaces) → IsOutIf is_build (building workspaces) out
+    → IsOutIf is_build (building (ends_kept batch out workspaces)) (after_batch batch out)
+build-batch [] out workspaces h = h
+build-batch (m ∷ ms) out workspaces h = build-batch ms (after_message m out) (end_kept m out workspaces) (build-message m out workspaces h)
 
 -- ---- inputs
 
@@ -164,160 +192,204 @@ fire-cases false asked f same = refl
 fire-same : (ticket : ℕ) (f : Fetches) → (fire ticket f).queue.in_progress ≡ f.queue.in_progress
 fire-same ticket f = fire-cases (fires ticket f.waiting) (ask_waiting f.waiting f) f (ask-same f.waiting f)
 
-reload-same : (b : Bool) (workspaces : Workspaces) → (reloaded_if b workspaces).fetches.queue.in_progress ≡ workspaces.fetches.queue.in_progress
-reload-same true workspaces = refl
-reload-same false workspaces = refl
+-- nor is a run that is asked for
+record AsksOnce (before after : Workspaces) : Type 0 where
+  fetches : fetching after ≡ fetching before
+  builds : building after ≡ building before
 
-told-out : (client : Client) (input : Input) (desk : Desk) (workspaces : Workspaces) → FetchIsOutIf workspaces.fetches.queue.in_progress desk.jobs
-    → FetchIsOutIf (workspaces_told client input desk workspaces).fetches.queue.in_progress (after_input input desk.jobs)
-told-out client Start desk workspaces h = subst (λ b. FetchIsOutIf b desk.jobs) (sym (begin-same (discovers client.settings) workspaces.fetches)) h
-told-out client (Next (Lsp (RequestMessage r))) desk workspaces h = subst (λ b. FetchIsOutIf b desk.jobs) (sym (reload-same (reloads r desk) workspaces)) h
-told-out client (Next (Lsp (NotificationMessage n))) desk workspaces h =
-    subst (λ b. FetchIsOutIf b desk.jobs) (sym (folders-asks client.settings (told_by (heard_of n)) workspaces).in_progress) h
-told-out client (Next (Lsp (ResponseMessage r))) desk workspaces h =
-    subst (λ b. FetchIsOutIf b desk.jobs) (sym (settings-asks client.settings (after_answer r client).settings workspaces).in_progress) h
-told-out client (Next (Task batch)) desk workspaces h = batch-out batch desk.jobs workspaces h
-told-out client (Next (Vfs messages)) desk workspaces h = h
-told-out client (Next (Deferred tasks)) desk workspaces h = h
-told-out client (Next (Timer ticket)) desk workspaces h = subst (λ b. FetchIsOutIf b desk.jobs) (sym (fire-same ticket workspaces.fetches)) h
+reload-asks : (b : Bool) (workspaces : Workspaces) → AsksOnce workspaces (reloaded_if b workspaces)
+reload-asks true workspaces = record { fetches = refl; builds = refl }
+reload-asks false workspaces = record { fetches = refl; builds = refl }
 
--- ---- jobs with the next numbers
+rebuild-asks : (b : Bool) (workspaces : Workspaces) → AsksOnce workspaces (rebuilt_if b workspaces)
+rebuild-asks true workspaces = record { fetches = refl; builds = refl }
+rebuild-asks false workspaces = record { fetches = refl; builds = refl }
 
--- the jobs out have numbers that were given
-abbrev AreGiven : ℕ → Jobs → Type 0
-AreGiven given out = (n : ℕ) (job : Job) → map.get out n ≡ Some job → n ≤ given
+request-asks : (r : Request) (desk : Desk) (workspaces : Workspaces) → AsksOnce workspaces (request_told r desk workspaces)
+request-asks r desk workspaces =
+    let reloaded = reload-asks (reloads r desk) workspaces in
+    let rebuilt = rebuild-asks (rebuilds r desk) (reloaded_if (reloads r desk) workspaces) in
+    record { fetches = rebuilt.fetches ∙ reloaded.fetches; builds = rebuilt.builds ∙ reloaded.builds }
 
-given-cases : (given : ℕ) (message : TaskMsg) (out : Jobs) (o : Option Job) → AreGiven given out → AreGiven given (without_fitting o message out)
-given-cases given message out None h = h
-given-cases given message out (Some job) h = λ n holder there. h n holder (still-out message.job n out holder there)
+fetch-told-out : (client : Client) (input : Input) (desk : Desk) (workspaces : Workspaces) → IsOutIf is_fetch (fetching workspaces) desk.jobs
+    → IsOutIf is_fetch (fetching (workspaces_told client input desk workspaces)) (after_input input desk.jobs)
+fetch-told-out client Start desk workspaces h = subst (λ b. IsOutIf is_fetch b desk.jobs) (sym (begin-same (discovers client.settings) workspaces.fetches)) h
+fetch-told-out client (Next (Lsp (RequestMessage r))) desk workspaces h = subst (λ b. IsOutIf is_fetch b desk.jobs) (sym (request-asks r desk workspaces).fetches) h
+fetch-told-out client (Next (Lsp (NotificationMessage n))) desk workspaces h =
+    subst (λ b. IsOutIf is_fetch b desk.jobs) (sym (folders-asks client.settings (told_by (heard_of n)) workspaces).in_progress) h
+fetch-told-out client (Next (Lsp (ResponseMessage r))) desk workspaces h =
+    subst (λ b. IsOutIf is_fetch b desk.jobs) (sym (settings-asks client.settings (after_answer r client).settings workspaces).in_progress) h
+fetch-told-out client (Next (Task batch)) desk workspaces h = fetch-batch batch desk.jobs workspaces h
+fetch-told-out client (Next (Vfs messages)) desk workspaces h =
+    subst (λ b. IsOutIf is_fetch b desk.jobs) (sym (renewed-waits (bring_files messages) (desk.turns + 1) workspaces).in_progress) h
+fetch-told-out client (Next (Deferred tasks)) desk workspaces h = h
+fetch-told-out client (Next (Timer ticket)) desk workspaces h = subst (λ b. IsOutIf is_fetch b desk.jobs) (sym (fire-same ticket workspaces.fetches)) h
 
-given-after : (given : ℕ) (batch : List TaskMsg) (out : Jobs) → AreGiven given out → AreGiven given (after_batch batch out)
-given-after given [] out h = h
-given-after given (m ∷ ms) out h = given-after given ms (after_message m out) (given-cases given m out (fitting_job m out) h)
+build-told-out : (client : Client) (input : Input) (desk : Desk) (workspaces : Workspaces) → IsOutIf is_build (building workspaces) desk.jobs
+    → IsOutIf is_build (building (workspaces_told client input desk workspaces)) (after_input input desk.jobs)
+build-told-out client Start desk workspaces h = h
+build-told-out client (Next (Lsp (RequestMessage r))) desk workspaces h = subst (λ b. IsOutIf is_build b desk.jobs) (sym (request-asks r desk workspaces).builds) h
+build-told-out client (Next (Lsp (NotificationMessage n))) desk workspaces h =
+    subst (λ (b : Builds). IsOutIf is_build b.queue.in_progress desk.jobs) (sym (folders-asks client.settings (told_by (heard_of n)) workspaces).builds) h
+build-told-out client (Next (Lsp (ResponseMessage r))) desk workspaces h =
+    subst (λ (b : Builds). IsOutIf is_build b.queue.in_progress desk.jobs) (sym (settings-asks client.settings (after_answer r client).settings workspaces).builds) h
+build-told-out client (Next (Task batch)) desk workspaces h = build-batch batch desk.jobs workspaces h
+build-told-out client (Next (Vfs messages)) desk workspaces h =
+    subst (λ (b : Builds). IsOutIf is_build b.queue.in_progress desk.jobs) (sym (renewed-waits (bring_files messages) (desk.turns + 1) workspaces).builds) h
+build-told-out client (Next (Deferred tasks)) desk workspaces h = h
+build-told-out client (Next (Timer ticket)) desk workspaces h = h
 
-given-input : (given : ℕ) (input : Input) (out : Jobs) → AreGiven given out → AreGiven given (after_input input out)
-given-input given Start out h = h
-given-input given (Next (Lsp message)) out h = h
-given-input given (Next (Task batch)) out h = given-after given batch out h
-given-input given (Next (Vfs messages)) out h = h
-given-input given (Next (Deferred tasks)) out h = h
-given-input given (Next (Timer ticket)) out h = h
+-- ---- starts
 
--- what is out with one job more was out before, or is this job
-was-out : (out : Jobs) (job : Job) (n : ℕ) (holder : Job) → n ≢ job.number → map.get (map.insert out job.number job) n ≡ Some holder → map.get out n ≡ Some holder
-was-out out job n holder other there = sym (get-insert_other by_number_total by_number_same out job.number job n other) ∙ there
+-- jobs for requests are none of the host's own
+asked-no-fetch : (kind : JobKind) → is_some (ticket_of kind) ≡ true → is_fetch kind ≡ false
+asked-no-fetch (RequestJob ticket row params) is = refl
+asked-no-fetch (FetchWorkspaces projects detached path force) is = true-false (sym is)
+asked-no-fetch (FetchBuildData version) is = refl
+asked-no-fetch (LoadProcMacros paths ignored) is = refl
 
-it-is : (out : Jobs) (job : Job) (n : ℕ) (holder : Job) → n ≡ job.number → map.get (map.insert out job.number job) n ≡ Some holder → holder ≡ job
-it-is out job n holder same there =
-    sym (some-same job holder (sym (get-insert_same by_number_total by_number_same out job.number job) ∙ ap (map.get (map.insert out job.number job)) (sym same) ∙ there))
+asked-no-build : (kind : JobKind) → is_some (ticket_of kind) ≡ true → is_build kind ≡ false
+asked-no-build (RequestJob ticket row params) is = refl
+asked-no-build (FetchWorkspaces projects detached path force) is = refl
+asked-no-build (FetchBuildData version) is = true-false (sym is)
+asked-no-build (LoadProcMacros paths ignored) is = refl
 
-given-more : (given : ℕ) (out : Jobs) (job : Job) → job.number ≡ given + 1 → AreGiven given out → AreGiven (given + 1) (map.insert out job.number job)
-given-more given out job next h = λ n holder there. by_key by_number_total by_number_same n job.number
-    (λ same. omega (arith, same, next))
-    (λ other. let le = h n holder (was-out out job n holder other there) in omega (arith, le))
+fetch-no-build : (number : ℕ) (snapshot : SnapshotData) (o : Option (List ℕ × FetchRequest)) → AreNone is_build (fetch_jobs number snapshot o)
+fetch-no-build number snapshot None = tt
+fetch-no-build number snapshot (Some fetch) = (refl, tt)
 
--- one that is no fetch
-on-other : (b : Bool) (given : ℕ) (out : Jobs) (job : Job) → job.number ≡ given + 1 → is_fetch job.kind ≡ false → AreGiven given out → FetchIsOutIf b out → FetchIsOutIf b (map.insert out job.number job)
-on-other true given out job next other low h = record {
-  number = h.number;
-  job = h.job;
-  is_out = let le = low h.number h.job h.is_out in get-insert_other by_number_total by_number_same out job.number job h.number (λ same. omega (arith, le, same, next)) ∙ h.is_out;
-  fetches = h.fetches;
-  only = λ m holder there its. by_key by_number_total by_number_same m job.number
-      (λ same. true-false (sym its ∙ ap (λ (j : Job). is_fetch j.kind) (it-is out job m holder same there) ∙ other))
-      (λ elsewhere. h.only m holder (was-out out job m holder elsewhere there) its);
-}
-on-other false given out job next other low h = λ m holder there. by_key by_number_total by_number_same m job.number
-    (λ same. ap (λ (j : Job). is_fetch j.kind) (it-is out job m holder same there) ∙ other)
-    (λ elsewhere. h m holder (was-out out job m holder elsewhere there))
+build-no-fetch : (number : ℕ) (snapshot : SnapshotData) (o : Option ℕ) → AreNone is_fetch (build_jobs number snapshot o)
+build-no-fetch number snapshot None = tt
+build-no-fetch number snapshot (Some version) = (refl, tt)
 
--- one that is a fetch
-on-fetch : (out : Jobs) (job : Job) → is_fetch job.kind ≡ true → IsNoFetchOut out → IsFetchOut (map.insert out job.number job)
-on-fetch out job fetches h = record {
-  number = job.number;
-  job = job;
-  is_out = get-insert_same by_number_total by_number_same out job.number job;
-  fetches = fetches;
-  only = λ m holder there its. by_key by_number_total by_number_same m job.number
-      (λ same. same)
-      (λ elsewhere. true-false (sym its ∙ h m holder (was-out out job m holder elsewhere there)));
-}
+-- a fetch starts
+fetch-starts : (queue : Queue FetchRequest FetchOutput) (b : Bool) (o : Option (List ℕ × FetchRequest)) (number : ℕ) (snapshot : SnapshotData) (given : ℕ) (out : Jobs) → queue.in_progress ≡ b
+    → AreNumbered given (fetch_jobs number snapshot (cond b None o)) → IsSo is_fetch queue.in_progress given out
+    → IsSo is_fetch (cond b queue (record { waiting = None; in_progress = is_some o; last = queue.last })).in_progress
+    (given + length (fetch_jobs number snapshot (cond b None o))) (with_jobs (fetch_jobs number snapshot (cond b None o)) out)
+fetch-starts queue true o number snapshot given out is numbered h = still-so is_fetch queue.in_progress given out h
+fetch-starts queue false None number snapshot given out is numbered h = still-so is_fetch false given out (subst (λ b. IsSo is_fetch b given out) is h)
+fetch-starts queue false (Some fetch) number snapshot given out is numbered h =
+    on-start is_fetch given (fetch_job number snapshot fetch.1) out numbered.0 refl (subst (λ b. IsSo is_fetch b given out) is h)
 
--- no job of a list is a fetch
-abbrev AreNoFetches : List Job → Type 0
-AreNoFetches [] = Unit {0}
-AreNoFetches (job ∷ jobs) = (is_fetch job.kind ≡ false) × AreNoFetches jobs
+fetch-out : (may : Bool) (f : Fetches) (number : ℕ) (snapshot : SnapshotData) (given : ℕ) (out : Jobs) → AreNumbered given (fetch_jobs number snapshot (fetch_to_start may f))
+    → IsSo is_fetch f.queue.in_progress given out
+    → IsSo is_fetch (start_fetch may f).queue.in_progress (given + length (fetch_jobs number snapshot (fetch_to_start may f))) (with_jobs (fetch_jobs number snapshot (fetch_to_start may f)) out)
+fetch-out true f number snapshot given out numbered h = fetch-starts f.queue f.queue.in_progress f.queue.waiting number snapshot given out refl numbered h
+fetch-out false f number snapshot given out numbered h = still-so is_fetch f.queue.in_progress given out h
 
--- jobs for requests are none
-asked-other : (kind : JobKind) → is_some (ticket_of kind) ≡ true → is_fetch kind ≡ false
-asked-other (Request ticket row params) is = refl
-asked-other (FetchWorkspaces projects detached path force) is = true-false (sym is)
-asked-other (FetchBuildData version) is = refl
-asked-other (LoadProcMacros paths ignored) is = refl
+-- a run of build data starts
+build-starts : (queue : Queue (Unit {0}) BuildOutput) (b : Bool) (o : Option (List ℕ × Unit {0})) (version number : ℕ) (snapshot : SnapshotData) (given : ℕ) (out : Jobs) → queue.in_progress ≡ b
+    → AreNumbered given (build_jobs number snapshot (option_map (λ (request : List ℕ × Unit {0}). version) (cond b None o))) → IsSo is_build queue.in_progress given out
+    → IsSo is_build (cond b queue (record { waiting = None; in_progress = is_some o; last = queue.last })).in_progress
+    (given + length (build_jobs number snapshot (option_map (λ (request : List ℕ × Unit {0}). version) (cond b None o))))
+    (with_jobs (build_jobs number snapshot (option_map (λ (request : List ℕ × Unit {0}). version) (cond b None o))) out)
+build-starts queue true o version number snapshot given out is numbered h = still-so is_build queue.in_progress given out h
+build-starts queue false None version number snapshot given out is numbered h = still-so is_build false given out (subst (λ b. IsSo is_build b given out) is h)
+build-starts queue false (Some request) version number snapshot given out is numbered h =
+    on-start is_build given (build_job number snapshot version) out numbered.0 refl (subst (λ b. IsSo is_build b given out) is h)
 
-asked-cases : (b : Bool) (job : Job) (jobs : List Job) → is_asked job ≡ b → AreNoFetches (asked_among jobs) → AreNoFetches (asked_among (job ∷ jobs))
-asked-cases true job jobs is rest = subst AreNoFetches (sym (asked-here job jobs is)) (asked-other job.kind is, rest)
-asked-cases false job jobs is rest = subst AreNoFetches (sym (asked-there job jobs is)) rest
-
-asked-none : (jobs : List Job) → AreNoFetches (asked_among jobs)
-asked-none [] = tt
-asked-none (job ∷ jobs) = asked-cases (is_asked job) job jobs refl (asked-none jobs)
-
--- what is so once jobs that are no fetches are out too
-record IsSo (b : Bool) (given : ℕ) (out : Jobs) : Type 0 where
-  low : AreGiven given out
-  fetching : FetchIsOutIf b out
-
-on-others : (b : Bool) (given : ℕ) (jobs : List Job) (out : Jobs) → AreNumbered given jobs → AreNoFetches jobs → IsSo b given out → IsSo b (given + length jobs) (with_jobs jobs out)
-on-others b given [] out numbered none h = subst (λ n. IsSo b n out) (zero given) h
-  where
-    zero : (n : ℕ) → n ≡ n + 0
-    zero n = omega arith
-on-others b given (job ∷ jobs) out numbered none h =
-    let more : given + 1 + length jobs ≡ given + length (job ∷ jobs) = omega arith in
-    subst (λ n. IsSo b n (with_jobs (job ∷ jobs) out)) more
-    (on-others b (given + 1) jobs (map.insert out job.number job) numbered.1 none.1
-    (record { low = given-more given out job numbered.0 h.low; fetching = on-other b given out job numbered.0 none.0 h.low h.fetching }))
-
--- ---- the start of a fetch
-
-starts-out : (queue : Queue FetchRequest FetchOutput) (b : Bool) (o : Option (List ℕ × FetchRequest)) (number : ℕ) (snapshot : SnapshotData) (out : Jobs) → queue.in_progress ≡ b → FetchIsOutIf queue.in_progress out
-    → FetchIsOutIf (cond b queue (record { waiting = None; in_progress = is_some o; last = queue.last })).in_progress (with_jobs (fetch_jobs number snapshot (cond b None o)) out)
-starts-out queue true o number snapshot out is h = h
-starts-out queue false None number snapshot out is h = subst (λ b. FetchIsOutIf b out) is h
-starts-out queue false (Some fetch) number snapshot out is h = on-fetch out (fetch_job number snapshot fetch.1) refl (subst (λ b. FetchIsOutIf b out) is h)
-
-fetch-out : (may : Bool) (f : Fetches) (number : ℕ) (snapshot : SnapshotData) (out : Jobs) → FetchIsOutIf f.queue.in_progress out
-    → FetchIsOutIf (start_fetch may f).queue.in_progress (with_jobs (fetch_jobs number snapshot (fetch_to_start may f)) out)
-fetch-out true f number snapshot out h = starts-out f.queue f.queue.in_progress f.queue.waiting number snapshot out refl h
-fetch-out false f number snapshot out h = h
+build-out : (busy : Bool) (version : ℕ) (b : Builds) (number : ℕ) (snapshot : SnapshotData) (given : ℕ) (out : Jobs) → AreNumbered given (build_jobs number snapshot (build_to_start busy version b))
+    → IsSo is_build b.queue.in_progress given out
+    → IsSo is_build (start_build busy version b).queue.in_progress (given + length (build_jobs number snapshot (build_to_start busy version b)))
+    (with_jobs (build_jobs number snapshot (build_to_start busy version b)) out)
+build-out true version b number snapshot given out numbered h = still-so is_build b.queue.in_progress given out h
+build-out false version b number snapshot given out numbered h = build-starts b.queue b.queue.in_progress b.queue.waiting version number snapshot given out refl numbered h
 
 -- ---- turns
 
-pub turn-keeps-fetching : (meaning : Meaning) (turn : Turn) (place : Place) → reaction_of turn ≡ row meaning turn.input place → HandsOver meaning turn place → SoundAt place → FetchIsOut place
-    → FetchIsOut (place_after turn place)
-turn-keeps-fetching meaning turn place does hands sound h =
+-- the start runs no build data
+after-fetches : (input : Input) (place : Place) → (workspaces_after input place).fetches ≡ (workspaces_fetched input place).fetches
+after-fetches Start place = refl
+after-fetches (Next event) place = refl
+
+after-builds : (input : Input) (place : Place) (number : ℕ) (snapshot : SnapshotData) (given : ℕ) (out : Jobs) → AreNumbered given (build_jobs number snapshot (build_in input place))
+    → IsSo is_build (building (workspaces_planned input place)) given out
+    → IsSo is_build (building (workspaces_after input place)) (given + length (build_jobs number snapshot (build_in input place))) (with_jobs (build_jobs number snapshot (build_in input place)) out)
+after-builds Start place number snapshot given out numbered h = still-so is_build (building (workspaces_planned Start place)) given out h
+after-builds (Next event) place number snapshot given out numbered h =
+    let workspaces = workspaces_fetched (Next event) place in
+    build-out workspaces.fetches.queue.in_progress workspaces.version workspaces.builds number snapshot given out numbered h
+
+-- the jobs that a turn hands over have the next numbers, and are out behind it
+record Spawns (meaning : Meaning) (turn : Turn) (place : Place) (fetch build : List Job) : Type 0 where
+  fetch_numbered : AreNumbered (place.desk.handed + length (row meaning turn.input place).jobs) fetch
+  build_numbered : AreNumbered (place.desk.handed + length (row meaning turn.input place).jobs + length fetch) build
+  out : with_jobs build (with_jobs fetch (with_jobs (row meaning turn.input place).jobs (after_input turn.input place.desk.jobs))) ≡ (place_after turn place).desk.jobs
+
+spawns : (meaning : Meaning) (turn : Turn) (place : Place) (fetch build : List Job) → AreNumbered place.desk.handed (spawned turn.commands)
+    → spawned turn.commands ≡ (row meaning turn.input place).jobs ++ (fetch ++ build) → Spawns meaning turn place fetch build
+spawns meaning turn place fetch build numbered hands =
+    let jobs = (row meaning turn.input place).jobs in
+    let out = after_input turn.input place.desk.jobs in
+    let behind = numbered-behind place.desk.handed jobs (fetch ++ build) (subst (AreNumbered place.desk.handed) hands numbered) in
+    record {
+      fetch_numbered = numbered-front (place.desk.handed + length jobs) fetch build behind;
+      build_numbered = numbered-behind (place.desk.handed + length jobs) fetch build behind;
+      out = sym (ap (λ (js : List Job). with_jobs js out) hands ∙ with_jobs-append jobs (fetch ++ build) out ∙ with_jobs-append fetch build (with_jobs jobs out));
+    }
+
+pub turn-keeps-fetching : (meaning : Meaning) (turn : Turn) (place : Place) → reaction_of turn ≡ row meaning turn.input place → AreNumbered place.desk.handed (spawned turn.commands)
+    → HandsOver meaning turn place → SoundAt place → FetchIsOut place → FetchIsOut (place_after turn place)
+turn-keeps-fetching meaning turn place does numbered hands sound h =
     let input = turn.input in
     let after = place_after turn place in
-    let workspaces = workspaces_switched input place in
+    let workspaces = workspaces_planned input place in
     let jobs = (row meaning input place).jobs in
     let fetch = fetch_jobs after.desk.handed (snapshot_at after) (fetch_in input place) in
+    let build = build_jobs after.desk.handed (snapshot_at after) (build_in input place) in
     let out = after_input input place.desk.jobs in
-    let none : AreNoFetches jobs = subst AreNoFetches (ap (λ (r : Reaction). r.jobs) does) (asked-none (spawned turn.commands)) in
-    let told : IsSo workspaces.fetches.queue.in_progress place.desk.handed out = record {
+    let all = spawns meaning turn place fetch build numbered hands in
+    let none : AreNone is_fetch jobs = subst (AreNone is_fetch) (ap (λ (r : Reaction). r.jobs) does) (asked-none is_fetch asked-no-fetch (spawned turn.commands)) in
+    let told : IsSo is_fetch (fetching workspaces) place.desk.handed out = record {
       low = given-input place.desk.handed input place.desk.jobs sound.numbers;
-      fetching = subst (λ (f : Fetches). FetchIsOutIf f.queue.in_progress out) (sym (switch-moves input place).fetches)
-          (told-out place.client input place.desk place.workspaces h);
+      out_if = subst (λ b. IsOutIf is_fetch b out) (sym (turn-waits input place).in_progress)
+          (subst (λ (f : Fetches). IsOutIf is_fetch f.queue.in_progress out) (sym (switch-moves input place).fetches)
+          (fetch-told-out place.client input place.desk place.workspaces h));
     } in
-    let rowed = on-others workspaces.fetches.queue.in_progress place.desk.handed jobs out (row-numbered meaning input place) none told in
-    subst (λ (js : List Job). FetchIsOutIf after.workspaces.fetches.queue.in_progress (with_jobs js out)) (sym hands)
-    (subst (FetchIsOutIf after.workspaces.fetches.queue.in_progress) (sym (with_jobs-append jobs fetch out))
-    (fetch-out (may_start_at input place.client) workspaces.fetches after.desk.handed (snapshot_at after) (with_jobs jobs out) rowed.fetching))
+    let rowed = on-others is_fetch (fetching workspaces) place.desk.handed jobs out (row-numbered meaning input place) none told in
+    let started = fetch-out (may_start_at input place.client) workspaces.fetches after.desk.handed (snapshot_at after) (place.desk.handed + length jobs) (with_jobs jobs out) all.fetch_numbered rowed in
+    let built = on-others is_fetch (fetching (workspaces_fetched input place)) (place.desk.handed + length jobs + length fetch) build (with_jobs fetch (with_jobs jobs out)) all.build_numbered
+    (build-no-fetch after.desk.handed (snapshot_at after) (build_in input place)) started in
+    subst (IsOutIf is_fetch (fetching after.workspaces)) all.out
+    (subst (λ (f : Fetches). IsOutIf is_fetch f.queue.in_progress (with_jobs build (with_jobs fetch (with_jobs jobs out)))) (sym (after-fetches input place)) built.out_if)
+
+pub turn-keeps-building : (meaning : Meaning) (turn : Turn) (place : Place) → reaction_of turn ≡ row meaning turn.input place → AreNumbered place.desk.handed (spawned turn.commands)
+    → HandsOver meaning turn place → SoundAt place → BuildIsOut place → BuildIsOut (place_after turn place)
+turn-keeps-building meaning turn place does numbered hands sound h =
+    let input = turn.input in
+    let after = place_after turn place in
+    let workspaces = workspaces_planned input place in
+    let jobs = (row meaning input place).jobs in
+    let fetch = fetch_jobs after.desk.handed (snapshot_at after) (fetch_in input place) in
+    let build = build_jobs after.desk.handed (snapshot_at after) (build_in input place) in
+    let out = after_input input place.desk.jobs in
+    let all = spawns meaning turn place fetch build numbered hands in
+    let none : AreNone is_build jobs = subst (AreNone is_build) (ap (λ (r : Reaction). r.jobs) does) (asked-none is_build asked-no-build (spawned turn.commands)) in
+    let told : IsSo is_build (building workspaces) place.desk.handed out = record {
+      low = given-input place.desk.handed input place.desk.jobs sound.numbers;
+      out_if = subst (λ (b : Builds). IsOutIf is_build b.queue.in_progress out) (sym (turn-waits input place).builds)
+          (subst (λ b. IsOutIf is_build b out) (sym (switch-moves input place).building)
+          (build-told-out place.client input place.desk place.workspaces h));
+    } in
+    let rowed = on-others is_build (building workspaces) place.desk.handed jobs out (row-numbered meaning input place) none told in
+    let started = on-others is_build (building workspaces) (place.desk.handed + length jobs) fetch (with_jobs jobs out) all.fetch_numbered
+    (fetch-no-build after.desk.handed (snapshot_at after) (fetch_in input place)) rowed in
+    let built = after-builds input place after.desk.handed (snapshot_at after) (place.desk.handed + length jobs + length fetch) (with_jobs fetch (with_jobs jobs out)) all.build_numbered started in
+    subst (IsOutIf is_build (building after.workspaces)) all.out built.out_if
 
 pub fetching-beginning : (settings : ConfigData) → FetchIsOut (beginning settings)
 fetching-beginning settings = λ n job there. none-some job (sym (map.get-empty _ n) ∙ there)
 
+pub building-beginning : (settings : ConfigData) → BuildIsOut (beginning settings)
+building-beginning settings = λ n job there. none-some job (sym (map.get-empty _ n) ∙ there)
+
 pub steps-keep-fetching : (meaning : Meaning) (old : State) (turn : Turn) (new : State) → Steps meaning old turn new → SoundAt (place_of old) → FetchIsOut (place_of old) → FetchIsOut (place_of new)
 steps-keep-fetching meaning old turn new steps sound h =
     let fit = steps-fit meaning old turn new steps in
-    subst FetchIsOut (sym fit.place) (turn-keeps-fetching meaning turn (place_of old) fit.does fit.hands_over sound h)
+    subst FetchIsOut (sym fit.place) (turn-keeps-fetching meaning turn (place_of old) fit.does fit.numbered fit.hands_over sound h)
+
+pub steps-keep-building : (meaning : Meaning) (old : State) (turn : Turn) (new : State) → Steps meaning old turn new → SoundAt (place_of old) → BuildIsOut (place_of old) → BuildIsOut (place_of new)
+steps-keep-building meaning old turn new steps sound h =
+    let fit = steps-fit meaning old turn new steps in
+    subst BuildIsOut (sym fit.place) (turn-keeps-building meaning turn (place_of old) fit.does fit.numbered fit.hands_over sound h)

@@ -2,6 +2,7 @@ pub mod Accounted
 pub mod Answered
 pub mod Asking
 pub mod Beside
+pub mod Building
 pub mod Causes
 pub mod Changing
 pub mod Counted
@@ -16,11 +17,16 @@ pub mod InProgress
 pub mod Joined
 pub mod Numbered
 pub mod Once
+pub mod OneOut
 pub mod Rising
 pub mod Rows
 pub mod Same
 pub mod Seeing
+pub mod Starting
 pub mod Telling
+pub mod Statuses
 pub mod Stretches
 pub mod Switching
+pub mod Tickets
+pub mod Timing
 pub mod Versions

@@ -1,10 +1,11 @@
 -- The machine's turns are the rows of the reply table.
-use Rattle.std.proofs.Common.{◌≡◌, ℕ, ◌+◌, ◌≤◌, List, [], ◌∷◌, ◌++◌, length, Bool, true, false, refl, sym, ap, ◌∙◌, subst, arith, eqb-true, append-nil}
+use Rattle.std.proofs.Common.{◌≡◌, ℕ, ◌+◌, ◌≤◌, List, [], ◌∷◌, ◌++◌, length, Bool, true, false, refl, sym, ap, ◌∙◌, subst, arith, eqb-true, append-nil, append_assoc}
 use Rattle.plain.specs.Texts.{text_cmp}
-use Rattle.std.specs.Prelude.{Result, Ok, Err, IfOk, Option, None, Some, ◌==◌, is_some, if◌then◌else◌}
+use Rattle.std.specs.Prelude.{Result, Ok, Err, IfOk, Option, None, Some, ◌==◌, is_some, map as list_map, if◌then◌else◌}
 use Rattle.std.specs.FinMap as map
 use Rattle.std.specs.List.{filter_map}
 use Rattle.std.proofs.lemmas.Result.{IfOk-at_ok}
+use Rattle.serde_json.specs.Data.{Data}
 use Rattle.docs_vfs.specs.FileUrls.{path_of}
 use Rattle.docs_vfs.specs.declared.file_url.UrlFault.{UrlFault}
 use Rattle.lsp_frame.specs.declared.message.Request.{Request}
@@ -13,11 +14,14 @@ use Rattle.lsp_frame.specs.declared.message.Response.{Response}
 use Rattle.lsp_frame.specs.declared.message.Notification.{Notification}
 use Rattle.lsp_frame.specs.declared.message.Message.{Message}
 use Rattle.lsp_frame.specs.declared.message.Message.TheVariants.{Request as RequestMessage, Notification as NotificationMessage, Response as ResponseMessage}
+use Rattle.ra_config.specs.Config.{ConfigData}
 use Rattle.analysis_host.specs.HostData.{HostData}
+use Rattle.analysis_host.specs.SnapshotData.{SnapshotData}
 use Rattle.session_port.specs.Events.{revision_of}
 use Rattle.session_port.specs.Jobs.{Jobs, after_message, after_batch}
 use Rattle.session_port.specs.Record.{spawned, with_jobs}
-use Rattle.session_port.specs.declared.command.Command.TheVariants.{Revise}
+use Rattle.session_port.specs.declared.command.Command.{Command}
+use Rattle.session_port.specs.declared.command.Command.TheVariants.{Revise, Timer as SetTimer}
 use Rattle.session_port.specs.declared.command.LogCode.{LogCode}
 use Rattle.session_port.specs.declared.command.LogCode.TheVariants.{BadPath}
 use Rattle.session_port.specs.declared.event.LoaderMsg.{LoaderMsg}
@@ -36,7 +40,6 @@ use Rattle.notify.specs.declared.notice.DidOpen.{DidOpen}
 use Rattle.notify.specs.declared.notice.Notice.{Notice}
 use Rattle.notify.specs.declared.notice.Notice.TheVariants as notices
 use Rattle.desk.specs.Desk.{Desk}
-use Rattle.desk.specs.Fetching.{fetch_ended}
 use Rattle.desk.specs.Folds.{asked_among, pending_after, shutdown_after}
 use Rattle.desk.specs.Meaning.{Meaning}
 use Rattle.desk.specs.Reactions.{Reaction, silent, joined, cancel_row, message_row, request_row}
@@ -46,24 +49,29 @@ use Rattle.desk_laws.specs.Settled.{Settled}
 use Rattle.desk_laws.proofs.Appends.{spawned-append, revisions-append}
 use Rattle.desk_laws.proofs.Results.{IfOk-and_then, IfOk-next, IfOk-weaker, IfOk-within}
 use Rattle.desk_laws.proofs.Settling.{cancel-settles, message-settles, message-turns, nothing-settles, request-settles, request-turns, settled-on}
-use Rattle.session_files.specs.Folds.{after_closing, after_messages, after_opening}
+use Rattle.session_files.specs.Folds.{after_closing, after_messages, after_opening, due_changes}
 use Rattle.session_files.specs.SessionFiles.{SessionFiles}
 use Rattle.session_files.specs.Steps.{changed, closed as closed_document, loaded, opened, processed}
-use Rattle.workspaces.specs.Fetches.{fetch_to_start, start_fetch}
+use Rattle.status.specs.declared.status.Status.{Status}
+use Rattle.workspaces.specs.Fetches.{fetch_to_start, fires, start_fetch, start_up}
 use Rattle.workspaces.specs.Workspaces.{Workspaces}
 use Rattle.workspaces.specs.declared.requests.FetchRequest.{FetchRequest}
-use Rattle.session_model.specs.Fetching.{fetch_jobs, fetch_kept, fetches_kept, folders_told_if, reloaded_if, reloads, settings_told, with_fetches}
+use Rattle.session_model.specs.Building.{build_due, build_jobs, end_kept, ends_kept, request_told, with_due_build}
+use Rattle.session_model.specs.Fetching.{fetch_jobs, folders_told_if, settings_told, with_fetches}
 use Rattle.session_model.specs.Headline.{Place, reaction_of, row, notice_row, batch_row, desk_after, place_after, place_past, client_after, last_of, revision_after, scene_at, snapshot_at}
-use Rattle.session_model.specs.Headline.{are_due, is_changed, fetch_in, left_or, switch_in, workspaces_after, workspaces_at, workspaces_switched, files_after, files_made, files_told, files_turned, or_before}
+use Rattle.session_model.specs.Headline.{are_due, build_in, changes_due, changes_in, client_left, fetch_in, files_after, files_made, files_told, files_turned, is_changed, jobs_started, left_or, may_start_at, or_before, SetsTimer}
+use Rattle.session_model.specs.Headline.{status_after, statuses_at, switch_in, workspaces_after, workspaces_at, workspaces_fetched, workspaces_planned, workspaces_switched}
 use Rattle.session_model.specs.Inputs.{cancelled_by, request_in, turns_after}
-use Rattle.session_model.specs.Machine.{answer_taken, asked, asked_for_settings, at_client, at_desk, at_files, at_workspaces, batched, begin_part, begun_fetches, changed_at, client_in, closed, closed_at, closing_part, counted}
-use Rattle.session_model.specs.Machine.{desk_in, event_part, facts_of, fetch_part, fetch_started, file_changed, files_changed, files_in, files_part, files_processed, folders_taken, happened, kept, later_parts, noticed, opened_at}
-use Rattle.session_model.specs.Machine.{received, revised, start_parts, state_in, step, switch_done, switch_part, taken, taken_in, timed, told, Turning}
-use Rattle.session_model.specs.Machine.{turned, turning, with_client, with_desk, with_files, with_state, with_workspaces}
+use Rattle.session_model.specs.Machine.{answer_taken, asked, asked_for_settings, at_client, at_desk, at_files, at_workspaces, batched, begin_part, begun_fetches, brought, build_part, build_started, changed_at, client_in, closed}
+use Rattle.session_model.specs.Machine.{closed_at, closing_part, counted, desk_in, event_part, facts_of, fetch_part, fetch_started, file_changed, files_changed, files_in, files_part, files_planned, files_processed, folders_taken}
+use Rattle.session_model.specs.Machine.{happened, kept, later_parts, noticed, opened_at, received, revised, start_parts, state_in, status_done, status_part, step, switch_done, switch_part, taken, taken_in, timed, timer_set, told}
+use Rattle.session_model.specs.Machine.{turned, Turning, turning, with_client, with_desk, with_files, with_state, with_workspaces}
 use Rattle.session_model.specs.Hearing.{heard_of, told_by}
 use Rattle.session_model.specs.Switching.{switch_made}
+use Rattle.session_model.specs.Timing.{bring_files, planned_by, renewed_if, timer_of}
 use Rattle.session_model.specs.Run.{Turn, Steps, begun, after_input, out_after}
-use Rattle.session_model.specs.State.{State, columns_in, excludes_in, goes_by_folders, may_start, scene_of, snapshot_of}
+use Rattle.session_model.specs.State.{State, columns_in, discovers, excludes_in, goes_by_folders, macros_loaded_in, may_start, scene_of, snapshot_of}
+use Rattle.session_model.specs.Status.{client_after_status, status_now, statuses_due, statuses_in}
 use Rattle.session_model.specs.declared.facts.Facts.{Facts}
 use Rattle.session_model.specs.declared.input.Event.{Event}
 use Rattle.session_model.specs.declared.input.Event.TheVariants.{Lsp, Task, Vfs, Deferred, Timer}
@@ -71,16 +79,19 @@ use Rattle.session_model.specs.declared.input.Input.{Input}
 use Rattle.session_model.specs.declared.input.Input.TheVariants.{Start, Next}
 use Rattle.session_model.specs.declared.heard.Heard.{Heard}
 use Rattle.session_model.specs.declared.heard.Heard.TheVariants.{Told, Malformed, Unhandled, Silent}
-use Rattle.session_laws.specs.Beside.{Serves, Tells, turn_of}
+use Rattle.session_laws.specs.Beside.{Serves, Tells, TellsOnly, turn_of}
 use Rattle.session_laws.specs.Invariant.{StepFits, place_of}
 use Rattle.session_laws.proofs.Beside.{beside-fits, beside-revised}
-use Rattle.session_laws.proofs.Fetching.{StartsFetch, started-hands}
+use Rattle.session_laws.proofs.Building.{built-hands, jobs_of_build, no-build, same-fetch}
+use Rattle.session_laws.proofs.Fetching.{jobs_of_fetch, started-hands}
 use Rattle.session_laws.proofs.Filing.{DoesForFiles, KeepsHost, Processes, change-host, change_of, changed-does, closed-does, loaded-does, messages-host, opened-does, opening-host}
 use Rattle.session_laws.proofs.Filing.{processed-does, revision_by, revision_now, turn-revises}
 use Rattle.session_laws.proofs.Numbered.{row-numbered}
 use Rattle.session_laws.proofs.Same.{none-handed, same_desk, same_place}
+use Rattle.session_laws.proofs.Statuses.{left-settings, status-does, TellsStatus, told-settings}
+use Rattle.session_laws.proofs.Starting.{StartsJobs}
 use Rattle.session_laws.proofs.Switching.{Switches, switched-does}
-use Rattle.session_laws.proofs.Telling.{DoesForClient, answered-does, asked-does, beside-told, folders-do, tells-invalidated, tells-logged, tells-none, tells-on}
+use Rattle.session_laws.proofs.Telling.{answered-does, asked-does, beside-told, DoesForClient, folders-do, statuses-append, tells-invalidated, tells-logged, tells-none, tells-on, timers-append}
 
 -- the turn is counted, and nothing else was done
 abbrev pub counted_desk : Desk → Working Desk
@@ -97,8 +108,11 @@ desk_now s v = record { state = record s { desk = v.state }; out = v.out }
 pub record Mid (meaning : Meaning) (s : State) (input : Input) (u : Working State) : Type 0 where
   pub serves : Serves meaning s input (after_input input s.desk.jobs) u
   pub client : u.state.client ≡ client_after input s.client
+  pub status : u.state.status ≡ s.status
   pub files : files_told s.client.settings input s.files ≡ Ok u.state.files
   pub unrevised : filter_map revision_of u.out.commands ≡ []
+  pub untold : statuses_in u.out.messages ≡ []
+  pub untimed : filter_map timer_of u.out.commands ≡ []
   pub host : KeepsHost s.files u.state.files
   pub workspaces : u.state.workspaces ≡ workspaces_at input (place_of s)
   -- all jobs so far are for requests
@@ -108,19 +122,27 @@ pub record Mid (meaning : Meaning) (s : State) (input : Input) (u : Working Stat
 pub record Behind (meaning : Meaning) (s : State) (event : Event) (u : Working State) : Type 0 where
   pub serves : Serves meaning s (Next event) (after_input (Next event) s.desk.jobs) u
   pub client : u.state.client ≡ client_after (Next event) s.client
+  pub status : u.state.status ≡ s.status
   pub files : files_told s.client.settings (Next event) s.files ≡ Ok u.state.files
   pub unrevised : filter_map revision_of u.out.commands ≡ []
+  pub untold : statuses_in u.out.messages ≡ []
+  pub untimed : filter_map timer_of u.out.commands ≡ []
   pub host : KeepsHost s.files u.state.files
   pub workspaces : u.state.workspaces ≡ workspaces_switched (Next event) (place_of s)
   -- all jobs so far are for requests
   pub spawns : spawned u.out.commands ≡ (row meaning (Next event) (place_of s)).jobs
 
--- a turn before it closes
-pub record Made (meaning : Meaning) (s : State) (input : Input) (u : Working State) : Type 0 where
+-- a turn before it closes, where the client has come to this, this status was told last, and it has told these
+pub record Made (meaning : Meaning) (s : State) (input : Input) (asked : Client) (last : Status) (sent : List Data) (u : Working State) : Type 0 where
   pub serves : Serves meaning s input (after_input input s.desk.jobs) u
-  pub client : u.state.client ≡ client_after input s.client
+  pub client : u.state.client ≡ asked
+  pub status : u.state.status ≡ last
+  -- the settings are those that the input leaves
+  pub settings : asked.settings ≡ (client_after input s.client).settings
   pub files : files_made s.client.settings input s.files ≡ Ok u.state.files
   pub unrevised : filter_map revision_of u.out.commands ≡ []
+  pub told : statuses_in u.out.messages ≡ sent
+  pub untimed : filter_map timer_of u.out.commands ≡ []
   pub revised : u.state.files.host.revision ≡ revision_now (is_changed s.client.settings input s.files) s.files
 
 -- ---- the desk
@@ -155,6 +177,11 @@ pub record IsStill (s : State) (input : Input) : Type 0 where
 abbrev pub both_now : State → Working Desk → Workspaces → Working State
 both_now s v workspaces = record { state = record s { desk = v.state; workspaces = workspaces }; out = v.out }
 
+-- responses tell no status
+responses-untold : (responses : List Response) → statuses_in (list_map ResponseMessage responses) ≡ []
+responses-untold [] = refl
+responses-untold (response ∷ responses) = responses-untold responses
+
 -- a turn that changed nothing but these
 both-mid : (meaning : Meaning) (s : State) (input : Input) (done : Reaction) (v : Working Desk) (workspaces : Workspaces) → turns_after input s.desk.turns ≡ s.desk.turns + 1
     → row meaning input (place_of s) ≡ done → IsQuiet s input → workspaces_at input (place_of s) ≡ workspaces
@@ -164,8 +191,11 @@ both-mid meaning s input done v workspaces number is quiet told a =
     record {
       serves = record { does = serves.does; numbered = serves.numbered; desk = serves.desk };
       client = sym quiet.client;
+      status = refl;
       files = quiet.files;
-      unrevised = a.unrevised;
+      unrevised = a.others revision_of (record { jobs = λ job. refl; logs = λ code text. refl });
+      untold = ap statuses_in a.written ∙ responses-untold done.responses;
+      untimed = a.others timer_of (record { jobs = λ job. refl; logs = λ code text. refl });
       host = refl;
       workspaces = sym told;
       spawns = a.spawns ∙ ap (λ (d : Reaction). d.jobs) (sym is);
@@ -179,13 +209,16 @@ desk-mid meaning s input done v number is still a =
 
 -- a turn that leaves the desk as it is, once it is counted
 told-mid : (meaning : Meaning) (s : State) (input : Input) (u : Working State) → Serves meaning s input (after_input input s.desk.jobs) (counted_turn s) → Tells nothing_done u.out
-    → u.state.desk ≡ (counted_turn s).state.desk → u.state.client ≡ client_after input s.client → files_told s.client.settings input s.files ≡ Ok u.state.files → KeepsHost s.files u.state.files
-    → u.state.workspaces ≡ workspaces_at input (place_of s) → Mid meaning s input u
-told-mid meaning s input u serves tells desk client files host workspaces = record {
+    → u.state.desk ≡ (counted_turn s).state.desk → u.state.client ≡ client_after input s.client → u.state.status ≡ s.status → files_told s.client.settings input s.files ≡ Ok u.state.files
+    → KeepsHost s.files u.state.files → u.state.workspaces ≡ workspaces_at input (place_of s) → Mid meaning s input u
+told-mid meaning s input u serves tells desk client status files host workspaces = record {
   serves = beside-fits meaning s input (after_input input s.desk.jobs) (counted_turn s) u (beside-told (counted_turn s) u tells desk) serves;
   client = client;
+  status = status;
   files = files;
   unrevised = ap (filter_map revision_of) tells.ordered ∙ tells.revises_none;
+  untold = ap statuses_in tells.written ∙ tells.tells;
+  untimed = ap (filter_map timer_of) tells.ordered ∙ tells.times_none;
   host = host;
   workspaces = workspaces;
   spawns = ap spawned tells.ordered ∙ tells.spawns_none ∙ ap (λ (d : Reaction). d.jobs) serves.does;
@@ -195,7 +228,7 @@ told-mid meaning s input u serves tells desk client files host workspaces = reco
 still-mid : (meaning : Meaning) (s : State) (input : Input) (u : Working State) → Serves meaning s input (after_input input s.desk.jobs) (counted_turn s) → IsStill s input → Tells nothing_done u.out
     → u.state ≡ (counted_turn s).state → Mid meaning s input u
 still-mid meaning s input u serves still tells same =
-    told-mid meaning s input u serves tells (ap (λ (t : State). t.desk) same) (ap (λ (t : State). t.client) same ∙ sym still.client)
+    told-mid meaning s input u serves tells (ap (λ (t : State). t.desk) same) (ap (λ (t : State). t.client) same ∙ sym still.client) (ap (λ (t : State). t.status) same)
     (subst (λ (t : State). files_told s.client.settings input s.files ≡ Ok t.files) (sym same) still.files) (ap (λ (t : State). t.files.host) same)
     (ap (λ (t : State). t.workspaces) same ∙ sym still.workspaces)
 
@@ -218,7 +251,7 @@ client-mid : (meaning : Meaning) (s : State) (input : Input) (v : Working Client
     → Serves meaning s input (after_input input s.desk.jobs) (counted_turn s) → client ≡ client_after input s.client → files_told s.client.settings input s.files ≡ Ok s.files
     → workspaces ≡ workspaces_at input (place_of s) → DoesForClient (client_turn s) v client → Mid meaning s input (client_now s v workspaces)
 client-mid meaning s input v client workspaces serves is same told does =
-    told-mid meaning s input (client_now s v workspaces) serves does.tells refl (does.is ∙ is) same refl told
+    told-mid meaning s input (client_now s v workspaces) serves does.tells refl (does.is ∙ is) refl same refl told
 
 -- the files, at the beginning of a turn
 abbrev files_turn : State → Working SessionFiles
@@ -232,7 +265,7 @@ files-mid : (meaning : Meaning) (s : State) (input : Input) (work : Working Sess
 files-mid meaning s input work r serves client told host untold does =
     IfOk-within files_in with_files work (counted_turn s) (Mid meaning s input)
     (IfOk-weaker _ (λ v. DoesForFiles (files_turn s) v r) _ does
-    (λ v d. told-mid meaning s input _ serves d.tells refl (sym client) (told ∙ d.is) (IfOk-at_ok (KeepsHost s.files) d.is host) (sym untold)))
+    (λ v d. told-mid meaning s input _ serves d.tells refl (sym client) refl (told ∙ d.is) (IfOk-at_ok (KeepsHost s.files) d.is host) (sym untold)))
 
 -- ---- requests
 
@@ -242,12 +275,12 @@ request_input r = Next (Lsp (RequestMessage r))
 requested-mid : (meaning : Meaning) (s : State) (r : Request) → IfOk (asked meaning r (counted_turn s)) (Mid meaning s (request_input r))
 requested-mid meaning s r =
     let done = request_row meaning (scene_of s) (counted_desk s.desk).state (s.desk.turns + 1) r in
-    let told : Working State → Working State = at_workspaces (reloaded_if (reloads r s.desk)) in
+    let told : Working State → Working State = at_workspaces (request_told r s.desk) in
     IfOk-and_then (at_desk (requested meaning (scene_of s) r) (counted_turn s)) (λ v. Ok (told v)) (λ v. Mid meaning s (request_input r) (told v)) (Mid meaning s (request_input r))
     (IfOk-within desk_in with_desk (requested meaning (scene_of s) r) (counted_turn s) (λ v. Mid meaning s (request_input r) (told v))
     (IfOk-weaker _ (λ v. Settled (Some r) (counted_desk s.desk) v done s.desk.jobs) (λ v. Mid meaning s (request_input r) (told (desk_now s v)))
     (request-settles meaning (scene_of s) r (counted_desk s.desk))
-    (λ v a. both-mid meaning s (request_input r) done v (reloaded_if (reloads r s.desk) s.workspaces) refl (sym (request-turns meaning (scene_of s) s.desk (s.desk.turns + 1) (s.desk.turns + 1) r))
+    (λ v a. both-mid meaning s (request_input r) done v (request_told r s.desk s.workspaces) refl (sym (request-turns meaning (scene_of s) s.desk (s.desk.turns + 1) (s.desk.turns + 1) r))
     (record { client = refl; files = refl }) refl a)))
     (λ v mid. mid)
 
@@ -292,12 +325,17 @@ closed-cases meaning s n uri (Ok path) heard is =
     files-mid meaning s (notification_input n) (λ f. Ok (closed_document path f)) (Ok (after_closing path s.files))
     (silent-serves meaning s n (rw heard refl)) (rw heard refl) (rw (heard, is) refl) refl (rw heard refl) (closed-does path (files_turn s))
 
--- the loader brings files
-loaded-mid : (meaning : Meaning) (s : State) (messages : List LoaderMsg) → IfOk (at_files (loaded messages) (counted_turn s)) (Mid meaning s (Next (Vfs messages)))
-loaded-mid meaning s messages =
+-- the loader brings files, and a fetch that waits gets a new timer
+brought-mid : (meaning : Meaning) (s : State) (messages : List LoaderMsg) → IfOk (brought messages (counted_turn s)) (Mid meaning s (Next (Vfs messages)))
+brought-mid meaning s messages =
     let input : Input = Next (Vfs messages) in
-    files-mid meaning s input (loaded messages) (after_messages messages s.files) (serves-desk meaning s input silent (counted_desk s.desk) refl refl (nothing-settles (counted_desk s.desk)))
-    refl refl (messages-host messages s.files) refl (loaded-does messages (files_turn s))
+    let told : Working State → Working State = λ v. at_workspaces (renewed_if (bring_files messages) v.state.desk.turns) v in
+    IfOk-and_then (at_files (loaded messages) (counted_turn s)) (λ v. Ok (told v)) (λ v. Mid meaning s input (told v)) (Mid meaning s input)
+    (IfOk-within files_in with_files (loaded messages) (counted_turn s) (λ v. Mid meaning s input (told v))
+    (IfOk-weaker _ (λ v. DoesForFiles (files_turn s) v (after_messages messages s.files)) _ (loaded-does messages (files_turn s))
+    (λ v d. told-mid meaning s input _ (serves-desk meaning s input silent (counted_desk s.desk) refl refl (nothing-settles (counted_desk s.desk)))
+    d.tells refl refl refl d.is (IfOk-at_ok (KeepsHost s.files) d.is (messages-host messages s.files)) refl)))
+    (λ v mid. mid)
 
 cancel-mid : (meaning : Meaning) (s : State) (n : Notification) (id : RequestId) → heard_of n ≡ Told (notices.CancelRequest id)
     → IfOk (at_desk (λ d. Ok (cancelled id d)) (counted_turn s)) (Mid meaning s (notification_input n))
@@ -424,7 +462,7 @@ desk-settles meaning turns message w =
 
 -- what the workspaces come to by a message
 abbrev pub kept_past : TaskMsg → State → Workspaces
-kept_past message s = fetch_kept (fetch_ended message s.desk.jobs) s.workspaces
+kept_past message s = end_kept message s.desk.jobs s.workspaces
 
 -- and told to the workspaces
 pub taken-settles : (meaning : Meaning) (turns : ℕ) (message : TaskMsg) (w : Working State)
@@ -433,7 +471,7 @@ pub taken-settles : (meaning : Meaning) (turns : ℕ) (message : TaskMsg) (w : W
 taken-settles meaning turns message w =
     let done = message_row meaning (scene_of w.state) (record w.state.desk { turns = turns }) message in
     let jobs = after_message message w.state.desk.jobs in
-    let kept : Workspaces → Workspaces = fetch_kept (fetch_ended message w.state.desk.jobs) in
+    let kept : Workspaces → Workspaces = end_kept message w.state.desk.jobs in
     IfOk-and_then (at_desk (taken_at_desk meaning (scene_of w.state) message) w) (λ v. Ok (at_workspaces kept v))
     (λ v. DoesAtDesk w v done jobs w.state.workspaces) (λ v. DoesAtDesk w v done jobs (kept w.state.workspaces))
     (desk-settles meaning turns message w)
@@ -444,7 +482,7 @@ pub settled-place : (turns : ℕ) (message : TaskMsg) (w v : Working State) (don
     → DoesAtDesk w v done (after_message message w.state.desk.jobs) (kept_past message w.state) → place_at turns v.state ≡ place_past message done (place_at turns w.state)
 settled-place turns message w v done a = same_place _ _
     (ap (λ (s : State). s.client) a.rest) (ap (λ (s : State). s.files) a.rest) (ap (λ (s : State). s.files.host.revision) a.rest)
-    (same_desk _ _ refl a.desk.pending a.desk.out a.desk.handed a.desk.shutdown) (ap (λ (s : State). s.workspaces) a.rest)
+    (same_desk _ _ refl a.desk.pending a.desk.out a.desk.handed a.desk.shutdown) (ap (λ (s : State). s.workspaces) a.rest) (ap (λ (s : State). s.status) a.rest)
 
 does-on : (w v u : Working State) (a b : Reaction) (js ks : Jobs) (first last : Workspaces) → DoesAtDesk w v a js first → DoesAtDesk v u b ks last → DoesAtDesk w u (joined a b) ks last
 does-on w v u a b js ks first last p q = record {
@@ -454,12 +492,12 @@ does-on w v u a b js ks first last p q = record {
 
 -- the messages of a batch that come from this place on
 abbrev DoesPast : Meaning → List TaskMsg → Working State → Working State → Place → Type 0
-DoesPast meaning ms v u place = DoesAtDesk v u (batch_row meaning ms place) (after_batch ms place.desk.jobs) (fetches_kept ms place.desk.jobs place.workspaces)
+DoesPast meaning ms v u place = DoesAtDesk v u (batch_row meaning ms place) (after_batch ms place.desk.jobs) (ends_kept ms place.desk.jobs place.workspaces)
 
 -- a batch is its messages, one after another
 batch-settles : (meaning : Meaning) (turns : ℕ) (batch : List TaskMsg) (w : Working State)
     → IfOk (batched meaning batch w)
-    (λ u. DoesAtDesk w u (batch_row meaning batch (place_at turns w.state)) (after_batch batch w.state.desk.jobs) (fetches_kept batch w.state.desk.jobs w.state.workspaces))
+    (λ u. DoesAtDesk w u (batch_row meaning batch (place_at turns w.state)) (after_batch batch w.state.desk.jobs) (ends_kept batch w.state.desk.jobs w.state.workspaces))
 batch-settles meaning turns [] w = record { desk = nothing-settles (at w); rest = refl }
 batch-settles meaning turns (m ∷ ms) w =
     let place = place_at turns w.state in
@@ -468,18 +506,18 @@ batch-settles meaning turns (m ∷ ms) w =
     let jobs = after_message m w.state.desk.jobs in
     let kept = kept_past m w.state in
     IfOk-and_then (taken meaning m w) (batched meaning ms) (λ v. DoesAtDesk w v done jobs kept)
-    (λ u. DoesAtDesk w u (batch_row meaning (m ∷ ms) place) (after_batch ms jobs) (fetches_kept ms jobs kept))
+    (λ u. DoesAtDesk w u (batch_row meaning (m ∷ ms) place) (after_batch ms jobs) (ends_kept ms jobs kept))
     (taken-settles meaning turns m w)
     (λ v a. IfOk-weaker (batched meaning ms v) (λ u. DoesPast meaning ms v u (place_at turns v.state)) _
     (batch-settles meaning turns ms v)
-    (λ u b. does-on w v u done (batch_row meaning ms past) jobs (after_batch ms jobs) kept (fetches_kept ms jobs kept) a
+    (λ u b. does-on w v u done (batch_row meaning ms past) jobs (after_batch ms jobs) kept (ends_kept ms jobs kept) a
     (subst (DoesPast meaning ms v u) (settled-place turns m w v done a) b)))
 
 batch-mid : (meaning : Meaning) (s : State) (batch : List TaskMsg) → IfOk (batched meaning batch (counted_turn s)) (Mid meaning s (Next (Task batch)))
 batch-mid meaning s batch =
     let input : Input = Next (Task batch) in
     let done = batch_row meaning batch (place_of s) in
-    let kept = fetches_kept batch s.desk.jobs s.workspaces in
+    let kept = ends_kept batch s.desk.jobs s.workspaces in
     IfOk-weaker _ (λ u. DoesAtDesk (counted_turn s) u done (after_batch batch s.desk.jobs) kept) (Mid meaning s input)
     (batch-settles meaning s.desk.turns batch (counted_turn s))
     (λ u a. subst (Mid meaning s input) (is-now kept u a.rest) (both-mid meaning s input done (at u) kept refl refl (record { client = refl; files = refl }) refl a.desk))
@@ -511,7 +549,7 @@ event-mid : (meaning : Meaning) (s : State) (event : Event) → IfOk (happened m
 unfolding happened
 event-mid meaning s (Lsp message) = message-mid meaning s message
 event-mid meaning s (Task batch) = batch-mid meaning s batch
-event-mid meaning s (Vfs messages) = loaded-mid meaning s messages
+event-mid meaning s (Vfs messages) = brought-mid meaning s messages
 event-mid meaning s (Deferred tasks) = desk-mid meaning s (Next (Deferred tasks)) silent (counted_desk s.desk) refl refl (record { client = refl; files = refl; workspaces = refl }) (nothing-settles (counted_desk s.desk))
 event-mid meaning s (Timer ticket) =
     both-mid meaning s (Next (Timer ticket)) silent (counted_desk s.desk) (timed ticket (counted_turn s)).state.workspaces refl refl (record { client = refl; files = refl }) refl
@@ -527,21 +565,28 @@ mid-fits meaning s event =
     IfOk-and_then (counted (begun s)) (happened meaning event) (λ v. v ≡ counted_turn s) (Mid meaning s (Next event)) (counted-is s)
     (λ v is. subst (λ w. IfOk (happened meaning event w) (Mid meaning s (Next event))) (sym is) (event-mid meaning s event))
 
-start-made : (meaning : Meaning) (s : State) (workspaces : Workspaces) → Made meaning s Start (begun (with_workspaces workspaces s))
-start-made meaning s workspaces = record {
-  serves = record { does = refl; numbered = tt; desk = none-handed s.desk };
-  client = refl;
-  files = refl;
-  unrevised = refl;
-  revised = refl;
+-- the start, once its status was told
+start-made : (meaning : Meaning) (s : State) (u : Working State) → TellsOnly (statuses_at Start (place_of s)) nothing_done u.out → u.state.client ≡ client_left Start (place_of s)
+    → u.state.status ≡ status_after Start (place_of s) → u.state.files ≡ s.files → u.state.desk ≡ s.desk
+    → Made meaning s Start (client_left Start (place_of s)) (status_after Start (place_of s)) (statuses_at Start (place_of s)) u
+start-made meaning s u tells client status files desk = record {
+  serves = beside-fits meaning s Start s.desk.jobs (begun s) u (beside-told (begun s) u tells desk) (record { does = refl; numbered = tt; desk = none-handed s.desk });
+  client = client;
+  status = status;
+  settings = left-settings Start (place_of s);
+  files = sym (ap (λ (f : SessionFiles). Ok f) files);
+  unrevised = ap (filter_map revision_of) tells.ordered ∙ tells.revises_none;
+  untimed = ap (filter_map timer_of) tells.ordered ∙ tells.times_none;
+  told = ap statuses_in tells.written ∙ tells.tells;
+  revised = ap (λ (f : SessionFiles). f.host.revision) files;
 }
 
--- a turn hands over the jobs of its row, and behind them that of its fetch, on what it has left
+-- a turn hands over the jobs of its row, and behind them those that it starts, on what it has left
 abbrev pub Hands : Meaning → State → Input → Working State → Type 0
 Hands meaning s input v =
-    spawned v.out.commands ≡ (row meaning input (place_of s)).jobs ++ fetch_jobs v.state.desk.handed (snapshot_of v.state) (fetch_in input (place_of s))
+    spawned v.out.commands ≡ (row meaning input (place_of s)).jobs ++ jobs_started input (place_of s) v.state.desk.handed (snapshot_of v.state)
 
--- a turn of the machine is a row, and what it leaves is the next place
+-- a turn of the machine before it orders a timer is a row, and what it leaves is the next place
 pub record Fits (meaning : Meaning) (s : State) (input : Input) (v : Working State) : Type 0 where
   pub does : reaction_of (turn_of input v) ≡ row meaning input (place_of s)
   pub numbered : AreNumbered s.desk.handed (spawned v.out.commands)
@@ -549,6 +594,12 @@ pub record Fits (meaning : Meaning) (s : State) (input : Input) (v : Working Sta
   pub later : s.files.host.revision ≤ v.state.files.host.revision
   pub revised : v.state.files.host.revision ≡ revision_now (is_changed s.client.settings input s.files) s.files
   pub hands : Hands meaning s input v
+  pub told : statuses_in v.out.messages ≡ statuses_at input (place_of s)
+
+-- and behind that too
+pub record Closes (meaning : Meaning) (s : State) (input : Input) (v : Working State) : Type 0 where
+  pub fits : Fits meaning s input v
+  pub timer : SetsTimer (turn_of input v) (place_of v.state)
 
 -- the jobs that were handed over are out
 abbrev kept_turn : Working State → Working State
@@ -561,6 +612,10 @@ kept-serves meaning s input u p = record {
   desk = ap (λ (d : Desk). record d { jobs = with_jobs (spawned u.out.commands) d.jobs }) p.desk;
 }
 
+-- a turn before it closes, with all that it tells the client
+abbrev pub Left : Meaning → State → Input → Working State → Type 0
+Left meaning s input u = Made meaning s input (client_left input (place_of s)) (status_after input (place_of s)) (statuses_at input (place_of s)) u
+
 -- the files that a turn makes are those after it
 files-now : (s : State) (input : Input) (now : SessionFiles) → files_made s.client.settings input s.files ≡ Ok now → now ≡ files_after s.client.settings input s.files
 files-now s input now made = sym (ap (or_before s.files) made)
@@ -570,7 +625,7 @@ no-less : (due : Bool) (files : SessionFiles) (revision : ℕ) → revision ≡ 
 no-less true files revision is = omega (arith, is)
 no-less false files revision is = omega (arith, is)
 
-close-cases : (meaning : Meaning) (s : State) (input : Input) (u : Working State) (b : Bool) → (u.state.files.host.revision == s.files.host.revision) ≡ b → Made meaning s input u
+close-cases : (meaning : Meaning) (s : State) (input : Input) (u : Working State) (b : Bool) → (u.state.files.host.revision == s.files.host.revision) ≡ b → Left meaning s input u
     → u.state.workspaces ≡ workspaces_after input (place_of s) → Hands meaning s input u
     → Fits meaning s input (if b then kept_turn u else ordered (Revise u.state.files.host.revision) (kept_turn u))
 unfolding ordered
@@ -580,10 +635,11 @@ close-cases meaning s input u true h made workspaces hands =
     record {
       does = serves.does;
       numbered = serves.numbered;
-      place = same_place _ _ made.client (files-now s input u.state.files made.files) same serves.desk workspaces;
+      place = same_place _ _ made.client (files-now s input u.state.files made.files) same serves.desk workspaces made.status;
       later = no-less _ s.files _ made.revised;
       revised = made.revised;
       hands = hands;
+      told = made.told;
     }
 close-cases meaning s input u false h made workspaces hands =
     let revision = u.state.files.host.revision in
@@ -597,16 +653,72 @@ close-cases meaning s input u false h made workspaces hands =
       does = serves.does;
       numbered = serves.numbered;
       place = same_place _ _ made.client (files-now s input u.state.files made.files) (sym (ap (λ ns. last_of ns s.files.host.revision) numbers))
-          (serves.desk ∙ ap (λ js. record (desk_after (turn_of input v) s.desk) { jobs = js }) jobs) workspaces;
+          (serves.desk ∙ ap (λ js. record (desk_after (turn_of input v) s.desk) { jobs = js }) jobs) workspaces made.status;
       later = no-less _ s.files _ made.revised;
       revised = made.revised;
       hands = spawns ∙ hands;
+      told = made.told;
     }
 
-close-fits : (meaning : Meaning) (s : State) (input : Input) (u : Working State) → Made meaning s input u → u.state.workspaces ≡ workspaces_after input (place_of s)
-    → Hands meaning s input u → IfOk (closed (facts_of (begun s)) u) (Fits meaning s input)
+-- a revision is no timer
+close-untimed : (s : State) (u : Working State) (b : Bool) → filter_map timer_of u.out.commands ≡ []
+    → filter_map timer_of (if b then kept_turn u else ordered (Revise u.state.files.host.revision) (kept_turn u)).out.commands ≡ []
+unfolding ordered
+close-untimed s u true untimed = untimed
+close-untimed s u false untimed = timers-append u.out.commands _ ∙ append-nil _ ∙ untimed
+
+-- a timer changes neither what a turn answers and hands over nor the next place
+timer-fits : (meaning : Meaning) (s : State) (input : Input) (ticket : ℕ) (v : Working State) → Fits meaning s input v → Fits meaning s input (ordered (SetTimer ticket) v)
+unfolding ordered
+timer-fits meaning s input ticket v fits =
+    let place : Place = place_of s in
+    let more : List Command = v.out.commands ++ SetTimer ticket ∷ [] in
+    let spawns : spawned more ≡ spawned v.out.commands = spawned-append v.out.commands _ ∙ append-nil _ in
+    let revisions : filter_map revision_of more ≡ filter_map revision_of v.out.commands = revisions-append v.out.commands _ ∙ append-nil _ in
+    let next : place_after (turn_of input (ordered (SetTimer ticket) v)) place ≡ place_after (turn_of input v) place =
+    same_place _ _ refl refl (ap (λ ns. last_of ns s.files.host.revision) revisions)
+    (same_desk _ _ refl refl (ap (λ js. with_jobs js (after_input input s.desk.jobs)) spawns) (ap (λ (js : List Job). s.desk.handed + length js) spawns) refl) refl refl in
+    record {
+      does = ap (λ (js : List Job). record { responses = (reaction_of (turn_of input v)).responses; jobs = asked_among js }) spawns ∙ fits.does;
+      numbered = subst (AreNumbered s.desk.handed) (sym spawns) fits.numbered;
+      place = fits.place ∙ sym next;
+      later = fits.later;
+      revised = fits.revised;
+      hands = spawns ∙ fits.hands;
+      told = fits.told;
+    }
+
+-- it is ordered where a fetch waits from this turn on
+timer-cases : (meaning : Meaning) (s : State) (input : Input) (v : Working State) (b : Bool) → fires v.state.desk.turns v.state.workspaces.fetches.waiting ≡ b → Fits meaning s input v
+    → filter_map timer_of v.out.commands ≡ [] → Closes meaning s input (if b then ordered (SetTimer v.state.desk.turns) v else v)
+unfolding ordered
+timer-cases meaning s input v true is fits untimed = record {
+  fits = timer-fits meaning s input v.state.desk.turns v fits;
+  timer = record {
+    others = v.out.commands;
+    last = ap (λ c. v.out.commands ++ (if c then SetTimer v.state.desk.turns ∷ [] else [])) (sym is);
+    no_other = untimed;
+  };
+}
+timer-cases meaning s input v false is fits untimed = record {
+  fits = fits;
+  timer = record {
+    others = v.out.commands;
+    last = sym (append-nil _) ∙ ap (λ c. v.out.commands ++ (if c then SetTimer v.state.desk.turns ∷ [] else [])) (sym is);
+    no_other = untimed;
+  };
+}
+
+timer-closes : (meaning : Meaning) (s : State) (input : Input) (v : Working State) → Fits meaning s input v → filter_map timer_of v.out.commands ≡ [] → Closes meaning s input (timer_set v)
+unfolding timer_set
+timer-closes meaning s input v fits untimed = timer-cases meaning s input v (fires v.state.desk.turns v.state.workspaces.fetches.waiting) refl fits untimed
+
+close-fits : (meaning : Meaning) (s : State) (input : Input) (u : Working State) → Left meaning s input u → u.state.workspaces ≡ workspaces_after input (place_of s)
+    → Hands meaning s input u → IfOk (closed (facts_of (begun s)) u) (Closes meaning s input)
 unfolding revised kept kept_at_desk within
-close-fits meaning s input u made workspaces hands = close-cases meaning s input u (u.state.files.host.revision == s.files.host.revision) refl made workspaces hands
+close-fits meaning s input u made workspaces hands =
+    let same : Bool = u.state.files.host.revision == s.files.host.revision in
+    timer-closes meaning s input _ (close-cases meaning s input u same refl made workspaces hands) (close-untimed s u same made.untimed)
 
 -- the switch is made
 pub mid-switch : (meaning : Meaning) (s : State) (event : Event) (u : Working State) → Mid meaning s (Next event) u
@@ -623,17 +735,21 @@ switched-behind meaning s event u mid =
     (λ v does. record {
       serves = beside-fits meaning s (Next event) (after_input (Next event) s.desk.jobs) u v (beside-told u v does.tells (ap (λ (t : State). t.desk) does.state)) mid.serves;
       client = ap (λ (t : State). t.client) does.state ∙ mid.client;
+      status = ap (λ (t : State). t.status) does.state ∙ mid.status;
       files = mid.files ∙ sym (ap (λ (t : State). Ok t.files) does.state);
       unrevised = ap (filter_map revision_of) does.tells.ordered ∙ revisions-append u.out.commands does.tells.commands ∙ (λ i. mid.unrevised i ++ does.tells.revises_none i);
+      untold = ap statuses_in does.tells.written ∙ statuses-append u.out.messages does.tells.messages ∙ (λ i. mid.untold i ++ does.tells.tells i);
+      untimed = ap (filter_map timer_of) does.tells.ordered ∙ timers-append u.out.commands does.tells.commands ∙ (λ i. mid.untimed i ++ does.tells.times_none i);
       host = ap (λ (t : State). t.files.host) does.state ∙ mid.host;
       workspaces = ap (λ (t : State). t.workspaces) does.state ∙ (λ i. left_or (mid.workspaces i) (mid-switch meaning s event u mid i));
       spawns = ap spawned does.tells.ordered ∙ spawned-append u.out.commands does.tells.commands ∙ (λ i. mid.spawns i ++ does.tells.spawns_none i) ∙ append-nil _;
     })
 
--- the files are processed
-made-now : (meaning : Meaning) (s : State) (event : Event) (u : Working State) (v : Working SessionFiles) → Behind meaning s event u → Processes (record { state = u.state.files; out = u.out }) v
-    → Made meaning s (Next event) (record { state = with_files v.state u.state; out = v.out })
-made-now meaning s event u v mid p =
+-- the files are processed, and what the workspaces come to then is no matter
+made-now : (meaning : Meaning) (s : State) (event : Event) (u : Working State) (v : Working SessionFiles) (workspaces : Workspaces) → Behind meaning s event u
+    → Processes (record { state = u.state.files; out = u.out }) v
+    → Made meaning s (Next event) (client_after (Next event) s.client) s.status [] (record { state = with_workspaces workspaces (with_files v.state u.state); out = v.out })
+made-now meaning s event u v workspaces mid p =
     let told = mid.files in
     let due : is_changed s.client.settings (Next event) s.files ≡ are_due (Ok u.state.files) = ap are_due told in
     let rises : v.state.host.revision ≡ revision_now (are_due (Ok u.state.files)) u.state.files = IfOk-at_ok (λ f. f.host.revision ≡ revision_now (are_due (Ok u.state.files)) u.state.files) p.is (turn-revises u.state.files) in
@@ -644,8 +760,12 @@ made-now meaning s event u v mid p =
         desk = mid.serves.desk ∙ ap (λ (o : Written). record (desk_after (turn_of (Next event) (record { state = u.state; out = o })) s.desk) { jobs = after_input (Next event) s.desk.jobs }) (sym p.out);
       };
       client = mid.client;
+      status = mid.status;
+      settings = refl;
       files = ap (λ r. and_then r (files_turned (Next event))) told ∙ p.is;
       unrevised = ap (λ (o : Written). filter_map revision_of o.commands) p.out ∙ mid.unrevised;
+      told = ap (λ (o : Written). statuses_in o.messages) p.out ∙ mid.untold;
+      untimed = ap (λ (o : Written). filter_map timer_of o.commands) p.out ∙ mid.untimed;
       revised = rises ∙ ap (λ (h : HostData). revision_by (are_due (Ok u.state.files)) h) mid.host ∙ ap (λ b. revision_now b s.files) (sym due);
     }
 
@@ -661,18 +781,47 @@ pub record BehindTurn (meaning : Meaning) (s : State) (event : Event) (t : Worki
   pub facts : t.state.facts ≡ facts_of (begun s)
   pub behind : Behind meaning s event (session_in t)
 
-record MadeTurn (meaning : Meaning) (s : State) (input : Input) (t : Working Turning) : Type 0 where
-  facts : t.state.facts ≡ facts_of (begun s)
-  made : Made meaning s input (session_in t)
-  workspaces : t.state.state.workspaces ≡ workspaces_after input (place_of s)
-  hands : Hands meaning s input (session_in t)
+-- where the client has come to this, this status was told last, and the turn has told these
+pub record MadeTurn (meaning : Meaning) (s : State) (input : Input) (asked : Client) (last : Status) (sent : List Data) (t : Working Turning) : Type 0 where
+  pub facts : t.state.facts ≡ facts_of (begun s)
+  pub made : Made meaning s input asked last sent (session_in t)
+  pub workspaces : t.state.state.workspaces ≡ workspaces_after input (place_of s)
+  pub hands : Hands meaning s input (session_in t)
+
+-- with all that the turn tells the client
+abbrev pub LeftTurn : Meaning → State → Input → Working Turning → Type 0
+LeftTurn meaning s input t = MadeTurn meaning s input (client_left input (place_of s)) (status_after input (place_of s)) (statuses_at input (place_of s)) t
 
 -- a turn before its fetch: all jobs so far are for requests
-pub record ReadyTurn (meaning : Meaning) (s : State) (input : Input) (t : Working Turning) : Type 0 where
+pub record ReadyTurn (meaning : Meaning) (s : State) (input : Input) (asked : Client) (last : Status) (sent : List Data) (t : Working Turning) : Type 0 where
   pub facts : t.state.facts ≡ facts_of (begun s)
-  pub made : Made meaning s input (session_in t)
-  pub workspaces : t.state.state.workspaces ≡ workspaces_switched input (place_of s)
+  pub made : Made meaning s input asked last sent (session_in t)
+  pub workspaces : t.state.state.workspaces ≡ workspaces_planned input (place_of s)
   pub spawns : spawned t.out.commands ≡ (row meaning input (place_of s)).jobs
+
+-- a turn behind its fetch
+pub record FetchedTurn (meaning : Meaning) (s : State) (input : Input) (asked : Client) (last : Status) (sent : List Data) (t : Working Turning) : Type 0 where
+  pub facts : t.state.facts ≡ facts_of (begun s)
+  pub made : Made meaning s input asked last sent (session_in t)
+  pub workspaces : t.state.state.workspaces ≡ workspaces_fetched input (place_of s)
+  pub hands : spawned t.out.commands ≡ (row meaning input (place_of s)).jobs ++ fetch_jobs t.state.state.desk.handed (snapshot_of t.state.state) (fetch_in input (place_of s))
+
+-- these behind an event, whose status comes last
+abbrev pub ReadyBehind : Meaning → State → Event → Working Turning → Type 0
+ReadyBehind meaning s event t = ReadyTurn meaning s (Next event) (client_after (Next event) s.client) s.status [] t
+
+abbrev pub FetchedBehind : Meaning → State → Event → Working Turning → Type 0
+FetchedBehind meaning s event t = FetchedTurn meaning s (Next event) (client_after (Next event) s.client) s.status [] t
+
+abbrev pub MadeBehind : Meaning → State → Event → Working Turning → Type 0
+MadeBehind meaning s event t = MadeTurn meaning s (Next event) (client_after (Next event) s.client) s.status [] t
+
+-- these of the start, whose status comes first
+abbrev pub ReadyStart : Meaning → State → Working Turning → Type 0
+ReadyStart meaning s t = ReadyTurn meaning s Start (client_left Start (place_of s)) (status_after Start (place_of s)) (statuses_at Start (place_of s)) t
+
+abbrev pub FetchedStart : Meaning → State → Working Turning → Type 0
+FetchedStart meaning s t = FetchedTurn meaning s Start (client_left Start (place_of s)) (status_after Start (place_of s)) (statuses_at Start (place_of s)) t
 
 pub switch-made : (meaning : Meaning) (s : State) (event : Event) (t : Working Turning) → MidTurn meaning s (Next event) t → IfOk (switch_part t) (BehindTurn meaning s event)
 unfolding switch_part
@@ -680,62 +829,221 @@ switch-made meaning s event t m =
     IfOk-within state_in with_state switch_done t (BehindTurn meaning s event)
     (IfOk-weaker _ (Behind meaning s event) _ (switched-behind meaning s event (session_in t) m.mid) (λ v behind. record { facts = m.facts; behind = behind }))
 
-pub files-made : (meaning : Meaning) (s : State) (event : Event) (t : Working Turning) → BehindTurn meaning s event t → IfOk (files_part t) (ReadyTurn meaning s (Next event))
+-- the fetch that the files ask for waits for a timer
+planned-now : (meaning : Meaning) (s : State) (event : Event) (u : Working State) → Behind meaning s event u
+    → planned_by u.state.client.settings u.state.desk.turns (due_changes u.state.files) u.state.workspaces ≡ workspaces_planned (Next event) (place_of s)
+planned-now meaning s event u behind =
+    let turns : u.state.desk.turns ≡ s.desk.turns + 1 = ap (λ (d : Desk). d.turns) behind.serves.desk in
+    let changed : due_changes u.state.files ≡ changes_in (Next event) (place_of s) = sym (ap changes_due behind.files) in
+    λ i. planned_by (behind.client i).settings (turns i) (changed i) (behind.workspaces i)
+
+pub files-made : (meaning : Meaning) (s : State) (event : Event) (t : Working Turning) → BehindTurn meaning s event t → IfOk (files_part t) (ReadyBehind meaning s event)
 unfolding files_part files_processed
 files-made meaning s event t m =
-    IfOk-within state_in with_state files_processed t (ReadyTurn meaning s (Next event))
-    (IfOk-within files_in with_files processed (session_in t) _
+    let u = session_in t in
+    let told : Working State → Working State = files_planned (due_changes u.state.files) in
+    let Goal : Working State → Type 0 = λ v. ReadyBehind meaning s event (record { state = with_state v.state t.state; out = v.out }) in
+    IfOk-within state_in with_state files_processed t (ReadyBehind meaning s event)
+    (IfOk-and_then (at_files processed u) (λ v. Ok (told v)) (λ v. Goal (told v)) Goal
+    (IfOk-within files_in with_files processed u (λ v. Goal (told v))
     (IfOk-weaker _ (Processes (record { state = t.state.state.files; out = t.out })) _ (processed-does _)
     (λ v p. record {
       facts = m.facts;
-      made = made-now meaning s event (session_in t) v m.behind p;
-      workspaces = m.behind.workspaces;
+      made = made-now meaning s event u v _ m.behind p;
+      workspaces = planned-now meaning s event u m.behind;
       spawns = ap (λ (o : Written). spawned o.commands) p.out ∙ m.behind.spawns;
     })))
+    (λ v ready. ready))
 
--- the start asks for a fetch
-pub begins : (meaning : Meaning) (s : State) → IfOk (begin_part (turning (begun s))) (ReadyTurn meaning s Start)
+-- the start tells its status
+pub record BegunTurn (s : State) (t : Working Turning) : Type 0 where
+  pub facts : t.state.facts ≡ facts_of (begun s)
+  pub tells : TellsOnly (statuses_at Start (place_of s)) nothing_done t.out
+  pub state : t.state.state ≡ record s { client = client_left Start (place_of s); status = status_after Start (place_of s) }
+
+pub status-begins : (s : State) → IfOk (status_part (turning (begun s))) (BegunTurn s)
+unfolding status_part
+status-begins s =
+    IfOk-within state_in with_state status_done (turning (begun s)) (BegunTurn s)
+    (IfOk-weaker (status_done (begun s)) (TellsStatus (begun s)) _ (status-does (begun s)) (λ v told. record {
+      facts = refl;
+      tells = subst (λ (settings : ConfigData). TellsOnly (statuses_due settings s.status (status_after Start (place_of s))) nothing_done v.out)
+          (sym (left-settings Start (place_of s))) told.tells;
+      state = told.state;
+    }))
+
+-- and asks for a fetch
+pub begins : (meaning : Meaning) (s : State) (t : Working Turning) → BegunTurn s t → IfOk (begin_part t) (ReadyStart meaning s)
 unfolding begin_part begun_fetches
-begins meaning s =
-    IfOk-within state_in with_state begun_fetches (turning (begun s)) (ReadyTurn meaning s Start)
-    (record { facts = refl; made = start-made meaning s _; workspaces = refl; spawns = refl })
+begins meaning s t b =
+    let settings : t.state.state.client.settings ≡ s.client.settings = ap (λ (x : State). x.client.settings) b.state ∙ left-settings Start (place_of s) in
+    let workspaces : t.state.state.workspaces ≡ s.workspaces = ap (λ (x : State). x.workspaces) b.state in
+    IfOk-within state_in with_state begun_fetches t (ReadyStart meaning s)
+    (record {
+      facts = b.facts;
+      made = start-made meaning s _ b.tells (ap (λ (x : State). x.client) b.state) (ap (λ (x : State). x.status) b.state) (ap (λ (x : State). x.files) b.state)
+          (ap (λ (x : State). x.desk) b.state);
+      workspaces = λ i. with_fetches (start_up (discovers (settings i))) (workspaces i);
+      spawns = ap spawned b.tells.ordered ∙ b.tells.spawns_none;
+    })
 
--- a fetch is started
-fetched-now : (meaning : Meaning) (s : State) (input : Input) (w v : Working State) (fetch : Option (List ℕ × FetchRequest)) (workspaces : Workspaces) → Made meaning s input w
-    → StartsFetch fetch workspaces w v → Made meaning s input v
-fetched-now meaning s input w v fetch workspaces made h = record {
+-- a job of the host's own is started
+started-now : (meaning : Meaning) (s : State) (input : Input) (asked : Client) (last : Status) (sent : List Data) (w v : Working State) (jobs : ℕ → SnapshotData → List Job) (workspaces : Workspaces)
+    → Made meaning s input asked last sent w → StartsJobs jobs workspaces w v → Made meaning s input asked last sent v
+started-now meaning s input asked last sent w v jobs workspaces made h = record {
   serves = beside-fits meaning s input (after_input input s.desk.jobs) w v h.beside made.serves;
   client = h.client ∙ made.client;
+  status = h.status ∙ made.status;
+  settings = made.settings;
   files = subst (λ (f : SessionFiles). files_made s.client.settings input s.files ≡ Ok f) (sym h.files) made.files;
   unrevised = h.unrevised ∙ made.unrevised;
+  told = ap statuses_in h.messages ∙ made.told;
+  untimed = h.untimed ∙ made.untimed;
   revised = ap (λ (f : SessionFiles). f.host.revision) h.files ∙ made.revised;
 }
 
--- the fetch that is to start
-pub ready-fetch : (meaning : Meaning) (s : State) (input : Input) (t : Working Turning) → ReadyTurn meaning s input t
-    → fetch_to_start (may_start input t.state.state.client.settings) t.state.state.workspaces.fetches ≡ fetch_in input (place_of s)
-ready-fetch meaning s input t ready = λ i. fetch_to_start (may_start input (ready.made.client i).settings) (ready.workspaces i).fetches
+-- the settings by which it starts
+ready-settings : (meaning : Meaning) (s : State) (input : Input) (asked : Client) (last : Status) (sent : List Data) (t : Working Turning) → ReadyTurn meaning s input asked last sent t
+    → t.state.state.client.settings ≡ (client_after input s.client).settings
+ready-settings meaning s input asked last sent t ready = ap (λ (c : Client). c.settings) ready.made.client ∙ ready.made.settings
 
-fetch-made : (meaning : Meaning) (s : State) (input : Input) (t : Working Turning) → ReadyTurn meaning s input t → IfOk (fetch_part input t) (MadeTurn meaning s input)
+-- the fetch that is to start
+pub ready-fetch : (meaning : Meaning) (s : State) (input : Input) (asked : Client) (last : Status) (sent : List Data) (t : Working Turning) → ReadyTurn meaning s input asked last sent t
+    → fetch_to_start (may_start input t.state.state.client.settings) t.state.state.workspaces.fetches ≡ fetch_in input (place_of s)
+ready-fetch meaning s input asked last sent t ready =
+    λ i. fetch_to_start (may_start input (ready-settings meaning s input asked last sent t ready i)) (ready.workspaces i).fetches
+
+pub fetch-made : (meaning : Meaning) (s : State) (input : Input) (asked : Client) (last : Status) (sent : List Data) (t : Working Turning) → ReadyTurn meaning s input asked last sent t
+    → IfOk (fetch_part input t) (FetchedTurn meaning s input asked last sent)
 unfolding fetch_part
-fetch-made meaning s input t ready =
+fetch-made meaning s input asked last sent t ready =
     let may = may_start input t.state.state.client.settings in
     let fetch : Option (List ℕ × FetchRequest) = fetch_to_start may t.state.state.workspaces.fetches in
     let after : Workspaces = with_fetches (start_fetch may) t.state.state.workspaces in
-    IfOk-within state_in with_state (fetch_started may) t (MadeTurn meaning s input)
-    (IfOk-weaker (fetch_started may (session_in t)) (StartsFetch fetch after (session_in t)) _ (started-hands may (session_in t))
+    IfOk-within state_in with_state (fetch_started may) t (FetchedTurn meaning s input asked last sent)
+    (IfOk-weaker (fetch_started may (session_in t)) (StartsJobs (jobs_of_fetch fetch) after (session_in t)) _ (started-hands may (session_in t))
     (λ v h. record {
       facts = ready.facts;
-      made = fetched-now meaning s input (session_in t) v fetch after ready.made h;
-      workspaces = h.now ∙ (λ i. with_fetches (start_fetch (may_start input (ready.made.client i).settings)) (ready.workspaces i));
-      hands = h.hands ∙ (λ i. ready.spawns i ++ fetch_jobs v.state.desk.handed (snapshot_of v.state) (ready-fetch meaning s input t ready i));
+      made = started-now meaning s input asked last sent (session_in t) v (jobs_of_fetch fetch) after ready.made h;
+      workspaces = h.now ∙ (λ i. with_fetches (start_fetch (may_start input (ready-settings meaning s input asked last sent t ready i))) (ready.workspaces i));
+      hands = h.hands ∙ (λ i. ready.spawns i ++ fetch_jobs v.state.desk.handed (snapshot_of v.state) (ready-fetch meaning s input asked last sent t ready i));
     }))
 
-closing-fits : (meaning : Meaning) (s : State) (input : Input) (t : Working Turning) → MadeTurn meaning s input t → IfOk (closing_part t) (λ v. Fits meaning s input (session_in v))
+-- the build data that is to start, which is none where a fetch starts
+pub fetched-build : (meaning : Meaning) (s : State) (event : Event) (t : Working Turning) → FetchedBehind meaning s event t
+    → build_due t.state.state.workspaces ≡ build_in (Next event) (place_of s)
+fetched-build meaning s event t fetched = ap build_due fetched.workspaces
+
+alone : (s : State) (event : Event) → is_some (fetch_in (Next event) (place_of s)) ≡ true → build_in (Next event) (place_of s) ≡ None
+alone s event some = no-build (may_start_at (Next event) s.client) (workspaces_planned (Next event) (place_of s)) some
+
+-- build data is started
+pub build-made : (meaning : Meaning) (s : State) (event : Event) (t : Working Turning) → FetchedBehind meaning s event t → IfOk (build_part t) (MadeBehind meaning s event)
+unfolding build_part
+build-made meaning s event t fetched =
+    let input : Input = Next event in
+    let place = place_of s in
+    let w = session_in t in
+    let version : Option ℕ = build_due w.state.workspaces in
+    let after : Workspaces = with_due_build w.state.workspaces in
+    let is : version ≡ build_in input place = fetched-build meaning s event t fetched in
+    let jobs = (row meaning input place).jobs in
+    IfOk-within state_in with_state build_started t (MadeBehind meaning s event)
+    (IfOk-weaker (build_started w) (StartsJobs (jobs_of_build version) after w) _ (built-hands w)
+    (λ v h. let fetch : List Job = fetch_jobs v.state.desk.handed (snapshot_of v.state) (fetch_in input place) in
+    let same = same-fetch (fetch_in input place) version w v (λ some. is ∙ alone s event some) h in
+    record {
+      facts = fetched.facts;
+      made = started-now meaning s input (client_after input s.client) s.status [] w v (jobs_of_build version) after fetched.made h;
+      workspaces = h.now ∙ ap with_due_build fetched.workspaces;
+      hands = h.hands ∙ ap (λ (js : List Job). js ++ build_jobs v.state.desk.handed (snapshot_of v.state) version) (fetched.hands ∙ ap (λ (js : List Job). jobs ++ js) same)
+          ∙ append_assoc jobs fetch (build_jobs v.state.desk.handed (snapshot_of v.state) version)
+          ∙ ap (λ (o : Option ℕ). jobs ++ (fetch ++ build_jobs v.state.desk.handed (snapshot_of v.state) o)) is;
+    }))
+
+-- the start runs none
+start-built : (meaning : Meaning) (s : State) (t : Working Turning) → FetchedStart meaning s t → LeftTurn meaning s Start t
+start-built meaning s t fetched = record {
+  facts = fetched.facts;
+  made = fetched.made;
+  workspaces = fetched.workspaces;
+  hands = fetched.hands ∙ ap (λ (js : List Job). (row meaning Start (place_of s)).jobs ++ js) (sym (append-nil _));
+}
+
+-- ---- the status behind an event
+
+-- the client, once the status is told
+pub client-behind : (meaning : Meaning) (s : State) (event : Event) (t : Working Turning) → MadeBehind meaning s event t
+    → client_after_status t.state.state.status t.state.state.files t.state.state.workspaces t.state.state.client ≡ client_left (Next event) (place_of s)
+client-behind meaning s event t m =
+    λ i. client_after_status (m.made.status i) (files-now s (Next event) t.state.state.files m.made.files i) (m.workspaces i) (m.made.client i)
+
+status-behind : (meaning : Meaning) (s : State) (event : Event) (t : Working Turning) → MadeBehind meaning s event t
+    → status_now t.state.state.client.settings t.state.state.files t.state.state.workspaces ≡ status_after (Next event) (place_of s)
+status-behind meaning s event t m =
+    λ i. status_now (m.made.client i).settings (files-now s (Next event) t.state.state.files m.made.files i) (m.workspaces i)
+
+-- the status that is told
+due-behind : (meaning : Meaning) (s : State) (event : Event) (t : Working Turning) → MadeBehind meaning s event t
+    → statuses_due t.state.state.client.settings t.state.state.status (status_now t.state.state.client.settings t.state.state.files t.state.state.workspaces)
+    ≡ statuses_at (Next event) (place_of s)
+due-behind meaning s event t m =
+    let settings : t.state.state.client.settings ≡ (client_left (Next event) (place_of s)).settings =
+    ap (λ (c : Client). c.settings) m.made.client ∙ sym (left-settings (Next event) (place_of s)) in
+    λ i. statuses_due (settings i) (m.made.status i) (status-behind meaning s event t m i)
+
+-- a snapshot has the settings of the client, and nothing else of it
+snapshot-told : (w v : Working State) → TellsStatus w v → snapshot_of v.state ≡ snapshot_of w.state
+snapshot-told w v told =
+    let snapshot : ConfigData → SnapshotData = λ settings. record {
+      world = w.state.files.host.world;
+      file_ids = w.state.files.ids;
+      versions = w.state.files.versions;
+      config = settings;
+      proc_macros_loaded = macros_loaded_in settings;
+      workspaces = w.state.workspaces.present;
+      workspaces_version = w.state.workspaces.version;
+      revision = w.state.files.host.revision;
+    } in
+    ap snapshot_of told.state ∙ sym (ap (λ (x : State). snapshot x.client.settings) told.state) ∙ ap snapshot (told-settings w v told)
+
+told-now : (meaning : Meaning) (s : State) (event : Event) (t : Working Turning) (v : Working State) → MadeBehind meaning s event t → TellsStatus (session_in t) v
+    → Left meaning s (Next event) v
+told-now meaning s event t v m told = record {
+  serves = beside-fits meaning s (Next event) (after_input (Next event) s.desk.jobs) (session_in t) v
+      (beside-told (session_in t) v told.tells (ap (λ (x : State). x.desk) told.state)) m.made.serves;
+  client = ap (λ (x : State). x.client) told.state ∙ client-behind meaning s event t m;
+  status = ap (λ (x : State). x.status) told.state ∙ status-behind meaning s event t m;
+  settings = left-settings (Next event) (place_of s);
+  files = m.made.files ∙ sym (ap (λ (x : State). Ok x.files) told.state);
+  unrevised = ap (filter_map revision_of) told.tells.ordered ∙ revisions-append t.out.commands told.tells.commands ∙ (λ i. m.made.unrevised i ++ told.tells.revises_none i);
+  untimed = ap (filter_map timer_of) told.tells.ordered ∙ timers-append t.out.commands told.tells.commands ∙ (λ i. m.made.untimed i ++ told.tells.times_none i);
+  told = ap statuses_in told.tells.written ∙ statuses-append t.out.messages told.tells.messages ∙ (λ i. m.made.told i ++ told.tells.tells i) ∙ due-behind meaning s event t m;
+  revised = ap (λ (x : State). x.files.host.revision) told.state ∙ m.made.revised;
+}
+
+told-hands : (meaning : Meaning) (s : State) (event : Event) (w v : Working State) → Hands meaning s (Next event) w → TellsStatus w v → Hands meaning s (Next event) v
+told-hands meaning s event w v hands told =
+    ap spawned told.tells.ordered ∙ spawned-append w.out.commands told.tells.commands ∙ (λ i. hands i ++ told.tells.spawns_none i) ∙ append-nil _
+    ∙ sym (λ i. (row meaning (Next event) (place_of s)).jobs ++ jobs_started (Next event) (place_of s) (told.state i).desk.handed (snapshot-told w v told i))
+
+pub status-made : (meaning : Meaning) (s : State) (event : Event) (t : Working Turning) → MadeBehind meaning s event t → IfOk (status_part t) (LeftTurn meaning s (Next event))
+unfolding status_part
+status-made meaning s event t m =
+    IfOk-within state_in with_state status_done t (LeftTurn meaning s (Next event))
+    (IfOk-weaker (status_done (session_in t)) (TellsStatus (session_in t)) _ (status-does (session_in t))
+    (λ v told. record {
+      facts = m.facts;
+      made = told-now meaning s event t v m told;
+      workspaces = ap (λ (x : State). x.workspaces) told.state ∙ m.workspaces;
+      hands = told-hands meaning s event (session_in t) v m.hands told;
+    }))
+
+closing-fits : (meaning : Meaning) (s : State) (input : Input) (t : Working Turning) → LeftTurn meaning s input t → IfOk (closing_part t) (λ v. Closes meaning s input (session_in v))
 unfolding closing_part
 closing-fits meaning s input t m =
-    IfOk-within state_in with_state (closed t.state.facts) t (λ v. Fits meaning s input (session_in v))
-    (subst (λ (f : Facts). IfOk (closed f (session_in t)) (Fits meaning s input)) (sym m.facts) (close-fits meaning s input (session_in t) m.made m.workspaces m.hands))
+    IfOk-within state_in with_state (closed t.state.facts) t (λ v. Closes meaning s input (session_in v))
+    (subst (λ (f : Facts). IfOk (closed f (session_in t)) (Closes meaning s input)) (sym m.facts) (close-fits meaning s input (session_in t) m.made m.workspaces m.hands))
 
 pub event-fits : (meaning : Meaning) (s : State) (event : Event) → IfOk (event_part meaning event (turning (begun s))) (MidTurn meaning s (Next event))
 unfolding event_part
@@ -743,46 +1051,80 @@ event-fits meaning s event =
     IfOk-within state_in with_state (taken_in meaning event) (turning (begun s)) (MidTurn meaning s (Next event))
     (IfOk-weaker _ (Mid meaning s (Next event)) _ (mid-fits meaning s event) (λ v mid. record { facts = refl; mid = mid }))
 
--- a fetch is started, and the turn closes
-abbrev pub fetch_and_close : Input → Working Turning → Result (Working Turning) Counter
-fetch_and_close input t = and_then (fetch_part input t) closing_part
+-- the start: a fetch is started, no build data is run, and the turn closes
+abbrev pub fetch_and_close : Working Turning → Result (Working Turning) Counter
+fetch_and_close t = and_then (fetch_part Start t) closing_part
 
-fetch-fits : (meaning : Meaning) (s : State) (input : Input) (t : Working Turning) → ReadyTurn meaning s input t → IfOk (fetch_and_close input t) (λ v. Fits meaning s input (session_in v))
-fetch-fits meaning s input t ready =
-    IfOk-and_then (fetch_part input t) closing_part (MadeTurn meaning s input) (λ v. Fits meaning s input (session_in v))
-    (fetch-made meaning s input t ready) (λ u made. closing-fits meaning s input u made)
+-- it tells its status, and asks for the fetch
+abbrev pub begin_and_close : Working Turning → Result (Working Turning) Counter
+begin_and_close t = and_then (begin_part t) fetch_and_close
 
--- what has changed goes into the world, and the turn goes on
-abbrev pub files_and_on : Input → Working Turning → Result (Working Turning) Counter
-files_and_on input t = and_then (files_part t) (fetch_and_close input)
+start-fits : (meaning : Meaning) (s : State) (t : Working Turning) → BegunTurn s t → IfOk (begin_and_close t) (λ v. Closes meaning s Start (session_in v))
+start-fits meaning s t b =
+    IfOk-and_then (begin_part t) fetch_and_close (ReadyStart meaning s) (λ v. Closes meaning s Start (session_in v)) (begins meaning s t b)
+    (λ u ready. IfOk-and_then (fetch_part Start u) closing_part (FetchedStart meaning s) (λ v. Closes meaning s Start (session_in v))
+    (fetch-made meaning s Start (client_left Start (place_of s)) (status_after Start (place_of s)) (statuses_at Start (place_of s)) u ready)
+    (λ v fetched. closing-fits meaning s Start v (start-built meaning s v fetched)))
 
-files-fit : (meaning : Meaning) (s : State) (event : Event) (t : Working Turning) → BehindTurn meaning s event t → IfOk (files_and_on (Next event) t) (λ v. Fits meaning s (Next event) (session_in v))
+-- behind an event: the status is told, and the turn closes
+abbrev pub status_and_close : Working Turning → Result (Working Turning) Counter
+status_and_close t = and_then (status_part t) closing_part
+
+-- build data is started before
+abbrev pub build_and_on : Working Turning → Result (Working Turning) Counter
+build_and_on t = and_then (build_part t) status_and_close
+
+build-fits : (meaning : Meaning) (s : State) (event : Event) (t : Working Turning) → FetchedBehind meaning s event t → IfOk (build_and_on t) (λ v. Closes meaning s (Next event) (session_in v))
+build-fits meaning s event t fetched =
+    IfOk-and_then (build_part t) status_and_close (MadeBehind meaning s event) (λ v. Closes meaning s (Next event) (session_in v))
+    (build-made meaning s event t fetched)
+    (λ u made. IfOk-and_then (status_part u) closing_part (LeftTurn meaning s (Next event)) (λ v. Closes meaning s (Next event) (session_in v))
+    (status-made meaning s event u made) (λ v left. closing-fits meaning s (Next event) v left))
+
+-- a fetch is started before that
+abbrev pub fetch_and_on : Event → Working Turning → Result (Working Turning) Counter
+fetch_and_on event t = and_then (fetch_part (Next event) t) build_and_on
+
+fetch-fits : (meaning : Meaning) (s : State) (event : Event) (t : Working Turning) → ReadyBehind meaning s event t → IfOk (fetch_and_on event t) (λ v. Closes meaning s (Next event) (session_in v))
+fetch-fits meaning s event t ready =
+    IfOk-and_then (fetch_part (Next event) t) build_and_on (FetchedBehind meaning s event) (λ v. Closes meaning s (Next event) (session_in v))
+    (fetch-made meaning s (Next event) (client_after (Next event) s.client) s.status [] t ready)
+    (λ u fetched. build-fits meaning s event u fetched)
+
+-- what has changed goes into the world before that
+abbrev pub files_and_on : Event → Working Turning → Result (Working Turning) Counter
+files_and_on event t = and_then (files_part t) (fetch_and_on event)
+
+files-fit : (meaning : Meaning) (s : State) (event : Event) (t : Working Turning) → BehindTurn meaning s event t → IfOk (files_and_on event t) (λ v. Closes meaning s (Next event) (session_in v))
 files-fit meaning s event t behind =
-    IfOk-and_then (files_part t) (fetch_and_close (Next event)) (ReadyTurn meaning s (Next event)) (λ v. Fits meaning s (Next event) (session_in v))
-    (files-made meaning s event t behind) (λ u ready. fetch-fits meaning s (Next event) u ready)
+    IfOk-and_then (files_part t) (fetch_and_on event) (ReadyBehind meaning s event) (λ v. Closes meaning s (Next event) (session_in v))
+    (files-made meaning s event t behind) (λ u ready. fetch-fits meaning s event u ready)
 
-step-fits : (meaning : Meaning) (s : State) (input : Input) → IfOk (step meaning input (begun s)) (Fits meaning s input)
+step-fits : (meaning : Meaning) (s : State) (input : Input) → IfOk (step meaning input (begun s)) (Closes meaning s input)
 unfolding step
 step-fits meaning s Start =
-    IfOk-and_then (start_parts (turning (begun s))) turned (λ v. Fits meaning s Start (session_in v)) (Fits meaning s Start)
-    (IfOk-and_then (begin_part (turning (begun s))) (fetch_and_close Start) (ReadyTurn meaning s Start) (λ v. Fits meaning s Start (session_in v))
-    (begins meaning s) (λ t ready. fetch-fits meaning s Start t ready)) (λ v fits. fits)
+    IfOk-and_then (start_parts (turning (begun s))) turned (λ v. Closes meaning s Start (session_in v)) (Closes meaning s Start)
+    (IfOk-and_then (status_part (turning (begun s))) begin_and_close (BegunTurn s) (λ v. Closes meaning s Start (session_in v))
+    (status-begins s) (λ t b. start-fits meaning s t b)) (λ v fits. fits)
 step-fits meaning s (Next event) =
-    IfOk-and_then (and_then (event_part meaning event (turning (begun s))) (later_parts (Next event))) turned (λ v. Fits meaning s (Next event) (session_in v)) (Fits meaning s (Next event))
-    (IfOk-and_then (event_part meaning event (turning (begun s))) (later_parts (Next event)) (MidTurn meaning s (Next event)) (λ v. Fits meaning s (Next event) (session_in v))
+    IfOk-and_then (and_then (event_part meaning event (turning (begun s))) (later_parts (Next event))) turned (λ v. Closes meaning s (Next event) (session_in v)) (Closes meaning s (Next event))
+    (IfOk-and_then (event_part meaning event (turning (begun s))) (later_parts (Next event)) (MidTurn meaning s (Next event)) (λ v. Closes meaning s (Next event) (session_in v))
     (event-fits meaning s event)
-    (λ t m. IfOk-and_then (switch_part t) (files_and_on (Next event)) (BehindTurn meaning s event) (λ v. Fits meaning s (Next event) (session_in v))
+    (λ t m. IfOk-and_then (switch_part t) (files_and_on event) (BehindTurn meaning s event) (λ v. Closes meaning s (Next event) (session_in v))
     (switch-made meaning s event t m) (λ u behind. files-fit meaning s event u behind))) (λ v fits. fits)
 
 pub steps-fit : (meaning : Meaning) (s : State) (turn : Turn) (new : State) → Steps meaning s turn new → StepFits meaning s turn new
 steps-fit meaning s turn new steps =
-    let fits : Fits meaning s turn.input (record { state = new; out = record { messages = turn.messages; commands = turn.commands } }) = IfOk-at_ok (Fits meaning s turn.input) steps (step-fits meaning s turn.input) in
+    let closes : Closes meaning s turn.input (record { state = new; out = record { messages = turn.messages; commands = turn.commands } }) = IfOk-at_ok (Closes meaning s turn.input) steps (step-fits meaning s turn.input) in
+    let fits = closes.fits in
     record {
       does = fits.does;
       numbered = fits.numbered;
       place = fits.place;
       later = fits.later;
       revised = sym (ap (λ (p : Place). p.revision) fits.place) ∙ fits.revised;
-      hands_over = subst (λ (p : Place). spawned turn.commands ≡ (row meaning turn.input (place_of s)).jobs ++ fetch_jobs p.desk.handed (snapshot_at p) (fetch_in turn.input (place_of s)))
+      hands_over = subst (λ (p : Place). spawned turn.commands ≡ (row meaning turn.input (place_of s)).jobs ++ jobs_started turn.input (place_of s) p.desk.handed (snapshot_at p))
           fits.place fits.hands;
+      tells_status = fits.told;
+      timer = subst (SetsTimer turn) fits.place closes.timer;
     }

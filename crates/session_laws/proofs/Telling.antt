@@ -2,12 +2,16 @@
 use Rattle.std.proofs.Common.{◌≡◌, ◌+◌, ℕ, List, [], ◌∷◌, ◌++◌, length, Bool, true, false, refl, sym, ap, ◌∙◌, subst, append-nil, append_assoc}
 use Rattle.std.specs.Prelude.{Option, None, Some, Ok, Err, IfOk, ◌==◌, filter, map, if◌then◌else◌}
 use Rattle.std.specs.List.{filter_map}
+use Rattle.std.proofs.lemmas.List.Elements.{filter_map-append}
+use Rattle.serde_json.specs.Data.{Data}
 use Rattle.lsp_frame.specs.declared.message.Notification.{Notification}
 use Rattle.lsp_frame.specs.declared.message.Request.{Request}
 use Rattle.lsp_frame.specs.declared.message.Response.{Response}
+use Rattle.lsp_frame.specs.declared.message.Message.{Message}
 use Rattle.lsp_frame.specs.declared.message.Message.TheVariants.{Request as RequestMessage, Notification as NotificationMessage}
 use Rattle.session_port.specs.Events.{revision_of}
 use Rattle.session_port.specs.Record.{spawned}
+use Rattle.session_port.specs.declared.command.Command.{Command}
 use Rattle.session_port.specs.declared.command.Command.TheVariants.{Invalidate, Log}
 use Rattle.session_port.specs.declared.command.LogCode.{LogCode}
 use Rattle.session_port.specs.declared.command.LogCode.TheVariants.{BadPath, SettingsError, UnknownResponse}
@@ -28,9 +32,18 @@ use Rattle.outgoing.specs.Outgoing.{number_limit}
 use Rattle.desk.specs.Folds.{asked_among}
 use Rattle.desk_laws.specs.Numbers.{AreNumbered}
 use Rattle.desk_laws.proofs.Appends.{responses-append, revisions-append, spawned-append}
-use Rattle.session_laws.specs.Beside.{Beside, Tells}
+use Rattle.session_laws.specs.Beside.{Beside, Tells, TellsOnly}
 use Rattle.session_laws.proofs.Same.{none-handed}
 use Rattle.session_model.specs.State.{State}
+use Rattle.session_model.specs.Status.{status_in, statuses_in}
+use Rattle.session_model.specs.Timing.{timer_of}
+
+-- statuses, one list of messages after another
+pub statuses-append : (xs ys : List Message) → statuses_in (xs ++ ys) ≡ statuses_in xs ++ statuses_in ys
+statuses-append xs ys = filter_map-append status_in xs ys
+
+pub timers-append : (xs ys : List Command) → filter_map timer_of (xs ++ ys) ≡ filter_map timer_of xs ++ filter_map timer_of ys
+timers-append xs ys = filter_map-append timer_of xs ys
 
 pub tells-none : (out : Written) → Tells out out
 tells-none out = record {
@@ -41,6 +54,8 @@ tells-none out = record {
   answers_none = refl;
   spawns_none = refl;
   revises_none = refl;
+  tells = refl;
+  times_none = refl;
 }
 
 -- one thing and then another
@@ -53,6 +68,8 @@ tells-on a b c p q = record {
   answers_none = responses-append p.messages q.messages ∙ (λ i. p.answers_none i ++ q.answers_none i);
   spawns_none = spawned-append p.commands q.commands ∙ (λ i. p.spawns_none i ++ q.spawns_none i);
   revises_none = revisions-append p.commands q.commands ∙ (λ i. p.revises_none i ++ q.revises_none i);
+  tells = statuses-append p.messages q.messages ∙ (λ i. p.tells i ++ q.tells i);
+  times_none = timers-append p.commands q.commands ∙ (λ i. p.times_none i ++ q.times_none i);
 }
 
 -- a log line
@@ -66,6 +83,8 @@ tells-logged code text w = record {
   answers_none = refl;
   spawns_none = refl;
   revises_none = refl;
+  tells = refl;
+  times_none = refl;
 }
 
 -- a file is to be read anew
@@ -79,6 +98,8 @@ tells-invalidated path w = record {
   answers_none = refl;
   spawns_none = refl;
   revises_none = refl;
+  tells = refl;
+  times_none = refl;
 }
 
 -- a request of the session's own
@@ -92,11 +113,14 @@ tells-request r w = record {
   answers_none = refl;
   spawns_none = refl;
   revises_none = refl;
+  tells = refl;
+  times_none = refl;
 }
 
-pub tells-notification : {S : Type 0} (n : Notification) (w : Working S) → Tells w.out (written (NotificationMessage n) w).out
+pub tells-notification : {S : Type 0} (told : List Data) (n : Notification) (w : Working S) → statuses_in (NotificationMessage n ∷ []) ≡ told
+    → TellsOnly told w.out (written (NotificationMessage n) w).out
 unfolding written
-tells-notification n w = record {
+tells-notification told n w is = record {
   messages = NotificationMessage n ∷ [];
   commands = [];
   written = refl;
@@ -104,10 +128,12 @@ tells-notification n w = record {
   answers_none = refl;
   spawns_none = refl;
   revises_none = refl;
+  tells = is;
+  times_none = refl;
 }
 
 -- nobody is answered
-pub beside-told : (w v : Working State) → Tells w.out v.out → v.state.desk ≡ w.state.desk → Beside w v
+pub beside-told : {told : List Data} (w v : Working State) → TellsOnly told w.out v.out → v.state.desk ≡ w.state.desk → Beside w v
 beside-told w v t desk = record {
   messages = t.messages;
   commands = t.commands;
@@ -142,7 +168,7 @@ faults-tell None w = tells-none w.out
 faults-tell (Some text) w = tells-logged SettingsError text w
 
 logs-tell : (b : Bool) (w : Working Client) → Tells w.out (if b then written (notification_of OpenLogsMessage) w else w).out
-logs-tell true w = tells-notification _ w
+logs-tell true w = tells-notification [] _ w refl
 logs-tell false w = tells-none w.out
 
 followed-tells : (handler : Option ReqHandler) (response : Response) (w : Working Client) → Tells w.out (followed handler response w).out
@@ -156,7 +182,7 @@ pub answered-does : (response : Response) (w : Working Client) → DoesForClient
 unfolding answered
 answered-does response w = record { is = refl; tells = followed-tells (follows response.id w.state.asked) response w }
 
--- log lines hand over no job, and tell of no revision
+-- log lines hand over no job, tell of no revision, and order no timer
 logs-spawn-none : (code : LogCode) (texts : List (List ℕ)) → spawned (map (Log code) texts) ≡ []
 logs-spawn-none code [] = refl
 logs-spawn-none code (text ∷ texts) = logs-spawn-none code texts
@@ -164,6 +190,10 @@ logs-spawn-none code (text ∷ texts) = logs-spawn-none code texts
 logs-revise-none : (code : LogCode) (texts : List (List ℕ)) → filter_map revision_of (map (Log code) texts) ≡ []
 logs-revise-none code [] = refl
 logs-revise-none code (text ∷ texts) = logs-revise-none code texts
+
+logs-time-none : (code : LogCode) (texts : List (List ℕ)) → filter_map timer_of (map (Log code) texts) ≡ []
+logs-time-none code [] = refl
+logs-time-none code (text ∷ texts) = logs-time-none code texts
 
 pub folders-do : (added removed : List (List ℕ)) (w : Working Client) → DoesForClient w (folders_changed added removed w) (after_folders added removed w.state)
 unfolding folders_changed
@@ -177,5 +207,7 @@ folders-do added removed w = record {
     answers_none = refl;
     spawns_none = spawned-append (misses removed) (misses added) ∙ (λ i. logs-spawn-none BadPath (filter names_none removed) i ++ logs-spawn-none BadPath (filter names_none added) i);
     revises_none = revisions-append (misses removed) (misses added) ∙ (λ i. logs-revise-none BadPath (filter names_none removed) i ++ logs-revise-none BadPath (filter names_none added) i);
+    tells = refl;
+    times_none = timers-append (misses removed) (misses added) ∙ (λ i. logs-time-none BadPath (filter names_none removed) i ++ logs-time-none BadPath (filter names_none added) i);
   };
 }

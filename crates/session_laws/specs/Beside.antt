@@ -1,6 +1,7 @@
 -- The parts of a turn that answer nobody.
 use Rattle.std.specs.Prelude.{◌≡◌, ◌+◌, List, [], ◌++◌, length}
 use Rattle.std.specs.List.{filter_map}
+use Rattle.serde_json.specs.Data.{Data}
 use Rattle.lsp_frame.specs.declared.message.Message.{Message}
 use Rattle.session_port.specs.Events.{revision_of}
 use Rattle.session_port.specs.Jobs.{Jobs}
@@ -14,6 +15,8 @@ use Rattle.desk_laws.specs.Numbers.{AreNumbered}
 use Rattle.session_model.specs.Headline.{desk_after, reaction_of, row}
 use Rattle.session_model.specs.Run.{Turn}
 use Rattle.session_model.specs.State.{State}
+use Rattle.session_model.specs.Status.{statuses_in}
+use Rattle.session_model.specs.Timing.{timer_of}
 use Rattle.session_model.specs.declared.input.Input.{Input}
 use Rattle.session_laws.specs.Invariant.{place_of}
 
@@ -29,8 +32,8 @@ pub record Beside (w v : Working State) : Type 0 where
   pub numbered : AreNumbered w.state.desk.handed (spawned commands)
   pub desk : v.state.desk ≡ record w.state.desk { handed = w.state.desk.handed + length (spawned commands) }
 
--- what was written and ordered only grew, by no response, no job and no revision
-pub record Tells (old new : Written) : Type 0 where
+-- what was written and ordered only grew, by no response, no job, no revision and no timer, and these statuses were told
+pub record TellsOnly (statuses : List Data) (old new : Written) : Type 0 where
   pub messages : List Message
   pub commands : List Command
   pub written : new.messages ≡ old.messages ++ messages
@@ -38,6 +41,12 @@ pub record Tells (old new : Written) : Type 0 where
   pub answers_none : responses_in messages ≡ []
   pub spawns_none : spawned commands ≡ []
   pub revises_none : filter_map revision_of commands ≡ []
+  pub times_none : filter_map timer_of commands ≡ []
+  pub tells : statuses_in messages ≡ statuses
+
+-- the same by no status
+abbrev pub Tells : Written → Written → Type 0
+Tells old new = TellsOnly [] old new
 
 -- what a turn has done, as a turn of a run
 abbrev pub turn_of : Input → Working State → Turn

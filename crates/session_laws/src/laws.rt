@@ -23,7 +23,7 @@ ghost use Rattle.session_model.specs.State.{State, fresh};
 ghost use Rattle.session_model.specs.declared.input.Input.{Input};
 ghost use Rattle.session_laws.specs.Answering.{answered_by};
 ghost use Rattle.session_laws.specs.Beside.{Beside, Serves};
-ghost use Rattle.session_laws.specs.Invariant.{FetchIsOut, SoundAt, Stands, StepFits, place_of};
+ghost use Rattle.session_laws.specs.Invariant.{BuildIsOut, FetchIsOut, IsOfTurns, SoundAt, Stands, StepFits, place_of};
 
 /// Bytes that come are as bytes that are held: a session's course is that of its bytes, however they are cut.
 pub fn any_pieces()
@@ -71,9 +71,24 @@ pub fn fetches_in_progress_are_out()
         → Steps meaning old turn new → SoundAt (place_of old) → FetchIsOut (place_of old) → FetchIsOut (place_of new) }
 {}
 
+/// A run of build data is in progress exactly where one job out is one: it is so at the beginning, and each turn of the machine
+/// keeps it.
+pub fn builds_in_progress_are_out()
+    ensures beginning { (settings : ConfigData) → BuildIsOut (beginning settings) }
+    ensures kept { (meaning : Meaning) (old : State) (turn : Turn) (new : State)
+        → Steps meaning old turn new → SoundAt (place_of old) → BuildIsOut (place_of old) → BuildIsOut (place_of new) }
+{}
+
 /// The workspaces have had no more versions than there were turns.
 pub fn versions_never_pass_the_turns()
     ensures { (settings : ConfigData) (turns : List Turn) → let place = place_after_all turns (beginning settings) in place.workspaces.version ≤ place.desk.turns }
+{}
+
+/// A fetch that waits for a timer has the number of a turn that was. So the timer that a turn orders, which has the turn's
+/// number, is that of a fetch which began to wait in this turn, or was given a new timer in it.
+pub fn timers_are_of_their_turns()
+    ensures { (settings : ConfigData) (turns : List Turn) → let place = place_after_all turns (beginning settings) in
+        IsOfTurns place.desk.turns place.workspaces.fetches.waiting }
 {}
 
 /// No request is answered twice in a run; and where each response answers a pending request, so many are answered as there are

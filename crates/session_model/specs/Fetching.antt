@@ -11,12 +11,10 @@ use Rattle.method_table.specs.Rows.{row_of}
 use Rattle.method_table.specs.declared.class.PoolClass.TheVariants.{Worker}
 use Rattle.method_table.specs.declared.named.TheConstants.{RELOAD_WORKSPACE}
 use Rattle.method_table.specs.declared.row_id.RowId.{RowId}
-use Rattle.session_port.specs.Jobs.{Jobs, after_message}
-use Rattle.session_port.specs.declared.event.TaskMsg.{TaskMsg}
 use Rattle.session_port.specs.declared.job.Job.{Job}
 use Rattle.state_params.specs.Unit.{is_unit}
 use Rattle.desk.specs.Desk.{Desk}
-use Rattle.desk.specs.Fetching.{FetchEnd, fetch_ended}
+use Rattle.desk.specs.Fetching.{FetchEnd}
 use Rattle.workspaces.specs.Builds.{reload}
 use Rattle.workspaces.specs.Fetches.{ask_fetch, end_fetch, unforced}
 use Rattle.workspaces.specs.Workspaces.{Fetches, Workspaces}
@@ -32,11 +30,6 @@ abbrev pub fetch_kept : Option FetchEnd → Workspaces → Workspaces
 fetch_kept None workspaces = workspaces
 fetch_kept (Some found) workspaces =
     if workspaces.fetches.queue.in_progress then record workspaces { fetches = end_fetch found workspaces.fetches; switch_wanted = true } else workspaces
-
--- the same for the messages of a batch, one after another, where these jobs are out before it
-abbrev pub fetches_kept : List TaskMsg → Jobs → Workspaces → Workspaces
-fetches_kept [] out workspaces = workspaces
-fetches_kept (message ∷ messages) out workspaces = fetches_kept messages (after_message message out) (fetch_kept (fetch_ended message out) workspaces)
 
 -- ---- requests to reload
 

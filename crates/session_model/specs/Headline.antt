@@ -1,10 +1,12 @@
 -- What a session's record says of requests and answers: by the lists of inputs, messages and commands alone.
-use Rattle.std.specs.Prelude.{◌≡◌, ◌≤◌, ℕ, ◌+◌, ◌-◌, ◌^◌, ◌⊎◌, List, [], ◌∷◌, ◌++◌, length, Contains, Bool, false}
+use Rattle.std.specs.Prelude.{◌≡◌, ◌≤◌, ◌<◌, ℕ, ◌+◌, ◌-◌, ◌^◌, ◌⊎◌, List, [], ◌∷◌, ◌++◌, length, Contains, Bool, false}
 use Rattle.std.specs.Prelude.{IsTrue, Option, None, Some, is_some, Result, Ok, Err, if◌then◌else◌}
 use Rattle.std.specs.FinMap as map
 use Rattle.std.specs.List.{filter_map}
+use Rattle.serde_json.specs.Data.{Data}
 use Rattle.docs_vfs.specs.FileUrls.{path_of}
 use Rattle.docs_vfs.specs.declared.file_url.UrlFault.{UrlFault}
+use Rattle.docs_vfs.specs.declared.file_kinds.ChangedFile.{ChangedFile}
 use Rattle.lsp_frame.specs.Reader.{Reader}
 use Rattle.lsp_frame.specs.declared.message.Message.TheVariants.{Request as RequestMessage, Notification as NotificationMessage, Response as ResponseMessage}
 use Rattle.lsp_frame.specs.declared.message.RequestId.{RequestId}
@@ -31,7 +33,6 @@ use Rattle.notify.specs.declared.notice.DidOpen.{DidOpen}
 use Rattle.notify.specs.declared.notice.Notice.{Notice}
 use Rattle.notify.specs.declared.notice.Notice.TheVariants as notices
 use Rattle.desk.specs.Desk.{Desk, new_desk}
-use Rattle.desk.specs.Fetching.{fetch_ended}
 use Rattle.desk.specs.Folds.{AreHeld, AnswersOnce, asked_among, desk_past, pending_after, shutdown_after}
 use Rattle.desk.specs.Meaning.{Meaning}
 use Rattle.desk.specs.Reactions.{Reaction, silent, joined, cancel_row, message_row, request_row}
@@ -40,17 +41,21 @@ use Rattle.session_model.specs.Course.{Course, Stop as CourseStop, takes, stops,
 use Rattle.session_model.specs.Course.{session_course, bytes_in}
 use Rattle.session_model.specs.Inputs.{cancelled_by, notice_in, request_in, response_in, turns_after}
 use Rattle.session_files.specs.Current.{AreNumbers, IsCurrent}
-use Rattle.session_files.specs.Folds.{after_closing, after_editing, after_messages, after_opening, after_turn, is_due, is_open}
+use Rattle.session_files.specs.Folds.{after_closing, after_editing, after_messages, after_opening, after_turn, due_changes, is_due, is_open}
 use Rattle.session_files.specs.SessionFiles.{SessionFiles, no_files}
+use Rattle.status.specs.declared.status.Status.{Status}
 use Rattle.workspaces.specs.Fetches.{fetch_to_start, fire, start_fetch, start_up}
 use Rattle.workspaces.specs.Workspaces.{Workspaces, no_workspaces}
 use Rattle.workspaces.specs.declared.follows.Follows.{Follows}
 use Rattle.workspaces.specs.declared.follows.Follows.TheVariants.{Nothing}
 use Rattle.workspaces.specs.declared.requests.FetchRequest.{FetchRequest}
-use Rattle.session_model.specs.Fetching.{fetch_jobs, fetch_kept, fetches_kept, folders_told_if, reloaded_if, reloads, settings_told, with_fetches}
+use Rattle.session_model.specs.Building.{build_due, build_jobs, end_kept, ends_kept, request_told, with_due_build}
+use Rattle.session_model.specs.Fetching.{fetch_jobs, folders_told_if, settings_told, with_fetches}
 use Rattle.session_model.specs.Hearing.{heard_of, told_by}
-use Rattle.session_model.specs.State.{columns_in, discovers, excludes_in, goes_by_folders, macros_loaded_in, may_start}
+use Rattle.session_model.specs.State.{columns_in, discovers, excludes_in, first_status, goes_by_folders, macros_loaded_in, may_start}
+use Rattle.session_model.specs.Status.{client_after_status, status_now, statuses_due, statuses_in}
 use Rattle.session_model.specs.Switching.{switch_made}
+use Rattle.session_model.specs.Timing.{bring_files, planned_by, renewed_if, timer_of, timers_set}
 use Rattle.session_model.specs.Run.{Turn, Told, AllRead, AsksLast, IsHonestInput, commands_of, fed_bytes, out_after, taking, telling}
 use Rattle.session_model.specs.declared.fault.SessionError.{SessionError}
 use Rattle.session_model.specs.declared.fault.SessionError.TheVariants.{ClientExited, BadFrame, BadMessage, HostFault, WriteFault, Exhausted, NoMemory}
@@ -69,11 +74,14 @@ pub record Place : Type 0 where
   pub revision : ℕ
   -- the turns, the requests that are read and not answered, the jobs handed over and not ended
   pub desk : Desk
-  -- the workspaces, and the fetches of them that are asked for
+  -- the workspaces, and the fetches and the build data of them that are asked for
   pub workspaces : Workspaces
+  -- the status that was told last
+  pub status : Status
 
 abbrev pub beginning : ConfigData → Place
-beginning settings = record { client = new_client settings; files = no_files; revision = 0; desk = new_desk; workspaces = no_workspaces }
+beginning settings =
+    record { client = new_client settings; files = no_files; revision = 0; desk = new_desk; workspaces = no_workspaces; status = first_status }
 
 -- the number of the next turn, from 1; the start has none
 abbrev pub next_turn : Place → ℕ
@@ -168,14 +176,15 @@ folders_told settings (Some (notices.DidChangeWorkspaceFolders added removed)) w
 folders_told settings (Some other) workspaces = workspaces
 
 -- what an input tells of the workspaces, by the client, the requests that wait and the jobs that are out: the start and a request to reload ask for a fetch,
--- so do other folders and other settings, a job's message may end one, and a timer may ask for one
+-- so do other folders and other settings, a loader's files renew the timer of one, and a timer may ask for one; a request to rebuild macros asks for build
+-- data; and a job's message may end a fetch or a run of build data
 abbrev pub workspaces_told : Client → Input → Desk → Workspaces → Workspaces
 workspaces_told client Start desk workspaces = with_fetches (start_up (discovers client.settings)) workspaces
-workspaces_told client (Next (Lsp (RequestMessage r))) desk workspaces = reloaded_if (reloads r desk) workspaces
+workspaces_told client (Next (Lsp (RequestMessage r))) desk workspaces = request_told r desk workspaces
 workspaces_told client (Next (Lsp (NotificationMessage n))) desk workspaces = folders_told client.settings (told_by (heard_of n)) workspaces
 workspaces_told client (Next (Lsp (ResponseMessage r))) desk workspaces = settings_told client.settings (after_answer r client).settings workspaces
-workspaces_told client (Next (Task batch)) desk workspaces = fetches_kept batch desk.jobs workspaces
-workspaces_told client (Next (Vfs messages)) desk workspaces = workspaces
+workspaces_told client (Next (Task batch)) desk workspaces = ends_kept batch desk.jobs workspaces
+workspaces_told client (Next (Vfs messages)) desk workspaces = renewed_if (bring_files messages) (desk.turns + 1) workspaces
 workspaces_told client (Next (Deferred tasks)) desk workspaces = workspaces
 workspaces_told client (Next (Timer ticket)) desk workspaces = with_fetches (fire ticket) workspaces
 
@@ -198,16 +207,52 @@ left_or workspaces (Err counter) = workspaces
 abbrev pub workspaces_switched : Input → Place → Workspaces
 workspaces_switched input place = left_or (workspaces_at input place) (switch_in input place)
 
+-- the files that a turn puts into the world: those that have changed behind its input, unless files are loading; the start puts none
+abbrev pub changes_due : Result SessionFiles Counter → List ChangedFile
+changes_due (Ok files) = due_changes files
+changes_due (Err counter) = []
+
+abbrev pub changes_in : Input → Place → List ChangedFile
+changes_in Start place = []
+changes_in (Next event) place = changes_due (files_told place.client.settings (Next event) place.files)
+
+-- the workspaces behind these files: the fetch that they ask for, by the settings that the input leaves, waits for a timer
+abbrev pub workspaces_planned : Input → Place → Workspaces
+workspaces_planned input place =
+    planned_by (client_after input place.client).settings (next_turn place) (changes_in input place) (workspaces_switched input place)
+
 -- behind an input fetches may start, by the settings that it leaves
 abbrev pub may_start_at : Input → Client → Bool
 may_start_at input client = may_start input (client_after input client).settings
 
--- the fetch that a turn starts: the one that is asked for behind its input and its switch, where none is in progress
+-- the fetch that a turn starts: the one that is asked for behind its input, its switch and its files, where none is in progress
 abbrev pub fetch_in : Input → Place → Option (List ℕ × FetchRequest)
-fetch_in input place = fetch_to_start (may_start_at input place.client) (workspaces_switched input place).fetches
+fetch_in input place = fetch_to_start (may_start_at input place.client) (workspaces_planned input place).fetches
+
+-- the workspaces behind it
+abbrev pub workspaces_fetched : Input → Place → Workspaces
+workspaces_fetched input place = with_fetches (start_fetch (may_start_at input place.client)) (workspaces_planned input place)
+
+-- the version of the workspaces on which a turn starts a run of build data, if it starts one: behind its fetch. The start starts none
+abbrev pub build_in : Input → Place → Option ℕ
+build_in Start place = None
+build_in (Next event) place = build_due (workspaces_fetched (Next event) place)
 
 abbrev pub workspaces_after : Input → Place → Workspaces
-workspaces_after input place = with_fetches (start_fetch (may_start_at input place.client)) (workspaces_switched input place)
+workspaces_after Start place = workspaces_fetched Start place
+workspaces_after (Next event) place = with_due_build (workspaces_fetched (Next event) place)
+
+-- the status of a turn: the start tells it first, any other turn last
+abbrev pub status_after : Input → Place → Status
+status_after Start place = status_now place.client.settings place.files place.workspaces
+status_after (Next event) place =
+    status_now (client_after (Next event) place.client).settings (files_after place.client.settings (Next event) place.files) (workspaces_after (Next event) place)
+
+-- the client behind all that a turn tells it: it may be asked whether the logs are to be opened
+abbrev pub client_left : Input → Place → Client
+client_left Start place = client_after_status place.status place.files place.workspaces place.client
+client_left (Next event) place =
+    client_after_status place.status (files_after place.client.settings (Next event) place.files) (workspaces_after (Next event) place) (client_after (Next event) place.client)
 
 -- the last of numbers, else the one before
 abbrev pub last_of : List ℕ → ℕ → ℕ
@@ -229,11 +274,12 @@ desk_after turn desk = record {
 
 abbrev pub place_after : Turn → Place → Place
 place_after turn place = record {
-  client = client_after turn.input place.client;
+  client = client_left turn.input place;
   files = files_after place.client.settings turn.input place.files;
   revision = revision_after turn.commands place.revision;
   desk = desk_after turn place.desk;
   workspaces = workspaces_after turn.input place;
+  status = status_after turn.input place;
 }
 
 abbrev pub place_after_all : List Turn → Place → Place
@@ -254,7 +300,7 @@ notice_row (Some id) desk = cancel_row id desk
 -- what a message of a batch leaves for the next one
 abbrev pub place_past : TaskMsg → Reaction → Place → Place
 place_past message done place =
-    record place { desk = desk_past message done place.desk; workspaces = fetch_kept (fetch_ended message place.desk.jobs) place.workspaces }
+    record place { desk = desk_past message done place.desk; workspaces = end_kept message place.desk.jobs place.workspaces }
 
 -- a batch: each message on what the ones before it leave
 abbrev pub batch_row : Meaning → List TaskMsg → Place → Reaction
@@ -274,11 +320,29 @@ row meaning (Next (Vfs messages)) place = silent
 row meaning (Next (Deferred tasks)) place = silent
 row meaning (Next (Timer ticket)) place = silent
 
--- a turn hands over the jobs of its row, and behind them that of the fetch that it starts, if it starts one: on what the turn leaves
+-- the jobs for no request that a turn hands over, with this number, on this snapshot: that of the fetch that it starts, then that of the build data that it
+-- starts. It starts at most one of both, since no build data starts while a fetch is in progress
+abbrev pub jobs_started : Input → Place → ℕ → SnapshotData → List Job
+jobs_started input place number snapshot = fetch_jobs number snapshot (fetch_in input place) ++ build_jobs number snapshot (build_in input place)
+
+-- a turn hands over the jobs of its row, and behind them those that it starts: on what the turn leaves
 abbrev pub HandsOver : Meaning → Turn → Place → Type 0
 HandsOver meaning turn place =
     spawned turn.commands ≡ (row meaning turn.input place).jobs
-    ++ fetch_jobs (place_after turn place).desk.handed (snapshot_at (place_after turn place)) (fetch_in turn.input place)
+    ++ jobs_started turn.input place (place_after turn place).desk.handed (snapshot_at (place_after turn place))
+
+-- the statuses that a turn tells: its own, where it is another than the last one and the client takes statuses
+abbrev pub statuses_at : Input → Place → List Data
+statuses_at input place = statuses_due (client_left input place).settings place.status (status_after input place)
+
+abbrev pub TellsItsStatus : Turn → Place → Type 0
+TellsItsStatus turn place = statuses_in turn.messages ≡ statuses_at turn.input place
+
+-- a turn that leaves this orders a timer exactly where a fetch waits from this turn on: one, with the turn's number, by its last command
+pub record SetsTimer (turn : Turn) (place : Place) : Type 0 where
+  pub others : List Command
+  pub last : turn.commands ≡ others ++ timers_set place.desk.turns place.workspaces
+  pub no_other : filter_map timer_of others ≡ []
 
 -- ---- what holds between turns
 
@@ -323,8 +387,12 @@ pub record SeesFiles (files : SessionFiles) : Type 0 where
 pub record Answers (meaning : Meaning) (settings : ConfigData) (honest : Bool) (before : List Turn) (turn : Turn) : Type 0 where
   -- it answers by the reply table
   pub does : let place = place_after_all before (beginning settings) in reaction_of turn ≡ row meaning turn.input place
-  -- and it hands over no other jobs than these and that of a fetch of workspaces
+  -- and it hands over no other jobs than these, that of a fetch of workspaces and that of a run of build data
   pub hands_over : HandsOver meaning turn (place_after_all before (beginning settings))
+  -- it tells a client that takes statuses its own, exactly where that is another than the one told last
+  pub tells_status : TellsItsStatus turn (place_after_all before (beginning settings))
+  -- it orders a timer, last of all, exactly where a fetch of workspaces waits from this turn on
+  pub timer : SetsTimer turn (place_after turn (place_after_all before (beginning settings)))
   -- each response answers one request that was read and has no answer yet
   pub once : let place = place_after_all before (beginning settings) in
       AnswersOnce (next_turn place) (request_in turn.input) (responses_in turn.messages) place.desk.pending
@@ -361,15 +429,20 @@ pub record NextInput (left : Course) (P : Input → Type 0) : Type 0 where
 abbrev pub fetches_in : Input → Place → ℕ
 fetches_in input place = if is_some (fetch_in input place) then 1 else 0
 
--- a turn needs one more of a counter than there are: its number is past the last one, it hands over more jobs, for requests and for a fetch, it asks the
--- client where all numbers of requests were given, it changes the world at the last revision, one of its files needs a number where all were given, or its
--- switch a version
+-- the same, where it starts a run of build data
+abbrev pub builds_in : Input → Place → ℕ
+builds_in input place = if is_some (build_in input place) then 1 else 0
+
+-- a turn needs one more of a counter than there are: its number is past the last one, it hands over more jobs, for requests, for a fetch and for build data,
+-- it asks the client more than there are numbers of requests, it changes the world at the last revision, one of its files needs a number where all were
+-- given, or its switch a version
 abbrev pub NeedsMore : Meaning → Place → Input → Counter → Type 0
 NeedsMore meaning place input Turns = 2 ^ 64 ≤ next_turn place
 NeedsMore meaning place input Bytes = ⊥
-NeedsMore meaning place input JobsCounter = 2 ^ 64 ≤ place.desk.handed + length (row meaning input place).jobs + fetches_in input place
+NeedsMore meaning place input JobsCounter =
+    2 ^ 64 ≤ place.desk.handed + length (row meaning input place).jobs + fetches_in input place + builds_in input place
 NeedsMore meaning place input Revisions = 2 ^ 64 - 1 ≤ place.revision
-NeedsMore meaning place input Outgoing = number_limit ≤ place.client.asked.given
+NeedsMore meaning place input Outgoing = number_limit < (client_left input place).asked.given
 NeedsMore meaning place input Files = files_told place.client.settings input place.files ≡ Err Files
 NeedsMore meaning place input LoaderSettings = switch_in input place ≡ Err LoaderSettings
 

@@ -1,3 +1,4 @@
+pub mod Building
 pub mod Codes
 pub mod Course
 pub mod Fetching
@@ -7,5 +8,7 @@ pub mod Inputs
 pub mod Machine
 pub mod Run
 pub mod State
+pub mod Status
 pub mod Switching
 pub mod Texts
+pub mod Timing

@@ -1,5 +1,5 @@
 -- The session machine: one turn, as a chain of its parts.
-use Rattle.std.specs.Prelude.{ℕ, ◌==◌, Bool, not, List, [], ◌∷◌, length, Option, None, Some, is_some, Result, Ok, Err, if◌then◌else◌}
+use Rattle.std.specs.Prelude.{ℕ, ◌==◌, Bool, true, false, not, List, [], ◌∷◌, length, Option, None, Some, is_some, Result, Ok, Err, if◌then◌else◌}
 use Rattle.std.specs.FinMap as map
 use Rattle.lsp_frame.specs.declared.message.Request.{Request}
 use Rattle.lsp_frame.specs.declared.message.Message.{Message}
@@ -7,39 +7,48 @@ use Rattle.lsp_frame.specs.declared.message.Message.TheVariants.{Request as Requ
 use Rattle.lsp_frame.specs.declared.message.Response.{Response}
 use Rattle.plain.specs.Texts.{text_cmp}
 use Rattle.docs_vfs.specs.FileUrls.{path_of}
+use Rattle.docs_vfs.specs.declared.file_kinds.ChangedFile.{ChangedFile}
 use Rattle.docs_vfs.specs.declared.file_url.UrlFault.{UrlFault}
-use Rattle.session_port.specs.declared.command.Command.TheVariants.{Revise, Invalidate, SetLoader}
+use Rattle.session_port.specs.declared.command.Command.TheVariants.{Revise, Invalidate, SetLoader, Timer as SetTimer}
 use Rattle.session_port.specs.declared.command.LogCode.TheVariants.{MalformedNotification, UnhandledNotification}
 use Rattle.session_port.specs.declared.command.LogCode.TheVariants.{BadPath}
+use Rattle.session_port.specs.declared.event.LoaderMsg.{LoaderMsg}
 use Rattle.session_port.specs.declared.event.TaskMsg.{TaskMsg}
+use Rattle.session_port.specs.declared.job.JobKind.TheVariants.{FetchBuildData}
 use Rattle.method_table.specs.declared.class.PoolClass.TheVariants.{Worker}
 use Rattle.turn_parts.specs.Working.{Working, and_then, ordered, logged, within, written}
 use Rattle.turn_parts.specs.declared.fault.Counter.{Counter}
 use Rattle.client.specs.Client.{Client}
 use Rattle.client.specs.Steps.{asked_for, answered, folders_changed, notification_of}
-use Rattle.client.specs.declared.handler.ReqHandler.TheVariants.{Settings}
+use Rattle.client.specs.declared.handler.ReqHandler.TheVariants.{OpenLogs, Settings}
+use Rattle.notify.specs.declared.outgo.MessageKind.{MessageKind}
 use Rattle.notify.specs.declared.outgo.MessageKind.TheVariants.{Warning}
-use Rattle.notify.specs.declared.outgo.Outgo.TheVariants.{Configuration, ShowMessage}
+use Rattle.notify.specs.declared.outgo.Outgo.TheVariants.{Configuration, ShowMessage, ShowMessageRequest}
 use Rattle.notify.specs.declared.notice.DidChange.{DidChange}
 use Rattle.notify.specs.declared.notice.DidOpen.{DidOpen}
 use Rattle.notify.specs.declared.notice.Notice.{Notice}
 use Rattle.notify.specs.declared.notice.Notice.TheVariants as notices
 use Rattle.desk.specs.Desk.{Desk}
-use Rattle.desk.specs.Fetching.{fetch_ended}
 use Rattle.desk.specs.Meaning.{Meaning}
 use Rattle.desk.specs.Steps.{requested, cancelled, counted as counted_at_desk, handed_over, taken as taken_at_desk, kept as kept_at_desk}
+use Rattle.session_files.specs.Folds.{due_changes}
 use Rattle.session_files.specs.SessionFiles.{SessionFiles}
 use Rattle.session_files.specs.Steps.{changed, closed as closed_document, loaded, opened, processed}
-use Rattle.workspaces.specs.Fetches.{fetch_to_start, fire, start_fetch, start_up}
+use Rattle.status.specs.Same.{is_same_status}
+use Rattle.status.specs.declared.status.Status.{Status}
+use Rattle.workspaces.specs.Fetches.{fetch_to_start, fire, fires, start_fetch, start_up}
 use Rattle.workspaces.specs.Roots.{loader_roots}
 use Rattle.workspaces.specs.Workspaces.{Workspaces}
 use Rattle.workspaces.specs.declared.follows.Follows.{Follows}
 use Rattle.workspaces.specs.declared.follows.Follows.TheVariants.{Nothing, CrateData, Wait, GoOn}
 use Rattle.workspaces.specs.declared.requests.FetchRequest.{FetchRequest}
-use Rattle.session_model.specs.Fetching.{fetch_kept, folders_told_if, reloaded_if, reloads, settings_told, with_fetches}
+use Rattle.session_model.specs.Building.{build_due, end_kept, request_told, with_due_build}
+use Rattle.session_model.specs.Fetching.{folders_told_if, settings_told, with_fetches}
 use Rattle.session_model.specs.Hearing.{heard_of}
 use Rattle.session_model.specs.State.{client_watches, columns_in, discovers, excludes_in, fetch_kind, goes_by_folders, may_start, scene_of, snapshot_of, State}
+use Rattle.session_model.specs.Status.{opens_logs, shown_of, status_message, status_now, takes_status}
 use Rattle.session_model.specs.Switching.{switch_made}
+use Rattle.session_model.specs.Timing.{bring_files, planned_by, renewed_if}
 use Rattle.session_model.specs.declared.facts.Facts.{Facts}
 use Rattle.session_model.specs.declared.input.Event.{Event}
 use Rattle.session_model.specs.declared.input.Event.TheVariants.{Lsp, Task, Vfs, Deferred, Timer}
@@ -99,11 +108,11 @@ at_workspaces step w = record w { state = with_workspaces (step w.state.workspac
 
 -- ---- requests
 
--- a request, on the present snapshot; one to reload asks for a fetch
+-- a request, on the present snapshot; one to reload asks for a fetch, and one to rebuild macros for build data
 abbrev pub asked : Meaning → Request → Working State → Result (Working State) Counter
 asked meaning r w =
     and_then (at_desk (requested meaning (scene_of w.state) r) w)
-    (λ v. Ok (at_workspaces (reloaded_if (reloads r w.state.desk)) v))
+    (λ v. Ok (at_workspaces (request_told r w.state.desk) v))
 
 -- ---- the client's settings and folders
 
@@ -171,11 +180,11 @@ received meaning (ResponseMessage r) w = answer_taken r w
 
 -- ---- results
 
--- a message of a job, on the present snapshot; one that ends a fetch is told to the workspaces
+-- a message of a job, on the present snapshot; one that ends a fetch or a run of build data is told to the workspaces
 abbrev pub taken : Meaning → TaskMsg → Working State → Result (Working State) Counter
 taken meaning message w =
     and_then (at_desk (taken_at_desk meaning (scene_of w.state) message) w)
-    (λ v. Ok (at_workspaces (fetch_kept (fetch_ended message w.state.desk.jobs)) v))
+    (λ v. Ok (at_workspaces (end_kept message w.state.desk.jobs) v))
 
 -- a batch of messages, one after another
 abbrev pub batched : Meaning → List TaskMsg → Working State → Result (Working State) Counter
@@ -183,6 +192,12 @@ batched meaning [] w = Ok w
 batched meaning (message ∷ messages) w = and_then (taken meaning message w) (batched meaning messages)
 
 -- ---- the turn
+
+-- what a loader brings; where it brings files, it renews the timer of a fetch that waits
+abbrev pub brought : List LoaderMsg → Working State → Result (Working State) Counter
+brought messages w =
+    and_then (at_files (loaded messages) w)
+    (λ v. Ok (at_workspaces (renewed_if (bring_files messages) v.state.desk.turns) v))
 
 -- a fetch that waits for a timer is asked for when it comes
 abbrev pub timed : ℕ → Working State → Working State
@@ -192,7 +207,7 @@ timed ticket w = at_workspaces (with_fetches (fire ticket)) w
 unfoldable pub happened : Meaning → Event → Working State → Result (Working State) Counter
 happened meaning (Lsp message) w = received meaning message w
 happened meaning (Task batch) w = batched meaning batch w
-happened meaning (Vfs messages) w = at_files (loaded messages) w
+happened meaning (Vfs messages) w = brought messages w
 happened meaning (Deferred tasks) w = Ok w
 happened meaning (Timer ticket) w = Ok (timed ticket w)
 
@@ -260,9 +275,15 @@ switch_done w = switched_to (switch_made w.state.client.settings w.state.files w
 unfoldable pub switch_part : Working Turning → Result (Working Turning) Counter
 switch_part w = in_state switch_done w
 
--- what has changed goes into the world, unless files are loading
+-- the fetch that changed files ask for waits for a timer
+abbrev pub files_planned : List ChangedFile → Working State → Working State
+files_planned changes w = at_workspaces (planned_by w.state.client.settings w.state.desk.turns changes) w
+
+-- what has changed goes into the world, unless files are loading; it may ask for a fetch
 unfoldable pub files_processed : Working State → Result (Working State) Counter
-files_processed w = at_files processed w
+files_processed w =
+    and_then (at_files processed w)
+    (λ v. Ok (files_planned (due_changes w.state.files) v))
 
 unfoldable pub files_part : Working Turning → Result (Working Turning) Counter
 files_part w = in_state files_processed w
@@ -285,18 +306,59 @@ fetch_started may w = fetch_handed_over (fetch_to_start may w.state.workspaces.f
 unfoldable pub fetch_part : Input → Working Turning → Result (Working Turning) Counter
 fetch_part input w = in_state (fetch_started (may_start input w.state.state.client.settings)) w
 
-abbrev pub build_part : Working Turning → Result (Working Turning) Counter
-build_part w = Ok w
+-- a run of build data that is to start is handed over on the present snapshot
+unfoldable pub build_handed_over : Option ℕ → Working State → Result (Working State) Counter
+build_handed_over None w = Ok w
+build_handed_over (Some version) w = at_desk (handed_over (snapshot_of w.state) Worker (FetchBuildData version)) w
+
+-- the build data that is asked for starts, where no fetch is in progress
+unfoldable pub build_started : Working State → Result (Working State) Counter
+build_started w = build_handed_over (build_due w.state.workspaces) (at_workspaces with_due_build w)
+
+unfoldable pub build_part : Working Turning → Result (Working Turning) Counter
+build_part w = in_state build_started w
 
 abbrev pub prime_part : Working Turning → Result (Working Turning) Counter
 prime_part w = Ok w
 
-abbrev pub status_part : Working Turning → Result (Working Turning) Counter
-status_part w = Ok w
+-- the status that was told last is this
+abbrev pub with_status : Status → State → State
+with_status status state = record state { status = status }
 
--- the jobs that were handed over are out, and the host is told of the revision
+-- a text is shown; with the button that opens the logs it is a request, which waits for its answer
+unfoldable pub text_shown : Bool → Option (List ℕ × MessageKind) → Working State → Result (Working State) Counter
+text_shown button None w = Ok w
+text_shown true (Some text) w = at_client (asked_for (ShowMessageRequest text.0 text.1) OpenLogs) w
+text_shown false (Some text) w = Ok (written (notification_of (ShowMessage text.0 text.1)) w)
+
+-- a client that takes statuses is told this one, and any other is shown its text
+unfoldable pub status_told : Status → Working State → Result (Working State) Counter
+status_told status w =
+    if takes_status w.state.client.settings then Ok (written (notification_of (status_message status)) w)
+    else text_shown (opens_logs w.state.client.settings w.state.workspaces) (shown_of status) w
+
+-- where it is another than the last one
+unfoldable pub status_changed : Status → Working State → Result (Working State) Counter
+status_changed status w = if is_same_status w.state.status status then Ok w else status_told status w
+
+-- and it is kept
+unfoldable pub status_kept : Status → Working State → Result (Working State) Counter
+status_kept status w = and_then (status_changed status w) (λ v. Ok (record v { state = with_status status v.state }))
+
+-- the status of the present
+unfoldable pub status_done : Working State → Result (Working State) Counter
+status_done w = status_kept (status_now w.state.client.settings w.state.files w.state.workspaces) w
+
+unfoldable pub status_part : Working Turning → Result (Working Turning) Counter
+status_part w = in_state status_done w
+
+-- a timer is ordered for a fetch that waits from this turn on
+unfoldable pub timer_set : Working State → Working State
+timer_set w = if fires w.state.desk.turns w.state.workspaces.fetches.waiting then ordered (SetTimer w.state.desk.turns) w else w
+
+-- the jobs that were handed over are out, the host is told of the revision, and a timer is ordered where a fetch waits for it
 abbrev pub closed : Facts → Working State → Result (Working State) Counter
-closed facts w = and_then (kept facts.ordered w) (λ v. Ok (revised facts.revision v))
+closed facts w = and_then (kept facts.ordered w) (λ v. Ok (timer_set (revised facts.revision v)))
 
 unfoldable pub closing_part : Working Turning → Result (Working Turning) Counter
 closing_part w = in_state (closed w.state.facts) w

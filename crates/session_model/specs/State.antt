@@ -1,7 +1,8 @@
 -- The session's state, as contracts see it: a record of its parts.
-use Rattle.std.specs.Prelude.{[], Bool, false, is_some, length, List, None, not, true, ℕ, ◌&&◌, ◌==◌, ◌||◌}
+use Rattle.std.specs.Prelude.{[], Bool, false, is_some, length, List, None, not, Option, Some, true, ℕ, ◌&&◌, ◌==◌, ◌||◌}
 use Rattle.text_core.specs.declared.position.PositionEncoding.{PositionEncoding}
 use Rattle.ra_settings.specs.declared.row.Row.TheVariants.{CargoAutoreload, CargoBuildScriptsEnable, DetachedFiles, FilesExclude, FilesWatcher, LinkedProjects, ProcMacroEnable, WorkspaceDiscoverConfig}
+use Rattle.ra_settings.specs.declared.value.DiscoverConfig.{DiscoverConfig}
 use Rattle.ra_settings.specs.declared.value.LinkedProject.{LinkedProject}
 use Rattle.ra_settings.specs.declared.value.FilesWatcher.TheVariants.{Client as ByClient, Server as ByServer}
 use Rattle.ra_settings.specs.declared.value.SettingValue.{SettingValue}
@@ -15,6 +16,8 @@ use Rattle.client.specs.Client.{Client, new_client, new_client_at}
 use Rattle.session_files.specs.SessionFiles.{SessionFiles, no_files, no_files_at}
 use Rattle.workspaces.specs.Workspaces.{Workspaces, no_workspaces, no_workspaces_at}
 use Rattle.workspaces.specs.declared.requests.FetchRequest.{FetchRequest}
+use Rattle.status.specs.declared.health.Health.TheVariants as health
+use Rattle.status.specs.declared.status.Status.{Status}
 use Rattle.desk.specs.Desk.{Desk, new_desk, new_desk_at}
 use Rattle.desk.specs.declared.scene.Scene.{Scene}
 use Rattle.session_model.specs.declared.counters.Counters.{Counters}
@@ -30,6 +33,8 @@ pub record State : Type 0 where
   pub desk : Desk
   -- the workspaces, and what is asked for to renew them
   pub workspaces : Workspaces
+  -- the status that was told last
+  pub status : Status
 
 -- what a column counts: what the client and the session have agreed upon
 abbrev pub columns_in : ConfigData → PositionEncoding
@@ -59,6 +64,19 @@ is_discovering other = false
 -- the projects are discovered by a command
 abbrev pub discovers : ConfigData → Bool
 discovers settings = is_discovering (setting WorkspaceDiscoverConfig None settings.settings)
+
+-- the names of the files that such a command watches
+abbrev pub names_watched : Option DiscoverConfig → List (List ℕ)
+names_watched None = []
+names_watched (Some command) = command.files_to_watch
+
+abbrev pub watched_in : SettingValue → List (List ℕ)
+watched_in (Discover command) = names_watched command
+watched_in other = []
+
+-- a change of a file with one of these names asks for a fetch of workspaces
+abbrev pub watched_names : ConfigData → List (List ℕ)
+watched_names settings = watched_in (setting WorkspaceDiscoverConfig None settings.settings)
 
 -- workspaces may be fetched: the setting `cargo.autoreload`, or the projects are discovered
 abbrev pub may_fetch : ConfigData → Bool
@@ -115,9 +133,13 @@ snapshot_of state = record {
 abbrev pub scene_of : State → Scene
 scene_of state = record { snapshot = snapshot_of state; loading = state.files.loading; incomplete = false }
 
+-- the status that the first one is compared with: all is well, and nothing is worked on
+abbrev pub first_status : Status
+first_status = record { health = health.Ok; quiescent = true; message = None }
+
 -- the state before any turn
 abbrev pub fresh : ConfigData → State
-fresh settings = record { client = new_client settings; files = no_files; desk = new_desk; workspaces = no_workspaces }
+fresh settings = record { client = new_client settings; files = no_files; desk = new_desk; workspaces = no_workspaces; status = first_status }
 
 -- the same, where so many of each counter were used
 abbrev pub fresh_at : Counters → ConfigData → State
@@ -126,4 +148,5 @@ fresh_at used settings = record {
   files = no_files_at used.files used.revisions;
   desk = new_desk_at used.turns used.jobs;
   workspaces = no_workspaces_at used.loader_settings;
+  status = first_status;
 }

@@ -2,3 +2,4 @@ pub mod AtClient
 pub mod AtDesk
 pub mod AtFiles
 pub mod Heard
+pub mod Projects

@@ -9,15 +9,18 @@ ghost use Rattle.turn_parts.specs.Working.{ordered, logged};
 ghost use Rattle.desk.specs.Meaning.{Meaning, meaning_of};
 ghost use Rattle.desk.specs.Steps.{responded, cancelled};
 ghost use Rattle.session_model.specs.Machine.{at_desk, closed, counted, facts_of, happened, kept, revised, step, taken_in};
-ghost use Rattle.session_model.specs.State.{macros_loaded_in, scene_of, snapshot_of, fresh, fresh_at};
+ghost use Rattle.session_model.specs.State.{macros_loaded_in, scene_of, snapshot_of, first_status, fresh, fresh_at};
 ghost use Rattle.session_model.specs.declared.input.Input.TheVariants.{Start, Next};
 
 mod asking;
+mod building;
 mod fetching;
 mod filing;
 mod messages;
 mod notifications;
 mod switching;
+mod telling;
+mod timing;
 mod watching;
 
 use analysis_host::{Analysis, GlobalStateSnapshot, SnapshotParts};
@@ -29,6 +32,7 @@ use ra_config::Config;
 use session_files::SessionFiles;
 use session_model::{Counters, Event, Facts, TurnError};
 use session_port::{Command, LogCode};
+use status::{Health, Status};
 use std::alloc::{AllocError, Global};
 use std::marker::Model;
 use std::sync::Arc;
@@ -43,21 +47,35 @@ pub struct GlobalState {
     files: SessionFiles,
     desk: Desk,
     workspaces: Workspaces,
+    /// The status that was told last.
+    status: Status,
+}
+
+// The status that the first one is compared with: all is well, and nothing is worked on.
+fn first_status() -> Status
+    ensures { result ≡ first_status }
+{
+    Status {
+        health: Health::Ok,
+        quiescent: true,
+        message: None,
+    }
 }
 
 impl Model for GlobalState {
     ghost use Rattle.docs_vfs.specs.contracts.file_table.FileTable as files_of;
     ghost use Rattle.client.specs.contracts.handler.ReqHandler as handler;
     ghost use Rattle.session_port.specs.contracts.job.Job as job;
+    ghost use Rattle.status.specs.contracts.status.Status as status_of;
     ghost use Rattle.workspaces.specs.contracts.state.Workspaces as workspaces_of;
     ghost use Rattle.session_model.specs.Codes.{state_code};
     ghost use Rattle.session_model.specs.State.{State};
 
     ghost Value = { State };
 
-    ghost coded = { state_code handler.the_row.coded files_of.the_row.coded job.the_row.coded workspaces_of.the_row.coded };
+    ghost coded = { state_code handler.the_row.coded files_of.the_row.coded job.the_row.coded workspaces_of.the_row.coded status_of.the_row.coded };
 
-    ghost view = { λ g. record { client = g.client; files = g.files; desk = g.desk; workspaces = g.workspaces } };
+    ghost view = { λ g. record { client = g.client; files = g.files; desk = g.desk; workspaces = g.workspaces; status = g.status } };
 }
 
 impl GlobalState {
@@ -71,6 +89,7 @@ impl GlobalState {
             files: SessionFiles::new(alloc)?,
             desk: Desk::new(alloc),
             workspaces: Workspaces::new(alloc)?,
+            status: first_status(),
         })
     }
 
@@ -85,6 +104,7 @@ impl GlobalState {
             files: SessionFiles::new_at(alloc, used.files, used.revisions)?,
             desk: Desk::new_at(alloc, used.turns, used.jobs),
             workspaces: Workspaces::new_at(alloc, used.loader_settings)?,
+            status: first_status(),
         })
     }
 
@@ -247,7 +267,8 @@ impl GlobalState {
         ensures { Meets result (closed facts (record { state = self.old; out = out.old })) self.new out.new }
     {
         self.keep_jobs(facts.ordered, out)?;
-        self.revise(facts.revision, out)
+        self.revise(facts.revision, out)?;
+        self.set_timer(out)
     }
 
     // The facts before a turn.
@@ -261,18 +282,19 @@ impl GlobalState {
     }
 
     /// Turn 0. It uses no number of the turns. After an `Err` the state is spent.
-    #[tactic(auto, unfolding(session_model::specs::Machine::step, session_model::specs::Machine::begin_part, session_model::specs::Machine::fetch_part, session_model::specs::Machine::closing_part, turn_parts::specs::Working::within))]
+    #[tactic(auto, unfolding(session_model::specs::Machine::step, session_model::specs::Machine::begin_part, session_model::specs::Machine::fetch_part, session_model::specs::Machine::status_part, session_model::specs::Machine::closing_part, turn_parts::specs::Working::within))]
     pub fn start(&mut self, out: &mut TurnOut) -> Result<(), TurnError>
         ensures { (meaning : Meaning) → Meets result (step meaning Start (record { state = self.old; out = out.old })) self.new out.new }
     {
         let facts = self.facts(out);
+        self.report_status(out)?;
         self.begin_fetches(out)?;
         self.start_fetch(true, out)?;
         self.close_turn(facts, out)
     }
 
     /// One turn. After an `Err` the state is spent.
-    #[tactic(auto, unfolding(session_model::specs::Machine::step, session_model::specs::Machine::event_part, session_model::specs::Machine::switch_part, session_model::specs::Machine::files_part, session_model::specs::Machine::fetch_part, session_model::specs::Machine::closing_part, turn_parts::specs::Working::within))]
+    #[tactic(auto, unfolding(session_model::specs::Machine::step, session_model::specs::Machine::event_part, session_model::specs::Machine::switch_part, session_model::specs::Machine::files_part, session_model::specs::Machine::fetch_part, session_model::specs::Machine::build_part, session_model::specs::Machine::status_part, session_model::specs::Machine::closing_part, turn_parts::specs::Working::within))]
     pub fn handle_event<A: Analysis>(
         &mut self,
         event: Event,
@@ -287,6 +309,8 @@ impl GlobalState {
         self.process(out)?;
         let may = self.may_fetch();
         self.start_fetch(may, out)?;
+        self.start_build(out)?;
+        self.report_status(out)?;
         self.close_turn(facts, out)
     }
 }

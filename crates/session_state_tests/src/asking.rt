@@ -2,6 +2,7 @@
 // runs out.
 use crate::words::{cut, event_of, fault, is_fault, settings_text, shown_text, words};
 use docs_vfs::VfsPath;
+use plain::Json;
 use ra_config::Config;
 use session_model::{Counters, Event, TurnError};
 use session_peers::NullAnalysis;
@@ -97,6 +98,27 @@ pub fn done(alloc: Global, events: &str) -> Option<String> {
 /// What a session that has used so many of each counter does at the last of some events.
 pub fn done_at(alloc: Global, used: Counters, events: &str) -> Option<String> {
     last_in(alloc, state_at(alloc, used)?, events)
+}
+
+/// The settings of a client with these params of `initialize`.
+fn settings_by(alloc: Global, params: &str) -> Option<Config> {
+    let params = Json::read(alloc, params.as_bytes()).ok()??;
+    Config::from_initialize(alloc, &params, 4).ok()?.ok()
+}
+
+/// What a new session with such a client does at the last of some events.
+pub fn done_by(alloc: Global, params: &str, events: &str) -> Option<String> {
+    let state = GlobalState::new(alloc, settings_by(alloc, params)?).ok()?;
+    last_in(alloc, state, events)
+}
+
+/// The same, where so many of each counter were used.
+pub fn done_by_at(alloc: Global, params: &str, used: Counters, events: &str) -> Option<String> {
+    if used.outgoing > 2_147_483_648 {
+        return None;
+    }
+    let state = GlobalState::new_at(alloc, settings_by(alloc, params)?, used).ok()?;
+    last_in(alloc, state, events)
 }
 
 /// Whether a new session does at the last of some events what stands behind the `>`.

@@ -6,6 +6,8 @@
 #[cfg(test)]
 mod asking;
 #[cfg(test)]
+mod building;
+#[cfg(test)]
 mod counters;
 #[cfg(test)]
 mod fetching;
@@ -14,7 +16,11 @@ mod methods;
 #[cfg(test)]
 mod results;
 #[cfg(test)]
+mod statuses;
+#[cfg(test)]
 mod switching;
+#[cfg(test)]
+mod timing;
 #[cfg(test)]
 mod told;
 #[cfg(test)]

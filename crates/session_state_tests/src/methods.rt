@@ -16,8 +16,8 @@ const REFUSED: &str =
 
 const NULL: &str = r#"Content-Length: 38\r\n\r\n{"id":5,"jsonrpc":"2.0","result":null}"#;
 
-// A request to reload hands over a fetch too.
-const RELOADS: &str = r#"Content-Length: 38\r\n\r\n{"id":5,"jsonrpc":"2.0","result":null}Worker"#;
+// A request to reload hands over a fetch too, and one to rebuild macros a run of build data.
+const STARTS: &str = r#"Content-Length: 38\r\n\r\n{"id":5,"jsonrpc":"2.0","result":null}Worker"#;
 
 const ECHOED: &str = r#"Content-Length: 36\r\n\r\n{"id":5,"jsonrpc":"2.0","result":{}}"#;
 
@@ -41,6 +41,14 @@ fn default_text(default: DefaultValue) -> &'static str {
     }
 }
 
+// Whether a request of this method hands over a job of the session's own.
+fn starts_job(method: &str) -> bool {
+    matches!(
+        method,
+        "rust-analyzer/reloadWorkspace" | "rust-analyzer/rebuildProcMacros"
+    )
+}
+
 // The response to a request with the params `{}`, or the class of its job.
 fn answer_to(facts: &Facts, place: &str) -> &'static str {
     let is_loading = place.contains("loading");
@@ -50,10 +58,8 @@ fn answer_to(facts: &Facts, place: &str) -> &'static str {
     if place.contains("shutdown") {
         return REFUSED;
     }
-    if facts.method == "rust-analyzer/reloadWorkspace" {
-        return RELOADS;
-    }
     match facts.class {
+        Class::State if starts_job(facts.method) => STARTS,
         Class::State | Class::OnLoop => NULL,
         Class::Formatting => "Formatting",
         Class::Identity if is_loading => ECHOED,

@@ -20,7 +20,7 @@ fn requests_while_files_are_loading_and_not(rt: HostRuntime) {
 }
 
 // What the last of some events comes to. A row of the table that is tried again, one that isn't, and one whose client is
-// to ask again; where the texts stayed, it is tried again. A value of builds fits no request's job. Nothing is done for timers and deferred tasks.
+// to ask again; where the texts stayed, it is tried again. A value of builds fits no request's job. Nothing is done for timers that nothing waits for, nor for deferred tasks.
 const RESULTS: &str =
     r#"loading then ask textDocument/formatting {"a":1} then null > Content-Length: 38\r\n\r\n{"id":5,"jsonrpc":"2.0","result":null}
 ask textDocument/completion {"a":1} then open then stopped > Latency

@@ -3,13 +3,13 @@ use analysis_host::GlobalStateSnapshot;
 use docs_vfs::VfsPath;
 use lsp_frame::{Message, Notification, Request, RequestId, Response};
 use method_table::PoolClass;
-use plain::{Items, Json, Text};
+use plain::{Bytes, Items, Json, Text};
 use project_model::ProjectWorkspace;
 use ra_config::Config;
 use ra_settings::LinkedProject;
 use session_model::{Counter, Event, TurnError};
 use session_port::{
-    Command, Job, JobResult, JobValue, LoaderMsg, LoadingProgress, TaskBody, TaskMsg,
+    Command, Job, JobResult, JobValue, LoadedFile, LoaderMsg, LoadingProgress, TaskBody, TaskMsg,
 };
 use session_state::TurnOut;
 use small_project::workspaces_of;
@@ -69,22 +69,55 @@ fn told(alloc: Global, words: &str) -> Option<Event> {
     notification(alloc, method, params)
 }
 
+/// One message of the loader.
+fn loader(alloc: Global, message: LoaderMsg) -> Option<Event> {
+    let mut messages = Items::new(alloc);
+    messages.push(message).ok()?;
+    Some(Event::Vfs(messages))
+}
+
 /// How far the loader is.
 fn progress(alloc: Global, n_done: LoadingProgress) -> Option<Event> {
-    let mut messages = Items::new(alloc);
-    messages
-        .push(LoaderMsg::Progress {
+    loader(
+        alloc,
+        LoaderMsg::Progress {
             n_total: 1,
             n_done,
             dir: None,
             config_version: 1,
+        },
+    )
+}
+
+/// `PATH TEXT`: one file of the loader. Without a text it is gone.
+fn files(alloc: Global, words: &str) -> Option<Items<LoadedFile>> {
+    let (path, text) = cut(words, " ");
+    let contents = match text {
+        "" => None,
+        text => Some(Bytes::from_slice(alloc, text.as_bytes()).ok()?),
+    };
+    let mut files = Items::new(alloc);
+    files
+        .push(LoadedFile {
+            path: VfsPath::new(alloc, path).ok()??,
+            contents,
         })
         .ok()?;
-    Some(Event::Vfs(messages))
+    Some(files)
+}
+
+fn changed(alloc: Global, words: &str) -> Option<Event> {
+    let files = files(alloc, words)?;
+    loader(alloc, LoaderMsg::Changed { files })
+}
+
+fn loaded(alloc: Global, words: &str) -> Option<Event> {
+    let files = files(alloc, words)?;
+    loader(alloc, LoaderMsg::Loaded { files })
 }
 
 /// The final result of a job.
-fn ended_as(alloc: Global, job: u64, outcome: JobResult) -> Option<Event> {
+fn ended(alloc: Global, job: u64, outcome: JobResult) -> Option<Event> {
     let mut batch = Items::new(alloc);
     batch
         .push(TaskMsg {
@@ -95,9 +128,14 @@ fn ended_as(alloc: Global, job: u64, outcome: JobResult) -> Option<Event> {
     Some(Event::Task(batch))
 }
 
-/// The final result of the first job.
-fn ended(alloc: Global, outcome: JobResult) -> Option<Event> {
-    ended_as(alloc, 1, outcome)
+/// The job that words name first, the second or the third, else the first; and what stands behind its name.
+fn job_in(words: &str) -> (u64, &str) {
+    let (name, rest) = cut(words, " ");
+    match name {
+        "second" => (2, rest),
+        "third" => (3, rest),
+        _ => (1, words),
+    }
 }
 
 /// What a host that runs no build system answers for one manifest.
@@ -128,42 +166,45 @@ fn fetched_at(
 fn brought(alloc: Global, job: u64, words: &str) -> Option<Event> {
     let (manifest, toolchain) = cut(words, " ");
     let found = fetched_at(alloc, manifest, toolchain)?;
-    ended_as(alloc, job, JobResult::Value(JobValue::Workspaces(found)))
+    ended(alloc, job, JobResult::Value(JobValue::Workspaces(found)))
 }
 
 /// `ask` and `tell` with a method and its params, `answer` with the result in the response to the session's request 0,
-/// `loading` and `loaded` where files begin to load and are loaded, `open` where `/w/a.rs` is opened, `null` and `stopped` as results of the first
-/// job, `fetched` and `builds` as results that are no request's, `brought` and `brought next` where the first and the
-/// second job bring the workspace of a manifest, perhaps with the version of its compiler, `deferred` and `timer`, and `shutdown` as a request.
+/// `loading` and `loaded` where files begin to load and are loaded, `file` and `read` with a path, and perhaps a text, where the
+/// loader tells that a file has changed and where it has read it first, `open` where `/w/a.rs` is opened, `null` and `stopped` as results of the first
+/// job, or of the `second` or the `third`, `fetched` and `builds` as results that are no request's, `brought` where such a job brings the workspace
+/// of a manifest, perhaps with the version of its compiler, `deferred`, `timer` with its ticket, and `shutdown` as a request.
 pub fn event_of(alloc: Global, words: &str) -> Option<Event> {
     let (kind, rest) = cut(words, " ");
+    let (job, found) = job_in(rest);
     match kind {
         "ask" => asked(alloc, rest),
         "tell" => told(alloc, rest),
         "answer" => response(alloc, rest),
         "loading" => progress(alloc, LoadingProgress::Started),
         "loaded" => progress(alloc, LoadingProgress::Finished),
+        "file" => changed(alloc, rest),
+        "read" => loaded(alloc, rest),
         "open" => notification(
             alloc,
             "textDocument/didOpen",
             r#"{"textDocument":{"uri":"file:///w/a.rs","version":1,"text":"a"}}"#,
         ),
-        "null" => ended(alloc, JobResult::Value(JobValue::Json(Json::null()))),
-        "stopped" => ended(alloc, JobResult::Cancelled { saw: 1 }),
+        "null" => ended(alloc, job, JobResult::Value(JobValue::Json(Json::null()))),
+        "stopped" => ended(alloc, job, JobResult::Cancelled { saw: 1 }),
         "fetched" => ended(
             alloc,
+            job,
             JobResult::Value(JobValue::Workspaces(Items::new(alloc))),
         ),
         "builds" => ended(
             alloc,
+            job,
             JobResult::Value(JobValue::BuildData(Items::new(alloc))),
         ),
-        "brought" => match rest.strip_prefix("next ") {
-            None => brought(alloc, 1, rest),
-            Some(words) => brought(alloc, 2, words),
-        },
+        "brought" => brought(alloc, job, found),
         "deferred" => Some(Event::Deferred(Items::new(alloc))),
-        "timer" => Some(Event::Timer(1)),
+        "timer" => Some(Event::Timer(rest.parse::<u64>().unwrap_or(1))),
         "shutdown" => request(alloc, 1, "shutdown", "null"),
         _ => None,
     }
@@ -181,6 +222,17 @@ fn class_of(job: &Job) -> &'static str {
     class_name(job.class)
 }
 
+fn timer_name(ticket: u64) -> &'static str {
+    match ticket {
+        1 => "timer 1",
+        2 => "timer 2",
+        3 => "timer 3",
+        4 => "timer 4",
+        5 => "timer 5",
+        _ => "another timer",
+    }
+}
+
 // The name of the workers that a command asks for.
 fn command_name(command: &Command) -> &'static str {
     match command {
@@ -190,7 +242,8 @@ fn command_name(command: &Command) -> &'static str {
         Command::Invalidate(_) => "invalidate",
         Command::SetLoader { version: 1, .. } => "load",
         Command::SetLoader { .. } => "load anew",
-        Command::Defer(_) | Command::Timer(_) => "other",
+        Command::Timer(ticket) => timer_name(*ticket),
+        Command::Defer(_) => "other",
         Command::Stop => "stop",
     }
 }

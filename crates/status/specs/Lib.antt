@@ -1,4 +1,5 @@
 pub mod Drafts
 pub mod Facts
 pub mod Health
+pub mod Same
 pub mod Texts

@@ -9,6 +9,7 @@ pub enum Health {
 impl Health {
     ghost use Rattle.std.specs.Prelude.{◌≡◌};
     ghost use Rattle.status.specs.Health.{worse};
+    ghost use Rattle.status.specs.Same.{is_same_health};
 
     /// The worse of two.
     pub fn worse(self, other: Health) -> Health
@@ -22,6 +23,18 @@ impl Health {
                 Health::Ok => Health::Warning,
             },
             Health::Ok => other,
+        }
+    }
+
+    /// Whether two are the same.
+    pub fn is_same(self, other: Health) -> bool
+        ensures { result ≡ is_same_health self other }
+    {
+        match (self, other) {
+            (Health::Ok, Health::Ok)
+            | (Health::Warning, Health::Warning)
+            | (Health::Error, Health::Error) => true,
+            _ => false,
         }
     }
 }

@@ -39,13 +39,14 @@ fn add_load_error(
     }
 }
 
-/// Adds the facts of the session.
+/// Adds the facts of the session, which links these projects.
 pub(crate) fn add_session_facts(
     alloc: Global,
     draft: &mut Draft,
     input: &StatusInput,
+    linked: &[LinkedProject],
 ) -> Result<(), NoMemory>
-    ensures { OnOk result (draft.new ≡ add_each all_of (session_facts input.now) draft.old) }
+    ensures { OnOk result (draft.new ≡ add_each all_of (session_facts (record input.now { linked = linked.now })) draft.old) }
 {
     warn_if(draft, input.reload_needed, RELOAD)?;
     warn_if(draft, input.build_deps_changed, REBUILD)?;
@@ -53,6 +54,6 @@ pub(crate) fn add_session_facts(
     add_line(alloc, draft, &input.config_errors)?;
     add_line(alloc, draft, &input.check_error)?;
     warn_if(draft, input.no_projects, DISCOVER)?;
-    add_load_error(alloc, draft, input.workspace_error, input.linked.as_slice())?;
+    add_load_error(alloc, draft, input.workspace_error, linked)?;
     Ok(())
 }

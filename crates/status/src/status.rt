@@ -1,6 +1,7 @@
 ghost use Rattle.std.specs.Prelude.{◌≡◌, IfOk};
 ghost use Rattle.status.specs.Drafts.{message_of};
 ghost use Rattle.status.specs.Facts.{status_of};
+ghost use Rattle.status.specs.Same.{is_same_status};
 
 use crate::draft::nothing_told;
 use crate::health::Health;
@@ -53,15 +54,43 @@ fn message_of(alloc: Global, text: &str) -> Result<Option<Text>, NoMemory>
     Ok(Some(Text::from_str(alloc, text.trim_end())?))
 }
 
+impl Status {
+    /// Whether two statuses are the same.
+    pub fn is_same(&self, other: &Status) -> bool
+        ensures { result ≡ is_same_status self.now other.now }
+    {
+        self.health.is_same(other.health)
+            && self.quiescent == other.quiescent
+            && self.message == other.message
+    }
+}
+
 /// The status by these facts: the worst of them, and their texts without the white space at their end.
 pub fn current_status(alloc: Global, input: &StatusInput) -> Result<Status, NoMemory>
     ensures { IfOk result (λ status. status ≡ status_of input.now) }
 {
+    status_with(
+        alloc,
+        input,
+        input.linked.as_slice(),
+        input.workspaces.as_slice(),
+    )
+}
+
+/// The same where the projects and the workspaces are lent; those of `input` are not looked at.
+pub fn status_with(
+    alloc: Global,
+    input: &StatusInput,
+    linked: &[LinkedProject],
+    workspaces: &[ProjectWorkspace],
+) -> Result<Status, NoMemory>
+    ensures { IfOk result (λ status. status ≡ status_of (record input.now { linked = linked.now; workspaces = workspaces.now })) }
+{
     let mut draft = nothing_told(alloc);
-    add_session_facts(alloc, &mut draft, input)?;
-    let outdated = check_workspaces_msrv(alloc, input.workspaces.as_slice())?;
+    add_session_facts(alloc, &mut draft, input, linked)?;
+    let outdated = check_workspaces_msrv(alloc, workspaces)?;
     add_warnings(&mut draft, outdated.as_slice())?;
-    add_workspaces(alloc, &mut draft, input.workspaces.as_slice())?;
+    add_workspaces(alloc, &mut draft, workspaces)?;
     Ok(Status {
         health: draft.health,
         quiescent: input.fully_ready,

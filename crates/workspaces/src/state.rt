@@ -178,6 +178,13 @@ impl Workspaces {
         self.incomplete
     }
 
+    /// The paths that the last build of crate data asked for.
+    pub fn asked(&self) -> &ByPath<()>
+        ensures { result.now ≡ self.now.asked }
+    {
+        &self.asked
+    }
+
     /// Whether the last build of crate data asked for this path.
     pub fn is_asked(&self, path: &VfsPath) -> bool
         ensures { result ≡ is_some (map.get self.now.asked path.now) }

@@ -41,7 +41,7 @@ fn fetch_end(alloc: Global, outcome: &JobResult) -> Result<Option<FetchEnd>, NoM
 
 impl Desk {
     // The job out that a message fits.
-    fn fitting(&self, message: &TaskMsg) -> Option<&Job>
+    pub(super) fn fitting(&self, message: &TaskMsg) -> Option<&Job>
         ensures { option_copied result ≡ fitting_job message.now self.now.jobs }
     {
         let job = self.jobs.get(message.job)?;

@@ -2,7 +2,7 @@
 ghost use Rattle.std.specs.Prelude.{◌≡◌, map as each, Some, IfOk, IfSome};
 ghost use Rattle.docs_vfs.specs.Files.{changes};
 ghost use Rattle.turn_parts.specs.Meets.{Meets};
-ghost use Rattle.session_files.specs.Folds.{world_put, taken_up, after_processing, after_turn, are_some, is_due};
+ghost use Rattle.session_files.specs.Folds.{world_put, taken_up, after_processing, after_turn, due_changes};
 ghost use Rattle.session_files.specs.Meets.{Leaves};
 ghost use Rattle.session_files.specs.Steps.{processed};
 ghost use Rattle.session_files.specs.Texts.{entry_of, file_change};
@@ -39,22 +39,24 @@ impl SessionFiles {
         }
     }
 
-    fn file_change(&self, file: ChangedFile) -> Result<FileChange, AllocError>
-        ensures { IfOk result (λ change. change ≡ file_change file) }
+    fn file_change(&self, file: &ChangedFile) -> Result<FileChange, AllocError>
+        ensures { IfOk result (λ change. change ≡ file_change file.now) }
     {
-        let ChangedFile { path, contents, .. } = file;
-        let entry = match contents {
-            Some(bytes) => self.entry_at(&path, &bytes)?,
+        let entry = match &file.contents {
+            Some(bytes) => self.entry_at(&file.path, bytes)?,
             None => None,
         };
-        Ok(FileChange { path, entry })
+        Ok(FileChange {
+            path: file.path.clone()?,
+            entry,
+        })
     }
 
-    fn file_changes(&self, files: Items<ChangedFile>) -> Result<Items<FileChange>, AllocError>
-        ensures { IfOk result (λ changes. changes ≡ each file_change files) }
+    fn file_changes(&self, files: &[ChangedFile]) -> Result<Items<FileChange>, AllocError>
+        ensures { IfOk result (λ changes. changes ≡ each file_change files.now) }
     {
         let mut changes = Items::new(self.alloc);
-        for file in files.into_vec() {
+        for file in files {
             changes.push(self.file_change(file)?)?;
         }
         Ok(changes)
@@ -83,28 +85,27 @@ impl SessionFiles {
     }
 
     #[tactic(auto, unfolding(crate::specs::Folds::after_processing))]
-    fn process_changes(&mut self) -> Result<bool, TurnError>
+    fn process_changes(&mut self) -> Result<Items<ChangedFile>, TurnError>
         ensures leaves { Leaves result (after_processing self.old) self.new }
-        ensures changed { IfOk result (λ changed. changed ≡ are_some (changes self.old.table)) }
+        ensures changed { IfOk result (λ changed. changed ≡ changes self.old.table) }
     {
         let files = self.take_changes()?;
-        if files.is_empty() {
-            return Ok(false);
+        if !files.is_empty() {
+            let changes = self.file_changes(files.as_slice())?;
+            self.change_world(changes)?;
         }
-        let changes = self.file_changes(files)?;
-        self.change_world(changes)?;
-        Ok(true)
+        Ok(files)
     }
 
-    /// What has changed since the last time goes into the world, unless files are loading. Answers whether that was
-    /// something. After an `Err` the files are spent.
+    /// What has changed since the last time goes into the world, unless files are loading. Answers the files that have, in
+    /// the order of their paths. After an `Err` the files are spent.
     #[tactic(auto, using(crate::proofs::Steps::become_meets), unfolding(crate::specs::Steps::processed, crate::specs::Folds::after_turn))]
-    pub fn process(&mut self, out: &mut TurnOut) -> Result<bool, TurnError>
+    pub fn process(&mut self, out: &mut TurnOut) -> Result<Items<ChangedFile>, TurnError>
         ensures meets { Meets result (processed (record { state = self.old; out = out.old })) self.new out.new }
-        ensures changed { IfOk result (λ changed. changed ≡ is_due self.old) }
+        ensures changed { IfOk result (λ changed. changed ≡ due_changes self.old) }
     {
         if self.loading {
-            return Ok(false);
+            return Ok(Items::new(self.alloc));
         }
         self.process_changes()
     }

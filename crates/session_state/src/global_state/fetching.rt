@@ -158,7 +158,7 @@ impl GlobalState {
     }
 
     // Hands over a job of the session's own on the present snapshot.
-    fn hand_over(&mut self, kind: JobKind, out: &mut TurnOut) -> Result<(), TurnError>
+    pub(super) fn hand_over(&mut self, kind: JobKind, out: &mut TurnOut) -> Result<(), TurnError>
         ensures { Meets result (at_desk (handed_over (snapshot_of self.old) Worker kind) (record { state = self.old; out = out.old })) self.new out.new }
     {
         let snapshot = self.snapshot()?;

@@ -2,19 +2,37 @@
 ghost use Rattle.std.specs.Prelude.{◌≡◌, ◌<◌, ◌^◌, length, Ok, IfOk};
 ghost use Rattle.docs_vfs.specs.FileUrls.{path_of};
 ghost use Rattle.turn_parts.specs.Meets.{Meets};
-ghost use Rattle.session_files.specs.Folds.{is_due};
+ghost use Rattle.session_files.specs.Folds.{due_changes, is_due};
 ghost use Rattle.session_files.specs.Steps.{changed, closed as closed_document, loaded, opened, processed};
-ghost use Rattle.session_model.specs.Machine.{at_files, changed_at, closed_at, files_processed, opened_at};
+ghost use Rattle.session_model.specs.Machine.{at_files, brought, changed_at, closed_at, files_processed, opened_at};
 ghost use Rattle.session_model.specs.State.{columns_in, excludes_in};
+ghost use Rattle.session_model.specs.Timing.{bring_files, brings_files};
 
 use crate::global_state::GlobalState;
-use docs_vfs::{UrlFault, VfsPath, path_of_url};
+use docs_vfs::{ChangedFile, UrlFault, VfsPath, path_of_url};
 use notify::{DidChange, DidOpen};
 use plain::{Items, Text};
 use session_model::TurnError;
 use session_port::{LoaderMsg, LogCode};
 use text_core::ContentChange;
 use turn_parts::TurnOut;
+
+// Whether a loader's message brings files.
+fn brings_files(message: &LoaderMsg) -> bool
+    ensures { result ≡ brings_files message.now }
+{
+    match message {
+        LoaderMsg::Changed { .. } | LoaderMsg::Loaded { .. } => true,
+        LoaderMsg::Progress { .. } => false,
+    }
+}
+
+// Whether one of these does.
+fn bring_files(messages: &[LoaderMsg]) -> bool
+    ensures { result ≡ bring_files messages.now }
+{
+    messages.iter().any(|message| brings_files(message))
+}
 
 impl GlobalState {
     fn open_at(
@@ -97,28 +115,47 @@ impl GlobalState {
         }
     }
 
-    // What a loader brings.
-    pub(super) fn on_loader(
-        &mut self,
-        messages: Items<LoaderMsg>,
-        out: &mut TurnOut,
-    ) -> Result<(), TurnError>
+    // What a loader brings, in the files.
+    fn load(&mut self, messages: Items<LoaderMsg>, out: &mut TurnOut) -> Result<(), TurnError>
         ensures { Meets result (at_files (loaded messages) (record { state = self.old; out = out.old })) self.new out.new }
     {
         self.files.load(messages, out)
     }
 
-    /// What has changed goes into the world, unless files are loading: one change, and so one revision. Answers whether
-    /// something has. After an `Err` the state is spent.
-    pub fn process_changes(&mut self, out: &mut TurnOut) -> Result<bool, TurnError>
+    // What a loader brings. Where it brings files, a fetch that waits gets a new timer.
+    pub(super) fn on_loader(
+        &mut self,
+        messages: Items<LoaderMsg>,
+        out: &mut TurnOut,
+    ) -> Result<(), TurnError>
+        ensures { Meets result (brought messages (record { state = self.old; out = out.old })) self.new out.new }
+    {
+        let brings = bring_files(messages.as_slice());
+        self.load(messages, out)?;
+        self.renew_timer_if(brings, out)
+    }
+
+    // What has changed goes into the world, unless files are loading. Answers the files that have.
+    fn take_up(&mut self, out: &mut TurnOut) -> Result<Items<ChangedFile>, TurnError>
         ensures meets { Meets result (at_files processed (record { state = self.old; out = out.old })) self.new out.new }
-        ensures some { IfOk result (λ some. some ≡ is_due self.old.files) }
+        ensures changed { IfOk result (λ changed. changed ≡ due_changes self.old.files) }
     {
         self.files.process(out)
     }
 
-    // The same behind the event of a turn.
+    /// What has changed goes into the world, unless files are loading: one change, and so one revision. The fetch that it
+    /// asks for waits for a timer. Answers whether something has changed. After an `Err` the state is spent.
     #[tactic(auto, unfolding(session_model::specs::Machine::files_processed))]
+    pub fn process_changes(&mut self, out: &mut TurnOut) -> Result<bool, TurnError>
+        ensures meets { Meets result (files_processed (record { state = self.old; out = out.old })) self.new out.new }
+        ensures some { IfOk result (λ some. some ≡ is_due self.old.files) }
+    {
+        let changed = self.take_up(out)?;
+        self.plan_fetch_for(changed.as_slice(), out)?;
+        Ok(!changed.is_empty())
+    }
+
+    // The same behind the event of a turn.
     pub(super) fn process(&mut self, out: &mut TurnOut) -> Result<(), TurnError>
         ensures { Meets result (files_processed (record { state = self.old; out = out.old })) self.new out.new }
     {

@@ -4,6 +4,7 @@ ghost use Rattle.lsp_frame.specs.Pending.{IsAbove};
 ghost use Rattle.turn_parts.specs.Meets.{Meets};
 ghost use Rattle.desk.specs.Meaning.{meaning_of};
 ghost use Rattle.desk.specs.Steps.{requested, taken as taken_at_desk};
+ghost use Rattle.session_model.specs.Building.{is_rebuild, rebuilds};
 ghost use Rattle.session_model.specs.Fetching.{is_reload, reloads};
 ghost use Rattle.session_model.specs.Machine.{asked, at_desk, batched, received, taken};
 ghost use Rattle.session_model.specs.State.{scene_of};
@@ -11,7 +12,7 @@ ghost use Rattle.session_model.specs.State.{scene_of};
 use crate::global_state::GlobalState;
 use analysis_host::Analysis;
 use lsp_frame::{Message, Request};
-use method_table::{RELOAD_WORKSPACE, RowId, row_of};
+use method_table::{REBUILD_PROC_MACROS, RELOAD_WORKSPACE, RowId, row_of};
 use plain::Items;
 use session_model::TurnError;
 use session_port::TaskMsg;
@@ -25,6 +26,16 @@ fn is_reload(row: Option<RowId>) -> bool
     match row {
         None => false,
         Some(row) => row == RELOAD_WORKSPACE,
+    }
+}
+
+// Whether this is the row of requests that ask for the macros anew.
+fn is_rebuild(row: Option<RowId>) -> bool
+    ensures { result ≡ is_rebuild row }
+{
+    match row {
+        None => false,
+        Some(row) => row == REBUILD_PROC_MACROS,
     }
 }
 
@@ -52,7 +63,16 @@ impl GlobalState {
             && self.desk.takes(&request.id)
     }
 
-    // A request. One to reload asks for a fetch.
+    // Whether a request asks for the macros anew, and is taken.
+    fn rebuilds(&self, request: &Request) -> bool
+        ensures { result ≡ rebuilds request.now self.now.desk }
+    {
+        is_rebuild(row_of(request.method.as_str()))
+            && is_unit(&request.params)
+            && self.desk.takes(&request.id)
+    }
+
+    // A request. One to reload asks for a fetch, and one to rebuild macros for build data.
     fn on_request<A: Analysis>(
         &mut self,
         request: Request,
@@ -63,8 +83,10 @@ impl GlobalState {
         ensures { Meets result (asked (meaning_of A.decodes A.answer) request (record { state = self.old; out = out.old })) self.new out.new }
     {
         let reloads = self.reloads(&request);
+        let rebuilds = self.rebuilds(&request);
         self.ask(request, analysis, out)?;
-        self.reload_if(reloads, out)
+        self.reload_if(reloads, out)?;
+        self.rebuild_macros_if(rebuilds, out)
     }
 
     #[tactic(auto, unfolding(session_model::specs::Machine::received))]
@@ -97,7 +119,7 @@ impl GlobalState {
         self.desk.on_task(&scene, message, analysis, out)
     }
 
-    // A message of a job. One that ends a fetch is told to the workspaces.
+    // A message of a job. One that ends a fetch or a run of build data is told to the workspaces.
     fn on_task<A: Analysis>(
         &mut self,
         message: TaskMsg,
@@ -106,9 +128,11 @@ impl GlobalState {
     ) -> Result<(), TurnError>
         ensures { Meets result (taken (meaning_of A.decodes A.answer) message (record { state = self.old; out = out.old })) self.new out.new }
     {
-        let end = self.desk.fetch_end(&message)?;
+        let fetched = self.desk.fetch_end(&message)?;
+        let built = self.desk.build_end(&message)?;
         self.bring(message, analysis, out)?;
-        self.keep_fetch(end, out)
+        self.keep_fetch(fetched, out)?;
+        self.keep_build(built, out)
     }
 
     // The messages of a batch, one after another.

@@ -123,12 +123,19 @@ impl Workspaces {
         }
     }
 
+    /// Whether a fetch waits for the timer with this ticket.
+    pub fn waits_for(&self, ticket: u64) -> bool
+        ensures { result ≡ fires ticket self.now.fetches.waiting }
+    {
+        fires(ticket, &self.planned)
+    }
+
     /// A timer has come: a fetch that waits for its ticket is asked for.
     pub fn fire(&mut self, ticket: u64) -> Result<(), NoMemory>
         ensures ok { OnOk result (self.new ≡ record self.old { fetches = fire ticket self.old.fetches }) }
         ensures err { OnErr result (self.new ≡ self.old) }
     {
-        if !fires(ticket, &self.planned) {
+        if !self.waits_for(ticket) {
             return Ok(());
         }
         let cause = Text::from_str(self.alloc, "project structure change")?;

@@ -13,7 +13,6 @@ returns c =
     (fact_if input.build_error Warning build_text) (line_if input.config_errors) c.args.draft.now c.warn_if.new.draft c.warn_if-2.new.draft c.warn_if-3.new.draft
     c.add_line.new.draft c.in_ok-warn_if.ensures c.in_ok-warn_if-2.ensures c.in_ok-warn_if-3.ensures c.in_ok-add_line.ensures in
     c.in_ok-add_load_error.ensures
-    ∙ ap (λ linked. add_all (fact_if input.workspace_error Error (load_text linked)) c.warn_if-4.new.draft) c.as_slice.ensures
-    ∙ ap (add_all (fact_if input.workspace_error Error (load_text input.linked)))
+    ∙ ap (add_all (fact_if input.workspace_error Error (load_text c.args.linked.now)))
     (c.in_ok-warn_if-4.ensures ∙ ap (add_all (fact_if input.no_projects Warning discover_text))
     (c.in_ok-add_line-2.ensures ∙ ap (add_all (line_if input.check_error)) first))

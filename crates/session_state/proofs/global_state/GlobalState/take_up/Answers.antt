@@ -1,7 +1,7 @@
 use Rattle.std.proofs.Common.{rules}
 use Rattle.session_files.specs.Steps.{processed}
 use Rattle.session_state.proofs.AtFiles.{files_meets}
-use Rattle.session_state.proofs.global_state.GlobalState.process_changes.Goals as goal
+use Rattle.session_state.proofs.global_state.GlobalState.take_up.Goals as goal
 
 pub returns-clause-meets : goal.returns-clause-meets
 returns-clause-meets c =

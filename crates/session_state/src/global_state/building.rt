@@ -1,0 +1,64 @@
+// Build data of workspaces.
+ghost use Rattle.std.specs.Prelude.{◌≡◌};
+ghost use Rattle.turn_parts.specs.Meets.{Meets, Gives};
+ghost use Rattle.session_model.specs.Building.{build_kept, rebuilt_if};
+ghost use Rattle.session_model.specs.Machine.{at_workspaces, build_handed_over, build_started};
+
+use crate::global_state::GlobalState;
+use desk::BuildEnd;
+use session_model::TurnError;
+use session_port::JobKind;
+use turn_parts::TurnOut;
+
+impl GlobalState {
+    // Asks for the macros anew, where this flag is set.
+    pub(super) fn rebuild_macros_if(
+        &mut self,
+        rebuilds: bool,
+        out: &mut TurnOut,
+    ) -> Result<(), TurnError>
+        ensures { Gives result (at_workspaces (rebuilt_if rebuilds) (record { state = self.old; out = out.old })) self.new out.new }
+    {
+        if rebuilds {
+            self.workspaces.rebuild_macros()?;
+        }
+        Ok(())
+    }
+
+    // What a run of build data came to is kept, where one is in progress.
+    pub(super) fn keep_build(
+        &mut self,
+        end: Option<BuildEnd>,
+        out: &mut TurnOut,
+    ) -> Result<(), TurnError>
+        ensures { Gives result (at_workspaces (build_kept end) (record { state = self.old; out = out.old })) self.new out.new }
+    {
+        let Some(made) = end else {
+            return Ok(());
+        };
+        if self.workspaces.is_building() {
+            self.workspaces.end_build(made)?;
+        }
+        Ok(())
+    }
+
+    // Hands over the job of a run of build data that is to start on workspaces of this version.
+    #[tactic(auto, unfolding(session_model::specs::Machine::build_handed_over))]
+    fn hand_over_build(&mut self, version: Option<u64>, out: &mut TurnOut) -> Result<(), TurnError>
+        ensures { Meets result (build_handed_over version (record { state = self.old; out = out.old })) self.new out.new }
+    {
+        match version {
+            None => Ok(()),
+            Some(version) => self.hand_over(JobKind::FetchBuildData { version }, out),
+        }
+    }
+
+    // Starts the run of build data that is asked for, where neither a fetch nor another run is in progress.
+    #[tactic(auto, unfolding(session_model::specs::Machine::build_started))]
+    pub(super) fn start_build(&mut self, out: &mut TurnOut) -> Result<(), TurnError>
+        ensures { Meets result (build_started (record { state = self.old; out = out.old })) self.new out.new }
+    {
+        let version = self.workspaces.start_build();
+        self.hand_over_build(version, out)
+    }
+}
