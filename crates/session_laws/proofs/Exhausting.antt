@@ -47,9 +47,10 @@ use Rattle.session_model.specs.Fetching.{fetch_jobs}
 use Rattle.session_model.specs.Headline.{batch_row, builds_in, client_after, client_left, fetch_in, fetches_in, files_told, NeedsMore, place_past, row, scene_at, status_after, statuses_at, switch_in}
 use Rattle.session_model.specs.Machine.{answer_taken, asked, asked_for_settings, at_client, at_desk, at_files, batched, begin_part, begun_fetches, build_part, build_started, changed_at, client_in, closed, closed_at}
 use Rattle.session_model.specs.Machine.{closing_part, counted, desk_in, event_part, fetch_part, fetch_started, files_in, files_part, files_processed, folders_taken, happened, kept, later_parts, noticed, opened_at, received}
-use Rattle.session_model.specs.Machine.{start_parts, state_in, status_done, status_part, step, switch_done, switch_part, switched_to, taken, taken_in, told, turned, Turning, turning, with_client, with_desk, with_files}
+use Rattle.session_model.specs.Machine.{register_part, saves_registered, start_parts, state_in, status_done, status_part, step, switch_done, switch_part, switched_to, taken, taken_in, told, turned, Turning, turning, with_client, with_desk, with_files}
 use Rattle.session_model.specs.Machine.{with_state}
 use Rattle.session_model.specs.State.{columns_in, excludes_in, may_start, scene_of, snapshot_of, State}
+use Rattle.session_model.specs.Asking.{client_registered}
 use Rattle.session_model.specs.Status.{client_after_status}
 use Rattle.session_model.specs.Hearing.{heard_of}
 use Rattle.session_model.specs.Run.{begun}
@@ -62,12 +63,14 @@ use Rattle.session_model.specs.declared.heard.Heard.{Heard}
 use Rattle.session_model.specs.declared.heard.Heard.TheVariants.{Told, Malformed, Unhandled, Silent}
 use Rattle.session_laws.specs.Invariant.{place_of}
 use Rattle.session_laws.proofs.Building.{built-errs}
+use Rattle.session_laws.proofs.Clients.{begun_client, left-more, registered-more}
 use Rattle.session_laws.proofs.Filing.{AtLast, IsFull, change_of, changed-step-errs, full-err, loaded-errs-by, opened-errs, processed-errs}
 use Rattle.session_laws.proofs.Fetching.{started-errs}
 use Rattle.session_laws.proofs.Rows.{at, begin_and_close, begins, BegunTurn, BehindTurn, build-made, build_and_on, client-behind, counted-is, counted_turn, DoesAtDesk, event-fits, fetch-made, fetch_and_close, fetch_and_on}
 use Rattle.session_laws.proofs.Rows.{fetched-build, FetchedBehind, files-made, files_and_on, kept_past, MadeBehind, mid-switch, MidTurn, notification_input, place_at, ready-fetch, ReadyBehind, ReadyStart, ReadyTurn}
-use Rattle.session_laws.proofs.Rows.{session_in, settled-place, status-begins, status_and_close, switch-made, taken-settles}
-use Rattle.session_laws.proofs.Statuses.{asked-errs, IsPast, left-more, status-errs}
+use Rattle.session_laws.proofs.Rows.{register_and_on, RegisteredTurn, registers, session_in, settled-place, status-begins, status_and_close, switch-made, taken-settles}
+use Rattle.session_laws.proofs.Requests.{asked-errs, IsPast, registered-errs}
+use Rattle.session_laws.proofs.Statuses.{status-errs}
 use Rattle.session_laws.proofs.Starting.{TooManyStarts}
 use Rattle.session_laws.proofs.Switching.{made-errs, switched-errs}
 use Rattle.session_model.specs.Switching.{switch_made}
@@ -308,6 +311,11 @@ build-part-errs meaning s event t fetched =
     subst (Needs meaning s input) (sym h.0)
     (with-build s.desk.handed (length jobs) (fetches_in input place) (builds_in input place) given (length (jobs ++ fetch)) handed both many)))
 
+-- a request that is one too many is so of the turn
+past-needs : (meaning : Meaning) (s : State) (input : Input) (client : Client) (counter : Counter) → client.asked.given ≤ (client_left input (place_of s)).asked.given
+    → IsPast client counter → Needs meaning s input counter
+past-needs meaning s input client counter more h = subst (Needs meaning s input) (sym h.0) (omega (arith, h.1, more))
+
 -- a status may ask the client
 status-part-errs : (meaning : Meaning) (s : State) (event : Event) (t : Working Turning) → MadeBehind meaning s event t → IfErr (status_part t) (Needs meaning s (Next event))
 unfolding status_part
@@ -322,19 +330,32 @@ begin-status-errs : (meaning : Meaning) (s : State) → IfErr (status_part (turn
 unfolding status_part
 begin-status-errs meaning s =
     IfErr-within state_in with_state status_done (turning (begun s)) (Needs meaning s Start)
-    (err-weaker (status_done (begun s)) (IsPast (client_left Start (place_of s))) (Needs meaning s Start) (status-errs (begun s))
-    (λ c h. subst (Needs meaning s Start) (sym h.0) h.1))
+    (err-weaker (status_done (begun s)) (IsPast (begun_client s)) (Needs meaning s Start) (status-errs (begun s))
+    (λ c h. past-needs meaning s Start (begun_client s) c (registered-more (begun_client s)) h))
+
+-- so may the registration of saved documents
+register-part-errs : (meaning : Meaning) (s : State) (t : Working Turning) → BegunTurn s t → IfErr (register_part t) (Needs meaning s Start)
+unfolding register_part
+register-part-errs meaning s t b =
+    IfErr-within state_in with_state saves_registered t (Needs meaning s Start)
+    (err-weaker (saves_registered (session_in t)) (IsPast (client_registered t.state.state.client)) (Needs meaning s Start) (registered-errs (session_in t))
+    (λ c h. subst (Needs meaning s Start) (sym h.0) (subst (λ (x : State). number_limit < (client_registered x.client).asked.given) b.state h.1)))
 
 begin-errs : (t : Working Turning) (P : Counter → Type 0) → IfErr (begin_part t) P
 unfolding begin_part begun_fetches
 begin-errs t P = IfErr-within state_in with_state begun_fetches t P tt
 
-begin-close-errs : (meaning : Meaning) (s : State) (t : Working Turning) → BegunTurn s t → IfErr (begin_and_close t) (Needs meaning s Start)
+begin-close-errs : (meaning : Meaning) (s : State) (t : Working Turning) → RegisteredTurn s t → IfErr (begin_and_close t) (Needs meaning s Start)
 begin-close-errs meaning s t b =
     err-and_then (begin_part t) fetch_and_close (Needs meaning s Start) (begin-errs t (Needs meaning s Start))
     (λ u is. err-and_then (fetch_part Start u) closing_part (Needs meaning s Start)
     (fetch-part-errs meaning s Start (client_left Start (place_of s)) (status_after Start (place_of s)) (statuses_at Start (place_of s)) u (IfOk-at_ok (ReadyStart meaning s) is (begins meaning s t b)))
     (λ v is. closing-errs v (Needs meaning s Start)))
+
+register-on-errs : (meaning : Meaning) (s : State) (t : Working Turning) → BegunTurn s t → IfErr (register_and_on t) (Needs meaning s Start)
+register-on-errs meaning s t b =
+    err-and_then (register_part t) begin_and_close (Needs meaning s Start) (register-part-errs meaning s t b)
+    (λ u is. begin-close-errs meaning s u (IfOk-at_ok (RegisteredTurn s) is (registers s t b)))
 
 status-close-errs : (meaning : Meaning) (s : State) (event : Event) (t : Working Turning) → MadeBehind meaning s event t → IfErr (status_and_close t) (Needs meaning s (Next event))
 status-close-errs meaning s event t m =
@@ -361,8 +382,8 @@ step-errs : (meaning : Meaning) (s : State) (input : Input) → IfErr (step mean
 unfolding step
 step-errs meaning s Start =
     err-and_then (start_parts (turning (begun s))) turned (Needs meaning s Start)
-    (err-and_then (status_part (turning (begun s))) begin_and_close (Needs meaning s Start) (begin-status-errs meaning s)
-    (λ t is. begin-close-errs meaning s t (IfOk-at_ok (BegunTurn s) is (status-begins s)))) (λ v is. tt)
+    (err-and_then (status_part (turning (begun s))) register_and_on (Needs meaning s Start) (begin-status-errs meaning s)
+    (λ t is. register-on-errs meaning s t (IfOk-at_ok (BegunTurn s) is (status-begins s)))) (λ v is. tt)
 step-errs meaning s (Next event) =
     err-and_then (and_then (event_part meaning event (turning (begun s))) (later_parts (Next event))) turned (Needs meaning s (Next event))
     (err-and_then (event_part meaning event (turning (begun s))) (later_parts (Next event)) (Needs meaning s (Next event)) (event-part-errs meaning s event)

@@ -56,6 +56,7 @@ use Rattle.status.specs.declared.status.Status.{Status}
 use Rattle.workspaces.specs.Fetches.{fetch_to_start, fires, start_fetch, start_up}
 use Rattle.workspaces.specs.Workspaces.{Workspaces}
 use Rattle.workspaces.specs.declared.requests.FetchRequest.{FetchRequest}
+use Rattle.session_model.specs.Asking.{client_registered}
 use Rattle.session_model.specs.Building.{build_due, build_jobs, end_kept, ends_kept, request_told, with_due_build}
 use Rattle.session_model.specs.Fetching.{fetch_jobs, folders_told_if, settings_told, with_fetches}
 use Rattle.session_model.specs.Headline.{Place, reaction_of, row, notice_row, batch_row, desk_after, place_after, place_past, client_after, last_of, revision_after, scene_at, snapshot_at}
@@ -64,7 +65,7 @@ use Rattle.session_model.specs.Headline.{status_after, statuses_at, switch_in, w
 use Rattle.session_model.specs.Inputs.{cancelled_by, request_in, turns_after}
 use Rattle.session_model.specs.Machine.{answer_taken, asked, asked_for_settings, at_client, at_desk, at_files, at_workspaces, batched, begin_part, begun_fetches, brought, build_part, build_started, changed_at, client_in, closed}
 use Rattle.session_model.specs.Machine.{closed_at, closing_part, counted, desk_in, event_part, facts_of, fetch_part, fetch_started, file_changed, files_changed, files_in, files_part, files_planned, files_processed, folders_taken}
-use Rattle.session_model.specs.Machine.{happened, kept, later_parts, noticed, opened_at, received, revised, start_parts, state_in, status_done, status_part, step, switch_done, switch_part, taken, taken_in, timed, timer_set, told}
+use Rattle.session_model.specs.Machine.{happened, kept, later_parts, noticed, opened_at, received, register_part, revised, saves_registered, start_parts, state_in, status_done, status_part, step, switch_done, switch_part, taken, taken_in, timed, timer_set, told}
 use Rattle.session_model.specs.Machine.{turned, Turning, turning, with_client, with_desk, with_files, with_state, with_workspaces}
 use Rattle.session_model.specs.Hearing.{heard_of, told_by}
 use Rattle.session_model.specs.Switching.{switch_made}
@@ -82,16 +83,18 @@ use Rattle.session_model.specs.declared.heard.Heard.TheVariants.{Told, Malformed
 use Rattle.session_laws.specs.Beside.{Serves, Tells, TellsOnly, turn_of}
 use Rattle.session_laws.specs.Invariant.{StepFits, place_of}
 use Rattle.session_laws.proofs.Beside.{beside-fits, beside-revised}
+use Rattle.session_laws.proofs.Clients.{begun_client, left-settings}
 use Rattle.session_laws.proofs.Building.{built-hands, jobs_of_build, no-build, same-fetch}
 use Rattle.session_laws.proofs.Fetching.{jobs_of_fetch, started-hands}
 use Rattle.session_laws.proofs.Filing.{DoesForFiles, KeepsHost, Processes, change-host, change_of, changed-does, closed-does, loaded-does, messages-host, opened-does, opening-host}
 use Rattle.session_laws.proofs.Filing.{processed-does, revision_by, revision_now, turn-revises}
 use Rattle.session_laws.proofs.Numbered.{row-numbered}
+use Rattle.session_laws.proofs.Requests.{registered-does, TellsClient}
 use Rattle.session_laws.proofs.Same.{none-handed, same_desk, same_place}
-use Rattle.session_laws.proofs.Statuses.{left-settings, status-does, TellsStatus, told-settings}
+use Rattle.session_laws.proofs.Statuses.{status-does, TellsStatus, told-settings}
 use Rattle.session_laws.proofs.Starting.{StartsJobs}
 use Rattle.session_laws.proofs.Switching.{Switches, switched-does}
-use Rattle.session_laws.proofs.Telling.{answered-does, asked-does, beside-told, DoesForClient, folders-do, statuses-append, tells-invalidated, tells-logged, tells-none, tells-on, timers-append}
+use Rattle.session_laws.proofs.Telling.{answered-does, asked-does, beside-told, DoesForClient, folders-do, statuses-append, tells-invalidated, tells-logged, tells-more, tells-none, tells-on, timers-append}
 
 -- the turn is counted, and nothing else was done
 abbrev pub counted_desk : Desk → Working Desk
@@ -859,6 +862,12 @@ files-made meaning s event t m =
 pub record BegunTurn (s : State) (t : Working Turning) : Type 0 where
   pub facts : t.state.facts ≡ facts_of (begun s)
   pub tells : TellsOnly (statuses_at Start (place_of s)) nothing_done t.out
+  pub state : t.state.state ≡ record s { client = begun_client s; status = status_after Start (place_of s) }
+
+-- and asks to be told of saved documents
+pub record RegisteredTurn (s : State) (t : Working Turning) : Type 0 where
+  pub facts : t.state.facts ≡ facts_of (begun s)
+  pub tells : TellsOnly (statuses_at Start (place_of s)) nothing_done t.out
   pub state : t.state.state ≡ record s { client = client_left Start (place_of s); status = status_after Start (place_of s) }
 
 pub status-begins : (s : State) → IfOk (status_part (turning (begun s))) (BegunTurn s)
@@ -872,8 +881,19 @@ status-begins s =
       state = told.state;
     }))
 
+pub registers : (s : State) (t : Working Turning) → BegunTurn s t → IfOk (register_part t) (RegisteredTurn s)
+unfolding register_part
+registers s t b =
+    IfOk-within state_in with_state saves_registered t (RegisteredTurn s)
+    (IfOk-weaker (saves_registered (session_in t)) (TellsClient (client_registered t.state.state.client) [] (session_in t)) _ (registered-does (session_in t))
+    (λ v told. record {
+      facts = b.facts;
+      tells = tells-more _ _ _ _ b.tells told.tells;
+      state = told.state ∙ ap (λ (x : State). with_client (client_registered x.client) x) b.state;
+    }))
+
 -- and asks for a fetch
-pub begins : (meaning : Meaning) (s : State) (t : Working Turning) → BegunTurn s t → IfOk (begin_part t) (ReadyStart meaning s)
+pub begins : (meaning : Meaning) (s : State) (t : Working Turning) → RegisteredTurn s t → IfOk (begin_part t) (ReadyStart meaning s)
 unfolding begin_part begun_fetches
 begins meaning s t b =
     let settings : t.state.state.client.settings ≡ s.client.settings = ap (λ (x : State). x.client.settings) b.state ∙ left-settings Start (place_of s) in
@@ -1055,16 +1075,25 @@ event-fits meaning s event =
 abbrev pub fetch_and_close : Working Turning → Result (Working Turning) Counter
 fetch_and_close t = and_then (fetch_part Start t) closing_part
 
--- it tells its status, and asks for the fetch
+-- it asks for the fetch before
 abbrev pub begin_and_close : Working Turning → Result (Working Turning) Counter
 begin_and_close t = and_then (begin_part t) fetch_and_close
 
-start-fits : (meaning : Meaning) (s : State) (t : Working Turning) → BegunTurn s t → IfOk (begin_and_close t) (λ v. Closes meaning s Start (session_in v))
-start-fits meaning s t b =
+-- and to be told of saved documents before that
+abbrev pub register_and_on : Working Turning → Result (Working Turning) Counter
+register_and_on t = and_then (register_part t) begin_and_close
+
+begin-fits : (meaning : Meaning) (s : State) (t : Working Turning) → RegisteredTurn s t → IfOk (begin_and_close t) (λ v. Closes meaning s Start (session_in v))
+begin-fits meaning s t b =
     IfOk-and_then (begin_part t) fetch_and_close (ReadyStart meaning s) (λ v. Closes meaning s Start (session_in v)) (begins meaning s t b)
     (λ u ready. IfOk-and_then (fetch_part Start u) closing_part (FetchedStart meaning s) (λ v. Closes meaning s Start (session_in v))
     (fetch-made meaning s Start (client_left Start (place_of s)) (status_after Start (place_of s)) (statuses_at Start (place_of s)) u ready)
     (λ v fetched. closing-fits meaning s Start v (start-built meaning s v fetched)))
+
+start-fits : (meaning : Meaning) (s : State) (t : Working Turning) → BegunTurn s t → IfOk (register_and_on t) (λ v. Closes meaning s Start (session_in v))
+start-fits meaning s t b =
+    IfOk-and_then (register_part t) begin_and_close (RegisteredTurn s) (λ v. Closes meaning s Start (session_in v)) (registers s t b)
+    (λ u registered. begin-fits meaning s u registered)
 
 -- behind an event: the status is told, and the turn closes
 abbrev pub status_and_close : Working Turning → Result (Working Turning) Counter
@@ -1104,7 +1133,7 @@ step-fits : (meaning : Meaning) (s : State) (input : Input) → IfOk (step meani
 unfolding step
 step-fits meaning s Start =
     IfOk-and_then (start_parts (turning (begun s))) turned (λ v. Closes meaning s Start (session_in v)) (Closes meaning s Start)
-    (IfOk-and_then (status_part (turning (begun s))) begin_and_close (BegunTurn s) (λ v. Closes meaning s Start (session_in v))
+    (IfOk-and_then (status_part (turning (begun s))) register_and_on (BegunTurn s) (λ v. Closes meaning s Start (session_in v))
     (status-begins s) (λ t b. start-fits meaning s t b)) (λ v fits. fits)
 step-fits meaning s (Next event) =
     IfOk-and_then (and_then (event_part meaning event (turning (begun s))) (later_parts (Next event))) turned (λ v. Closes meaning s (Next event) (session_in v)) (Closes meaning s (Next event))

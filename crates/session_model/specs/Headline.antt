@@ -49,6 +49,7 @@ use Rattle.workspaces.specs.Workspaces.{Workspaces, no_workspaces}
 use Rattle.workspaces.specs.declared.follows.Follows.{Follows}
 use Rattle.workspaces.specs.declared.follows.Follows.TheVariants.{Nothing}
 use Rattle.workspaces.specs.declared.requests.FetchRequest.{FetchRequest}
+use Rattle.session_model.specs.Asking.{client_registered}
 use Rattle.session_model.specs.Building.{build_due, build_jobs, end_kept, ends_kept, request_told, with_due_build}
 use Rattle.session_model.specs.Fetching.{fetch_jobs, folders_told_if, settings_told, with_fetches}
 use Rattle.session_model.specs.Hearing.{heard_of, told_by}
@@ -248,9 +249,9 @@ status_after Start place = status_now place.client.settings place.files place.wo
 status_after (Next event) place =
     status_now (client_after (Next event) place.client).settings (files_after place.client.settings (Next event) place.files) (workspaces_after (Next event) place)
 
--- the client behind all that a turn tells it: it may be asked whether the logs are to be opened
+-- the client behind all that a turn tells it: the start may ask it to tell of saved documents, and each turn whether the logs are to be opened
 abbrev pub client_left : Input → Place → Client
-client_left Start place = client_after_status place.status place.files place.workspaces place.client
+client_left Start place = client_registered (client_after_status place.status place.files place.workspaces place.client)
 client_left (Next event) place =
     client_after_status place.status (files_after place.client.settings (Next event) place.files) (workspaces_after (Next event) place) (client_after (Next event) place.client)
 

@@ -20,10 +20,11 @@ use Rattle.turn_parts.specs.Working.{Working, and_then, ordered, logged, within,
 use Rattle.turn_parts.specs.declared.fault.Counter.{Counter}
 use Rattle.client.specs.Client.{Client}
 use Rattle.client.specs.Steps.{asked_for, answered, folders_changed, notification_of}
-use Rattle.client.specs.declared.handler.ReqHandler.TheVariants.{OpenLogs, Settings}
+use Rattle.client.specs.declared.handler.ReqHandler.TheVariants.{Ignore, OpenLogs, Settings}
 use Rattle.notify.specs.declared.outgo.MessageKind.{MessageKind}
 use Rattle.notify.specs.declared.outgo.MessageKind.TheVariants.{Warning}
-use Rattle.notify.specs.declared.outgo.Outgo.TheVariants.{Configuration, ShowMessage, ShowMessageRequest}
+use Rattle.notify.specs.declared.outgo.Outgo.{Outgo}
+use Rattle.notify.specs.declared.outgo.Outgo.TheVariants.{Configuration, RegisterSave, ShowMessage, ShowMessageRequest}
 use Rattle.notify.specs.declared.notice.DidChange.{DidChange}
 use Rattle.notify.specs.declared.notice.DidOpen.{DidOpen}
 use Rattle.notify.specs.declared.notice.Notice.{Notice}
@@ -42,10 +43,11 @@ use Rattle.workspaces.specs.Workspaces.{Workspaces}
 use Rattle.workspaces.specs.declared.follows.Follows.{Follows}
 use Rattle.workspaces.specs.declared.follows.Follows.TheVariants.{Nothing, CrateData, Wait, GoOn}
 use Rattle.workspaces.specs.declared.requests.FetchRequest.{FetchRequest}
+use Rattle.session_model.specs.Asking.{registers_saves}
 use Rattle.session_model.specs.Building.{build_due, end_kept, request_told, with_due_build}
 use Rattle.session_model.specs.Fetching.{folders_told_if, settings_told, with_fetches}
 use Rattle.session_model.specs.Hearing.{heard_of}
-use Rattle.session_model.specs.State.{client_watches, columns_in, discovers, excludes_in, fetch_kind, goes_by_folders, may_start, scene_of, snapshot_of, State}
+use Rattle.session_model.specs.State.{client_watches, columns_in, discovers, excludes_in, fetch_kind, goes_by_folders, may_start, scene_of, snapshot_of, State, watched_names}
 use Rattle.session_model.specs.Status.{opens_logs, shown_of, status_message, status_now, takes_status}
 use Rattle.session_model.specs.Switching.{switch_made}
 use Rattle.session_model.specs.Timing.{bring_files, planned_by, renewed_if}
@@ -84,6 +86,10 @@ asked_for_settings w = asked_for Configuration Settings w
 -- a step of it
 abbrev pub at_client : (Working Client → Result (Working Client) Counter) → Working State → Result (Working State) Counter
 at_client step w = within client_in with_client step w
+
+-- where this flag is set, the client is asked for this; nothing follows its answer
+unfoldable pub asked_if : Bool → Outgo → Working State → Result (Working State) Counter
+asked_if wanted message w = if wanted then at_client (asked_for message Ignore) w else Ok w
 
 -- ---- the files, within the session
 
@@ -369,6 +375,13 @@ later_parts input w =
     and_then (switch_part w) (λ w. and_then (files_part w) (λ w. and_then (quiet_part w) (λ w. and_then (publish_part w)
     (λ w. and_then (fetch_part input w) (λ w. and_then (build_part w) (λ w. and_then (prime_part w) (λ w. and_then (status_part w) closing_part)))))))
 
+-- the client is asked to tell of the documents that it saves, where it can be asked: those of Rust and Cargo, and those of the names that are watched
+unfoldable pub saves_registered : Working State → Result (Working State) Counter
+saves_registered w = asked_if (registers_saves w.state.client.settings) (RegisterSave (watched_names w.state.client.settings)) w
+
+unfoldable pub register_part : Working Turning → Result (Working Turning) Counter
+register_part w = in_state saves_registered w
+
 -- the start asks for the first fetch, unless the projects are discovered
 unfoldable pub begun_fetches : Working State → Result (Working State) Counter
 begun_fetches w = Ok (at_workspaces (with_fetches (start_up (discovers w.state.client.settings))) w)
@@ -378,7 +391,8 @@ begin_part w = in_state begun_fetches w
 
 -- the parts of the start
 abbrev pub start_parts : Working Turning → Result (Working Turning) Counter
-start_parts w = and_then (status_part w) (λ w. and_then (begin_part w) (λ w. and_then (fetch_part Start w) closing_part))
+start_parts w =
+    and_then (status_part w) (λ w. and_then (register_part w) (λ w. and_then (begin_part w) (λ w. and_then (fetch_part Start w) closing_part)))
 
 -- the facts before a turn
 abbrev pub facts_of : Working State → Facts

@@ -18,6 +18,7 @@ mod fetching;
 mod filing;
 mod messages;
 mod notifications;
+mod registering;
 mod switching;
 mod telling;
 mod timing;
@@ -282,12 +283,13 @@ impl GlobalState {
     }
 
     /// Turn 0. It uses no number of the turns. After an `Err` the state is spent.
-    #[tactic(auto, unfolding(session_model::specs::Machine::step, session_model::specs::Machine::begin_part, session_model::specs::Machine::fetch_part, session_model::specs::Machine::status_part, session_model::specs::Machine::closing_part, turn_parts::specs::Working::within))]
+    #[tactic(auto, unfolding(session_model::specs::Machine::step, session_model::specs::Machine::register_part, session_model::specs::Machine::begin_part, session_model::specs::Machine::fetch_part, session_model::specs::Machine::status_part, session_model::specs::Machine::closing_part, turn_parts::specs::Working::within))]
     pub fn start(&mut self, out: &mut TurnOut) -> Result<(), TurnError>
         ensures { (meaning : Meaning) → Meets result (step meaning Start (record { state = self.old; out = out.old })) self.new out.new }
     {
         let facts = self.facts(out);
         self.report_status(out)?;
+        self.register_saves(out)?;
         self.begin_fetches(out)?;
         self.start_fetch(true, out)?;
         self.close_turn(facts, out)
