@@ -1,14 +1,15 @@
 -- What a turn leaves of the client, from one part to the next: the settings stay, and no number of a request is given back.
-use Rattle.std.proofs.Common.{◌≡◌, ◌≤◌, ◌∙◌, arith}
+use Rattle.std.proofs.Common.{◌≡◌, ◌≤◌, ◌∙◌}
 use Rattle.client.specs.Client.{Client}
 use Rattle.client.specs.declared.handler.ReqHandler.TheVariants.{Ignore, OpenLogs}
 use Rattle.session_model.specs.Asking.{client_registered}
-use Rattle.session_model.specs.Headline.{Place, client_after, client_left}
+use Rattle.session_model.specs.Headline.{Place, client_after, client_asked, client_left, refreshes_at}
 use Rattle.session_model.specs.State.{State}
 use Rattle.session_model.specs.Status.{client_after_status}
+use Rattle.session_model.specs.declared.input.Event.{Event}
 use Rattle.session_model.specs.declared.input.Input.{Input}
 use Rattle.session_model.specs.declared.input.Input.TheVariants.{Start, Next}
-use Rattle.session_laws.proofs.Requests.{asked-more, asked-settings}
+use Rattle.session_laws.proofs.Requests.{asked-more, asked-settings, at-most-on, refreshed-more, refreshed-settings}
 
 -- the client, once the start has told it the status
 abbrev pub begun_client : State → Client
@@ -21,15 +22,23 @@ registered-settings client = asked-settings Ignore _ client
 pub registered-more : (client : Client) → client.asked.given ≤ (client_registered client).asked.given
 registered-more client = asked-more Ignore _ client
 
+-- behind an event, once it is asked for what it shows
+pub quiet-settings : (input : Input) (place : Place) → (client_asked input place).settings ≡ (client_after input place.client).settings
+quiet-settings input place = refreshed-settings (refreshes_at input place) (client_after input place.client)
+
+pub quiet-more : (input : Input) (place : Place) → (client_after input place.client).asked.given ≤ (client_asked input place).asked.given
+quiet-more input place = refreshed-more (refreshes_at input place) (client_after input place.client)
+
 -- behind all that a turn tells it
 pub left-settings : (input : Input) (place : Place) → (client_left input place).settings ≡ (client_after input place.client).settings
 left-settings Start place =
     registered-settings (client_after_status place.status place.files place.workspaces place.client) ∙ asked-settings OpenLogs _ place.client
-left-settings (Next event) place = asked-settings OpenLogs _ (client_after (Next event) place.client)
+left-settings (Next event) place = asked-settings OpenLogs _ (client_asked (Next event) place) ∙ quiet-settings (Next event) place
+
+pub told-more : (event : Event) (place : Place) → (client_asked (Next event) place).asked.given ≤ (client_left (Next event) place).asked.given
+told-more event place = asked-more OpenLogs _ (client_asked (Next event) place)
 
 pub left-more : (input : Input) (place : Place) → (client_after input place.client).asked.given ≤ (client_left input place).asked.given
 left-more Start place =
-    let told = asked-more OpenLogs _ place.client in
-    let registered = registered-more (client_after_status place.status place.files place.workspaces place.client) in
-    omega (arith, told, registered)
-left-more (Next event) place = asked-more OpenLogs _ (client_after (Next event) place.client)
+    at-most-on _ _ _ (asked-more OpenLogs _ place.client) (registered-more (client_after_status place.status place.files place.workspaces place.client))
+left-more (Next event) place = at-most-on _ _ _ (quiet-more (Next event) place) (told-more event place)

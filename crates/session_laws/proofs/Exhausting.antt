@@ -44,13 +44,13 @@ use Rattle.workspaces.specs.Fetches.{fetch_to_start}
 use Rattle.workspaces.specs.declared.requests.FetchRequest.{FetchRequest}
 use Rattle.session_model.specs.Building.{build_due}
 use Rattle.session_model.specs.Fetching.{fetch_jobs}
-use Rattle.session_model.specs.Headline.{batch_row, builds_in, client_after, client_left, fetch_in, fetches_in, files_told, NeedsMore, place_past, row, scene_at, status_after, statuses_at, switch_in}
+use Rattle.session_model.specs.Headline.{batch_row, builds_in, client_after, client_asked, client_left, fetch_in, fetches_in, files_told, NeedsMore, place_past, row, scene_at, status_after, statuses_at, switch_in}
 use Rattle.session_model.specs.Machine.{answer_taken, asked, asked_for_settings, at_client, at_desk, at_files, batched, begin_part, begun_fetches, build_part, build_started, changed_at, client_in, closed, closed_at}
 use Rattle.session_model.specs.Machine.{closing_part, counted, desk_in, event_part, fetch_part, fetch_started, files_in, files_part, files_processed, folders_taken, happened, kept, later_parts, noticed, opened_at, received}
-use Rattle.session_model.specs.Machine.{register_part, saves_registered, start_parts, state_in, status_done, status_part, step, switch_done, switch_part, switched_to, taken, taken_in, told, turned, Turning, turning, with_client, with_desk, with_files}
+use Rattle.session_model.specs.Machine.{quiet_done, quiet_part, register_part, saves_registered, start_parts, state_in, status_done, status_part, step, switch_done, switch_part, switched_to, taken, taken_in, told, turned, Turning, turning, with_client, with_desk, with_files}
 use Rattle.session_model.specs.Machine.{with_state}
 use Rattle.session_model.specs.State.{columns_in, excludes_in, may_start, scene_of, snapshot_of, State}
-use Rattle.session_model.specs.Asking.{client_registered}
+use Rattle.session_model.specs.Asking.{client_refreshed_if, client_registered}
 use Rattle.session_model.specs.Status.{client_after_status}
 use Rattle.session_model.specs.Hearing.{heard_of}
 use Rattle.session_model.specs.Run.{begun}
@@ -63,13 +63,13 @@ use Rattle.session_model.specs.declared.heard.Heard.{Heard}
 use Rattle.session_model.specs.declared.heard.Heard.TheVariants.{Told, Malformed, Unhandled, Silent}
 use Rattle.session_laws.specs.Invariant.{place_of}
 use Rattle.session_laws.proofs.Building.{built-errs}
-use Rattle.session_laws.proofs.Clients.{begun_client, left-more, registered-more}
+use Rattle.session_laws.proofs.Clients.{begun_client, left-more, registered-more, told-more}
 use Rattle.session_laws.proofs.Filing.{AtLast, IsFull, change_of, changed-step-errs, full-err, loaded-errs-by, opened-errs, processed-errs}
 use Rattle.session_laws.proofs.Fetching.{started-errs}
 use Rattle.session_laws.proofs.Rows.{at, begin_and_close, begins, BegunTurn, BehindTurn, build-made, build_and_on, client-behind, counted-is, counted_turn, DoesAtDesk, event-fits, fetch-made, fetch_and_close, fetch_and_on}
 use Rattle.session_laws.proofs.Rows.{fetched-build, FetchedBehind, files-made, files_and_on, kept_past, MadeBehind, mid-switch, MidTurn, notification_input, place_at, ready-fetch, ReadyBehind, ReadyStart, ReadyTurn}
-use Rattle.session_laws.proofs.Rows.{register_and_on, RegisteredTurn, registers, session_in, settled-place, status-begins, status_and_close, switch-made, taken-settles}
-use Rattle.session_laws.proofs.Requests.{asked-errs, IsPast, registered-errs}
+use Rattle.session_laws.proofs.Rows.{quiet-made, QuietTurn, quiet_and_on, ready-client, register_and_on, RegisteredTurn, registers, session_in, settled-place, status-begins, status_and_close, switch-made, taken-settles}
+use Rattle.session_laws.proofs.Requests.{asked-errs, due_in, IsPast, quiet-errs, registered-errs}
 use Rattle.session_laws.proofs.Statuses.{status-errs}
 use Rattle.session_laws.proofs.Starting.{TooManyStarts}
 use Rattle.session_laws.proofs.Switching.{made-errs, switched-errs}
@@ -316,7 +316,17 @@ past-needs : (meaning : Meaning) (s : State) (input : Input) (client : Client) (
     → IsPast client counter → Needs meaning s input counter
 past-needs meaning s input client counter more h = subst (Needs meaning s input) (sym h.0) (omega (arith, h.1, more))
 
--- a status may ask the client
+-- what is shown may ask the client
+quiet-part-errs : (meaning : Meaning) (s : State) (event : Event) (t : Working Turning) → ReadyBehind meaning s event t → IfErr (quiet_part t) (Needs meaning s (Next event))
+unfolding quiet_part
+quiet-part-errs meaning s event t ready =
+    let u = session_in t in
+    IfErr-within state_in with_state (quiet_done t.state.facts) t (Needs meaning s (Next event))
+    (err-weaker (quiet_done t.state.facts u) (IsPast (client_refreshed_if (due_in t.state.facts u.state) u.state.client)) (Needs meaning s (Next event)) (quiet-errs t.state.facts u)
+    (λ c h. past-needs meaning s (Next event) (client_asked (Next event) (place_of s)) c (told-more event (place_of s))
+    (subst (λ (k : Client). IsPast k c) (ready-client meaning s event t ready) h)))
+
+-- so may a status
 status-part-errs : (meaning : Meaning) (s : State) (event : Event) (t : Working Turning) → MadeBehind meaning s event t → IfErr (status_part t) (Needs meaning s (Next event))
 unfolding status_part
 status-part-errs meaning s event t m =
@@ -366,17 +376,22 @@ build-on-errs meaning s event t fetched =
     err-and_then (build_part t) status_and_close (Needs meaning s (Next event)) (build-part-errs meaning s event t fetched)
     (λ u is. status-close-errs meaning s event u (IfOk-at_ok (MadeBehind meaning s event) is (build-made meaning s event t fetched)))
 
-fetch-on-errs : (meaning : Meaning) (s : State) (event : Event) (t : Working Turning) → ReadyBehind meaning s event t → IfErr (fetch_and_on event t) (Needs meaning s (Next event))
+fetch-on-errs : (meaning : Meaning) (s : State) (event : Event) (t : Working Turning) → QuietTurn meaning s event t → IfErr (fetch_and_on event t) (Needs meaning s (Next event))
 fetch-on-errs meaning s event t ready =
     err-and_then (fetch_part (Next event) t) build_and_on (Needs meaning s (Next event))
-    (fetch-part-errs meaning s (Next event) (client_after (Next event) s.client) s.status [] t ready)
+    (fetch-part-errs meaning s (Next event) (client_asked (Next event) (place_of s)) s.status [] t ready)
     (λ u is. build-on-errs meaning s event u
-    (IfOk-at_ok (FetchedBehind meaning s event) is (fetch-made meaning s (Next event) (client_after (Next event) s.client) s.status [] t ready)))
+    (IfOk-at_ok (FetchedBehind meaning s event) is (fetch-made meaning s (Next event) (client_asked (Next event) (place_of s)) s.status [] t ready)))
+
+quiet-on-errs : (meaning : Meaning) (s : State) (event : Event) (t : Working Turning) → ReadyBehind meaning s event t → IfErr (quiet_and_on event t) (Needs meaning s (Next event))
+quiet-on-errs meaning s event t ready =
+    err-and_then (quiet_part t) (fetch_and_on event) (Needs meaning s (Next event)) (quiet-part-errs meaning s event t ready)
+    (λ u is. fetch-on-errs meaning s event u (IfOk-at_ok (QuietTurn meaning s event) is (quiet-made meaning s event t ready)))
 
 files-on-errs : (meaning : Meaning) (s : State) (event : Event) (t : Working Turning) → BehindTurn meaning s event t → IfErr (files_and_on event t) (Needs meaning s (Next event))
 files-on-errs meaning s event t behind =
-    err-and_then (files_part t) (fetch_and_on event) (Needs meaning s (Next event)) (files-part-errs meaning s event t behind)
-    (λ u made. fetch-on-errs meaning s event u (IfOk-at_ok (ReadyBehind meaning s event) made (files-made meaning s event t behind)))
+    err-and_then (files_part t) (quiet_and_on event) (Needs meaning s (Next event)) (files-part-errs meaning s event t behind)
+    (λ u made. quiet-on-errs meaning s event u (IfOk-at_ok (ReadyBehind meaning s event) made (files-made meaning s event t behind)))
 
 step-errs : (meaning : Meaning) (s : State) (input : Input) → IfErr (step meaning input (begun s)) (Needs meaning s input)
 unfolding step

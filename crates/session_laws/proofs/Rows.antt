@@ -1,7 +1,7 @@
 -- The machine's turns are the rows of the reply table.
-use Rattle.std.proofs.Common.{◌≡◌, ℕ, ◌+◌, ◌≤◌, List, [], ◌∷◌, ◌++◌, length, Bool, true, false, refl, sym, ap, ◌∙◌, subst, arith, eqb-true, append-nil, append_assoc}
+use Rattle.std.proofs.Common.{◌≡◌, ℕ, ◌+◌, ◌≤◌, List, [], ◌∷◌, ◌++◌, length, Bool, true, false, refl, sym, ap, ◌∙◌, subst, arith, eq-eqb, eqb-true, append-nil, append_assoc}
 use Rattle.plain.specs.Texts.{text_cmp}
-use Rattle.std.specs.Prelude.{Result, Ok, Err, IfOk, Option, None, Some, ◌==◌, is_some, map as list_map, if◌then◌else◌}
+use Rattle.std.specs.Prelude.{Result, Ok, Err, IfOk, Option, None, Some, ◌==◌, is_some, not, map as list_map, if◌then◌else◌}
 use Rattle.std.specs.FinMap as map
 use Rattle.std.specs.List.{filter_map}
 use Rattle.std.proofs.lemmas.Result.{IfOk-at_ok}
@@ -56,15 +56,16 @@ use Rattle.status.specs.declared.status.Status.{Status}
 use Rattle.workspaces.specs.Fetches.{fetch_to_start, fires, start_fetch, start_up}
 use Rattle.workspaces.specs.Workspaces.{Workspaces}
 use Rattle.workspaces.specs.declared.requests.FetchRequest.{FetchRequest}
-use Rattle.session_model.specs.Asking.{client_registered}
+use Rattle.session_model.specs.Asking.{client_refreshed_if, client_registered, is_refresh_due}
 use Rattle.session_model.specs.Building.{build_due, build_jobs, end_kept, ends_kept, request_told, with_due_build}
 use Rattle.session_model.specs.Fetching.{fetch_jobs, folders_told_if, settings_told, with_fetches}
 use Rattle.session_model.specs.Headline.{Place, reaction_of, row, notice_row, batch_row, desk_after, place_after, place_past, client_after, last_of, revision_after, scene_at, snapshot_at}
-use Rattle.session_model.specs.Headline.{are_due, build_in, changes_due, changes_in, client_left, fetch_in, files_after, files_made, files_told, files_turned, is_changed, jobs_started, left_or, may_start_at, or_before, SetsTimer}
-use Rattle.session_model.specs.Headline.{status_after, statuses_at, switch_in, workspaces_after, workspaces_at, workspaces_fetched, workspaces_planned, workspaces_switched}
+use Rattle.session_model.specs.Headline.{are_due, build_in, changes_due, changes_in, client_asked, client_left, fetch_in, files_after, files_made, files_told, files_turned, is_changed, jobs_started, left_or, may_start_at, or_before, SetsTimer}
+use Rattle.session_model.specs.Headline.{refreshes_at, status_after, statuses_at, switch_in, workspaces_after, workspaces_at, workspaces_fetched, workspaces_planned, workspaces_switched}
 use Rattle.session_model.specs.Inputs.{cancelled_by, request_in, turns_after}
 use Rattle.session_model.specs.Machine.{answer_taken, asked, asked_for_settings, at_client, at_desk, at_files, at_workspaces, batched, begin_part, begun_fetches, brought, build_part, build_started, changed_at, client_in, closed}
 use Rattle.session_model.specs.Machine.{closed_at, closing_part, counted, desk_in, event_part, facts_of, fetch_part, fetch_started, file_changed, files_changed, files_in, files_part, files_planned, files_processed, folders_taken}
+use Rattle.session_model.specs.Machine.{has_new_world, quiet_done, quiet_part}
 use Rattle.session_model.specs.Machine.{happened, kept, later_parts, noticed, opened_at, received, register_part, revised, saves_registered, start_parts, state_in, status_done, status_part, step, switch_done, switch_part, taken, taken_in, timed, timer_set, told}
 use Rattle.session_model.specs.Machine.{turned, Turning, turning, with_client, with_desk, with_files, with_state, with_workspaces}
 use Rattle.session_model.specs.Hearing.{heard_of, told_by}
@@ -72,7 +73,7 @@ use Rattle.session_model.specs.Switching.{switch_made}
 use Rattle.session_model.specs.Timing.{bring_files, planned_by, renewed_if, timer_of}
 use Rattle.session_model.specs.Run.{Turn, Steps, begun, after_input, out_after}
 use Rattle.session_model.specs.State.{State, columns_in, discovers, excludes_in, goes_by_folders, macros_loaded_in, may_start, scene_of, snapshot_of}
-use Rattle.session_model.specs.Status.{client_after_status, status_now, statuses_due, statuses_in}
+use Rattle.session_model.specs.Status.{client_after_status, is_quiescent, status_now, statuses_due, statuses_in}
 use Rattle.session_model.specs.declared.facts.Facts.{Facts}
 use Rattle.session_model.specs.declared.input.Event.{Event}
 use Rattle.session_model.specs.declared.input.Event.TheVariants.{Lsp, Task, Vfs, Deferred, Timer}
@@ -83,13 +84,13 @@ use Rattle.session_model.specs.declared.heard.Heard.TheVariants.{Told, Malformed
 use Rattle.session_laws.specs.Beside.{Serves, Tells, TellsOnly, turn_of}
 use Rattle.session_laws.specs.Invariant.{StepFits, place_of}
 use Rattle.session_laws.proofs.Beside.{beside-fits, beside-revised}
-use Rattle.session_laws.proofs.Clients.{begun_client, left-settings}
+use Rattle.session_laws.proofs.Clients.{begun_client, left-settings, quiet-settings}
 use Rattle.session_laws.proofs.Building.{built-hands, jobs_of_build, no-build, same-fetch}
 use Rattle.session_laws.proofs.Fetching.{jobs_of_fetch, started-hands}
 use Rattle.session_laws.proofs.Filing.{DoesForFiles, KeepsHost, Processes, change-host, change_of, changed-does, closed-does, loaded-does, messages-host, opened-does, opening-host}
 use Rattle.session_laws.proofs.Filing.{processed-does, revision_by, revision_now, turn-revises}
 use Rattle.session_laws.proofs.Numbered.{row-numbered}
-use Rattle.session_laws.proofs.Requests.{registered-does, TellsClient}
+use Rattle.session_laws.proofs.Requests.{due_in, quiet-does, registered-does, TellsClient}
 use Rattle.session_laws.proofs.Same.{none-handed, same_desk, same_place}
 use Rattle.session_laws.proofs.Statuses.{status-does, TellsStatus, told-settings}
 use Rattle.session_laws.proofs.Starting.{StartsJobs}
@@ -809,15 +810,19 @@ pub record FetchedTurn (meaning : Meaning) (s : State) (input : Input) (asked : 
   pub workspaces : t.state.state.workspaces ≡ workspaces_fetched input (place_of s)
   pub hands : spawned t.out.commands ≡ (row meaning input (place_of s)).jobs ++ fetch_jobs t.state.state.desk.handed (snapshot_of t.state.state) (fetch_in input (place_of s))
 
+-- a turn behind its quiet part
+abbrev pub QuietTurn : Meaning → State → Event → Working Turning → Type 0
+QuietTurn meaning s event t = ReadyTurn meaning s (Next event) (client_asked (Next event) (place_of s)) s.status [] t
+
 -- these behind an event, whose status comes last
 abbrev pub ReadyBehind : Meaning → State → Event → Working Turning → Type 0
 ReadyBehind meaning s event t = ReadyTurn meaning s (Next event) (client_after (Next event) s.client) s.status [] t
 
 abbrev pub FetchedBehind : Meaning → State → Event → Working Turning → Type 0
-FetchedBehind meaning s event t = FetchedTurn meaning s (Next event) (client_after (Next event) s.client) s.status [] t
+FetchedBehind meaning s event t = FetchedTurn meaning s (Next event) (client_asked (Next event) (place_of s)) s.status [] t
 
 abbrev pub MadeBehind : Meaning → State → Event → Working Turning → Type 0
-MadeBehind meaning s event t = MadeTurn meaning s (Next event) (client_after (Next event) s.client) s.status [] t
+MadeBehind meaning s event t = MadeTurn meaning s (Next event) (client_asked (Next event) (place_of s)) s.status [] t
 
 -- these of the start, whose status comes first
 abbrev pub ReadyStart : Meaning → State → Working Turning → Type 0
@@ -857,6 +862,64 @@ files-made meaning s event t m =
       spawns = ap (λ (o : Written). spawned o.commands) p.out ∙ m.behind.spawns;
     })))
     (λ v ready. ready))
+
+-- ---- the quiet part
+
+-- the client is told something, and has come to this
+told-made : (meaning : Meaning) (s : State) (input : Input) (asked client : Client) (last : Status) (sent : List Data) (w v : Working State) → Made meaning s input asked last sent w
+    → TellsClient client [] w v → client.settings ≡ asked.settings → Made meaning s input client last sent v
+told-made meaning s input asked client last sent w v made told same = record {
+  serves = beside-fits meaning s input (after_input input s.desk.jobs) w v (beside-told w v told.tells (ap (λ (x : State). x.desk) told.state)) made.serves;
+  client = ap (λ (x : State). x.client) told.state;
+  status = ap (λ (x : State). x.status) told.state ∙ made.status;
+  settings = same ∙ made.settings;
+  files = made.files ∙ sym (ap (λ (x : State). Ok x.files) told.state);
+  unrevised = ap (filter_map revision_of) told.tells.ordered ∙ revisions-append w.out.commands told.tells.commands ∙ (λ i. made.unrevised i ++ told.tells.revises_none i);
+  told = ap statuses_in told.tells.written ∙ statuses-append w.out.messages told.tells.messages ∙ (λ i. made.told i ++ told.tells.tells i) ∙ append-nil sent;
+  untimed = ap (filter_map timer_of) told.tells.ordered ∙ timers-append w.out.commands told.tells.commands ∙ (λ i. made.untimed i ++ told.tells.times_none i);
+  revised = ap (λ (x : State). x.files.host.revision) told.state ∙ made.revised;
+}
+
+-- a revision that rises is another
+risen : (n : ℕ) (b : Bool) → (n + 1 == n) ≡ b → b ≡ false
+risen n true is = let same : n + 1 ≡ n = eqb-true _ _ is in absurd (omega (arith, same))
+risen n false is = refl
+
+is-risen : (changed : Bool) (files : SessionFiles) → not (revision_now changed files == files.host.revision) ≡ changed
+is-risen true files = ap not (risen files.host.revision (files.host.revision + 1 == files.host.revision) refl)
+is-risen false files = ap not (eq-eqb files.host.revision files.host.revision refl)
+
+-- what the quiet part finds is what the lists say
+pub ready-due : (meaning : Meaning) (s : State) (event : Event) (t : Working Turning) → ReadyBehind meaning s event t
+    → due_in t.state.facts t.state.state ≡ refreshes_at (Next event) (place_of s)
+ready-due meaning s event t ready =
+    let revision : ℕ = t.state.state.files.host.revision in
+    let changed : Bool = is_changed s.client.settings (Next event) s.files in
+    let new : has_new_world t.state.facts t.state.state ≡ changed =
+    ap (λ (f : Facts). not (revision == f.revision)) ready.facts ∙ ap (λ (n : ℕ). not (n == s.files.host.revision)) ready.made.revised ∙ is-risen changed s.files in
+    λ i. is_refresh_due (ready.facts i).quiescent (is_quiescent (files-now s (Next event) t.state.state.files ready.made.files i) (ready.workspaces i)) (new i)
+
+-- the client that it leaves
+pub ready-client : (meaning : Meaning) (s : State) (event : Event) (t : Working Turning) → ReadyBehind meaning s event t
+    → client_refreshed_if (due_in t.state.facts t.state.state) t.state.state.client ≡ client_asked (Next event) (place_of s)
+ready-client meaning s event t ready = λ i. client_refreshed_if (ready-due meaning s event t ready i) (ready.made.client i)
+
+pub quiet-made : (meaning : Meaning) (s : State) (event : Event) (t : Working Turning) → ReadyBehind meaning s event t → IfOk (quiet_part t) (QuietTurn meaning s event)
+unfolding quiet_part
+quiet-made meaning s event t ready =
+    let w = session_in t in
+    let left : Client = client_asked (Next event) (place_of s) in
+    IfOk-within state_in with_state (quiet_done t.state.facts) t (QuietTurn meaning s event)
+    (IfOk-weaker (quiet_done t.state.facts w) (TellsClient (client_refreshed_if (due_in t.state.facts w.state) w.state.client) [] w) _ (quiet-does t.state.facts w)
+    (λ v told. let now : TellsClient left [] w v = subst (λ (c : Client). TellsClient c [] w v) (ready-client meaning s event t ready) told in
+    record {
+      facts = ready.facts;
+      made = told-made meaning s (Next event) (client_after (Next event) s.client) left s.status [] w v ready.made now (quiet-settings (Next event) (place_of s));
+      workspaces = ap (λ (x : State). x.workspaces) now.state ∙ ready.workspaces;
+      spawns = ap spawned now.tells.ordered ∙ spawned-append w.out.commands now.tells.commands ∙ (λ i. ready.spawns i ++ now.tells.spawns_none i) ∙ append-nil _;
+    }))
+
+-- ---- the start
 
 -- the start tells its status
 pub record BegunTurn (s : State) (t : Working Turning) : Type 0 where
@@ -974,7 +1037,7 @@ build-made meaning s event t fetched =
     let same = same-fetch (fetch_in input place) version w v (λ some. is ∙ alone s event some) h in
     record {
       facts = fetched.facts;
-      made = started-now meaning s input (client_after input s.client) s.status [] w v (jobs_of_build version) after fetched.made h;
+      made = started-now meaning s input (client_asked input place) s.status [] w v (jobs_of_build version) after fetched.made h;
       workspaces = h.now ∙ ap with_due_build fetched.workspaces;
       hands = h.hands ∙ ap (λ (js : List Job). js ++ build_jobs v.state.desk.handed (snapshot_of v.state) version) (fetched.hands ∙ ap (λ (js : List Job). jobs ++ js) same)
           ∙ append_assoc jobs fetch (build_jobs v.state.desk.handed (snapshot_of v.state) version)
@@ -1001,7 +1064,8 @@ client-behind meaning s event t m =
 status-behind : (meaning : Meaning) (s : State) (event : Event) (t : Working Turning) → MadeBehind meaning s event t
     → status_now t.state.state.client.settings t.state.state.files t.state.state.workspaces ≡ status_after (Next event) (place_of s)
 status-behind meaning s event t m =
-    λ i. status_now (m.made.client i).settings (files-now s (Next event) t.state.state.files m.made.files i) (m.workspaces i)
+    let settings : t.state.state.client.settings ≡ (client_after (Next event) s.client).settings = ap (λ (c : Client). c.settings) m.made.client ∙ m.made.settings in
+    λ i. status_now (settings i) (files-now s (Next event) t.state.state.files m.made.files i) (m.workspaces i)
 
 -- the status that is told
 due-behind : (meaning : Meaning) (s : State) (event : Event) (t : Working Turning) → MadeBehind meaning s event t
@@ -1114,20 +1178,29 @@ build-fits meaning s event t fetched =
 abbrev pub fetch_and_on : Event → Working Turning → Result (Working Turning) Counter
 fetch_and_on event t = and_then (fetch_part (Next event) t) build_and_on
 
-fetch-fits : (meaning : Meaning) (s : State) (event : Event) (t : Working Turning) → ReadyBehind meaning s event t → IfOk (fetch_and_on event t) (λ v. Closes meaning s (Next event) (session_in v))
+fetch-fits : (meaning : Meaning) (s : State) (event : Event) (t : Working Turning) → QuietTurn meaning s event t → IfOk (fetch_and_on event t) (λ v. Closes meaning s (Next event) (session_in v))
 fetch-fits meaning s event t ready =
     IfOk-and_then (fetch_part (Next event) t) build_and_on (FetchedBehind meaning s event) (λ v. Closes meaning s (Next event) (session_in v))
-    (fetch-made meaning s (Next event) (client_after (Next event) s.client) s.status [] t ready)
+    (fetch-made meaning s (Next event) (client_asked (Next event) (place_of s)) s.status [] t ready)
     (λ u fetched. build-fits meaning s event u fetched)
+
+-- the client is asked for what it shows before that
+abbrev pub quiet_and_on : Event → Working Turning → Result (Working Turning) Counter
+quiet_and_on event t = and_then (quiet_part t) (fetch_and_on event)
+
+quiet-fits : (meaning : Meaning) (s : State) (event : Event) (t : Working Turning) → ReadyBehind meaning s event t → IfOk (quiet_and_on event t) (λ v. Closes meaning s (Next event) (session_in v))
+quiet-fits meaning s event t ready =
+    IfOk-and_then (quiet_part t) (fetch_and_on event) (QuietTurn meaning s event) (λ v. Closes meaning s (Next event) (session_in v))
+    (quiet-made meaning s event t ready) (λ u quiet. fetch-fits meaning s event u quiet)
 
 -- what has changed goes into the world before that
 abbrev pub files_and_on : Event → Working Turning → Result (Working Turning) Counter
-files_and_on event t = and_then (files_part t) (fetch_and_on event)
+files_and_on event t = and_then (files_part t) (quiet_and_on event)
 
 files-fit : (meaning : Meaning) (s : State) (event : Event) (t : Working Turning) → BehindTurn meaning s event t → IfOk (files_and_on event t) (λ v. Closes meaning s (Next event) (session_in v))
 files-fit meaning s event t behind =
-    IfOk-and_then (files_part t) (fetch_and_on event) (ReadyBehind meaning s event) (λ v. Closes meaning s (Next event) (session_in v))
-    (files-made meaning s event t behind) (λ u ready. fetch-fits meaning s event u ready)
+    IfOk-and_then (files_part t) (quiet_and_on event) (ReadyBehind meaning s event) (λ v. Closes meaning s (Next event) (session_in v))
+    (files-made meaning s event t behind) (λ u ready. quiet-fits meaning s event u ready)
 
 step-fits : (meaning : Meaning) (s : State) (input : Input) → IfOk (step meaning input (begun s)) (Closes meaning s input)
 unfolding step

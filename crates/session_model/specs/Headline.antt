@@ -49,12 +49,12 @@ use Rattle.workspaces.specs.Workspaces.{Workspaces, no_workspaces}
 use Rattle.workspaces.specs.declared.follows.Follows.{Follows}
 use Rattle.workspaces.specs.declared.follows.Follows.TheVariants.{Nothing}
 use Rattle.workspaces.specs.declared.requests.FetchRequest.{FetchRequest}
-use Rattle.session_model.specs.Asking.{client_registered}
+use Rattle.session_model.specs.Asking.{client_refreshed_if, client_registered, is_refresh_due}
 use Rattle.session_model.specs.Building.{build_due, build_jobs, end_kept, ends_kept, request_told, with_due_build}
 use Rattle.session_model.specs.Fetching.{fetch_jobs, folders_told_if, settings_told, with_fetches}
 use Rattle.session_model.specs.Hearing.{heard_of, told_by}
 use Rattle.session_model.specs.State.{columns_in, discovers, excludes_in, first_status, goes_by_folders, macros_loaded_in, may_start}
-use Rattle.session_model.specs.Status.{client_after_status, status_now, statuses_due, statuses_in}
+use Rattle.session_model.specs.Status.{client_after_status, is_quiescent, status_now, statuses_due, statuses_in}
 use Rattle.session_model.specs.Switching.{switch_made}
 use Rattle.session_model.specs.Timing.{bring_files, planned_by, renewed_if, timer_of, timers_set}
 use Rattle.session_model.specs.Run.{Turn, Told, AllRead, AsksLast, IsHonestInput, commands_of, fed_bytes, out_after, taking, telling}
@@ -155,6 +155,16 @@ or_before files (Err counter) = files
 abbrev pub files_after : ConfigData → Input → SessionFiles → SessionFiles
 files_after settings input files = or_before files (files_made settings input files)
 
+-- the contents of some path aren't those that the world was last made of, and no files are loading
+abbrev pub are_due : Result SessionFiles Counter → Bool
+are_due (Ok files) = is_due files
+are_due (Err counter) = false
+
+-- a turn changes the world
+abbrev pub is_changed : ConfigData → Input → SessionFiles → Bool
+is_changed settings Start files = false
+is_changed settings (Next event) files = are_due (files_told settings (Next event) files)
+
 -- the client is asked for its settings, or tells which folders its workspaces have
 abbrev pub client_told : Option Notice → Client → Client
 client_told None client = client
@@ -222,6 +232,19 @@ abbrev pub workspaces_planned : Input → Place → Workspaces
 workspaces_planned input place =
     planned_by (client_after input place.client).settings (next_turn place) (changes_in input place) (workspaces_switched input place)
 
+-- a turn asks the client to ask anew for what it shows: behind its switch and its files it is quiescent, and was not before, or it changes the world. The
+-- start asks for nothing of it
+abbrev pub refreshes_at : Input → Place → Bool
+refreshes_at Start place = false
+refreshes_at (Next event) place =
+    is_refresh_due (is_quiescent place.files place.workspaces)
+    (is_quiescent (files_after place.client.settings (Next event) place.files) (workspaces_planned (Next event) place))
+    (is_changed place.client.settings (Next event) place.files)
+
+-- the client behind that
+abbrev pub client_asked : Input → Place → Client
+client_asked input place = client_refreshed_if (refreshes_at input place) (client_after input place.client)
+
 -- behind an input fetches may start, by the settings that it leaves
 abbrev pub may_start_at : Input → Client → Bool
 may_start_at input client = may_start input (client_after input client).settings
@@ -249,11 +272,11 @@ status_after Start place = status_now place.client.settings place.files place.wo
 status_after (Next event) place =
     status_now (client_after (Next event) place.client).settings (files_after place.client.settings (Next event) place.files) (workspaces_after (Next event) place)
 
--- the client behind all that a turn tells it: the start may ask it to tell of saved documents, and each turn whether the logs are to be opened
+-- the client behind all that a turn tells it: the start may ask it to tell of saved documents, and each turn may ask whether the logs are to be opened
 abbrev pub client_left : Input → Place → Client
 client_left Start place = client_registered (client_after_status place.status place.files place.workspaces place.client)
 client_left (Next event) place =
-    client_after_status place.status (files_after place.client.settings (Next event) place.files) (workspaces_after (Next event) place) (client_after (Next event) place.client)
+    client_after_status place.status (files_after place.client.settings (Next event) place.files) (workspaces_after (Next event) place) (client_asked (Next event) place)
 
 -- the last of numbers, else the one before
 abbrev pub last_of : List ℕ → ℕ → ℕ
@@ -361,16 +384,6 @@ pub record WasHandedOver (settings : ConfigData) (turns : List Turn) (ticket : �
 abbrev pub AreHandedOver : ConfigData → List Turn → Jobs → Type 0
 AreHandedOver settings turns jobs =
     (number : ℕ) (job : Job) (ticket : ℕ) → map.get jobs number ≡ Some job → ticket_of job.kind ≡ Some ticket → WasHandedOver settings turns ticket job
-
--- the contents of some path aren't those that the world was last made of, and no files are loading
-abbrev pub are_due : Result SessionFiles Counter → Bool
-are_due (Ok files) = is_due files
-are_due (Err counter) = false
-
--- a turn changes the world
-abbrev pub is_changed : ConfigData → Input → SessionFiles → Bool
-is_changed settings Start files = false
-is_changed settings (Next event) files = are_due (files_told settings (Next event) files)
 
 -- the revision is one more where the turn changes the world, and else the same
 abbrev pub Revises : Turn → Place → Type 0

@@ -24,7 +24,8 @@ use Rattle.client.specs.declared.handler.ReqHandler.TheVariants.{Ignore, OpenLog
 use Rattle.notify.specs.declared.outgo.MessageKind.{MessageKind}
 use Rattle.notify.specs.declared.outgo.MessageKind.TheVariants.{Warning}
 use Rattle.notify.specs.declared.outgo.Outgo.{Outgo}
-use Rattle.notify.specs.declared.outgo.Outgo.TheVariants.{Configuration, RegisterSave, ShowMessage, ShowMessageRequest}
+use Rattle.notify.specs.declared.outgo.Outgo.TheVariants.{CodeLensRefresh, Configuration, DiagnosticRefresh, InlayHintRefresh, RegisterSave}
+use Rattle.notify.specs.declared.outgo.Outgo.TheVariants.{SemanticTokensRefresh, ShowMessage, ShowMessageRequest}
 use Rattle.notify.specs.declared.notice.DidChange.{DidChange}
 use Rattle.notify.specs.declared.notice.DidOpen.{DidOpen}
 use Rattle.notify.specs.declared.notice.Notice.{Notice}
@@ -32,6 +33,7 @@ use Rattle.notify.specs.declared.notice.Notice.TheVariants as notices
 use Rattle.desk.specs.Desk.{Desk}
 use Rattle.desk.specs.Meaning.{Meaning}
 use Rattle.desk.specs.Steps.{requested, cancelled, counted as counted_at_desk, handed_over, taken as taken_at_desk, kept as kept_at_desk}
+use Rattle.ra_config.specs.declared.capabilities.Capabilities.{Capabilities}
 use Rattle.session_files.specs.Folds.{due_changes}
 use Rattle.session_files.specs.SessionFiles.{SessionFiles}
 use Rattle.session_files.specs.Steps.{changed, closed as closed_document, loaded, opened, processed}
@@ -43,12 +45,12 @@ use Rattle.workspaces.specs.Workspaces.{Workspaces}
 use Rattle.workspaces.specs.declared.follows.Follows.{Follows}
 use Rattle.workspaces.specs.declared.follows.Follows.TheVariants.{Nothing, CrateData, Wait, GoOn}
 use Rattle.workspaces.specs.declared.requests.FetchRequest.{FetchRequest}
-use Rattle.session_model.specs.Asking.{registers_saves}
+use Rattle.session_model.specs.Asking.{is_refresh_due, registers_saves}
 use Rattle.session_model.specs.Building.{build_due, end_kept, request_told, with_due_build}
 use Rattle.session_model.specs.Fetching.{folders_told_if, settings_told, with_fetches}
 use Rattle.session_model.specs.Hearing.{heard_of}
 use Rattle.session_model.specs.State.{client_watches, columns_in, discovers, excludes_in, fetch_kind, goes_by_folders, may_start, scene_of, snapshot_of, State, watched_names}
-use Rattle.session_model.specs.Status.{opens_logs, shown_of, status_message, status_now, takes_status}
+use Rattle.session_model.specs.Status.{is_quiescent, opens_logs, shown_of, status_message, status_now, takes_status}
 use Rattle.session_model.specs.Switching.{switch_made}
 use Rattle.session_model.specs.Timing.{bring_files, planned_by, renewed_if}
 use Rattle.session_model.specs.declared.facts.Facts.{Facts}
@@ -294,8 +296,24 @@ files_processed w =
 unfoldable pub files_part : Working Turning → Result (Working Turning) Counter
 files_part w = in_state files_processed w
 
-abbrev pub quiet_part : Working Turning → Result (Working Turning) Counter
-quiet_part w = Ok w
+-- the client is asked to ask anew for what it shows, for each thing where it can be asked
+unfoldable pub refreshed : Capabilities → Working State → Result (Working State) Counter
+refreshed can w =
+    and_then (asked_if can.semantic_tokens_refresh SemanticTokensRefresh w) (λ w. and_then (asked_if can.code_lens_refresh CodeLensRefresh w)
+    (λ w. and_then (asked_if can.inlay_hints_refresh InlayHintRefresh w) (asked_if can.diagnostics_refresh DiagnosticRefresh)))
+
+-- the world is another than before the event
+abbrev pub has_new_world : Facts → State → Bool
+has_new_world facts state = not (state.files.host.revision == facts.revision)
+
+-- in a session that has come to be quiescent, and in one that is and whose world has changed
+unfoldable pub quiet_done : Facts → Working State → Result (Working State) Counter
+quiet_done facts w =
+    if is_refresh_due facts.quiescent (is_quiescent w.state.files w.state.workspaces) (has_new_world facts w.state)
+    then refreshed w.state.client.settings.capabilities w else Ok w
+
+unfoldable pub quiet_part : Working Turning → Result (Working Turning) Counter
+quiet_part w = in_state (quiet_done w.state.facts) w
 
 abbrev pub publish_part : Working Turning → Result (Working Turning) Counter
 publish_part w = Ok w
@@ -396,7 +414,11 @@ start_parts w =
 
 -- the facts before a turn
 abbrev pub facts_of : Working State → Facts
-facts_of w = record { revision = w.state.files.host.revision; ordered = length w.out.commands }
+facts_of w = record {
+  revision = w.state.files.host.revision;
+  ordered = length w.out.commands;
+  quiescent = is_quiescent w.state.files w.state.workspaces;
+}
 
 abbrev pub turning : Working State → Working Turning
 turning w = record { state = record { state = w.state; facts = facts_of w }; out = w.out }

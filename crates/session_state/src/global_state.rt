@@ -18,6 +18,7 @@ mod fetching;
 mod filing;
 mod messages;
 mod notifications;
+mod refreshing;
 mod registering;
 mod switching;
 mod telling;
@@ -279,6 +280,7 @@ impl GlobalState {
         Facts {
             revision: self.files.revision(),
             ordered: out.commands().len(),
+            quiescent: self.is_quiescent(),
         }
     }
 
@@ -296,7 +298,7 @@ impl GlobalState {
     }
 
     /// One turn. After an `Err` the state is spent.
-    #[tactic(auto, unfolding(session_model::specs::Machine::step, session_model::specs::Machine::event_part, session_model::specs::Machine::switch_part, session_model::specs::Machine::files_part, session_model::specs::Machine::fetch_part, session_model::specs::Machine::build_part, session_model::specs::Machine::status_part, session_model::specs::Machine::closing_part, turn_parts::specs::Working::within))]
+    #[tactic(auto, unfolding(session_model::specs::Machine::step, session_model::specs::Machine::event_part, session_model::specs::Machine::switch_part, session_model::specs::Machine::files_part, session_model::specs::Machine::quiet_part, session_model::specs::Machine::fetch_part, session_model::specs::Machine::build_part, session_model::specs::Machine::status_part, session_model::specs::Machine::closing_part, turn_parts::specs::Working::within))]
     pub fn handle_event<A: Analysis>(
         &mut self,
         event: Event,
@@ -309,6 +311,7 @@ impl GlobalState {
         self.take_in(event, analysis, out)?;
         self.switch_workspaces(out)?;
         self.process(out)?;
+        self.refresh(facts, out)?;
         let may = self.may_fetch();
         self.start_fetch(may, out)?;
         self.start_build(out)?;
