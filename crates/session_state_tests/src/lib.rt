@@ -14,6 +14,8 @@ mod fetching;
 #[cfg(test)]
 mod methods;
 #[cfg(test)]
+mod refreshing;
+#[cfg(test)]
 mod registering;
 #[cfg(test)]
 mod results;
