@@ -3,7 +3,7 @@ use Rattle.std.proofs.Common.{◌≡◌, ◌≤◌, ◌∙◌}
 use Rattle.client.specs.Client.{Client}
 use Rattle.client.specs.declared.handler.ReqHandler.TheVariants.{Ignore, OpenLogs}
 use Rattle.session_model.specs.Asking.{client_registered}
-use Rattle.session_model.specs.Headline.{Place, client_after, client_asked, client_left, refreshes_at}
+use Rattle.session_model.specs.Headline.{Place, client_after, client_asked, client_left, client_switched, refreshes_at}
 use Rattle.session_model.specs.State.{State}
 use Rattle.session_model.specs.Status.{client_after_status}
 use Rattle.session_model.specs.declared.input.Event.{Event}
@@ -22,23 +22,35 @@ registered-settings client = asked-settings Ignore _ client
 pub registered-more : (client : Client) → client.asked.given ≤ (client_registered client).asked.given
 registered-more client = asked-more Ignore _ client
 
--- behind an event, once it is asked for what it shows
-pub quiet-settings : (input : Input) (place : Place) → (client_asked input place).settings ≡ (client_after input place.client).settings
-quiet-settings input place = refreshed-settings (refreshes_at input place) (client_after input place.client)
+-- behind the switch of a turn
+pub switched-settings : (input : Input) (place : Place) → (client_switched input place).settings ≡ (client_after input place.client).settings
+switched-settings input place = asked-settings Ignore _ (client_after input place.client)
 
-pub quiet-more : (input : Input) (place : Place) → (client_after input place.client).asked.given ≤ (client_asked input place).asked.given
-quiet-more input place = refreshed-more (refreshes_at input place) (client_after input place.client)
+switched-more : (input : Input) (place : Place) → (client_after input place.client).asked.given ≤ (client_switched input place).asked.given
+switched-more input place = asked-more Ignore _ (client_after input place.client)
+
+-- once it is asked for what it shows
+pub quiet-settings : (input : Input) (place : Place) → (client_asked input place).settings ≡ (client_switched input place).settings
+quiet-settings input place = refreshed-settings (refreshes_at input place) (client_switched input place)
+
+quiet-more : (input : Input) (place : Place) → (client_switched input place).asked.given ≤ (client_asked input place).asked.given
+quiet-more input place = refreshed-more (refreshes_at input place) (client_switched input place)
 
 -- behind all that a turn tells it
 pub left-settings : (input : Input) (place : Place) → (client_left input place).settings ≡ (client_after input place.client).settings
 left-settings Start place =
     registered-settings (client_after_status place.status place.files place.workspaces place.client) ∙ asked-settings OpenLogs _ place.client
-left-settings (Next event) place = asked-settings OpenLogs _ (client_asked (Next event) place) ∙ quiet-settings (Next event) place
+left-settings (Next event) place =
+    asked-settings OpenLogs _ (client_asked (Next event) place) ∙ quiet-settings (Next event) place ∙ switched-settings (Next event) place
 
+-- no number is given back behind what is asked of what it shows, and behind the switch
 pub told-more : (event : Event) (place : Place) → (client_asked (Next event) place).asked.given ≤ (client_left (Next event) place).asked.given
 told-more event place = asked-more OpenLogs _ (client_asked (Next event) place)
+
+pub watched-more : (event : Event) (place : Place) → (client_switched (Next event) place).asked.given ≤ (client_left (Next event) place).asked.given
+watched-more event place = at-most-on _ _ _ (quiet-more (Next event) place) (told-more event place)
 
 pub left-more : (input : Input) (place : Place) → (client_after input place.client).asked.given ≤ (client_left input place).asked.given
 left-more Start place =
     at-most-on _ _ _ (asked-more OpenLogs _ place.client) (registered-more (client_after_status place.status place.files place.workspaces place.client))
-left-more (Next event) place = at-most-on _ _ _ (quiet-more (Next event) place) (told-more event place)
+left-more (Next event) place = at-most-on _ _ _ (switched-more (Next event) place) (watched-more event place)

@@ -2,7 +2,7 @@
 use Rattle.std.proofs.Common.{◌≡◌, ℕ, ◌+◌, ◌-◌, ◌^◌, ◌≤◌, ◌<◌, List, [], ◌∷◌, ◌++◌, length, Bool, true, false, refl, sym, ap, ◌∙◌, subst, arith, eqb-true}
 use Rattle.std.proofs.lemmas.List.{length-append}
 use Rattle.std.proofs.lemmas.Result.{IfErr-at_err, IfOk-at_ok}
-use Rattle.std.specs.Prelude.{Err, IfErr, if◌then◌else◌, is_some, None, Ok, Option, Result, Some, ◌==◌}
+use Rattle.std.specs.Prelude.{◌⊎◌, Err, IfErr, if◌then◌else◌, is_some, None, Ok, Option, Result, Some, ◌==◌}
 use Rattle.serde_json.specs.Data.{Data}
 use Rattle.docs_vfs.specs.FileUrls.{path_of}
 use Rattle.docs_vfs.specs.declared.file_url.UrlFault.{UrlFault}
@@ -44,13 +44,13 @@ use Rattle.workspaces.specs.Fetches.{fetch_to_start}
 use Rattle.workspaces.specs.declared.requests.FetchRequest.{FetchRequest}
 use Rattle.session_model.specs.Building.{build_due}
 use Rattle.session_model.specs.Fetching.{fetch_jobs}
-use Rattle.session_model.specs.Headline.{batch_row, builds_in, client_after, client_asked, client_left, fetch_in, fetches_in, files_told, NeedsMore, place_past, row, scene_at, status_after, statuses_at, switch_in}
+use Rattle.session_model.specs.Headline.{batch_row, builds_in, client_after, client_asked, client_left, client_switched, fetch_in, fetches_in, files_told, NeedsMore, place_past, row, scene_at, status_after, statuses_at, switch_in}
 use Rattle.session_model.specs.Machine.{answer_taken, asked, asked_for_settings, at_client, at_desk, at_files, batched, begin_part, begun_fetches, build_part, build_started, changed_at, client_in, closed, closed_at}
 use Rattle.session_model.specs.Machine.{closing_part, counted, desk_in, event_part, fetch_part, fetch_started, files_in, files_part, files_processed, folders_taken, happened, kept, later_parts, noticed, opened_at, received}
 use Rattle.session_model.specs.Machine.{quiet_done, quiet_part, register_part, saves_registered, start_parts, state_in, status_done, status_part, step, switch_done, switch_part, switched_to, taken, taken_in, told, turned, Turning, turning, with_client, with_desk, with_files}
 use Rattle.session_model.specs.Machine.{with_state}
 use Rattle.session_model.specs.State.{columns_in, excludes_in, may_start, scene_of, snapshot_of, State}
-use Rattle.session_model.specs.Asking.{client_refreshed_if, client_registered}
+use Rattle.session_model.specs.Asking.{client_refreshed_if, client_registered, client_watching}
 use Rattle.session_model.specs.Status.{client_after_status}
 use Rattle.session_model.specs.Hearing.{heard_of}
 use Rattle.session_model.specs.Run.{begun}
@@ -63,11 +63,11 @@ use Rattle.session_model.specs.declared.heard.Heard.{Heard}
 use Rattle.session_model.specs.declared.heard.Heard.TheVariants.{Told, Malformed, Unhandled, Silent}
 use Rattle.session_laws.specs.Invariant.{place_of}
 use Rattle.session_laws.proofs.Building.{built-errs}
-use Rattle.session_laws.proofs.Clients.{begun_client, left-more, registered-more, told-more}
+use Rattle.session_laws.proofs.Clients.{begun_client, left-more, registered-more, told-more, watched-more}
 use Rattle.session_laws.proofs.Filing.{AtLast, IsFull, change_of, changed-step-errs, full-err, loaded-errs-by, opened-errs, processed-errs}
 use Rattle.session_laws.proofs.Fetching.{started-errs}
 use Rattle.session_laws.proofs.Rows.{at, begin_and_close, begins, BegunTurn, BehindTurn, build-made, build_and_on, client-behind, counted-is, counted_turn, DoesAtDesk, event-fits, fetch-made, fetch_and_close, fetch_and_on}
-use Rattle.session_laws.proofs.Rows.{fetched-build, FetchedBehind, files-made, files_and_on, kept_past, MadeBehind, mid-switch, MidTurn, notification_input, place_at, ready-fetch, ReadyBehind, ReadyStart, ReadyTurn}
+use Rattle.session_laws.proofs.Rows.{fetched-build, FetchedBehind, files-made, files_and_on, kept_past, MadeBehind, Mid, mid-switch, MidTurn, notification_input, place_at, ready-fetch, ReadyBehind, ReadyStart, ReadyTurn}
 use Rattle.session_laws.proofs.Rows.{quiet-made, QuietTurn, quiet_and_on, ready-client, register_and_on, RegisteredTurn, registers, session_in, settled-place, status-begins, status_and_close, switch-made, taken-settles}
 use Rattle.session_laws.proofs.Requests.{asked-errs, due_in, IsPast, quiet-errs, registered-errs}
 use Rattle.session_laws.proofs.Statuses.{status-errs}
@@ -244,16 +244,31 @@ closing-errs : (t : Working Turning) (P : Counter → Type 0) → IfErr (closing
 unfolding closing_part
 closing-errs t P = IfErr-within state_in with_state (closed t.state.facts) t P (closed-errs t.state.facts _ P)
 
--- a switch needs a version more
+-- a request that is one too many is so of the turn
+past-needs : (meaning : Meaning) (s : State) (input : Input) (client : Client) (counter : Counter) → client.asked.given ≤ (client_left input (place_of s)).asked.given
+    → IsPast client counter → Needs meaning s input counter
+past-needs meaning s input client counter more h = subst (Needs meaning s input) (sym h.0) (omega (arith, h.1, more))
+
+-- a switch needs a version more, or a request more
+switch-needs : (meaning : Meaning) (s : State) (event : Event) (u : Working State) (counter : Counter) → Mid meaning s (Next event) u
+    → (switch_made u.state.client.settings u.state.files u.state.workspaces ≡ Err counter)
+    ⊎ IsPast (client_watching (switch_made u.state.client.settings u.state.files u.state.workspaces) u.state.client) counter → Needs meaning s (Next event) counter
+switch-needs meaning s event u counter mid (inl refused) =
+    let is : counter ≡ LoaderSettings = IfErr-at_err (λ c. c ≡ LoaderSettings) refused (made-errs u.state.client.settings u.state.files u.state.workspaces) in
+    subst (Needs meaning s (Next event)) (sym is) (sym (mid-switch meaning s event u mid) ∙ refused ∙ ap Err is)
+switch-needs meaning s event u counter mid (inr past) =
+    let client : client_watching (switch_made u.state.client.settings u.state.files u.state.workspaces) u.state.client ≡ client_switched (Next event) (place_of s) =
+    λ i. client_watching (mid-switch meaning s event u mid i) (mid.client i) in
+    past-needs meaning s (Next event) (client_switched (Next event) (place_of s)) counter (watched-more event (place_of s)) (subst (λ (k : Client). IsPast k counter) client past)
+
 switch-part-errs : (meaning : Meaning) (s : State) (event : Event) (t : Working Turning) → MidTurn meaning s (Next event) t → IfErr (switch_part t) (Needs meaning s (Next event))
 unfolding switch_part switch_done
 switch-part-errs meaning s event t m =
     let u = session_in t in
     let made = switch_made u.state.client.settings u.state.files u.state.workspaces in
     IfErr-within state_in with_state switch_done t (Needs meaning s (Next event))
-    (err-weaker (switched_to made u) (λ counter. made ≡ Err counter) (Needs meaning s (Next event)) (switched-errs made u)
-    (λ counter refused. let is : counter ≡ LoaderSettings = IfErr-at_err (λ c. c ≡ LoaderSettings) refused (made-errs u.state.client.settings u.state.files u.state.workspaces) in
-    subst (Needs meaning s (Next event)) (sym is) (sym (mid-switch meaning s event u m.mid) ∙ refused ∙ ap Err is)))
+    (err-weaker (switched_to made u) (λ counter. (made ≡ Err counter) ⊎ IsPast (client_watching made u.state.client) counter) (Needs meaning s (Next event)) (switched-errs made u)
+    (λ counter refused. switch-needs meaning s event u counter m.mid refused))
 
 -- the world is to change at the last revision
 files-part-errs : (meaning : Meaning) (s : State) (event : Event) (t : Working Turning) → BehindTurn meaning s event t → IfErr (files_part t) (Needs meaning s (Next event))
@@ -310,11 +325,6 @@ build-part-errs meaning s event t fetched =
     subst (λ (o : Option ℕ). 2 ^ 64 ≤ given + (if is_some o then 1 else 0)) (fetched-build meaning s event t fetched) h.1 in
     subst (Needs meaning s input) (sym h.0)
     (with-build s.desk.handed (length jobs) (fetches_in input place) (builds_in input place) given (length (jobs ++ fetch)) handed both many)))
-
--- a request that is one too many is so of the turn
-past-needs : (meaning : Meaning) (s : State) (input : Input) (client : Client) (counter : Counter) → client.asked.given ≤ (client_left input (place_of s)).asked.given
-    → IsPast client counter → Needs meaning s input counter
-past-needs meaning s input client counter more h = subst (Needs meaning s input) (sym h.0) (omega (arith, h.1, more))
 
 -- what is shown may ask the client
 quiet-part-errs : (meaning : Meaning) (s : State) (event : Event) (t : Working Turning) → ReadyBehind meaning s event t → IfErr (quiet_part t) (Needs meaning s (Next event))

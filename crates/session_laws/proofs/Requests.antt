@@ -18,8 +18,8 @@ use Rattle.client.specs.declared.handler.ReqHandler.TheVariants.{Ignore}
 use Rattle.desk_laws.proofs.Refusing.{err-and_then, err-weaker}
 use Rattle.desk_laws.proofs.Results.{IfErr-within, IfOk-and_then, IfOk-weaker, IfOk-within}
 use Rattle.session_model.specs.Asking.{after_asking_if, client_refreshed, client_refreshed_if, client_registered, is_refresh_due}
-use Rattle.session_model.specs.Machine.{asked_if, at_client, client_in, has_new_world, quiet_done, refreshed, saves_registered, with_client}
-use Rattle.session_model.specs.State.{State}
+use Rattle.session_model.specs.Machine.{asked_if, at_client, client_in, has_new_world, quiet_done, refreshed, saves_registered, watchers_registered, with_client}
+use Rattle.session_model.specs.State.{client_watches, State}
 use Rattle.session_model.specs.Status.{is_quiescent}
 use Rattle.session_model.specs.declared.facts.Facts.{Facts}
 use Rattle.session_laws.specs.Beside.{TellsOnly}
@@ -60,6 +60,11 @@ asked_if-on wanted message client w v told =
 pub registered-does : (w : Working State) → IfOk (saves_registered w) (TellsClient (client_registered w.state.client) [] w)
 unfolding saves_registered
 registered-does w = asked_if-does _ _ w
+
+pub watched-does : (w : Working State)
+    → IfOk (watchers_registered w) (TellsClient (after_asking_if Ignore (client_watches w.state.client.settings) w.state.client) [] w)
+unfolding watchers_registered
+watched-does w = asked_if-does _ _ w
 
 -- the client is asked for all that it shows
 refreshed-does : (can : Capabilities) (w : Working State) → IfOk (refreshed can w) (TellsClient (client_refreshed can w.state.client) [] w)
@@ -169,6 +174,10 @@ asked_if-errs false message w = tt
 pub registered-errs : (w : Working State) → IfErr (saves_registered w) (IsPast (client_registered w.state.client))
 unfolding saves_registered
 registered-errs w = asked_if-errs _ _ w
+
+pub watched-errs : (w : Working State) → IfErr (watchers_registered w) (IsPast (after_asking_if Ignore (client_watches w.state.client.settings) w.state.client))
+unfolding watchers_registered
+watched-errs w = asked_if-errs _ _ w
 
 -- one that is one too many stays so
 later-past : (before after : Client) (counter : Counter) → before.asked.given ≤ after.asked.given → IsPast before counter → IsPast after counter

@@ -56,11 +56,11 @@ use Rattle.status.specs.declared.status.Status.{Status}
 use Rattle.workspaces.specs.Fetches.{fetch_to_start, fires, start_fetch, start_up}
 use Rattle.workspaces.specs.Workspaces.{Workspaces}
 use Rattle.workspaces.specs.declared.requests.FetchRequest.{FetchRequest}
-use Rattle.session_model.specs.Asking.{client_refreshed_if, client_registered, is_refresh_due}
+use Rattle.session_model.specs.Asking.{client_refreshed_if, client_registered, client_watching, is_refresh_due}
 use Rattle.session_model.specs.Building.{build_due, build_jobs, end_kept, ends_kept, request_told, with_due_build}
 use Rattle.session_model.specs.Fetching.{fetch_jobs, folders_told_if, settings_told, with_fetches}
 use Rattle.session_model.specs.Headline.{Place, reaction_of, row, notice_row, batch_row, desk_after, place_after, place_past, client_after, last_of, revision_after, scene_at, snapshot_at}
-use Rattle.session_model.specs.Headline.{are_due, build_in, changes_due, changes_in, client_asked, client_left, fetch_in, files_after, files_made, files_told, files_turned, is_changed, jobs_started, left_or, may_start_at, or_before, SetsTimer}
+use Rattle.session_model.specs.Headline.{are_due, build_in, changes_due, changes_in, client_asked, client_left, client_switched, fetch_in, files_after, files_made, files_told, files_turned, is_changed, jobs_started, left_or, may_start_at, or_before, SetsTimer}
 use Rattle.session_model.specs.Headline.{refreshes_at, status_after, statuses_at, switch_in, workspaces_after, workspaces_at, workspaces_fetched, workspaces_planned, workspaces_switched}
 use Rattle.session_model.specs.Inputs.{cancelled_by, request_in, turns_after}
 use Rattle.session_model.specs.Machine.{answer_taken, asked, asked_for_settings, at_client, at_desk, at_files, at_workspaces, batched, begin_part, begun_fetches, brought, build_part, build_started, changed_at, client_in, closed}
@@ -84,7 +84,7 @@ use Rattle.session_model.specs.declared.heard.Heard.TheVariants.{Told, Malformed
 use Rattle.session_laws.specs.Beside.{Serves, Tells, TellsOnly, turn_of}
 use Rattle.session_laws.specs.Invariant.{StepFits, place_of}
 use Rattle.session_laws.proofs.Beside.{beside-fits, beside-revised}
-use Rattle.session_laws.proofs.Clients.{begun_client, left-settings, quiet-settings}
+use Rattle.session_laws.proofs.Clients.{begun_client, left-settings, quiet-settings, switched-settings}
 use Rattle.session_laws.proofs.Building.{built-hands, jobs_of_build, no-build, same-fetch}
 use Rattle.session_laws.proofs.Fetching.{jobs_of_fetch, started-hands}
 use Rattle.session_laws.proofs.Filing.{DoesForFiles, KeepsHost, Processes, change-host, change_of, changed-does, closed-does, loaded-does, messages-host, opened-does, opening-host}
@@ -125,7 +125,7 @@ pub record Mid (meaning : Meaning) (s : State) (input : Input) (u : Working Stat
 -- a turn behind its switch
 pub record Behind (meaning : Meaning) (s : State) (event : Event) (u : Working State) : Type 0 where
   pub serves : Serves meaning s (Next event) (after_input (Next event) s.desk.jobs) u
-  pub client : u.state.client ≡ client_after (Next event) s.client
+  pub client : u.state.client ≡ client_switched (Next event) (place_of s)
   pub status : u.state.status ≡ s.status
   pub files : files_told s.client.settings (Next event) s.files ≡ Ok u.state.files
   pub unrevised : filter_map revision_of u.out.commands ≡ []
@@ -735,10 +735,10 @@ switched-behind : (meaning : Meaning) (s : State) (event : Event) (u : Working S
 unfolding switch_done
 switched-behind meaning s event u mid =
     let made = switch_made u.state.client.settings u.state.files u.state.workspaces in
-    IfOk-weaker _ (Switches (left_or u.state.workspaces made) u) (Behind meaning s event) (switched-does made u)
+    IfOk-weaker _ (Switches (left_or u.state.workspaces made) (client_watching made u.state.client) u) (Behind meaning s event) (switched-does made u)
     (λ v does. record {
       serves = beside-fits meaning s (Next event) (after_input (Next event) s.desk.jobs) u v (beside-told u v does.tells (ap (λ (t : State). t.desk) does.state)) mid.serves;
-      client = ap (λ (t : State). t.client) does.state ∙ mid.client;
+      client = ap (λ (t : State). t.client) does.state ∙ (λ i. client_watching (mid-switch meaning s event u mid i) (mid.client i));
       status = ap (λ (t : State). t.status) does.state ∙ mid.status;
       files = mid.files ∙ sym (ap (λ (t : State). Ok t.files) does.state);
       unrevised = ap (filter_map revision_of) does.tells.ordered ∙ revisions-append u.out.commands does.tells.commands ∙ (λ i. mid.unrevised i ++ does.tells.revises_none i);
@@ -752,7 +752,7 @@ switched-behind meaning s event u mid =
 -- the files are processed, and what the workspaces come to then is no matter
 made-now : (meaning : Meaning) (s : State) (event : Event) (u : Working State) (v : Working SessionFiles) (workspaces : Workspaces) → Behind meaning s event u
     → Processes (record { state = u.state.files; out = u.out }) v
-    → Made meaning s (Next event) (client_after (Next event) s.client) s.status [] (record { state = with_workspaces workspaces (with_files v.state u.state); out = v.out })
+    → Made meaning s (Next event) (client_switched (Next event) (place_of s)) s.status [] (record { state = with_workspaces workspaces (with_files v.state u.state); out = v.out })
 made-now meaning s event u v workspaces mid p =
     let told = mid.files in
     let due : is_changed s.client.settings (Next event) s.files ≡ are_due (Ok u.state.files) = ap are_due told in
@@ -765,7 +765,7 @@ made-now meaning s event u v workspaces mid p =
       };
       client = mid.client;
       status = mid.status;
-      settings = refl;
+      settings = switched-settings (Next event) (place_of s);
       files = ap (λ r. and_then r (files_turned (Next event))) told ∙ p.is;
       unrevised = ap (λ (o : Written). filter_map revision_of o.commands) p.out ∙ mid.unrevised;
       told = ap (λ (o : Written). statuses_in o.messages) p.out ∙ mid.untold;
@@ -816,7 +816,7 @@ QuietTurn meaning s event t = ReadyTurn meaning s (Next event) (client_asked (Ne
 
 -- these behind an event, whose status comes last
 abbrev pub ReadyBehind : Meaning → State → Event → Working Turning → Type 0
-ReadyBehind meaning s event t = ReadyTurn meaning s (Next event) (client_after (Next event) s.client) s.status [] t
+ReadyBehind meaning s event t = ReadyTurn meaning s (Next event) (client_switched (Next event) (place_of s)) s.status [] t
 
 abbrev pub FetchedBehind : Meaning → State → Event → Working Turning → Type 0
 FetchedBehind meaning s event t = FetchedTurn meaning s (Next event) (client_asked (Next event) (place_of s)) s.status [] t
@@ -843,7 +843,9 @@ planned-now : (meaning : Meaning) (s : State) (event : Event) (u : Working State
 planned-now meaning s event u behind =
     let turns : u.state.desk.turns ≡ s.desk.turns + 1 = ap (λ (d : Desk). d.turns) behind.serves.desk in
     let changed : due_changes u.state.files ≡ changes_in (Next event) (place_of s) = sym (ap changes_due behind.files) in
-    λ i. planned_by (behind.client i).settings (turns i) (changed i) (behind.workspaces i)
+    let settings : u.state.client.settings ≡ (client_after (Next event) s.client).settings =
+    ap (λ (c : Client). c.settings) behind.client ∙ switched-settings (Next event) (place_of s) in
+    λ i. planned_by (settings i) (turns i) (changed i) (behind.workspaces i)
 
 pub files-made : (meaning : Meaning) (s : State) (event : Event) (t : Working Turning) → BehindTurn meaning s event t → IfOk (files_part t) (ReadyBehind meaning s event)
 unfolding files_part files_processed
@@ -914,7 +916,7 @@ quiet-made meaning s event t ready =
     (λ v told. let now : TellsClient left [] w v = subst (λ (c : Client). TellsClient c [] w v) (ready-client meaning s event t ready) told in
     record {
       facts = ready.facts;
-      made = told-made meaning s (Next event) (client_after (Next event) s.client) left s.status [] w v ready.made now (quiet-settings (Next event) (place_of s));
+      made = told-made meaning s (Next event) (client_switched (Next event) (place_of s)) left s.status [] w v ready.made now (quiet-settings (Next event) (place_of s));
       workspaces = ap (λ (x : State). x.workspaces) now.state ∙ ready.workspaces;
       spawns = ap spawned now.tells.ordered ∙ spawned-append w.out.commands now.tells.commands ∙ (λ i. ready.spawns i ++ now.tells.spawns_none i) ∙ append-nil _;
     }))

@@ -1,6 +1,6 @@
 -- What a switch to other workspaces does within a turn: it tells the user and the host something, and answers nobody.
-use Rattle.std.proofs.Common.{◌≡◌, ◌≤◌, ℕ, ◌+◌, List, [], ◌∷◌, Bool, true, false, refl, sym, ◌∙◌, append-nil, arith}
-use Rattle.std.specs.Prelude.{◌-◌, ◌^◌, ltb, Option, None, Some, option_map, Result, Ok, Err, IfOk, IfErr, if◌then◌else◌}
+use Rattle.std.proofs.Common.{◌≡◌, ◌≤◌, ℕ, ◌+◌, List, [], ◌∷◌, Bool, true, false, refl, sym, ap, ◌∙◌, subst, append-nil, arith}
+use Rattle.std.specs.Prelude.{◌-◌, ◌^◌, ◌⊎◌, ◌&&◌, ltb, Option, None, Some, option_map, Result, Ok, Err, IfOk, IfErr, if◌then◌else◌}
 use Rattle.project_model.specs.declared.workspace.ProjectWorkspace.{ProjectWorkspace}
 use Rattle.ra_config.specs.Config.{ConfigData}
 use Rattle.reload.specs.Switch.{is_empty}
@@ -10,21 +10,27 @@ use Rattle.session_port.specs.declared.command.Command.TheVariants.{SetLoader}
 use Rattle.turn_parts.specs.Working.{Working, and_then, ordered, written}
 use Rattle.turn_parts.specs.declared.fault.Counter.{Counter}
 use Rattle.turn_parts.specs.declared.fault.Counter.TheVariants.{LoaderSettings}
+use Rattle.client.specs.Client.{Client}
 use Rattle.client.specs.Steps.{notification_of}
+use Rattle.client.specs.declared.handler.ReqHandler.TheVariants.{Ignore}
 use Rattle.notify.specs.declared.outgo.MessageKind.TheVariants.{Warning}
 use Rattle.notify.specs.declared.outgo.Outgo.TheVariants.{ShowMessage}
+use Rattle.desk_laws.proofs.Refusing.{err-and_then, err-weaker}
+use Rattle.desk_laws.proofs.Results.{IfOk-and_then, IfOk-weaker}
 use Rattle.session_files.specs.SessionFiles.{SessionFiles}
 use Rattle.workspaces.specs.Switching.{asks_build, decided, followed as workspaces_followed, next_version, presents, renewed_by, switch_to, switched}
 use Rattle.workspaces.specs.Workspaces.{Workspaces}
 use Rattle.workspaces.specs.declared.follows.Follows.{Follows}
 use Rattle.workspaces.specs.declared.follows.Follows.TheVariants.{Nothing, CrateData, Wait, GoOn}
+use Rattle.session_model.specs.Asking.{after_asking_if, client_watching, goes_on}
 use Rattle.session_model.specs.Headline.{Place, client_after, files_told, left_or, workspaces_at, workspaces_switched}
-use Rattle.session_model.specs.Machine.{at_workspaces, followed, loader_set, switched_to, warned, with_workspaces}
-use Rattle.session_model.specs.State.{State, builds_scripts, discovers}
+use Rattle.session_model.specs.Machine.{at_workspaces, followed, loader_set, switched_to, warned, watchers_registered, with_client, with_workspaces}
+use Rattle.session_model.specs.State.{State, builds_scripts, client_watches, discovers}
 use Rattle.session_model.specs.Switching.{is_switch_due, switch_by, switch_made, unless_exhausted}
 use Rattle.session_model.specs.declared.input.Input.{Input}
 use Rattle.session_model.specs.declared.input.Input.TheVariants.{Start, Next}
 use Rattle.session_laws.specs.Beside.{Tells}
+use Rattle.session_laws.proofs.Requests.{IsPast, TellsClient, watched-does, watched-errs}
 use Rattle.session_laws.proofs.Telling.{tells-none, tells-notification, tells-on}
 
 -- ---- what is told
@@ -59,39 +65,61 @@ loader-same : (version : ℕ) (w : Working State) → (loader_set version w).sta
 unfolding loader_set ordered
 loader-same version w = refl
 
-followed-tells : (follows : Follows) (w : Working State) → Tells w.out (followed follows w).out
-unfolding followed
-followed-tells Nothing w = tells-none w.out
-followed-tells CrateData w = tells-none w.out
-followed-tells (Wait msrv) w = warned-tells msrv w
-followed-tells (GoOn msrv version initial) w = tells-on _ _ _ (warned-tells msrv w) (loader-tells version (warned msrv w))
+-- the client, where the switch goes on and it is the client that watches
+abbrev watching_by : Bool → Client → Client
+watching_by on client = after_asking_if Ignore (on && client_watches client.settings) client
 
-followed-same : (follows : Follows) (w : Working State) → (followed follows w).state ≡ w.state
+followed-does : (follows : Follows) (w : Working State) → IfOk (followed follows w) (TellsClient (watching_by (goes_on follows) w.state.client) [] w)
 unfolding followed
-followed-same Nothing w = refl
-followed-same CrateData w = refl
-followed-same (Wait msrv) w = warned-same msrv w
-followed-same (GoOn msrv version initial) w = loader-same version (warned msrv w) ∙ warned-same msrv w
+followed-does Nothing w = record { tells = tells-none w.out; state = refl }
+followed-does CrateData w = record { tells = tells-none w.out; state = refl }
+followed-does (Wait msrv) w = record { tells = warned-tells msrv w; state = warned-same msrv w }
+followed-does (GoOn msrv version initial) w =
+    let v : Working State = warned msrv w in
+    let asked : State → Client = λ s. watching_by true s.client in
+    IfOk-and_then (watchers_registered v) (λ u. Ok (loader_set version u)) (TellsClient (asked v.state) [] v) (TellsClient (asked w.state) [] w)
+    (watched-does v)
+    (λ u told. record {
+      tells = tells-on _ _ _ (warned-tells msrv w) (tells-on _ _ _ told.tells (loader-tells version u));
+      state = loader-same version u ∙ told.state ∙ ap (λ (s : State). with_client (asked s) s) (warned-same msrv w);
+    })
 
--- the workspaces come to these, nothing else changes, and nobody is answered
-pub record Switches (workspaces : Workspaces) (w v : Working State) : Type 0 where
+-- the workspaces come to these, and the client to this, nothing else changes, and nobody is answered
+pub record Switches (workspaces : Workspaces) (client : Client) (w v : Working State) : Type 0 where
   pub tells : Tells w.out v.out
-  pub state : v.state ≡ with_workspaces workspaces w.state
+  pub state : v.state ≡ with_client client (with_workspaces workspaces w.state)
 
 pub switched-does : (made : Result (Follows × Workspaces) Counter) (w : Working State)
-    → IfOk (switched_to made w) (Switches (left_or w.state.workspaces made) w)
+    → IfOk (switched_to made w) (Switches (left_or w.state.workspaces made) (client_watching made w.state.client) w)
 unfolding switched_to
 switched-does (Err counter) w = tt
 switched-does (Ok made) w =
     let now : Working State = at_workspaces (λ before. made.1) w in
-    record { tells = followed-tells made.0 now; state = followed-same made.0 now }
+    IfOk-weaker (followed made.0 now) (TellsClient (watching_by (goes_on made.0) w.state.client) [] now)
+    (Switches made.1 (client_watching (Ok made) w.state.client) w) (followed-does made.0 now)
+    (λ v told. record { tells = told.tells; state = told.state })
 
 -- ---- where it is refused
 
-pub switched-errs : (made : Result (Follows × Workspaces) Counter) (w : Working State) → IfErr (switched_to made w) (λ counter. made ≡ Err counter)
+followed-errs : (follows : Follows) (w : Working State) → IfErr (followed follows w) (IsPast (watching_by (goes_on follows) w.state.client))
+unfolding followed
+followed-errs Nothing w = tt
+followed-errs CrateData w = tt
+followed-errs (Wait msrv) w = tt
+followed-errs (GoOn msrv version initial) w =
+    let v : Working State = warned msrv w in
+    let asked : State → Client = λ s. watching_by true s.client in
+    err-and_then (watchers_registered v) (λ u. Ok (loader_set version u)) (IsPast (asked w.state))
+    (subst (λ (s : State). IfErr (watchers_registered v) (IsPast (asked s))) (warned-same msrv w) (watched-errs v)) (λ u is. tt)
+
+-- it is made, or the client is asked for more than there are numbers
+pub switched-errs : (made : Result (Follows × Workspaces) Counter) (w : Working State)
+    → IfErr (switched_to made w) (λ counter. (made ≡ Err counter) ⊎ IsPast (client_watching made w.state.client) counter)
 unfolding switched_to
-switched-errs (Err counter) w = refl
-switched-errs (Ok made) w = tt
+switched-errs (Err counter) w = inl refl
+switched-errs (Ok made) w =
+    let now : Working State = at_workspaces (λ before. made.1) w in
+    err-weaker (followed made.0 now) (IsPast (watching_by (goes_on made.0) w.state.client)) _ (followed-errs made.0 now) (λ counter past. inr past)
 
 exhausted-errs : (made : Option (Follows × Workspaces)) → IfErr (unless_exhausted made) (λ counter. counter ≡ LoaderSettings)
 exhausted-errs None = refl

@@ -49,7 +49,7 @@ use Rattle.workspaces.specs.Workspaces.{Workspaces, no_workspaces}
 use Rattle.workspaces.specs.declared.follows.Follows.{Follows}
 use Rattle.workspaces.specs.declared.follows.Follows.TheVariants.{Nothing}
 use Rattle.workspaces.specs.declared.requests.FetchRequest.{FetchRequest}
-use Rattle.session_model.specs.Asking.{client_refreshed_if, client_registered, is_refresh_due}
+use Rattle.session_model.specs.Asking.{client_refreshed_if, client_registered, client_watching, is_refresh_due}
 use Rattle.session_model.specs.Building.{build_due, build_jobs, end_kept, ends_kept, request_told, with_due_build}
 use Rattle.session_model.specs.Fetching.{fetch_jobs, folders_told_if, settings_told, with_fetches}
 use Rattle.session_model.specs.Hearing.{heard_of, told_by}
@@ -214,6 +214,10 @@ abbrev pub left_or : Workspaces → Result (Follows × Workspaces) Counter → W
 left_or workspaces (Ok made) = made.1
 left_or workspaces (Err counter) = workspaces
 
+-- the client behind the switch: it may be asked to watch files
+abbrev pub client_switched : Input → Place → Client
+client_switched input place = client_watching (switch_in input place) (client_after input place.client)
+
 -- the workspaces behind the switch
 abbrev pub workspaces_switched : Input → Place → Workspaces
 workspaces_switched input place = left_or (workspaces_at input place) (switch_in input place)
@@ -243,7 +247,7 @@ refreshes_at (Next event) place =
 
 -- the client behind that
 abbrev pub client_asked : Input → Place → Client
-client_asked input place = client_refreshed_if (refreshes_at input place) (client_after input place.client)
+client_asked input place = client_refreshed_if (refreshes_at input place) (client_switched input place)
 
 -- behind an input fetches may start, by the settings that it leaves
 abbrev pub may_start_at : Input → Client → Bool

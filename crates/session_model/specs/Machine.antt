@@ -24,7 +24,7 @@ use Rattle.client.specs.declared.handler.ReqHandler.TheVariants.{Ignore, OpenLog
 use Rattle.notify.specs.declared.outgo.MessageKind.{MessageKind}
 use Rattle.notify.specs.declared.outgo.MessageKind.TheVariants.{Warning}
 use Rattle.notify.specs.declared.outgo.Outgo.{Outgo}
-use Rattle.notify.specs.declared.outgo.Outgo.TheVariants.{CodeLensRefresh, Configuration, DiagnosticRefresh, InlayHintRefresh, RegisterSave}
+use Rattle.notify.specs.declared.outgo.Outgo.TheVariants.{CodeLensRefresh, Configuration, DiagnosticRefresh, InlayHintRefresh, RegisterSave, RegisterWatch}
 use Rattle.notify.specs.declared.outgo.Outgo.TheVariants.{SemanticTokensRefresh, ShowMessage, ShowMessageRequest}
 use Rattle.notify.specs.declared.notice.DidChange.{DidChange}
 use Rattle.notify.specs.declared.notice.DidOpen.{DidOpen}
@@ -45,7 +45,7 @@ use Rattle.workspaces.specs.Workspaces.{Workspaces}
 use Rattle.workspaces.specs.declared.follows.Follows.{Follows}
 use Rattle.workspaces.specs.declared.follows.Follows.TheVariants.{Nothing, CrateData, Wait, GoOn}
 use Rattle.workspaces.specs.declared.requests.FetchRequest.{FetchRequest}
-use Rattle.session_model.specs.Asking.{is_refresh_due, registers_saves}
+use Rattle.session_model.specs.Asking.{is_refresh_due, registers_saves, watchers_asked}
 use Rattle.session_model.specs.Building.{build_due, end_kept, request_told, with_due_build}
 use Rattle.session_model.specs.Fetching.{folders_told_if, settings_told, with_fetches}
 use Rattle.session_model.specs.Hearing.{heard_of}
@@ -264,17 +264,23 @@ loader_set version w =
     let settings = w.state.client.settings in
     ordered (SetLoader (loader_roots (excludes_in settings) w.state.workspaces.present) (not (client_watches settings)) version) w
 
+-- the client is asked to watch the files of the workspaces that are present, where it is the client that watches
+unfoldable pub watchers_registered : Working State → Result (Working State) Counter
+watchers_registered w =
+    let settings = w.state.client.settings in
+    asked_if (client_watches settings) (RegisterWatch (watchers_asked settings w.state.workspaces.present)) w
+
 -- what follows a switch; crate data is not built yet
-unfoldable pub followed : Follows → Working State → Working State
-followed Nothing w = w
-followed CrateData w = w
-followed (Wait msrv) w = warned msrv w
-followed (GoOn msrv version initial) w = loader_set version (warned msrv w)
+unfoldable pub followed : Follows → Working State → Result (Working State) Counter
+followed Nothing w = Ok w
+followed CrateData w = Ok w
+followed (Wait msrv) w = Ok (warned msrv w)
+followed (GoOn msrv version initial) w = and_then (watchers_registered (warned msrv w)) (λ v. Ok (loader_set version v))
 
 -- a switch leaves these workspaces, and what follows it is done
 unfoldable pub switched_to : Result (Follows × Workspaces) Counter → Working State → Result (Working State) Counter
 switched_to (Err counter) w = Err counter
-switched_to (Ok made) w = Ok (followed made.0 (at_workspaces (λ before. made.1) w))
+switched_to (Ok made) w = followed made.0 (at_workspaces (λ before. made.1) w)
 
 -- the switch that is wanted is made, unless files are loading
 unfoldable pub switch_done : Working State → Result (Working State) Counter
