@@ -62,7 +62,7 @@ impl GlobalState {
     }
 
     // The files of the workspaces that are present, by patterns as the client takes them.
-    fn watchers(&self) -> Result<Items<Watcher>, NoMemory>
+    fn files_to_watch(&self) -> Result<Items<Watcher>, NoMemory>
         ensures { IfOk result (λ asked. asked ≡ watchers_asked self.now.client.settings self.now.workspaces.present) }
     {
         let relative = self.client.settings().relative_pattern();
@@ -78,7 +78,7 @@ impl GlobalState {
         if !self.client_watches() {
             return Ok(());
         }
-        let watchers = self.watchers()?;
+        let watchers = self.files_to_watch()?;
         self.send_request(Outgo::RegisterWatch { watchers }, ReqHandler::Ignore, out)
     }
 }
