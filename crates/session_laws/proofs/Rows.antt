@@ -1075,7 +1075,7 @@ due-behind : (meaning : Meaning) (s : State) (event : Event) (t : Working Turnin
     ≡ statuses_at (Next event) (place_of s)
 due-behind meaning s event t m =
     let settings : t.state.state.client.settings ≡ (client_left (Next event) (place_of s)).settings =
-    ap (λ (c : Client). c.settings) m.made.client ∙ sym (left-settings (Next event) (place_of s)) in
+    ap (λ (c : Client). c.settings) m.made.client ∙ m.made.settings ∙ sym (left-settings (Next event) (place_of s)) in
     λ i. statuses_due (settings i) (m.made.status i) (status-behind meaning s event t m i)
 
 -- a snapshot has the settings of the client, and nothing else of it

@@ -1,5 +1,5 @@
 -- What a switch to other workspaces does within a turn: it tells the user and the host something, and answers nobody.
-use Rattle.std.proofs.Common.{◌≡◌, ◌≤◌, ℕ, ◌+◌, List, [], ◌∷◌, Bool, true, false, refl, sym, ap, ◌∙◌, subst, append-nil, arith}
+use Rattle.std.proofs.Common.{◌≡◌, ◌≤◌, ℕ, ◌+◌, List, [], ◌∷◌, Bool, true, false, refl, sym, ap, ◌∙◌, subst, inl, inr, append-nil, arith}
 use Rattle.std.specs.Prelude.{◌-◌, ◌^◌, ◌⊎◌, ◌&&◌, ltb, Option, None, Some, option_map, Result, Ok, Err, IfOk, IfErr, if◌then◌else◌}
 use Rattle.project_model.specs.declared.workspace.ProjectWorkspace.{ProjectWorkspace}
 use Rattle.ra_config.specs.Config.{ConfigData}
