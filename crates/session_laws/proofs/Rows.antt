@@ -23,7 +23,7 @@ use Rattle.session_port.specs.Record.{spawned, with_jobs}
 use Rattle.session_port.specs.declared.command.Command.{Command}
 use Rattle.session_port.specs.declared.command.Command.TheVariants.{Revise, Timer as SetTimer}
 use Rattle.session_port.specs.declared.command.LogCode.{LogCode}
-use Rattle.session_port.specs.declared.command.LogCode.TheVariants.{BadPath}
+use Rattle.session_port.specs.declared.command.LogCode.TheVariants.{BadPath, BuildError, FetchError}
 use Rattle.session_port.specs.declared.event.LoaderMsg.{LoaderMsg}
 use Rattle.session_port.specs.declared.event.TaskMsg.{TaskMsg}
 use Rattle.session_port.specs.declared.job.Job.{Job}
@@ -32,14 +32,16 @@ use Rattle.turn_parts.specs.Written.{Written, nothing_done}
 use Rattle.turn_parts.specs.declared.fault.Counter.{Counter}
 use Rattle.client.specs.Client.{Client}
 use Rattle.client.specs.Folds.{after_answer, after_asking, after_folders}
-use Rattle.client.specs.Steps.{answered, folders_changed}
+use Rattle.client.specs.Steps.{answered, folders_changed, logged_if}
 use Rattle.client.specs.declared.handler.ReqHandler.TheVariants.{Settings}
 use Rattle.notify.specs.declared.outgo.Outgo.TheVariants.{Configuration}
 use Rattle.notify.specs.declared.notice.DidChange.{DidChange}
 use Rattle.notify.specs.declared.notice.DidOpen.{DidOpen}
 use Rattle.notify.specs.declared.notice.Notice.{Notice}
 use Rattle.notify.specs.declared.notice.Notice.TheVariants as notices
+use Rattle.desk.specs.Building.{BuildEnd, build_ended}
 use Rattle.desk.specs.Desk.{Desk}
+use Rattle.desk.specs.Fetching.{FetchEnd, fetch_ended}
 use Rattle.desk.specs.Folds.{asked_among, pending_after, shutdown_after}
 use Rattle.desk.specs.Meaning.{Meaning}
 use Rattle.desk.specs.Reactions.{Reaction, silent, joined, cancel_row, message_row, request_row}
@@ -48,7 +50,7 @@ use Rattle.desk_laws.specs.Numbers.{AreNumbered}
 use Rattle.desk_laws.specs.Settled.{Settled}
 use Rattle.desk_laws.proofs.Appends.{spawned-append, revisions-append}
 use Rattle.desk_laws.proofs.Results.{IfOk-and_then, IfOk-next, IfOk-weaker, IfOk-within}
-use Rattle.desk_laws.proofs.Settling.{cancel-settles, message-settles, message-turns, nothing-settles, request-settles, request-turns, settled-on}
+use Rattle.desk_laws.proofs.Settling.{cancel-settles, log-settles, message-settles, message-turns, nothing-settles, request-settles, request-turns, settled-on}
 use Rattle.session_files.specs.Folds.{after_closing, after_messages, after_opening, due_changes}
 use Rattle.session_files.specs.SessionFiles.{SessionFiles}
 use Rattle.session_files.specs.Steps.{changed, closed as closed_document, loaded, opened, processed}
@@ -57,15 +59,15 @@ use Rattle.workspaces.specs.Fetches.{fetch_to_start, fires, start_fetch, start_u
 use Rattle.workspaces.specs.Workspaces.{Workspaces}
 use Rattle.workspaces.specs.declared.requests.FetchRequest.{FetchRequest}
 use Rattle.session_model.specs.Asking.{client_refreshed_if, client_registered, client_watching, is_refresh_due}
-use Rattle.session_model.specs.Building.{build_due, build_jobs, end_kept, ends_kept, request_told, with_due_build}
-use Rattle.session_model.specs.Fetching.{fetch_jobs, folders_told_if, settings_told, with_fetches}
+use Rattle.session_model.specs.Building.{build_due, build_jobs, build_kept, end_kept, ends_kept, request_told, with_due_build}
+use Rattle.session_model.specs.Fetching.{fetch_jobs, fetch_kept, folders_told_if, settings_told, with_fetches}
 use Rattle.session_model.specs.Headline.{Place, reaction_of, row, notice_row, batch_row, desk_after, place_after, place_past, client_after, last_of, revision_after, scene_at, snapshot_at}
 use Rattle.session_model.specs.Headline.{are_due, build_in, changes_due, changes_in, client_asked, client_left, client_switched, fetch_in, files_after, files_made, files_told, files_turned, is_changed, jobs_started, left_or, may_start_at, or_before, SetsTimer}
 use Rattle.session_model.specs.Headline.{refreshes_at, status_after, statuses_at, switch_in, workspaces_after, workspaces_at, workspaces_fetched, workspaces_planned, workspaces_switched}
 use Rattle.session_model.specs.Inputs.{cancelled_by, request_in, turns_after}
 use Rattle.session_model.specs.Machine.{answer_taken, asked, asked_for_settings, at_client, at_desk, at_files, at_workspaces, batched, begin_part, begun_fetches, brought, build_part, build_started, changed_at, client_in, closed}
 use Rattle.session_model.specs.Machine.{closed_at, closing_part, counted, desk_in, event_part, facts_of, fetch_part, fetch_started, file_changed, files_changed, files_in, files_part, files_planned, files_processed, folders_taken}
-use Rattle.session_model.specs.Machine.{has_new_world, quiet_done, quiet_part}
+use Rattle.session_model.specs.Machine.{build_taken, fetch_taken, has_new_world, quiet_done, quiet_part}
 use Rattle.session_model.specs.Machine.{happened, kept, later_parts, noticed, opened_at, received, register_part, revised, saves_registered, start_parts, state_in, status_done, status_part, step, switch_done, switch_part, taken, taken_in, timed, timer_set, told}
 use Rattle.session_model.specs.Machine.{turned, Turning, turning, with_client, with_desk, with_files, with_state, with_workspaces}
 use Rattle.session_model.specs.Hearing.{heard_of, told_by}
@@ -73,7 +75,7 @@ use Rattle.session_model.specs.Switching.{switch_made}
 use Rattle.session_model.specs.Timing.{bring_files, planned_by, renewed_if, timer_of}
 use Rattle.session_model.specs.Run.{Turn, Steps, begun, after_input, out_after}
 use Rattle.session_model.specs.State.{State, columns_in, discovers, excludes_in, goes_by_folders, macros_loaded_in, may_start, scene_of, snapshot_of}
-use Rattle.session_model.specs.Status.{client_after_status, is_quiescent, status_now, statuses_due, statuses_in}
+use Rattle.session_model.specs.Status.{build_fault, client_after_status, fetch_fault, is_quiescent, status_now, statuses_due, statuses_in}
 use Rattle.session_model.specs.declared.facts.Facts.{Facts}
 use Rattle.session_model.specs.declared.input.Event.{Event}
 use Rattle.session_model.specs.declared.input.Event.TheVariants.{Lsp, Task, Vfs, Deferred, Timer}
@@ -464,9 +466,70 @@ desk-settles meaning turns message w =
     (IfOk-weaker _ (λ v. Settled None (at w) v (message_row meaning scene w.state.desk message) jobs) _ (message-settles meaning scene message (at w))
     (λ v a. record { desk = subst (λ d. Settled None (at w) v d jobs) (sym (message-turns meaning scene w.state.desk turns message)) a; rest = refl }))
 
+-- what is told of a failure is logged
+logged_if-settles : (code : LogCode) (text : Option (List ℕ)) (w : Working State) → Settled None (at w) (at (logged_if code text w)) silent w.state.desk.jobs
+unfolding logged ordered
+logged_if-settles code None w = nothing-settles (at w)
+logged_if-settles code (Some text) w = log-settles code text (at w)
+
+logged_if-same : (code : LogCode) (text : Option (List ℕ)) (w : Working State) → (logged_if code text w).state ≡ w.state
+unfolding logged ordered
+logged_if-same code None w = refl
+logged_if-same code (Some text) w = refl
+
+-- the workspaces have come to these, and nothing else has changed or was done but log lines
+record Notes (workspaces : Workspaces) (w v : Working State) : Type 0 where
+  desk : Settled None (at w) (at v) silent w.state.desk.jobs
+  state : v.state ≡ with_workspaces workspaces w.state
+
+fetch-notes : (end : Option FetchEnd) (w : Working State) → Notes (fetch_kept end w.state.workspaces) w (fetch_taken end w)
+unfolding fetch_taken
+fetch-notes None w = record { desk = nothing-settles (at w); state = refl }
+fetch-notes (Some found) w =
+    let v : Working State = at_workspaces (fetch_kept (Some found)) w in
+    let text : Option (List ℕ) = fetch_fault v.state.client.settings v.state.workspaces in
+    record { desk = logged_if-settles FetchError text v; state = logged_if-same FetchError text v }
+
+build-notes : (end : Option BuildEnd) (w : Working State) → Notes (build_kept end w.state.workspaces) w (build_taken end w)
+unfolding build_taken
+build-notes None w = record { desk = nothing-settles (at w); state = refl }
+build-notes (Some made) w =
+    let v : Working State = at_workspaces (build_kept (Some made)) w in
+    let text : Option (List ℕ) = build_fault v.state.workspaces in
+    record { desk = logged_if-settles BuildError text v; state = logged_if-same BuildError text v }
+
+both-note : (fetched : Option FetchEnd) (built : Option BuildEnd) (w : Working State)
+    → Notes (build_kept built (fetch_kept fetched w.state.workspaces)) w (build_taken built (fetch_taken fetched w))
+both-note fetched built w =
+    let v : Working State = fetch_taken fetched w in
+    let u : Working State = build_taken built v in
+    let first = fetch-notes fetched w in
+    let second = build-notes built v in
+    let jobs : v.state.desk.jobs ≡ w.state.desk.jobs = ap (λ (s : State). s.desk.jobs) first.state in
+    record {
+      desk = subst (λ (js : Jobs). Settled None (at w) (at u) silent js) jobs (settled-on (at w) (at v) (at u) silent silent w.state.desk.jobs v.state.desk.jobs first.desk second.desk);
+      state = second.state ∙ ap (λ (s : State). with_workspaces (build_kept built s.workspaces) s) first.state;
+    }
+
 -- what the workspaces come to by a message
 abbrev pub kept_past : TaskMsg → State → Workspaces
 kept_past message s = end_kept message s.desk.jobs s.workspaces
+
+-- the desk has done this, and then the workspaces have come to what a message leaves of them
+noted-does : (fetched : Option FetchEnd) (built : Option BuildEnd) (w v : Working State) (done : Reaction) (jobs : Jobs) → DoesAtDesk w v done jobs w.state.workspaces
+    → DoesAtDesk w (build_taken built (fetch_taken fetched v)) done jobs (build_kept built (fetch_kept fetched w.state.workspaces))
+noted-does fetched built w v done jobs a =
+    let u : Working State = build_taken built (fetch_taken fetched v) in
+    let kept : Workspaces → Workspaces = λ workspaces. build_kept built (fetch_kept fetched workspaces) in
+    let notes = both-note fetched built v in
+    let quiet : Settled None (at v) (at u) silent jobs = subst (λ (js : Jobs). Settled None (at v) (at u) silent js) a.desk.out notes.desk in
+    let said : joined done silent ≡ done = λ i. record { responses = append-nil done.responses i; jobs = append-nil done.jobs i } in
+    let desk : u.state.desk ≡ v.state.desk = ap (λ (s : State). s.desk) notes.state in
+    record {
+      desk = subst (λ (d : Reaction). Settled None (at w) (at u) d jobs) said (settled-on (at w) (at v) (at u) done silent jobs jobs a.desk quiet);
+      rest = notes.state ∙ ap (λ (s : State). with_workspaces (kept s.workspaces) s) a.rest
+          ∙ ap (λ (d : Desk). record w.state { desk = d; workspaces = kept w.state.workspaces }) (sym desk);
+    }
 
 -- and told to the workspaces
 pub taken-settles : (meaning : Meaning) (turns : ℕ) (message : TaskMsg) (w : Working State)
@@ -475,11 +538,12 @@ pub taken-settles : (meaning : Meaning) (turns : ℕ) (message : TaskMsg) (w : W
 taken-settles meaning turns message w =
     let done = message_row meaning (scene_of w.state) (record w.state.desk { turns = turns }) message in
     let jobs = after_message message w.state.desk.jobs in
-    let kept : Workspaces → Workspaces = end_kept message w.state.desk.jobs in
-    IfOk-and_then (at_desk (taken_at_desk meaning (scene_of w.state) message) w) (λ v. Ok (at_workspaces kept v))
-    (λ v. DoesAtDesk w v done jobs w.state.workspaces) (λ v. DoesAtDesk w v done jobs (kept w.state.workspaces))
+    let fetched : Option FetchEnd = fetch_ended message w.state.desk.jobs in
+    let built : Option BuildEnd = build_ended message w.state.desk.jobs in
+    IfOk-and_then (at_desk (taken_at_desk meaning (scene_of w.state) message) w) (λ v. Ok (build_taken built (fetch_taken fetched v)))
+    (λ v. DoesAtDesk w v done jobs w.state.workspaces) (λ v. DoesAtDesk w v done jobs (kept_past message w.state))
     (desk-settles meaning turns message w)
-    (λ v a. record { desk = a.desk; rest = ap (λ (s : State). with_workspaces (kept s.workspaces) s) a.rest })
+    (λ v a. noted-does fetched built w v done jobs a)
 
 -- what a message leaves is the next one's place
 pub settled-place : (turns : ℕ) (message : TaskMsg) (w v : Working State) (done : Reaction)

@@ -32,6 +32,10 @@ pub enum LogCode {
     /// The client did not answer with its settings. The text is the message of its error; `empty` where it has neither an error nor a
     /// result; `not plain` for a value that isn't plain.
     SettingsError,
+    /// A fetch of workspaces that failed. The text has a line for each error.
+    FetchError,
+    /// A run of build data of which some failed. The text has a line for each error.
+    BuildError,
 }
 
 /// What a session does once there is nothing else to do.

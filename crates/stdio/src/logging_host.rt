@@ -34,6 +34,8 @@ fn words_of(code: LogCode) -> &'static str {
         LogCode::BadPath => "URL of no file",
         LogCode::StrangeResult => "result that fits no job",
         LogCode::SettingsError => "no settings from the client",
+        LogCode::FetchError => "workspaces that failed to load",
+        LogCode::BuildError => "build scripts that failed to run",
     }
 }
 

@@ -131,8 +131,8 @@ impl GlobalState {
         let fetched = self.desk.fetch_end(&message)?;
         let built = self.desk.build_end(&message)?;
         self.bring(message, analysis, out)?;
-        self.keep_fetch(fetched, out)?;
-        self.keep_build(built, out)
+        self.take_fetch(fetched, out)?;
+        self.take_build(built, out)
     }
 
     // The messages of a batch, one after another.
