@@ -51,7 +51,8 @@ use Rattle.session_model.specs.Asking.{is_refresh_due, registers_saves, watchers
 use Rattle.session_model.specs.Building.{build_due, build_kept, request_told, with_due_build}
 use Rattle.session_model.specs.Fetching.{fetch_kept, folders_told_if, settings_told, with_fetches}
 use Rattle.session_model.specs.Hearing.{heard_of}
-use Rattle.session_model.specs.State.{client_watches, columns_in, discovers, excludes_in, fetch_kind, goes_by_folders, may_start, scene_of, snapshot_of, State, watched_names}
+use Rattle.session_model.specs.State.{client_watches, columns_in, discovers, excludes_in, fetch_kind, goes_by_folders, may_start, scene_of, snapshot_of}
+use Rattle.session_model.specs.State.{State, watched_names}
 use Rattle.session_model.specs.Status.{build_fault, fetch_fault, is_quiescent, opens_logs, shown_of, status_message, status_now, takes_status}
 use Rattle.session_model.specs.Switching.{switch_made}
 use Rattle.session_model.specs.Timing.{bring_files, planned_by, renewed_if}
