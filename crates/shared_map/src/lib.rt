@@ -11,6 +11,7 @@ use crate::tree::Tree;
 use std::alloc::{AllocError, Global};
 use std::marker::Model;
 use std::mem;
+use std::sync::Arc;
 use std::sync::ledger::Ledger;
 
 mod change;
@@ -118,13 +119,23 @@ impl<K: Ord, V> SharedMap<K, V> {
         ensures err { OnErr result (self.new ≡ []) }
         ensures cost { IsQuick (length self.old) steps.old steps.new }
     {
-        let SharedMap { tree, len, alloc } = self.take();
+        let SharedMap {
+            mut tree,
+            len,
+            alloc,
+        } = self.take();
         if len == u64::MAX {
             return Err(AllocError);
         }
         let _height = tree.height();
         let given = value.is_some();
-        let (tree, found) = change::put(tree, alloc, key, value, steps)?;
+        let found = match value {
+            Some(value) => {
+                let entry = Arc::new(alloc, (key, value))?;
+                change::put(&mut tree, alloc, &entry.0, Some(&entry), steps)?
+            }
+            None => change::put(&mut tree, alloc, &key, None, steps)?,
+        };
         let len = len + u64::from(given) - u64::from(found);
         let changed = SharedMap { tree, len, alloc };
         *self = changed;
