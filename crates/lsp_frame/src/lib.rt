@@ -1,6 +1,7 @@
 //! Messages of the Language Server Protocol, and the frames of its base protocol, however a stream is cut.
 #![tactic(auto)]
 
+mod body;
 mod cutting;
 mod encoding;
 mod fault;

@@ -9,7 +9,8 @@ use crate::cutting::{cut_at, read_head};
 use crate::fault::FrameFault;
 use crate::frame::{Cut, Head};
 use crate::message::Message;
-use crate::reading::read_body;
+use crate::body::read_body;
+use json::Scratch;
 use plain::{Buffered, NoMemory};
 use std::alloc::{AllocError, Global};
 use std::marker::Model;
@@ -37,6 +38,7 @@ pub struct FrameReader {
     place: u64,
     known: Known,
     failed: bool,
+    scratch: Scratch,
 }
 
 impl Model for FrameReader {
@@ -95,6 +97,7 @@ impl FrameReader {
             place,
             known: Known::NOTHING,
             failed: false,
+            scratch: Scratch::new(alloc),
         }
     }
 
@@ -171,7 +174,11 @@ impl FrameReader {
         if self.failed {
             return Err(FrameFault::BadMessage { at: self.place });
         }
-        match read_body(self.alloc, &self.held.as_slice()[start..end]) {
+        match read_body(
+            self.alloc,
+            &self.held.as_slice()[start..end],
+            &mut self.scratch,
+        ) {
             Ok(Some(message)) => {
                 self.held.consume(end);
                 self.place += end as u64;

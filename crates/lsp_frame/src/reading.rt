@@ -3,45 +3,32 @@ ghost use Rattle.std.specs.Prelude.{◌≡◌, IfOk, Some, None, option_map};
 ghost use Rattle.std.specs.Result.{result_ok};
 ghost use Rattle.lsp_frame.specs.Rules.{message_of, members_message, id_of, optional_id, error_object, optional_error, error_of, params_of, call_of, response_of};
 
+use crate::body::Parts;
 use crate::message::{Message, Notification, Request, RequestId, Response, ResponseError};
 use plain::{Json, Members, Text};
-use std::alloc::{AllocError, Global};
 
 /// A body that is no message.
 #[derive(Clone, Copy)]
 struct NoMessage;
 
-/// The message that a body is, or none.
-#[tactic(auto, unfolding(crate::specs::Rules::message_of))]
-pub fn read_body(alloc: Global, bytes: &[u8]) -> Result<Option<Message>, AllocError>
-    ensures { IfOk result (λ message. message ≡ message_of bytes.now) }
-{
-    match Json::read(alloc, bytes)? {
-        Some(json) => match json.into_members() {
-            Some(members) => Ok(message_from(members)),
-            None => Ok(None),
-        },
-        None => Ok(None),
-    }
-}
-
-/// The message that an object is, or none. It takes no memory.
-pub fn message_from(mut members: Members) -> Option<Message>
-    ensures { result ≡ members_message members }
-{
-    let method = members.take("method");
-    let id = members.take("id");
+/// The message that the parts of an object are, or none. It takes no memory.
+pub fn message_from(parts: Parts) -> Option<Message> {
+    let Parts {
+        method,
+        id,
+        params,
+        outcome,
+        error,
+    } = parts;
     match (method, id) {
-        (Some(method), id) => call_from(method.into_text()?, id, members),
-        (None, Some(id)) => response_from(id, members),
+        (Some(method), id) => call_from(method.into_text()?, id, params),
+        (None, Some(id)) => response_from(id, outcome, error),
         (None, None) => None,
     }
 }
 
-fn call_from(method: Text, id: Option<Json>, members: Members) -> Option<Message>
-    ensures { result ≡ call_of method id members }
-{
-    let params = params_from(members);
+fn call_from(method: Text, id: Option<Json>, params: Option<Json>) -> Option<Message> {
+    let params = params_from(params);
     match id {
         Some(id) if !id.is_null() => {
             let id = RequestId::from_json(id)?;
@@ -51,21 +38,17 @@ fn call_from(method: Text, id: Option<Json>, members: Members) -> Option<Message
     }
 }
 
-fn params_from(mut members: Members) -> Json
-    ensures { result ≡ params_of members }
-{
-    match members.take("params") {
+fn params_from(params: Option<Json>) -> Json {
+    match params {
         Some(params) => params,
         None => Json::null(),
     }
 }
 
-fn response_from(id: Json, mut members: Members) -> Option<Message>
-    ensures { result ≡ response_of id members }
-{
+fn response_from(id: Json, outcome: Option<Json>, error: Option<Json>) -> Option<Message> {
     let id = optional_id_from(id).ok()?;
-    let result = members.take("result");
-    let error = error_from(members.take("error")).ok()?;
+    let result = outcome;
+    let error = error_from(error).ok()?;
     Some(Message::Response(Response { id, result, error }))
 }
 

@@ -20,6 +20,7 @@ use session_model::{Counter, Event, Input, SessionError, TurnError};
 use session_port::{Command, Host, HostError, HostEvent, Sink};
 use session_state::{GlobalState, TurnOut};
 use std::alloc::Global;
+use std::mem;
 
 // Whether the run goes on.
 #[derive(Clone, Copy, Debug, PartialEq, Eq)]
@@ -247,7 +248,10 @@ fn run_from<H: Host<A>, S: Sink, A: Analysis>(
     'inputs: loop {
         match advance(alloc, &mut reader, &mut state, host, sink, analysis) {
             Ok(Turned::Going) => {}
-            Ok(Turned::Stopped) => return Ok(()),
+            Ok(Turned::Stopped) => {
+                mem::forget(state);
+                return Ok(());
+            }
             Err(error) => return Err(error),
         }
     }
