@@ -7,6 +7,7 @@ ghost use Rattle.lsp_frame.specs.Rules.{message_of, data_message, id_of, optiona
 ghost use Rattle.lsp_frame.specs.Written.{data_of, body_of, error_data, id_data, optional_id_data, params_data, AreWritable, IsWritable, IsWritableIfSome, IsErrorWritable};
 
 use crate::message::{Message, Notification, Request, RequestId, Response, ResponseError};
+use itoa::Buffer;
 use plain::{Json, Text};
 use std::alloc::{AllocError, Global};
 
@@ -93,7 +94,7 @@ fn write_response(response: Response, into: &mut Vec<u8>) -> Result<(), AllocErr
     let Response { id, result, error } = response;
     into.extend_from_slice(b"{")?;
     write_first_error(error, into)?;
-    write_value(b"\"id\":", optional_id_json(id), into)?;
+    write_id(id, into)?;
     into.extend_from_slice(b",\"jsonrpc\":\"2.0\"")?;
     write_some(b",\"result\":", result, into)?;
     into.extend_from_slice(b"}")?;
@@ -133,6 +134,23 @@ fn write_error(error: ResponseError, into: &mut Vec<u8>) -> Result<(), AllocErro
     write_value(b",\"message\":", Json::from_text(message), into)?;
     into.extend_from_slice(b"}")?;
     Ok(())
+}
+
+/// Appends the id of a response. A number goes into the body as it is.
+fn write_id(id: Option<RequestId>, into: &mut Vec<u8>) -> Result<(), AllocError>
+    ensures text { OnOk result (into.new.items ≡ into.old.items ++ (codes "\"id\":" ++ compact_text (optional_id_data id))) }
+    ensures exact { OnOk result (IsExact (optional_id_data id)) }
+    ensures reads_back { OnOk result (optional_id (optional_id_data id) ≡ Some id) }
+{
+    match id {
+        Some(RequestId::Number(number)) => {
+            let mut digits = Buffer::new();
+            into.extend_from_slice(b"\"id\":")?;
+            into.extend_from_slice(digits.format(number).as_bytes())?;
+            Ok(())
+        }
+        other => write_value(b"\"id\":", optional_id_json(other), into),
+    }
 }
 
 /// Appends some bytes and a value's text.
