@@ -8,10 +8,10 @@ ghost use Rattle.shared_map.specs.Costs.{IsQuick};
 ghost use Rattle.shared_map.specs.Entries.{IsInOrder, set_entry};
 
 use crate::tree::Tree;
+use plain::Copied;
 use std::alloc::{AllocError, Global};
 use std::marker::Model;
 use std::mem;
-use std::sync::Arc;
 use std::sync::ledger::Ledger;
 
 mod change;
@@ -84,8 +84,8 @@ impl<K: Ord, V> SharedMap<K, V> {
         steps: &mut Steps<L>,
     ) -> Result<SharedMap<K, V>, AllocError>
     where
-        K: Drop,
-        V: Drop,
+        K: Copied + Drop,
+        V: Copied + Drop,
         ensures ok { IfOk result (λ map. map ≡ set_entry K.cmp key value self.now) }
         ensures cost { IsQuick (length self.now) steps.old steps.new }
     {
@@ -113,8 +113,8 @@ impl<K: Ord, V> SharedMap<K, V> {
         steps: &mut Steps<L>,
     ) -> Result<(), AllocError>
     where
-        K: Drop,
-        V: Drop,
+        K: Copied + Drop,
+        V: Copied + Drop,
         ensures ok { OnOk result (self.new ≡ set_entry K.cmp key value self.old) }
         ensures err { OnErr result (self.new ≡ []) }
         ensures cost { IsQuick (length self.old) steps.old steps.new }
@@ -129,13 +129,8 @@ impl<K: Ord, V> SharedMap<K, V> {
         }
         let _height = tree.height();
         let given = value.is_some();
-        let found = match value {
-            Some(value) => {
-                let entry = Arc::new(alloc, (key, value))?;
-                change::put(&mut tree, alloc, &entry.0, Some(&entry), steps)?
-            }
-            None => change::put(&mut tree, alloc, &key, None, steps)?,
-        };
+        let mut value = value;
+        let found = change::put(&mut tree, alloc, &key, &mut value, steps)?;
         let len = len + u64::from(given) - u64::from(found);
         let changed = SharedMap { tree, len, alloc };
         *self = changed;
