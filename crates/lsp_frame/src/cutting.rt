@@ -6,7 +6,7 @@ ghost use Rattle.lsp_frame.specs.Find.{place_of};
 ghost use Rattle.lsp_frame.specs.Frames.{empty_line, header_limit, window, head_of, cut_at, cut_of, NoneBelow, LiesWithin};
 
 use crate::frame::{Cut, Head};
-use crate::header::read_body_size;
+use crate::header::{SIZE_LIMIT, read_body_size};
 
 /// The bytes within which a frame's empty line ends.
 pub const HEADER_LIMIT: usize = 4096;
@@ -64,6 +64,35 @@ fn find_empty_line(bytes: &[u8], from: usize) -> Option<usize>
     }
 }
 
+/// What most headers begin with.
+const LENGTH_NAME: [u8; 16] = *b"Content-Length: ";
+
+/// What a header says that is one plain line with its size, or none.
+fn plain_head(bytes: &[u8]) -> Option<Head>
+    ensures { IfSome result (λ head. head ≡ head_of bytes.now) }
+{
+    if !bytes.starts_with(&LENGTH_NAME) {
+        return None;
+    }
+    let mut size: u64 = 0;
+    let mut at = LENGTH_NAME.len();
+    'digits: while at < bytes.len() && at < 26 && bytes[at].is_ascii_digit() {
+        size = size * 10 + u64::from(bytes[at] - b'0');
+        at += 1;
+    }
+    if at == LENGTH_NAME.len() || size > SIZE_LIMIT || at + 4 > bytes.len() {
+        return None;
+    }
+    if !begins_empty_line(bytes, at) {
+        return None;
+    }
+    let start = at + 4;
+    Some(Head::Body {
+        start,
+        end: start + size as usize,
+    })
+}
+
 /// What the header says, where no empty line begins below `from`.
 #[tactic(auto, using(crate::proofs::Sizes::size_fits), unfolding(crate::specs::Frames::head_of, crate::specs::Frames::head_at))]
 pub fn read_head(bytes: &[u8], from: usize) -> Head
@@ -71,6 +100,9 @@ pub fn read_head(bytes: &[u8], from: usize) -> Head
     requires none { NoneBelow bytes.now from }
     ensures { result ≡ head_of bytes.now }
 {
+    if let Some(head) = plain_head(bytes) {
+        return head;
+    }
     match find_empty_line(bytes, from) {
         None => {
             if bytes.len() < HEADER_LIMIT {
