@@ -10,6 +10,7 @@ use crate::by_path::ByPath;
 use crate::file_kinds::{
     ChangeKind, ChangedFile, FileExcluded, FileId, FileRow, FileWas, Kept, Replaced, TableFault,
 };
+use crate::hashed_by_path::HashedByPath;
 use crate::path::VfsPath;
 use crate::shared_bytes::SharedBytes;
 use plain::{Bytes, Items};
@@ -26,7 +27,7 @@ pub struct FileTable {
     alloc: Global,
     first: u32,
     paths: Items<VfsPath>,
-    rows: ByPath<FileRow>,
+    rows: HashedByPath<FileRow>,
     before: ByPath<FileWas>,
 }
 
@@ -140,7 +141,7 @@ fn share(contents: Option<&SharedBytes>) -> Result<Option<SharedBytes>, AllocErr
 /// Adds what became of a path since the last take, unless its contents are what they were.
 fn push_change(
     list: &mut Items<ChangedFile>,
-    rows: &ByPath<FileRow>,
+    rows: &HashedByPath<FileRow>,
     path: VfsPath,
     was: &FileWas,
 ) -> Result<(), AllocError>
@@ -165,7 +166,7 @@ fn push_change(
 /// Adds what became of each path that was touched.
 fn drain_changes(
     list: &mut Items<ChangedFile>,
-    rows: &ByPath<FileRow>,
+    rows: &HashedByPath<FileRow>,
     before: &mut ByPath<FileWas>,
 ) -> Result<(), AllocError>
     ensures { OnOk result ((list.new ≡ list.old ++ filter_map (change_of rows.now) (map.entries before.old))
@@ -276,7 +277,7 @@ fn mark_row(
 #[tactic(auto, using(crate::proofs::TableLemmas::undone_by))]
 fn put_next_row(
     paths: &mut Items<VfsPath>,
-    rows: &mut ByPath<FileRow>,
+    rows: &mut HashedByPath<FileRow>,
     path: &VfsPath,
     row: FileRow,
 ) -> Result<(), AllocError>
@@ -299,7 +300,7 @@ fn put_next_row(
 #[tactic(auto, using(crate::proofs::TableLemmas::undone_by))]
 fn put_next(
     paths: &mut Items<VfsPath>,
-    rows: &mut ByPath<FileRow>,
+    rows: &mut HashedByPath<FileRow>,
     before: &mut ByPath<FileWas>,
     path: &VfsPath,
     row: FileRow,
@@ -339,7 +340,7 @@ impl FileTable {
             alloc,
             first: used,
             paths: Items::new(alloc),
-            rows: ByPath::new(alloc),
+            rows: HashedByPath::new(alloc),
             before: ByPath::new(alloc),
         }
     }

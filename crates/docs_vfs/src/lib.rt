@@ -7,6 +7,7 @@ mod file_kinds;
 mod file_laws;
 mod file_table;
 mod file_url;
+mod hashed_by_path;
 mod includes;
 mod mem_docs;
 mod path;
@@ -18,6 +19,7 @@ mod shared_bytes;
 mod source_roots;
 
 pub use by_path::ByPath;
+pub use hashed_by_path::HashedByPath;
 pub use file_kinds::{ChangeKind, ChangedFile, FileExcluded, FileId, Replaced, TableFault};
 pub use file_laws::{
     calls_change_one_path, changes_are_the_difference, numbers_are_kept, runs_give_the_difference,

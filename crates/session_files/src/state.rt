@@ -10,7 +10,7 @@ mod processing;
 
 use crate::numbers::{add_contents, set_contents, set_mark};
 use analysis_host::{AnalysisHost, SharedText, Versions, World};
-use docs_vfs::{ByPath, FileTable, SharedBytes, VfsPath};
+use docs_vfs::{FileTable, HashedByPath, SharedBytes, VfsPath};
 use file_ids::FileIds;
 use std::alloc::{AllocError, Global};
 use std::marker::Model;
@@ -22,7 +22,7 @@ use turn_parts::TurnError;
 pub struct SessionFiles {
     alloc: Global,
     versions: Versions,
-    texts: ByPath<SharedText>,
+    texts: HashedByPath<SharedText>,
     table: FileTable,
     /// The numbers of the table, as snapshots share them.
     ids: FileIds,
@@ -70,7 +70,7 @@ impl SessionFiles {
         Ok(SessionFiles {
             alloc,
             versions: Versions::new(alloc)?,
-            texts: ByPath::new(alloc),
+            texts: HashedByPath::new(alloc),
             table: FileTable::new_at(alloc, numbers),
             ids: FileIds::new(alloc),
             host: AnalysisHost::new_at(alloc, revisions)?,
