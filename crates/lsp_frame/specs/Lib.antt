@@ -11,3 +11,4 @@ pub mod Ids
 pub mod Pending
 pub mod Indexed
 pub mod Pieces
+pub mod Parts

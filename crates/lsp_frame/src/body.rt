@@ -1,6 +1,13 @@
 // A body is read into the members that a message is made of; the others are checked and let go. The memory that reading needs is lent.
-ghost use Rattle.std.specs.Prelude.{◌≡◌, IfOk};
+ghost use Rattle.std.specs.Prelude.{◌≡◌, ◌≤◌, ◌<◌, ◌∷◌, length, Some, None, IfOk, OnOk, IfSome, option_and_then, option_map};
+ghost use Rattle.json.specs.Json.{value, items, members};
+ghost use Rattle.json.specs.Reads.{token_of};
+ghost use Rattle.serde_json.specs.Data.{Data, Members, no_members, object, number, unsigned};
+ghost use Rattle.serde_json.specs.Find.{as_object};
+ghost use Rattle.serde_json.specs.Read.{of_json, of_items, of_members, converted, number_of};
+ghost use Rattle.serde_json.specs.View.{view, items_view, members_view};
 ghost use Rattle.lsp_frame.specs.Rules.{message_of};
+ghost use Rattle.lsp_frame.specs.Parts.{ArePartsOf, IsRefused, whole};
 
 use crate::message::Message;
 use crate::reading::message_from;
@@ -20,6 +27,10 @@ enum Refusal {
 }
 
 impl From<AllocError> for Refusal {
+    ghost use Rattle.lsp_frame.specs.declared.body.Refusal.TheVariants.{NoMemory};
+
+    ghost from_gives = { λ _ e. e ≡ NoMemory };
+
     fn from(_: AllocError) -> Refusal {
         Refusal::NoMemory
     }
@@ -36,7 +47,9 @@ pub struct Parts {
 }
 
 /// The number that up to eighteen digits write.
-fn short_number(digits: &[u8]) -> Option<u64> {
+fn short_number(digits: &[u8]) -> Option<u64>
+    ensures { IfSome result (λ number. number_of digits.now ≡ Some (unsigned number)) }
+{
     if digits.is_empty() || digits.len() > 18 || (digits[0] == b'0' && digits.len() > 1) {
         return None;
     }
@@ -51,7 +64,11 @@ fn short_number(digits: &[u8]) -> Option<u64> {
 }
 
 /// The number that a token writes.
-fn read_number(alloc: Global, text: &str) -> Result<Value, Refusal> {
+fn read_number(alloc: Global, text: &str) -> Result<Value, Refusal>
+    // The text is the token of a number.
+    ensures ok { IfOk result (λ v. option_map number (number_of text.now) ≡ Some (view v)) }
+    ensures err { IsRefused result → number_of text.now ≡ None }
+{
     if let Some(number) = short_number(text.as_bytes()) {
         return Ok(Value::from(number));
     }
@@ -69,7 +86,11 @@ fn read_from(
     token: Token<'_>,
     reader: &mut Reader<'_>,
     depth: usize,
-) -> Result<Value, Refusal> {
+) -> Result<Value, Refusal>
+    ensures ok { IfOk result (λ v. converted of_json (value depth (token_of token ∷ reader.old)) ≡ Some (view v, reader.new)) }
+    ensures shorter { OnOk result (length reader.new ≤ length reader.old) }
+    ensures err { IsRefused result → converted of_json (value depth (token_of token ∷ reader.old)) ≡ None }
+{
     match token {
         Token::String(text) => Ok(Value::String(String::from_str(alloc, text)?)),
         Token::Number(text) => read_number(alloc, text),
@@ -92,7 +113,11 @@ fn read_from(
 }
 
 #[cycle(read)]
-fn read(alloc: Global, reader: &mut Reader<'_>, depth: usize) -> Result<Value, Refusal> {
+fn read(alloc: Global, reader: &mut Reader<'_>, depth: usize) -> Result<Value, Refusal>
+    ensures ok { IfOk result (λ v. converted of_json (value depth reader.old) ≡ Some (view v, reader.new)) }
+    ensures shorter { OnOk result (length reader.new < length reader.old) }
+    ensures err { IsRefused result → converted of_json (value depth reader.old) ≡ None }
+{
     match reader.next() {
         Some(token) => read_from(alloc, token, reader, depth),
         None => Err(Refusal::NoJson),
@@ -104,7 +129,11 @@ fn read_items(
     alloc: Global,
     reader: &mut Reader<'_>,
     depth: usize,
-) -> Result<Vec<Value>, Refusal> {
+) -> Result<Vec<Value>, Refusal>
+    ensures ok { IfOk result (λ v. converted of_items (items (value depth) (length reader.old) reader.old) ≡ Some (items_view v.items, reader.new)) }
+    ensures shorter { OnOk result (length reader.new < length reader.old) }
+    ensures err { IsRefused result → converted of_items (items (value depth) (length reader.old) reader.old) ≡ None }
+{
     let mut found = Vec::new(alloc);
     'items: while !reader.take_end_array() {
         let item = read(alloc, reader, depth)?;
@@ -120,7 +149,12 @@ fn read_members(
     alloc: Global,
     reader: &mut Reader<'_>,
     depth: usize,
-) -> Result<Map<String, Value>, Refusal> {
+) -> Result<Map<String, Value>, Refusal>
+    ensures ok { IfOk result (λ m. converted (λ ms. of_members ms no_members) (members (value depth) (length reader.old) reader.old)
+        ≡ Some (members_view m.entries, reader.new)) }
+    ensures shorter { OnOk result (length reader.new < length reader.old) }
+    ensures err { IsRefused result → converted (λ ms. of_members ms no_members) (members (value depth) (length reader.old) reader.old) ≡ None }
+{
     let mut found = Map::new(alloc);
     'members: loop {
         match reader.next_key() {
@@ -139,7 +173,11 @@ fn read_members(
 }
 
 /// Passes a value that is not kept.
-fn pass(alloc: Global, reader: &mut Reader<'_>, depth: usize) -> Result<(), Refusal> {
+fn pass(alloc: Global, reader: &mut Reader<'_>, depth: usize) -> Result<(), Refusal>
+    ensures ok { OnOk result ((d : Data) × (converted of_json (value depth reader.old) ≡ Some (d, reader.new))) }
+    ensures shorter { OnOk result (length reader.new < length reader.old) }
+    ensures err { IsRefused result → converted of_json (value depth reader.old) ≡ None }
+{
     match reader.next() {
         None => Err(Refusal::NoJson),
         Some(Token::String(_)) | Some(Token::Bool(_)) | Some(Token::Null) => Ok(()),
@@ -151,7 +189,11 @@ fn pass(alloc: Global, reader: &mut Reader<'_>, depth: usize) -> Result<(), Refu
 }
 
 /// The members of an object that a message is made of.
-fn read_parts(alloc: Global, reader: &mut Reader<'_>, depth: usize) -> Result<Parts, Refusal> {
+fn read_parts(alloc: Global, reader: &mut Reader<'_>, depth: usize) -> Result<Parts, Refusal>
+    ensures ok { IfOk result (λ parts. (found : Members) × ArePartsOf found parts
+        × (converted (λ ms. of_members ms no_members) (members (value depth) (length reader.old) reader.old) ≡ Some (found, reader.new))) }
+    ensures err { IsRefused result → converted (λ ms. of_members ms no_members) (members (value depth) (length reader.old) reader.old) ≡ None }
+{
     let mut parts = Parts {
         method: None,
         id: None,
@@ -183,7 +225,10 @@ fn read_parts(alloc: Global, reader: &mut Reader<'_>, depth: usize) -> Result<Pa
 }
 
 /// The parts of a whole text, where it is an object.
-fn read_whole(alloc: Global, reader: &mut Reader<'_>) -> Result<Parts, Refusal> {
+fn read_whole(alloc: Global, reader: &mut Reader<'_>) -> Result<Parts, Refusal>
+    ensures ok { IfOk result (λ parts. (found : Members) × ArePartsOf found parts × (whole reader.old ≡ Some (object found))) }
+    ensures err { IsRefused result → option_and_then as_object (whole reader.old) ≡ None }
+{
     match reader.next() {
         Some(Token::BeginObject) => {
             let parts = read_parts(alloc, reader, MAX_DEPTH - 1)?;

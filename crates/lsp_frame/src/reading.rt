@@ -1,7 +1,10 @@
 // The message that a body is.
-ghost use Rattle.std.specs.Prelude.{◌≡◌, IfOk, Some, None, option_map};
+ghost use Rattle.std.specs.Prelude.{◌≡◌, Some, None, codes, unwrap_or};
 ghost use Rattle.std.specs.Result.{result_ok};
-ghost use Rattle.lsp_frame.specs.Rules.{message_of, members_message, id_of, optional_id, error_object, optional_error, error_of, params_of, call_of, response_of};
+ghost use Rattle.serde_json.specs.Data.{Members, null};
+ghost use Rattle.serde_json.specs.Find.{get_member};
+ghost use Rattle.lsp_frame.specs.Parts.{ArePartsOf};
+ghost use Rattle.lsp_frame.specs.Rules.{members_message, id_of, optional_id, error_object, error_of, call_of, response_of};
 
 use crate::body::Parts;
 use crate::message::{Message, Notification, Request, RequestId, Response, ResponseError};
@@ -12,7 +15,9 @@ use plain::{Json, Members, Text};
 struct NoMessage;
 
 /// The message that the parts of an object are, or none. It takes no memory.
-pub fn message_from(parts: Parts) -> Option<Message> {
+pub fn message_from(parts: Parts) -> Option<Message>
+    ensures { (members : Members) → ArePartsOf members parts → result ≡ members_message members }
+{
     let Parts {
         method,
         id,
@@ -27,7 +32,9 @@ pub fn message_from(parts: Parts) -> Option<Message> {
     }
 }
 
-fn call_from(method: Text, id: Option<Json>, params: Option<Json>) -> Option<Message> {
+fn call_from(method: Text, id: Option<Json>, params: Option<Json>) -> Option<Message>
+    ensures { (members : Members) → params ≡ get_member (codes "params") members → result ≡ call_of method id members }
+{
     let params = params_from(params);
     match id {
         Some(id) if !id.is_null() => {
@@ -38,16 +45,21 @@ fn call_from(method: Text, id: Option<Json>, params: Option<Json>) -> Option<Mes
     }
 }
 
-fn params_from(params: Option<Json>) -> Json {
+fn params_from(params: Option<Json>) -> Json
+    ensures { result ≡ unwrap_or params null }
+{
     match params {
         Some(params) => params,
         None => Json::null(),
     }
 }
 
-fn response_from(id: Json, outcome: Option<Json>, error: Option<Json>) -> Option<Message> {
-    let id = optional_id_from(id).ok()?;
+fn response_from(id: Json, outcome: Option<Json>, error: Option<Json>) -> Option<Message>
+    ensures { (members : Members) → outcome ≡ get_member (codes "result") members → error ≡ get_member (codes "error") members
+        → result ≡ response_of id members }
+{
     let result = outcome;
+    let id = optional_id_from(id).ok()?;
     let error = error_from(error).ok()?;
     Some(Message::Response(Response { id, result, error }))
 }
