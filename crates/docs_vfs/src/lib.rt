@@ -19,7 +19,6 @@ mod shared_bytes;
 mod source_roots;
 
 pub use by_path::ByPath;
-pub use hashed_by_path::HashedByPath;
 pub use file_kinds::{ChangeKind, ChangedFile, FileExcluded, FileId, Replaced, TableFault};
 pub use file_laws::{
     calls_change_one_path, changes_are_the_difference, numbers_are_kept, runs_give_the_difference,
@@ -29,6 +28,7 @@ pub use file_table::FileTable;
 pub use file_url::{
     UrlFault, path_of_url, url_escapes_are_listed, url_names_its_path, url_of_path,
 };
+pub use hashed_by_path::HashedByPath;
 pub use mem_docs::{DocumentData, MemDocs, Paths};
 pub use path::VfsPath;
 pub use path_laws::resolved_texts_are_paths;

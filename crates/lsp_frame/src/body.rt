@@ -125,11 +125,7 @@ fn read(alloc: Global, reader: &mut Reader<'_>, depth: usize) -> Result<Value, R
 }
 
 #[cycle(read)]
-fn read_items(
-    alloc: Global,
-    reader: &mut Reader<'_>,
-    depth: usize,
-) -> Result<Vec<Value>, Refusal>
+fn read_items(alloc: Global, reader: &mut Reader<'_>, depth: usize) -> Result<Vec<Value>, Refusal>
     ensures ok { IfOk result (λ v. converted of_items (items (value depth) (length reader.old) reader.old) ≡ Some (items_view v.items, reader.new)) }
     ensures shorter { OnOk result (length reader.new < length reader.old) }
     ensures err { IsRefused result → converted of_items (items (value depth) (length reader.old) reader.old) ≡ None }

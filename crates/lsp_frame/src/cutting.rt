@@ -29,10 +29,7 @@ fn begins_empty_line(bytes: &[u8], at: usize) -> bool
     requires { at + 4 ≤ length bytes.now }
     ensures { MatchBool result (OccursAt bytes.now empty_line at) (OccursAt bytes.now empty_line at → ⊥) }
 {
-    bytes[at] == b'\r'
-        && bytes[at + 1] == b'\n'
-        && bytes[at + 2] == b'\r'
-        && bytes[at + 3] == b'\n'
+    bytes[at] == b'\r' && bytes[at + 1] == b'\n' && bytes[at + 2] == b'\r' && bytes[at + 3] == b'\n'
 }
 
 /// The first empty line.

@@ -5,11 +5,11 @@ ghost use Rattle.lsp_frame.specs.Header.{size_limit};
 ghost use Rattle.lsp_frame.specs.Kept.{Knows};
 ghost use Rattle.lsp_frame.specs.Reader.{Reader, fed, is_faulty, fault_of, GivesMessage, FaultIs};
 
+use crate::body::read_body;
 use crate::cutting::{cut_at, read_head};
 use crate::fault::FrameFault;
 use crate::frame::{Cut, Head};
 use crate::message::Message;
-use crate::body::read_body;
 use json::Scratch;
 use plain::{Buffered, NoMemory};
 use std::alloc::{AllocError, Global};
