@@ -56,17 +56,18 @@ use Rattle.status.specs.declared.status.Status.{Status}
 use Rattle.workspaces.specs.Fetches.{fetch_to_start, fires, start_fetch, start_up}
 use Rattle.workspaces.specs.Workspaces.{Workspaces}
 use Rattle.workspaces.specs.declared.requests.FetchRequest.{FetchRequest}
-use Rattle.session_model.specs.Building.{build_due, build_jobs, end_kept, ends_kept, request_told, with_due_build}
+use Rattle.session_model.specs.Building.{build_due, end_kept, ends_kept, request_told, with_due_build}
 use Rattle.session_model.specs.Fetching.{fetch_jobs, folders_told_if, settings_told, with_fetches}
 use Rattle.session_model.specs.Headline.{Place, reaction_of, row, notice_row, batch_row, desk_after, place_after, place_past, client_after, last_of, revision_after, scene_at, snapshot_at}
-use Rattle.session_model.specs.Headline.{are_due, build_in, changes_due, changes_in, client_left, fetch_in, files_after, files_made, files_told, files_turned, is_changed, jobs_started, left_or, may_start_at, or_before, SetsTimer}
+use Rattle.session_model.specs.Headline.{are_due, build_in, changes_due, changes_in, client_left, fetch_in, files_after, files_made, files_told, files_turned, is_changed, jobs_started, left_or, load_in, may_start_at, or_before, run_jobs, SetsTimer}
 use Rattle.session_model.specs.Headline.{status_after, statuses_at, switch_in, workspaces_after, workspaces_at, workspaces_fetched, workspaces_planned, workspaces_switched}
 use Rattle.session_model.specs.Inputs.{cancelled_by, request_in, turns_after}
-use Rattle.session_model.specs.Machine.{answer_taken, asked, asked_for_settings, at_client, at_desk, at_files, at_workspaces, batched, begin_part, begun_fetches, brought, build_part, build_started, changed_at, client_in, closed}
+use Rattle.session_model.specs.Machine.{answer_taken, asked, asked_for_settings, at_client, at_desk, at_files, at_workspaces, batched, begin_part, begun_fetches, brought, build_part, changed_at, client_in, closed}
 use Rattle.session_model.specs.Machine.{closed_at, closing_part, counted, desk_in, event_part, facts_of, fetch_part, fetch_started, file_changed, files_changed, files_in, files_part, files_planned, files_processed, folders_taken}
-use Rattle.session_model.specs.Machine.{happened, kept, later_parts, noticed, opened_at, received, revised, start_parts, state_in, status_done, status_part, step, switch_done, switch_part, taken, taken_in, timed, timer_set, told}
+use Rattle.session_model.specs.Machine.{happened, kept, later_parts, noticed, opened_at, received, revised, runs_started, start_parts, state_in, status_done, status_part, step, switch_done, switch_part, taken, taken_in, timed, timer_set, told}
 use Rattle.session_model.specs.Machine.{turned, Turning, turning, with_client, with_desk, with_files, with_state, with_workspaces}
 use Rattle.session_model.specs.Hearing.{heard_of, told_by}
+use Rattle.session_model.specs.Loading.{MacroPaths, load_due, with_due_load}
 use Rattle.session_model.specs.Switching.{switch_made}
 use Rattle.session_model.specs.Timing.{bring_files, planned_by, renewed_if, timer_of}
 use Rattle.session_model.specs.Run.{Turn, Steps, begun, after_input, out_after}
@@ -82,7 +83,7 @@ use Rattle.session_model.specs.declared.heard.Heard.TheVariants.{Told, Malformed
 use Rattle.session_laws.specs.Beside.{Serves, Tells, TellsOnly, turn_of}
 use Rattle.session_laws.specs.Invariant.{StepFits, place_of}
 use Rattle.session_laws.proofs.Beside.{beside-fits, beside-revised}
-use Rattle.session_laws.proofs.Building.{built-hands, jobs_of_build, no-build, same-fetch}
+use Rattle.session_laws.proofs.Building.{jobs_of_runs, no-build, no-load, runs-hand, same-fetch}
 use Rattle.session_laws.proofs.Fetching.{jobs_of_fetch, started-hands}
 use Rattle.session_laws.proofs.Filing.{DoesForFiles, KeepsHost, Processes, change-host, change_of, changed-does, closed-does, loaded-does, messages-host, opened-does, opening-host}
 use Rattle.session_laws.proofs.Filing.{processed-does, revision_by, revision_now, turn-revises}
@@ -937,28 +938,39 @@ fetched-build meaning s event t fetched = ap build_due fetched.workspaces
 alone : (s : State) (event : Event) → is_some (fetch_in (Next event) (place_of s)) ≡ true → build_in (Next event) (place_of s) ≡ None
 alone s event some = no-build (may_start_at (Next event) s.client) (workspaces_planned (Next event) (place_of s)) some
 
--- build data is started
+-- the macros that are to be loaded, which are none where a fetch starts
+pub fetched-load : (meaning : Meaning) (s : State) (event : Event) (t : Working Turning) → FetchedBehind meaning s event t
+    → load_due (build_due t.state.state.workspaces) (with_due_build t.state.state.workspaces) ≡ load_in (Next event) (place_of s)
+fetched-load meaning s event t fetched = ap (λ (w : Workspaces). load_due (build_due w) (with_due_build w)) fetched.workspaces
+
+unloaded : (s : State) (event : Event) → is_some (fetch_in (Next event) (place_of s)) ≡ true → load_in (Next event) (place_of s) ≡ None
+unloaded s event some =
+    no-load (may_start_at (Next event) s.client) (build_in (Next event) (place_of s)) (workspaces_planned (Next event) (place_of s)) some
+
+-- build data is started, else macros
 pub build-made : (meaning : Meaning) (s : State) (event : Event) (t : Working Turning) → FetchedBehind meaning s event t → IfOk (build_part t) (MadeBehind meaning s event)
 unfolding build_part
 build-made meaning s event t fetched =
     let input : Input = Next event in
     let place = place_of s in
     let w = session_in t in
-    let version : Option ℕ = build_due w.state.workspaces in
-    let after : Workspaces = with_due_build w.state.workspaces in
-    let is : version ≡ build_in input place = fetched-build meaning s event t fetched in
+    let build : Option ℕ = build_due w.state.workspaces in
+    let load : Option MacroPaths = load_due build (with_due_build w.state.workspaces) in
+    let after : Workspaces = with_due_load build (with_due_build w.state.workspaces) in
+    let build_is : build ≡ build_in input place = fetched-build meaning s event t fetched in
+    let load_is : load ≡ load_in input place = fetched-load meaning s event t fetched in
     let jobs = (row meaning input place).jobs in
-    IfOk-within state_in with_state build_started t (MadeBehind meaning s event)
-    (IfOk-weaker (build_started w) (StartsJobs (jobs_of_build version) after w) _ (built-hands w)
+    IfOk-within state_in with_state runs_started t (MadeBehind meaning s event)
+    (IfOk-weaker (runs_started w) (StartsJobs (jobs_of_runs build load) after w) _ (runs-hand w)
     (λ v h. let fetch : List Job = fetch_jobs v.state.desk.handed (snapshot_of v.state) (fetch_in input place) in
-    let same = same-fetch (fetch_in input place) version w v (λ some. is ∙ alone s event some) h in
+    let same = same-fetch (fetch_in input place) build load w v (λ some. build_is ∙ alone s event some) (λ some. load_is ∙ unloaded s event some) h in
     record {
       facts = fetched.facts;
-      made = started-now meaning s input (client_after input s.client) s.status [] w v (jobs_of_build version) after fetched.made h;
-      workspaces = h.now ∙ ap with_due_build fetched.workspaces;
-      hands = h.hands ∙ ap (λ (js : List Job). js ++ build_jobs v.state.desk.handed (snapshot_of v.state) version) (fetched.hands ∙ ap (λ (js : List Job). jobs ++ js) same)
-          ∙ append_assoc jobs fetch (build_jobs v.state.desk.handed (snapshot_of v.state) version)
-          ∙ ap (λ (o : Option ℕ). jobs ++ (fetch ++ build_jobs v.state.desk.handed (snapshot_of v.state) o)) is;
+      made = started-now meaning s input (client_after input s.client) s.status [] w v (jobs_of_runs build load) after fetched.made h;
+      workspaces = h.now ∙ ap (λ (w : Workspaces). with_due_load (build_due w) (with_due_build w)) fetched.workspaces;
+      hands = h.hands ∙ ap (λ (js : List Job). js ++ run_jobs v.state.desk.handed (snapshot_of v.state) build load) (fetched.hands ∙ ap (λ (js : List Job). jobs ++ js) same)
+          ∙ append_assoc jobs fetch (run_jobs v.state.desk.handed (snapshot_of v.state) build load)
+          ∙ (λ i. jobs ++ (fetch ++ run_jobs v.state.desk.handed (snapshot_of v.state) (build_is i) (load_is i)));
     }))
 
 -- the start runs none

@@ -107,23 +107,24 @@ made-errs settings files workspaces = due-errs (is_switch_due files workspaces) 
 
 -- ---- what it leaves
 
--- the fetches stay as they are, no run of build data starts or ends, and the workspaces get one version at most
+-- the fetches stay as they are, no run of build data and no load of macros starts or ends, and the workspaces get one version at most
 pub record Moves (before after : Workspaces) : Type 0 where
   pub fetches : after.fetches ≡ before.fetches
   pub building : after.builds.queue.in_progress ≡ before.builds.queue.in_progress
+  pub loading : after.loads.queue.in_progress ≡ before.loads.queue.in_progress
   pub version : after.version ≤ before.version + 1
 
 stays : (workspaces : Workspaces) → Moves workspaces workspaces
-stays workspaces = record { fetches = refl; building = refl; version = omega arith }
+stays workspaces = record { fetches = refl; building = refl; loading = refl; version = omega arith }
 
 asked-moves : (asks : Bool) (before workspaces : Workspaces) → Moves before workspaces → Moves before (asks_build asks workspaces)
-asked-moves true before workspaces m = record { fetches = m.fetches; building = m.building; version = m.version }
+asked-moves true before workspaces m = record { fetches = m.fetches; building = m.building; loading = m.loading; version = m.version }
 asked-moves false before workspaces m = m
 
 follows-moves : (msrv : List (List ℕ)) (initial : Bool) (before workspaces : Workspaces) (version : Option ℕ) → Moves before workspaces
     → Moves before (workspaces_followed msrv initial workspaces version).1
 follows-moves msrv initial before workspaces None m = m
-follows-moves msrv initial before workspaces (Some version) m = record { fetches = m.fetches; building = m.building; version = m.version }
+follows-moves msrv initial before workspaces (Some version) m = record { fetches = m.fetches; building = m.building; loading = m.loading; version = m.version }
 
 version-moves : (msrv : List (List ℕ)) (initial : Bool) (before workspaces : Workspaces) (version : Option (Option ℕ)) → Moves before workspaces
     → Moves before (left_or before (unless_exhausted (option_map (workspaces_followed msrv initial workspaces) version)))
@@ -131,7 +132,7 @@ version-moves msrv initial before workspaces None m = stays before
 version-moves msrv initial before workspaces (Some version) m = follows-moves msrv initial before workspaces version m
 
 presents-moves : (new : List ProjectWorkspace) (workspaces : Workspaces) → Moves workspaces (presents new workspaces)
-presents-moves new workspaces = record { fetches = refl; building = refl; version = omega arith }
+presents-moves new workspaces = record { fetches = refl; building = refl; loading = refl; version = omega arith }
 
 renewed-moves : (new : List ProjectWorkspace) (msrv : List (List ℕ)) (asks goes_on : Bool) (workspaces : Workspaces)
     → Moves workspaces (left_or workspaces (unless_exhausted (renewed_by new msrv asks goes_on workspaces)))
@@ -140,8 +141,8 @@ renewed-moves new msrv asks goes_on workspaces =
     (asked-moves asks workspaces (presents new workspaces) (presents-moves new workspaces))
 
 to-moves : (to : Switch) (workspaces : Workspaces) → Moves workspaces (left_or workspaces (unless_exhausted (switch_to to workspaces)))
-to-moves switch.End workspaces = record { fetches = refl; building = refl; version = omega arith }
-to-moves switch.CrateData workspaces = record { fetches = refl; building = refl; version = omega arith }
+to-moves switch.End workspaces = record { fetches = refl; building = refl; loading = refl; version = omega arith }
+to-moves switch.CrateData workspaces = record { fetches = refl; building = refl; loading = refl; version = omega arith }
 to-moves (switch.Join made) workspaces = renewed-moves made [] false true workspaces
 to-moves (switch.Replace new msrv asks goes_on) workspaces = renewed-moves new msrv asks goes_on workspaces
 

@@ -52,6 +52,7 @@ use Rattle.workspaces.specs.declared.requests.FetchRequest.{FetchRequest}
 use Rattle.session_model.specs.Building.{build_due, build_jobs, end_kept, ends_kept, request_told, with_due_build}
 use Rattle.session_model.specs.Fetching.{fetch_jobs, folders_told_if, settings_told, with_fetches}
 use Rattle.session_model.specs.Hearing.{heard_of, told_by}
+use Rattle.session_model.specs.Loading.{MacroPaths, load_due, load_jobs, with_due_load}
 use Rattle.session_model.specs.State.{columns_in, discovers, excludes_in, first_status, goes_by_folders, macros_loaded_in, may_start}
 use Rattle.session_model.specs.Status.{client_after_status, status_now, statuses_due, statuses_in}
 use Rattle.session_model.specs.Switching.{switch_made}
@@ -74,7 +75,7 @@ pub record Place : Type 0 where
   pub revision : ℕ
   -- the turns, the requests that are read and not answered, the jobs handed over and not ended
   pub desk : Desk
-  -- the workspaces, and the fetches and the build data of them that are asked for
+  -- the workspaces, and the fetches, the build data and the macros of them that are asked for
   pub workspaces : Workspaces
   -- the status that was told last
   pub status : Status
@@ -177,7 +178,7 @@ folders_told settings (Some other) workspaces = workspaces
 
 -- what an input tells of the workspaces, by the client, the requests that wait and the jobs that are out: the start and a request to reload ask for a fetch,
 -- so do other folders and other settings, a loader's files renew the timer of one, and a timer may ask for one; a request to rebuild macros asks for build
--- data; and a job's message may end a fetch or a run of build data
+-- data; and a job's message may end a fetch, a run of build data or a load of macros
 abbrev pub workspaces_told : Client → Input → Desk → Workspaces → Workspaces
 workspaces_told client Start desk workspaces = with_fetches (start_up (discovers client.settings)) workspaces
 workspaces_told client (Next (Lsp (RequestMessage r))) desk workspaces = request_told r desk workspaces
@@ -238,9 +239,19 @@ abbrev pub build_in : Input → Place → Option ℕ
 build_in Start place = None
 build_in (Next event) place = build_due (workspaces_fetched (Next event) place)
 
+-- the workspaces behind it
+abbrev pub workspaces_built : Input → Place → Workspaces
+workspaces_built Start place = workspaces_fetched Start place
+workspaces_built (Next event) place = with_due_build (workspaces_fetched (Next event) place)
+
+-- the libraries of the macros that a turn loads, if it loads some: behind its run of build data, where it starts none. The start loads none
+abbrev pub load_in : Input → Place → Option MacroPaths
+load_in Start place = None
+load_in (Next event) place = load_due (build_in (Next event) place) (workspaces_built (Next event) place)
+
 abbrev pub workspaces_after : Input → Place → Workspaces
-workspaces_after Start place = workspaces_fetched Start place
-workspaces_after (Next event) place = with_due_build (workspaces_fetched (Next event) place)
+workspaces_after Start place = workspaces_built Start place
+workspaces_after (Next event) place = with_due_load (build_in (Next event) place) (workspaces_built (Next event) place)
 
 -- the status of a turn: the start tells it first, any other turn last
 abbrev pub status_after : Input → Place → Status
@@ -320,10 +331,15 @@ row meaning (Next (Vfs messages)) place = silent
 row meaning (Next (Deferred tasks)) place = silent
 row meaning (Next (Timer ticket)) place = silent
 
--- the jobs for no request that a turn hands over, with this number, on this snapshot: that of the fetch that it starts, then that of the build data that it
--- starts. It starts at most one of both, since no build data starts while a fetch is in progress
+-- the job of the run of build data and that of the load of macros that start, if they do
+abbrev pub run_jobs : ℕ → SnapshotData → Option ℕ → Option MacroPaths → List Job
+run_jobs number snapshot build load = build_jobs number snapshot build ++ load_jobs number snapshot load
+
+-- the jobs for no request that a turn hands over, with this number, on this snapshot: that of the fetch that it starts, of the build data, or of the load of
+-- macros. It starts at most one of them, since nothing else starts while a fetch is in progress, and no macros are loaded where build data starts
 abbrev pub jobs_started : Input → Place → ℕ → SnapshotData → List Job
-jobs_started input place number snapshot = fetch_jobs number snapshot (fetch_in input place) ++ build_jobs number snapshot (build_in input place)
+jobs_started input place number snapshot =
+    fetch_jobs number snapshot (fetch_in input place) ++ run_jobs number snapshot (build_in input place) (load_in input place)
 
 -- a turn hands over the jobs of its row, and behind them those that it starts: on what the turn leaves
 abbrev pub HandsOver : Meaning → Turn → Place → Type 0
@@ -387,7 +403,7 @@ pub record SeesFiles (files : SessionFiles) : Type 0 where
 pub record Answers (meaning : Meaning) (settings : ConfigData) (honest : Bool) (before : List Turn) (turn : Turn) : Type 0 where
   -- it answers by the reply table
   pub does : let place = place_after_all before (beginning settings) in reaction_of turn ≡ row meaning turn.input place
-  -- and it hands over no other jobs than these, that of a fetch of workspaces and that of a run of build data
+  -- and it hands over no other jobs than these, that of a fetch of workspaces, that of a run of build data and that of a load of macros
   pub hands_over : HandsOver meaning turn (place_after_all before (beginning settings))
   -- it tells a client that takes statuses its own, exactly where that is another than the one told last
   pub tells_status : TellsItsStatus turn (place_after_all before (beginning settings))
@@ -433,14 +449,18 @@ fetches_in input place = if is_some (fetch_in input place) then 1 else 0
 abbrev pub builds_in : Input → Place → ℕ
 builds_in input place = if is_some (build_in input place) then 1 else 0
 
--- a turn needs one more of a counter than there are: its number is past the last one, it hands over more jobs, for requests, for a fetch and for build data,
+-- the same, where it starts a load of macros
+abbrev pub loads_in : Input → Place → ℕ
+loads_in input place = if is_some (load_in input place) then 1 else 0
+
+-- a turn needs one more of a counter than there are: its number is past the last one, it hands over more jobs, for requests and of its own,
 -- it asks the client more than there are numbers of requests, it changes the world at the last revision, one of its files needs a number where all were
 -- given, or its switch a version
 abbrev pub NeedsMore : Meaning → Place → Input → Counter → Type 0
 NeedsMore meaning place input Turns = 2 ^ 64 ≤ next_turn place
 NeedsMore meaning place input Bytes = ⊥
 NeedsMore meaning place input JobsCounter =
-    2 ^ 64 ≤ place.desk.handed + length (row meaning input place).jobs + fetches_in input place + builds_in input place
+    2 ^ 64 ≤ place.desk.handed + length (row meaning input place).jobs + fetches_in input place + (builds_in input place + loads_in input place)
 NeedsMore meaning place input Revisions = 2 ^ 64 - 1 ≤ place.revision
 NeedsMore meaning place input Outgoing = number_limit < (client_left input place).asked.given
 NeedsMore meaning place input Files = files_told place.client.settings input place.files ≡ Err Files

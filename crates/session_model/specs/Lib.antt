@@ -5,6 +5,7 @@ pub mod Fetching
 pub mod Headline
 pub mod Hearing
 pub mod Inputs
+pub mod Loading
 pub mod Machine
 pub mod Run
 pub mod State

@@ -45,6 +45,7 @@ use Rattle.workspaces.specs.declared.requests.FetchRequest.{FetchRequest}
 use Rattle.session_model.specs.Building.{build_due, end_kept, request_told, with_due_build}
 use Rattle.session_model.specs.Fetching.{folders_told_if, settings_told, with_fetches}
 use Rattle.session_model.specs.Hearing.{heard_of}
+use Rattle.session_model.specs.Loading.{MacroPaths, load_due, load_kind, with_due_load}
 use Rattle.session_model.specs.State.{client_watches, columns_in, discovers, excludes_in, fetch_kind, goes_by_folders, may_start, scene_of, snapshot_of, State}
 use Rattle.session_model.specs.Status.{opens_logs, shown_of, status_message, status_now, takes_status}
 use Rattle.session_model.specs.Switching.{switch_made}
@@ -180,7 +181,7 @@ received meaning (ResponseMessage r) w = answer_taken r w
 
 -- ---- results
 
--- a message of a job, on the present snapshot; one that ends a fetch or a run of build data is told to the workspaces
+-- a message of a job, on the present snapshot; one that ends a fetch, a run of build data or a load of macros is told to the workspaces
 abbrev pub taken : Meaning → TaskMsg → Working State → Result (Working State) Counter
 taken meaning message w =
     and_then (at_desk (taken_at_desk meaning (scene_of w.state) message) w)
@@ -315,8 +316,21 @@ build_handed_over (Some version) w = at_desk (handed_over (snapshot_of w.state) 
 unfoldable pub build_started : Working State → Result (Working State) Counter
 build_started w = build_handed_over (build_due w.state.workspaces) (at_workspaces with_due_build w)
 
+-- a load of macros that is to start is handed over on the present snapshot
+unfoldable pub load_handed_over : Option MacroPaths → Working State → Result (Working State) Counter
+load_handed_over None w = Ok w
+load_handed_over (Some paths) w = at_desk (handed_over (snapshot_of w.state) Worker (load_kind w.state.client.settings paths)) w
+
+-- the load that is asked for starts, where neither a fetch is in progress nor this run of build data starts
+unfoldable pub load_started : Option ℕ → Working State → Result (Working State) Counter
+load_started build w = load_handed_over (load_due build w.state.workspaces) (at_workspaces (with_due_load build) w)
+
+-- build data starts, else macros
+unfoldable pub runs_started : Working State → Result (Working State) Counter
+runs_started w = and_then (build_started w) (load_started (build_due w.state.workspaces))
+
 unfoldable pub build_part : Working Turning → Result (Working Turning) Counter
-build_part w = in_state build_started w
+build_part w = in_state runs_started w
 
 abbrev pub prime_part : Working Turning → Result (Working Turning) Counter
 prime_part w = Ok w

@@ -16,6 +16,7 @@ mod asking;
 mod building;
 mod fetching;
 mod filing;
+mod loading;
 mod messages;
 mod notifications;
 mod switching;
@@ -309,7 +310,7 @@ impl GlobalState {
         self.process(out)?;
         let may = self.may_fetch();
         self.start_fetch(may, out)?;
-        self.start_build(out)?;
+        self.start_runs(out)?;
         self.report_status(out)?;
         self.close_turn(facts, out)
     }
