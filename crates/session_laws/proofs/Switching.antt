@@ -18,6 +18,7 @@ use Rattle.workspaces.specs.Switching.{asks_build, decided, followed as workspac
 use Rattle.workspaces.specs.Workspaces.{Workspaces}
 use Rattle.workspaces.specs.declared.follows.Follows.{Follows}
 use Rattle.workspaces.specs.declared.follows.Follows.TheVariants.{Nothing, CrateData, Wait, GoOn}
+use Rattle.session_model.specs.Crates.{Numbers, followed_by, with_crates}
 use Rattle.session_model.specs.Headline.{Place, client_after, files_told, left_or, workspaces_at, workspaces_switched}
 use Rattle.session_model.specs.Machine.{at_workspaces, followed, loader_set, switched_to, warned, with_workspaces}
 use Rattle.session_model.specs.State.{State, builds_scripts, discovers}
@@ -97,13 +98,18 @@ exhausted-errs : (made : Option (Follows × Workspaces)) → IfErr (unless_exhau
 exhausted-errs None = refl
 exhausted-errs (Some made) = tt
 
-due-errs : (due : Bool) (made : Option (Follows × Workspaces)) (workspaces : Workspaces)
-    → IfErr (if due then unless_exhausted made else Ok (Nothing, workspaces)) (λ counter. counter ≡ LoaderSettings)
-due-errs true made workspaces = exhausted-errs made
-due-errs false made workspaces = tt
+crates-errs : (files : SessionFiles) (made : Result (Follows × Workspaces) Counter) → IfErr made (λ counter. counter ≡ LoaderSettings)
+    → IfErr (with_crates files made) (λ counter. counter ≡ LoaderSettings)
+crates-errs files (Ok made) h = tt
+crates-errs files (Err counter) h = h
+
+due-errs : (files : SessionFiles) (due : Bool) (made : Option (Follows × Workspaces)) (workspaces : Workspaces)
+    → IfErr (if due then with_crates files (unless_exhausted made) else Ok (Nothing, workspaces)) (λ counter. counter ≡ LoaderSettings)
+due-errs files true made workspaces = crates-errs files (unless_exhausted made) (exhausted-errs made)
+due-errs files false made workspaces = tt
 
 pub made-errs : (settings : ConfigData) (files : SessionFiles) (workspaces : Workspaces) → IfErr (switch_made settings files workspaces) (λ counter. counter ≡ LoaderSettings)
-made-errs settings files workspaces = due-errs (is_switch_due files workspaces) (switch_by settings workspaces) workspaces
+made-errs settings files workspaces = due-errs files (is_switch_due files workspaces) (switch_by settings workspaces) workspaces
 
 -- ---- what it leaves
 
@@ -151,14 +157,26 @@ by-moves : (some discover build_scripts : Bool) (workspaces : Workspaces)
 by-moves true discover build_scripts workspaces = to-moves (decided discover build_scripts workspaces) workspaces
 by-moves false discover build_scripts workspaces = stays workspaces
 
-due-moves : (due : Bool) (made : Option (Follows × Workspaces)) (workspaces : Workspaces) → Moves workspaces (left_or workspaces (unless_exhausted made))
-    → Moves workspaces (left_or workspaces (if due then unless_exhausted made else Ok (Nothing, workspaces)))
-due-moves true made workspaces m = m
-due-moves false made workspaces m = stays workspaces
+-- crate data is built behind it
+built-moves : (numbers : Numbers) (follows : Follows) (before workspaces : Workspaces) → Moves before workspaces → Moves before (followed_by numbers follows workspaces)
+built-moves numbers Nothing before workspaces m = m
+built-moves numbers CrateData before workspaces m = record { fetches = m.fetches; building = m.building; loading = m.loading; version = m.version }
+built-moves numbers (Wait msrv) before workspaces m = m
+built-moves numbers (GoOn msrv version initial) before workspaces m = record { fetches = m.fetches; building = m.building; loading = m.loading; version = m.version }
+
+crates-move : (files : SessionFiles) (made : Result (Follows × Workspaces) Counter) (workspaces : Workspaces) → Moves workspaces (left_or workspaces made)
+    → Moves workspaces (left_or workspaces (with_crates files made))
+crates-move files (Ok made) workspaces m = built-moves files.ids made.0 workspaces made.1 m
+crates-move files (Err counter) workspaces m = m
+
+due-moves : (files : SessionFiles) (due : Bool) (made : Option (Follows × Workspaces)) (workspaces : Workspaces) → Moves workspaces (left_or workspaces (unless_exhausted made))
+    → Moves workspaces (left_or workspaces (if due then with_crates files (unless_exhausted made) else Ok (Nothing, workspaces)))
+due-moves files true made workspaces m = crates-move files (unless_exhausted made) workspaces m
+due-moves files false made workspaces m = stays workspaces
 
 made-moves : (settings : ConfigData) (files : SessionFiles) (workspaces : Workspaces) → Moves workspaces (left_or workspaces (switch_made settings files workspaces))
 made-moves settings files workspaces =
-    due-moves (is_switch_due files workspaces) (switch_by settings workspaces) workspaces
+    due-moves files (is_switch_due files workspaces) (switch_by settings workspaces) workspaces
     (by-moves (ltb workspaces.version (2 ^ 64 - 1)) (discovers settings) (builds_scripts settings) workspaces)
 
 told-moves : (settings : ConfigData) (told : Result SessionFiles Counter) (workspaces : Workspaces)

@@ -101,9 +101,9 @@ snapshot_at place = record {
   revision = place.revision;
 }
 
--- what a request meets here; the crate graph counts as complete
+-- what a request meets here
 abbrev pub scene_at : Place → Scene
-scene_at place = record { snapshot = snapshot_at place; loading = place.files.loading; incomplete = false }
+scene_at place = record { snapshot = snapshot_at place; loading = place.files.loading; incomplete = place.workspaces.incomplete }
 
 -- ---- what a turn changes of it
 

@@ -1,6 +1,7 @@
 pub mod Building
 pub mod Codes
 pub mod Course
+pub mod Crates
 pub mod Fetching
 pub mod Headline
 pub mod Hearing

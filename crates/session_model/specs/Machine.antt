@@ -257,7 +257,7 @@ loader_set version w =
     let settings = w.state.client.settings in
     ordered (SetLoader (loader_roots (excludes_in settings) w.state.workspaces.present) (not (client_watches settings)) version) w
 
--- what follows a switch; crate data is not built yet
+-- what follows a switch; crate data doesn't go into the world yet
 unfoldable pub followed : Follows → Working State → Working State
 followed Nothing w = w
 followed CrateData w = w

@@ -137,9 +137,9 @@ snapshot_of state = record {
   revision = state.files.host.revision;
 }
 
--- what a request meets; the crate graph counts as complete
+-- what a request meets
 abbrev pub scene_of : State → Scene
-scene_of state = record { snapshot = snapshot_of state; loading = state.files.loading; incomplete = false }
+scene_of state = record { snapshot = snapshot_of state; loading = state.files.loading; incomplete = state.workspaces.incomplete }
 
 -- the status that the first one is compared with: all is well, and nothing is worked on
 abbrev pub first_status : Status

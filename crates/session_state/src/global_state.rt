@@ -14,6 +14,7 @@ ghost use Rattle.session_model.specs.declared.input.Input.TheVariants.{Start, Ne
 
 mod asking;
 mod building;
+mod crates;
 mod fetching;
 mod filing;
 mod loading;
@@ -132,14 +133,14 @@ impl GlobalState {
         }))
     }
 
-    // What a request meets. The crate graph counts as complete.
+    // What a request meets.
     fn scene(&self) -> Result<Scene, AllocError>
         ensures { IfOk result (λ scene. scene ≡ scene_of self.now) }
     {
         Ok(Scene {
             snapshot: self.snapshot()?,
             loading: self.files.is_loading(),
-            incomplete: false,
+            incomplete: self.workspaces.is_incomplete(),
         })
     }
 }

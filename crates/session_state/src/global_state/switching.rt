@@ -113,7 +113,7 @@ impl GlobalState {
         }
     }
 
-    // The same where a switch is wanted and no files are loading; else nothing follows.
+    // The same where a switch is wanted and no files are loading, with the crate data that is built behind it; else nothing follows.
     fn make_switch_if_due(&mut self) -> Result<Follows, TurnError>
         ensures made { IfOk result (λ follows. switch_made self.old.client.settings self.old.files self.old.workspaces ≡ Ok (follows, self.new.workspaces)) }
         ensures rest { self.new ≡ record self.old { workspaces = self.new.workspaces } }
@@ -121,7 +121,9 @@ impl GlobalState {
             ⊎ ((e ≡ Exhausted LoaderSettings) × (switch_made self.old.client.settings self.old.files self.old.workspaces ≡ Err LoaderSettings))) }
     {
         if self.workspaces.is_switch_wanted() && !self.files.is_loading() {
-            self.make_switch()
+            let follows = self.make_switch()?;
+            self.follow_crates(&follows)?;
+            Ok(follows)
         } else {
             Ok(Follows::Nothing)
         }
