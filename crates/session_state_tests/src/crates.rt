@@ -5,10 +5,10 @@ use crate::asking::agrees;
 // same workspaces is built where a fetch is forced.
 const INCOMPLETE: &str =
     r#"start then crate /w/Cargo.toml /w/src/lib.rs then ask textDocument/diagnostic {"a":1} > Content-Length: 87\r\n\r\n{"id":5,"jsonrpc":"2.0","result":{"items":[],"kind":"full","resultId":"rust-analyzer"}}
-read /w/src/lib.rs a then start then crate /w/Cargo.toml /w/src/lib.rs then ask textDocument/diagnostic {"a":1} > Latency
-start then brought /w/Cargo.toml then ask textDocument/diagnostic {"a":1} > Latency
+read /w/src/lib.rs a then start then crate /w/Cargo.toml /w/src/lib.rs then ask textDocument/diagnostic {"a":1} > Worker
+start then brought /w/Cargo.toml then ask textDocument/diagnostic {"a":1} > Worker
 start then crate /w/Cargo.toml /w/src/lib.rs then file /w/src/lib.rs a then ask textDocument/diagnostic {"a":1} > Content-Length: 87\r\n\r\n{"id":5,"jsonrpc":"2.0","result":{"items":[],"kind":"full","resultId":"rust-analyzer"}}
-start then crate /w/Cargo.toml /w/src/lib.rs then file /w/src/lib.rs a then timer 2 then crate third /w/Cargo.toml /w/src/lib.rs then ask textDocument/diagnostic {"a":1} > Latency"#;
+start then crate /w/Cargo.toml /w/src/lib.rs then file /w/src/lib.rs a then timer 2 then crate third /w/Cargo.toml /w/src/lib.rs then ask textDocument/diagnostic {"a":1} > Worker"#;
 
 // A fetch is forced where such a file came or went.
 const FORCED: &str =
