@@ -1,5 +1,5 @@
 -- A turn that the machine can't take needs one more of a counter than there are.
-use Rattle.std.proofs.Common.{◌≡◌, ℕ, ◌+◌, ◌-◌, ◌^◌, ◌≤◌, ◌<◌, List, [], ◌∷◌, ◌++◌, length, Bool, true, false, refl, sym, ap, ◌∙◌, subst, arith, eqb-true}
+use Rattle.std.proofs.Common.{◌≡◌, ℕ, ◌+◌, ◌-◌, ◌^◌, ◌≤◌, ◌<◌, List, [], ◌∷◌, ◌++◌, length, Bool, true, false, refl, sym, ap, ◌∙◌, subst, arith, eqb-true, ⊎_elim}
 use Rattle.std.proofs.lemmas.List.{length-append}
 use Rattle.std.proofs.lemmas.Result.{IfErr-at_err, IfOk-at_ok}
 use Rattle.std.specs.Prelude.{Err, IfErr, if◌then◌else◌, is_some, None, Ok, Option, Result, Some, ◌==◌}
@@ -44,7 +44,7 @@ use Rattle.workspaces.specs.Fetches.{fetch_to_start}
 use Rattle.workspaces.specs.declared.requests.FetchRequest.{FetchRequest}
 use Rattle.session_model.specs.Building.{build_due, with_due_build}
 use Rattle.session_model.specs.Fetching.{fetch_jobs}
-use Rattle.session_model.specs.Headline.{batch_row, builds_in, client_after, client_left, fetch_in, fetches_in, files_told, loads_in, NeedsMore, place_past, row, scene_at, status_after, statuses_at, switch_in}
+use Rattle.session_model.specs.Headline.{batch_row, builds_crates_in, builds_in, client_after, client_left, fetch_in, fetches_in, files_told, loads_in, NeedsMore, place_past, row, scene_at, status_after, statuses_at, switch_in}
 use Rattle.session_model.specs.Machine.{answer_taken, asked, asked_for_settings, at_client, at_desk, at_files, batched, begin_part, begun_fetches, build_part, changed_at, client_in, closed, closed_at}
 use Rattle.session_model.specs.Machine.{closing_part, counted, desk_in, event_part, fetch_part, fetch_started, files_in, files_part, files_processed, folders_taken, happened, kept, later_parts, noticed, opened_at, received}
 use Rattle.session_model.specs.Machine.{runs_started, start_parts, state_in, status_done, status_part, step, switch_done, switch_part, switched_to, taken, taken_in, told, turned, Turning, turning, with_client, with_desk, with_files}
@@ -246,16 +246,23 @@ closing-errs : (t : Working Turning) (P : Counter → Type 0) → IfErr (closing
 unfolding closing_part
 closing-errs t P = IfErr-within state_in with_state (closed t.state.facts) t P (closed-errs t.state.facts _ P)
 
--- a switch needs a version more
+more-last : (revision more : ℕ) → 2 ^ 64 - 1 ≤ revision → 2 ^ 64 - 1 ≤ revision + more
+more-last revision more h = omega (arith, h)
+
+-- a switch needs a version more, or a revision
 switch-part-errs : (meaning : Meaning) (s : State) (event : Event) (t : Working Turning) → MidTurn meaning s (Next event) t → IfErr (switch_part t) (Needs meaning s (Next event))
 unfolding switch_part switch_done
 switch-part-errs meaning s event t m =
     let u = session_in t in
     let made = switch_made u.state.client.settings u.state.files u.state.workspaces in
     IfErr-within state_in with_state switch_done t (Needs meaning s (Next event))
-    (err-weaker (switched_to made u) (λ counter. made ≡ Err counter) (Needs meaning s (Next event)) (switched-errs made u)
-    (λ counter refused. let is : counter ≡ LoaderSettings = IfErr-at_err (λ c. c ≡ LoaderSettings) refused (made-errs u.state.client.settings u.state.files u.state.workspaces) in
-    subst (Needs meaning s (Next event)) (sym is) (sym (mid-switch meaning s event u m.mid) ∙ refused ∙ ap Err is)))
+    (err-weaker (switched_to made u) _ (Needs meaning s (Next event)) (switched-errs made u)
+    (λ counter refused. ⊎_elim
+    (λ none. let is : counter ≡ LoaderSettings = IfErr-at_err (λ c. c ≡ LoaderSettings) none (made-errs u.state.client.settings u.state.files u.state.workspaces) in
+    subst (Needs meaning s (Next event)) (sym is) (sym (mid-switch meaning s event u m.mid) ∙ none ∙ ap Err is))
+    (λ last. subst (Needs meaning s (Next event)) (sym last.0)
+    (more-last s.files.host.revision (if builds_crates_in (Next event) (place_of s) then 1 else 0) (subst (λ (host : HostData). 2 ^ 64 - 1 ≤ host.revision) m.mid.host last.1)))
+    refused))
 
 -- the world is to change at the last revision
 files-part-errs : (meaning : Meaning) (s : State) (event : Event) (t : Working Turning) → BehindTurn meaning s event t → IfErr (files_part t) (Needs meaning s (Next event))
@@ -265,7 +272,7 @@ files-part-errs meaning s event t m =
     (err-and_then (at_files processed (session_in t)) _ (Needs meaning s (Next event))
     (IfErr-within files_in with_files processed (session_in t) (Needs meaning s (Next event))
     (err-weaker _ (AtLast t.state.state.files.host.revision) (Needs meaning s (Next event)) (processed-errs _)
-    (λ c h. subst (Needs meaning s (Next event)) (sym h.0) (subst (λ (host : HostData). 2 ^ 64 - 1 ≤ host.revision) m.behind.host h.1))))
+    (λ c h. subst (Needs meaning s (Next event)) (sym h.0) (subst (λ (n : ℕ). 2 ^ 64 - 1 ≤ n) m.behind.revision h.1))))
     (λ v is. tt))
 
 with-fetch : (handed jobs given fetches runs : ℕ) → given ≡ handed + jobs → 2 ^ 64 ≤ given + fetches → 2 ^ 64 ≤ handed + jobs + fetches + runs

@@ -50,6 +50,7 @@ use Rattle.workspaces.specs.declared.follows.Follows.{Follows}
 use Rattle.workspaces.specs.declared.follows.Follows.TheVariants.{Nothing}
 use Rattle.workspaces.specs.declared.requests.FetchRequest.{FetchRequest}
 use Rattle.session_model.specs.Building.{build_due, build_jobs, end_kept, ends_kept, request_told, with_due_build}
+use Rattle.session_model.specs.Crates.{files_followed, is_built_by}
 use Rattle.session_model.specs.Fetching.{fetch_jobs, folders_told_if, settings_told, with_fetches}
 use Rattle.session_model.specs.Hearing.{heard_of, told_by}
 use Rattle.session_model.specs.Loading.{MacroPaths, load_due, load_jobs, with_due_load}
@@ -144,17 +145,6 @@ abbrev pub files_turned : Input → SessionFiles → Result SessionFiles Counter
 files_turned Start files = Ok files
 files_turned (Next event) files = after_turn files
 
-abbrev pub files_made : ConfigData → Input → SessionFiles → Result SessionFiles Counter
-files_made settings input files = and_then (files_told settings input files) (files_turned input)
-
--- a turn that needs one more of a counter than there are doesn't come to be
-abbrev pub or_before : SessionFiles → Result SessionFiles Counter → SessionFiles
-or_before files (Ok made) = made
-or_before files (Err counter) = files
-
-abbrev pub files_after : ConfigData → Input → SessionFiles → SessionFiles
-files_after settings input files = or_before files (files_made settings input files)
-
 -- the client is asked for its settings, or tells which folders its workspaces have
 abbrev pub client_told : Option Notice → Client → Client
 client_told None client = client
@@ -208,6 +198,24 @@ left_or workspaces (Err counter) = workspaces
 abbrev pub workspaces_switched : Input → Place → Workspaces
 workspaces_switched input place = left_or (workspaces_at input place) (switch_in input place)
 
+-- the files behind it: crate data that it builds goes into the world, by the settings that the input leaves
+abbrev pub files_switched : Input → Place → Result SessionFiles Counter
+files_switched Start place = Ok place.files
+files_switched (Next event) place =
+    and_then (files_told place.client.settings (Next event) place.files)
+    (λ files. and_then (switch_in (Next event) place) (files_followed (client_after (Next event) place.client).settings files))
+
+abbrev pub files_made : Input → Place → Result SessionFiles Counter
+files_made input place = and_then (files_switched input place) (files_turned input)
+
+-- a turn that needs one more of a counter than there are doesn't come to be
+abbrev pub or_before : SessionFiles → Result SessionFiles Counter → SessionFiles
+or_before files (Ok made) = made
+or_before files (Err counter) = files
+
+abbrev pub files_after : Input → Place → SessionFiles
+files_after input place = or_before place.files (files_made input place)
+
 -- the files that a turn puts into the world: those that have changed behind its input, unless files are loading; the start puts none
 abbrev pub changes_due : Result SessionFiles Counter → List ChangedFile
 changes_due (Ok files) = due_changes files
@@ -257,13 +265,13 @@ workspaces_after (Next event) place = with_due_load (build_in (Next event) place
 abbrev pub status_after : Input → Place → Status
 status_after Start place = status_now place.client.settings place.files place.workspaces
 status_after (Next event) place =
-    status_now (client_after (Next event) place.client).settings (files_after place.client.settings (Next event) place.files) (workspaces_after (Next event) place)
+    status_now (client_after (Next event) place.client).settings (files_after (Next event) place) (workspaces_after (Next event) place)
 
 -- the client behind all that a turn tells it: it may be asked whether the logs are to be opened
 abbrev pub client_left : Input → Place → Client
 client_left Start place = client_after_status place.status place.files place.workspaces place.client
 client_left (Next event) place =
-    client_after_status place.status (files_after place.client.settings (Next event) place.files) (workspaces_after (Next event) place) (client_after (Next event) place.client)
+    client_after_status place.status (files_after (Next event) place) (workspaces_after (Next event) place) (client_after (Next event) place.client)
 
 -- the last of numbers, else the one before
 abbrev pub last_of : List ℕ → ℕ → ℕ
@@ -286,7 +294,7 @@ desk_after turn desk = record {
 abbrev pub place_after : Turn → Place → Place
 place_after turn place = record {
   client = client_left turn.input place;
-  files = files_after place.client.settings turn.input place.files;
+  files = files_after turn.input place;
   revision = revision_after turn.commands place.revision;
   desk = desk_after turn place.desk;
   workspaces = workspaces_after turn.input place;
@@ -382,15 +390,22 @@ abbrev pub are_due : Result SessionFiles Counter → Bool
 are_due (Ok files) = is_due files
 are_due (Err counter) = false
 
--- a turn changes the world
+-- a turn changes the texts of the world
 abbrev pub is_changed : ConfigData → Input → SessionFiles → Bool
 is_changed settings Start files = false
 is_changed settings (Next event) files = are_due (files_told settings (Next event) files)
 
--- the revision is one more where the turn changes the world, and else the same
+-- a turn builds crate data, behind its switch
+abbrev pub builds_crates_in : Input → Place → Bool
+builds_crates_in input place = is_built_by (switch_in input place)
+
+-- the revisions that a turn makes: one where it builds crate data, and one where it changes the texts of the world
+abbrev pub revisions_in : Input → Place → ℕ
+revisions_in input place =
+    (if builds_crates_in input place then 1 else 0) + (if is_changed place.client.settings input place.files then 1 else 0)
+
 abbrev pub Revises : Turn → Place → Type 0
-Revises turn place =
-    (place_after turn place).revision ≡ (if is_changed place.client.settings turn.input place.files then place.revision + 1 else place.revision)
+Revises turn place = (place_after turn place).revision ≡ place.revision + revisions_in turn.input place
 
 -- the numbers of the files are the table's; and where no files are loading, the world has, of each path, its contents, normalised, where they are a text
 pub record SeesFiles (files : SessionFiles) : Type 0 where
@@ -416,7 +431,7 @@ pub record Answers (meaning : Meaning) (settings : ConfigData) (honest : Bool) (
   pub held : AreHeld (place_after_all (before ++ turn ∷ []) (beginning settings)).desk
   -- each job out for a request was handed over by the turn that read it, or a later one, on the documents of all inputs before that turn
   pub handed_over : AreHandedOver settings before (place_after_all before (beginning settings)).desk.jobs
-  -- the revision rises by one exactly where the contents of some path are others than those that the world was last made of
+  -- the revision rises by one where crate data is built, and by one where the contents of some path are others than those that the world was last made of
   pub revised : Revises turn (place_after_all before (beginning settings))
   -- what queries see of the files: the snapshots that this turn hands over are made of it
   pub sees : SeesFiles (place_after_all before (beginning settings)).files
@@ -461,7 +476,7 @@ NeedsMore meaning place input Turns = 2 ^ 64 ≤ next_turn place
 NeedsMore meaning place input Bytes = ⊥
 NeedsMore meaning place input JobsCounter =
     2 ^ 64 ≤ place.desk.handed + length (row meaning input place).jobs + fetches_in input place + (builds_in input place + loads_in input place)
-NeedsMore meaning place input Revisions = 2 ^ 64 - 1 ≤ place.revision
+NeedsMore meaning place input Revisions = 2 ^ 64 - 1 ≤ place.revision + (if builds_crates_in input place then 1 else 0)
 NeedsMore meaning place input Outgoing = number_limit < (client_left input place).asked.given
 NeedsMore meaning place input Files = files_told place.client.settings input place.files ≡ Err Files
 NeedsMore meaning place input LoaderSettings = switch_in input place ≡ Err LoaderSettings

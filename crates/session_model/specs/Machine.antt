@@ -33,7 +33,7 @@ use Rattle.desk.specs.Meaning.{Meaning}
 use Rattle.desk.specs.Steps.{requested, cancelled, counted as counted_at_desk, handed_over, taken as taken_at_desk, kept as kept_at_desk}
 use Rattle.session_files.specs.Folds.{due_changes}
 use Rattle.session_files.specs.SessionFiles.{SessionFiles}
-use Rattle.session_files.specs.Steps.{changed, closed as closed_document, loaded, opened, processed}
+use Rattle.session_files.specs.Steps.{changed, closed as closed_document, crates_put, loaded, opened, processed}
 use Rattle.status.specs.Same.{is_same_status}
 use Rattle.status.specs.declared.status.Status.{Status}
 use Rattle.workspaces.specs.Fetches.{fetch_to_start, fire, fires, start_fetch, start_up}
@@ -43,6 +43,7 @@ use Rattle.workspaces.specs.declared.follows.Follows.{Follows}
 use Rattle.workspaces.specs.declared.follows.Follows.TheVariants.{Nothing, CrateData, Wait, GoOn}
 use Rattle.workspaces.specs.declared.requests.FetchRequest.{FetchRequest}
 use Rattle.session_model.specs.Building.{build_due, end_kept, request_told, with_due_build}
+use Rattle.session_model.specs.Crates.{builds_crates, crate_data}
 use Rattle.session_model.specs.Fetching.{folders_told_if, settings_told, with_fetches}
 use Rattle.session_model.specs.Hearing.{heard_of}
 use Rattle.session_model.specs.Loading.{MacroPaths, load_due, load_kind, with_due_load}
@@ -257,17 +258,22 @@ loader_set version w =
     let settings = w.state.client.settings in
     ordered (SetLoader (loader_roots (excludes_in settings) w.state.workspaces.present) (not (client_watches settings)) version) w
 
--- what follows a switch; crate data doesn't go into the world yet
+-- what the user and the host are told behind a switch
 unfoldable pub followed : Follows → Working State → Working State
 followed Nothing w = w
 followed CrateData w = w
 followed (Wait msrv) w = warned msrv w
 followed (GoOn msrv version initial) w = loader_set version (warned msrv w)
 
+-- where this flag is set, crate data of the workspaces that are present goes into the world. Its macros are not loaded yet
+unfoldable pub crates_built : Bool → Working State → Result (Working State) Counter
+crates_built false w = Ok w
+crates_built true w = at_files (crates_put (crate_data w.state.client.settings w.state.files.ids w.state.workspaces.present)) w
+
 -- a switch leaves these workspaces, and what follows it is done
 unfoldable pub switched_to : Result (Follows × Workspaces) Counter → Working State → Result (Working State) Counter
 switched_to (Err counter) w = Err counter
-switched_to (Ok made) w = Ok (followed made.0 (at_workspaces (λ before. made.1) w))
+switched_to (Ok made) w = crates_built (builds_crates made.0) (followed made.0 (at_workspaces (λ before. made.1) w))
 
 -- the switch that is wanted is made, unless files are loading
 unfoldable pub switch_done : Working State → Result (Working State) Counter

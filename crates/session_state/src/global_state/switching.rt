@@ -8,6 +8,7 @@ ghost use Rattle.session_model.specs.State.{builds_scripts, client_watches, excl
 ghost use Rattle.session_model.specs.Switching.{switch_by, switch_made};
 
 use crate::global_state::GlobalState;
+use crate::global_state::crates::builds_crates;
 use docs_vfs::VfsPath;
 use notify::{MessageKind, Outgo};
 use plain::{Items, Text};
@@ -72,7 +73,7 @@ impl GlobalState {
         )
     }
 
-    // What follows a switch.
+    // What the user and the host are told behind a switch.
     #[tactic(auto, unfolding(session_model::specs::Machine::followed))]
     fn follow(&mut self, follows: Follows, out: &mut TurnOut) -> Result<(), TurnError>
         ensures { Gives result (followed follows (record { state = self.old; out = out.old })) self.new out.new }
@@ -135,6 +136,8 @@ impl GlobalState {
         ensures { Meets result (switch_done (record { state = self.old; out = out.old })) self.new out.new }
     {
         let follows = self.make_switch_if_due()?;
-        self.follow(follows, out)
+        let built = builds_crates(&follows);
+        self.follow(follows, out)?;
+        self.build_crates(built, out)
     }
 }
