@@ -168,14 +168,14 @@ exhausted-errs : (made : Option (Follows × Workspaces)) → IfErr (unless_exhau
 exhausted-errs None = refl
 exhausted-errs (Some made) = tt
 
-crates-errs : (files : SessionFiles) (made : Result (Follows × Workspaces) Counter) → IfErr made (λ counter. counter ≡ LoaderSettings)
+sought-errs : (files : SessionFiles) (made : Result (Follows × Workspaces) Counter) → IfErr made (λ counter. counter ≡ LoaderSettings)
     → IfErr (with_crates files made) (λ counter. counter ≡ LoaderSettings)
-crates-errs files (Ok made) h = tt
-crates-errs files (Err counter) h = h
+sought-errs files (Ok made) h = tt
+sought-errs files (Err counter) h = h
 
 due-errs : (files : SessionFiles) (due : Bool) (made : Option (Follows × Workspaces)) (workspaces : Workspaces)
     → IfErr (if due then with_crates files (unless_exhausted made) else Ok (Nothing, workspaces)) (λ counter. counter ≡ LoaderSettings)
-due-errs files true made workspaces = crates-errs files (unless_exhausted made) (exhausted-errs made)
+due-errs files true made workspaces = sought-errs files (unless_exhausted made) (exhausted-errs made)
 due-errs files false made workspaces = tt
 
 pub made-errs : (settings : ConfigData) (files : SessionFiles) (workspaces : Workspaces) → IfErr (switch_made settings files workspaces) (λ counter. counter ≡ LoaderSettings)
