@@ -3,6 +3,7 @@ pub mod Codes
 pub mod Desk
 pub mod Fetching
 pub mod Folds
+pub mod Loading
 pub mod Meaning
 pub mod Reactions
 pub mod Replies

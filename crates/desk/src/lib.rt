@@ -12,4 +12,4 @@ pub use replies::{
     stopped_reply, unknown_request,
 };
 pub use scene::Scene;
-pub use state::{BuildEnd, Desk, FetchEnd};
+pub use state::{BuildEnd, Desk, FetchEnd, LoadEnd};

@@ -12,12 +12,14 @@ ghost use Rattle.lsp_frame.specs.declared.message.Message.TheVariants.{Response 
 
 mod building;
 mod fetching;
+mod loading;
 mod pending;
 mod requests;
 mod results;
 
 pub use building::BuildEnd;
 pub use fetching::FetchEnd;
+pub use loading::LoadEnd;
 use lsp_frame::{Incoming, Response};
 use plain::{ByNumber, Text};
 use session_port::{Command, Job, LogCode};

@@ -29,6 +29,7 @@ use Rattle.analysis_host.specs.HostData.{HostData, changed, files_only, with_cha
 use Rattle.analysis_host.specs.declared.host.WorldFault.{WorldFault}
 use Rattle.analysis_host.specs.declared.host.WorldFault.TheVariants.{Exhausted}
 use Rattle.analysis_host.specs.declared.text_entry.TextEntry.{TextEntry}
+use Rattle.project_model.specs.declared.crates.CrateData.{CrateData}
 use Rattle.session_port.specs.declared.event.LoadedFile.{LoadedFile}
 use Rattle.session_port.specs.declared.event.LoaderMsg.{LoaderMsg}
 use Rattle.session_port.specs.declared.event.LoaderMsg.TheVariants.{Changed, Loaded, Progress}
@@ -37,7 +38,7 @@ use Rattle.turn_parts.specs.declared.fault.Counter.{Counter}
 use Rattle.session_files.specs.Changing.{text_after}
 use Rattle.session_files.specs.Current.{IsSound, IsCurrent}
 use Rattle.session_files.specs.Folds.{with_table, table_put, made_of, contents_put, mark_put, is_open, version_put, text_put, is_excluded, after_opening, text_edited, after_editing, after_closing}
-use Rattle.session_files.specs.Folds.{after_changed, after_loaded, after_each_changed, after_each_loaded, after_message, after_messages, world_put, with_changes, taken_up, after_processing, after_turn, are_some, is_due}
+use Rattle.session_files.specs.Folds.{after_changed, after_crates, after_loaded, crates_only, after_each_changed, after_each_loaded, after_message, after_messages, world_put, with_changes, taken_up, after_processing, after_turn, are_some, is_due}
 use Rattle.session_files.specs.SessionFiles.{SessionFiles, no_files_at}
 use Rattle.session_files.specs.Texts.{entry_of, file_change, holds_text}
 use Rattle.session_files.proofs.NumberLemmas.{Moved, set_moves, mark_moves, numbers_after, none_numbers}
@@ -277,6 +278,29 @@ current : (t : Files) (texts : Entries) → IsNumbered t → ((q : List ℕ) →
 current t texts numbered processed q =
     let difference = is_difference t numbered in
     world_get (changes t) texts q difference.in_order ∙ ap (entry_in (listed q (changes t))) (processed q) ∙ entry_now t difference q (listed q (changes t)) refl
+
+-- ---- the crate graph
+
+-- another crate graph changes nothing else of the files, by one revision
+pub record Crated (files now : SessionFiles) : Type 0 where
+  pub rest : now ≡ record files { host = now.host }
+  pub sound : IsSound files → IsSound now
+  pub revision : now.host.revision ≡ files.host.revision + 1
+
+crated_by : (b : Bool) (crates : CrateData) (files now : SessionFiles)
+    → world_put (if b then Ok (record { world = with_change (crates_only crates) files.host.world; revision = files.host.revision + 1 }) else Err Exhausted) files ≡ Ok now
+    → Crated files now
+crated_by true crates files now is =
+    subst (Crated files) (ok_same _ _ is) (record {
+      rest = refl;
+      sound = λ sound. record { numbered = sound.numbered; numbers = sound.numbers; processed = sound.processed };
+      revision = refl;
+    })
+crated_by false crates files now is = err_not _ now is
+
+pub crates_keep : (crates : CrateData) (files now : SessionFiles) → after_crates crates files ≡ Ok now → Crated files now
+unfolding after_crates
+crates_keep crates files now is = crated_by (ltb files.host.revision (2 ^ 64 - 1)) crates files now is
 
 -- ---- the end of a turn
 

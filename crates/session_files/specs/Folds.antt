@@ -1,6 +1,6 @@
 -- What becomes of the files of a session. Each answers the counter that is at its end where one more of it was needed: the numbers of files, or the
 -- revisions.
-use Rattle.std.specs.Prelude.{ℕ, ℤ, List, [], ◌∷◌, Bool, true, false, not, ◌||◌, ◌&&◌, map as each, Option, Some, is_some, Result, Ok, Err, if◌then◌else◌}
+use Rattle.std.specs.Prelude.{ℕ, ℤ, List, [], ◌∷◌, Bool, true, false, not, ◌||◌, ◌&&◌, map as each, Option, None, Some, is_some, Result, Ok, Err, if◌then◌else◌}
 use Rattle.std.specs.List.{list_any}
 use Rattle.std.specs.FinMap as map
 use Rattle.shared_map.specs.AsMap.{set_in_map}
@@ -11,7 +11,9 @@ use Rattle.docs_vfs.specs.declared.file_kinds.TableFault.{TableFault}
 use Rattle.text_core.specs.declared.change.ContentChange.{ContentChange}
 use Rattle.text_core.specs.declared.position.PositionEncoding.{PositionEncoding}
 use Rattle.analysis_host.specs.HostData.{HostData, changed, files_only}
+use Rattle.analysis_host.specs.declared.host.Change.{Change}
 use Rattle.analysis_host.specs.declared.host.WorldFault.{WorldFault}
+use Rattle.project_model.specs.declared.crates.CrateData.{CrateData}
 use Rattle.session_port.specs.declared.event.LoadedFile.{LoadedFile}
 use Rattle.session_port.specs.declared.event.LoaderMsg.{LoaderMsg}
 use Rattle.session_port.specs.declared.event.LoaderMsg.TheVariants.{Changed, Loaded, Progress}
@@ -129,6 +131,14 @@ world_put (Err fault) files = Err Revisions
 abbrev pub with_changes : List ChangedFile → SessionFiles → Result SessionFiles Counter
 with_changes [] files = Ok files
 with_changes (file ∷ later) files = world_put (changed (files_only (each file_change (file ∷ later))) files.host) files
+
+-- a change of the crate graph alone
+abbrev pub crates_only : CrateData → Change
+crates_only crates = record { files = []; roots = None; crates = Some crates }
+
+-- the world with this crate graph: one revision more
+unfoldable pub after_crates : CrateData → SessionFiles → Result SessionFiles Counter
+after_crates crates files = world_put (changed (crates_only crates) files.host) files
 
 -- the contents are from now on those of the last time
 abbrev pub taken_up : SessionFiles → SessionFiles

@@ -3,13 +3,14 @@ use Rattle.std.specs.Prelude.{ℕ, ℤ, List, Bool, Result, Ok, Err, if◌then�
 use Rattle.std.specs.FinMap as map
 use Rattle.text_core.specs.declared.change.ContentChange.{ContentChange}
 use Rattle.text_core.specs.declared.position.PositionEncoding.{PositionEncoding}
+use Rattle.project_model.specs.declared.crates.CrateData.{CrateData}
 use Rattle.session_port.specs.declared.command.Command.TheVariants.{Invalidate}
 use Rattle.session_port.specs.declared.command.LogCode.TheVariants.{DuplicateOpen, OrphanClose, SkippedChange, UnexpectedChange}
 use Rattle.session_port.specs.declared.event.LoaderMsg.{LoaderMsg}
 use Rattle.turn_parts.specs.Working.{Working, logged, ordered}
 use Rattle.turn_parts.specs.declared.fault.Counter.{Counter}
 use Rattle.session_files.specs.Changing.{has_skipped}
-use Rattle.session_files.specs.Folds.{after_closing, after_editing, after_messages, after_opening, after_turn, is_open}
+use Rattle.session_files.specs.Folds.{after_closing, after_crates, after_editing, after_messages, after_opening, after_turn, is_open}
 use Rattle.session_files.specs.SessionFiles.{SessionFiles}
 
 -- this has become of the files, where no counter was at its end
@@ -52,3 +53,7 @@ loaded messages w = become (after_messages messages w.state) w
 -- what a turn does behind its event
 unfoldable pub processed : Working SessionFiles → Result (Working SessionFiles) Counter
 processed w = become (after_turn w.state) w
+
+-- the world gets another crate graph
+unfoldable pub crates_put : CrateData → Working SessionFiles → Result (Working SessionFiles) Counter
+crates_put crates w = become (after_crates crates w.state) w

@@ -21,13 +21,13 @@ use Rattle.turn_parts.specs.declared.fault.Counter.{Counter}
 use Rattle.session_model.specs.declared.fault.SessionError.{SessionError}
 use Rattle.session_model.specs.declared.fault.SessionError.TheVariants.{ClientExited, BadFrame, BadMessage, HostFault, WriteFault, Exhausted, NoMemory}
 use Rattle.session_laws.specs.Answering.{answered_by, AreAccountedFor}
-use Rattle.session_laws.specs.Invariant.{BuildIsOut, FetchIsOut, SoundAt, Stands, place_of}
+use Rattle.session_laws.specs.Invariant.{BuildIsOut, FetchIsOut, LoadIsOut, SoundAt, Stands, place_of}
 use Rattle.session_laws.proofs.Accounted.{accounted-beginning, turns-accounted}
 use Rattle.session_laws.proofs.Asking.{asks-on, asks-events, no-event, given-append, given-giving, taken-append, taken-giving, taking-append}
 use Rattle.session_laws.proofs.Exhausting.{step-needs}
 use Rattle.session_laws.proofs.Held.{numbered-sound, turn-once, sound-beginning}
 use Rattle.session_laws.proofs.Handed.{turn-handed, handed-beginning, after_all-append}
-use Rattle.session_laws.proofs.InProgress.{building-beginning, fetching-beginning, turn-keeps-building, turn-keeps-fetching}
+use Rattle.session_laws.proofs.InProgress.{building-beginning, fetching-beginning, loading-beginning, turn-keeps-building, turn-keeps-fetching, turn-keeps-loading}
 use Rattle.session_laws.proofs.Seeing.{places-see}
 use Rattle.session_laws.proofs.Rows.{steps-fit}
 use Rattle.session_laws.proofs.Stretches.{runs-append, read-append, honest-append, bytes-append, telling-append, telling-none}
@@ -69,6 +69,7 @@ turned meaning config s before turn mid stands steps =
     let hands : HandsOver meaning turn here = subst (HandsOver meaning turn) stands.place fit.hands_over in
     let fetching : FetchIsOut (place_after turn here) = turn-keeps-fetching meaning turn here does numbered hands stands.sound stands.fetching in
     let building : BuildIsOut (place_after turn here) = turn-keeps-building meaning turn here does numbered hands stands.sound stands.building in
+    let loading : LoadIsOut (place_after turn here) = turn-keeps-loading meaning turn here does numbered hands stands.sound stands.loading in
     let sound : SoundAt (place_after turn here) = numbered-sound meaning turn here does numbered rises stands.sound in
     let handed : AreHandedOver config (before ++ turn ∷ []) (place_after turn here).desk.jobs = turn-handed meaning config before turn does stands.sound stands.handed in
     record {
@@ -78,6 +79,7 @@ turned meaning config s before turn mid stands steps =
         sound = subst SoundAt (sym (after-one config before turn)) sound;
         fetching = subst FetchIsOut (sym (after-one config before turn)) fetching;
         building = subst BuildIsOut (sym (after-one config before turn)) building;
+        loading = subst LoadIsOut (sym (after-one config before turn)) loading;
         handed = subst (λ (p : Place). AreHandedOver config (before ++ turn ∷ []) p.desk.jobs) (sym (after-one config before turn)) handed;
         accounted = subst (λ (p : Place). AreAccountedFor p.desk.pending (answered_by (before ++ turn ∷ []) (beginning config)) p.desk.jobs) (sym (after-one config before turn))
             (turns-accounted meaning config before turn does stands.accounted);
@@ -115,7 +117,15 @@ all-stand meaning config s before (turn ∷ turns) last stands (mid, steps, runs
     subst (λ (ts : List Turn). Stands config ts last) (append_assoc before (turn ∷ []) turns) (all-stand meaning config mid (before ++ turn ∷ []) turns last t.next runs)
 
 stands-fresh : (config : ConfigData) → Stands config [] (fresh config)
-stands-fresh config = record { place = refl; sound = sound-beginning config; fetching = fetching-beginning config; building = building-beginning config; handed = handed-beginning config; accounted = accounted-beginning config }
+stands-fresh config = record {
+  place = refl;
+  sound = sound-beginning config;
+  fetching = fetching-beginning config;
+  building = building-beginning config;
+  loading = loading-beginning config;
+  handed = handed-beginning config;
+  accounted = accounted-beginning config;
+}
 
 -- after each list of turns the machine stands where they say
 pub runs-stand : (meaning : Meaning) (config : ConfigData) (turns : List Turn) (last : State) → Runs meaning (fresh config) turns last → Stands config turns last

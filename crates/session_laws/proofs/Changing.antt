@@ -11,25 +11,26 @@ use Rattle.session_model.specs.Fetching.{fetch_caused, folders_told_if, settings
 use Rattle.session_model.specs.Headline.{folders_told}
 use Rattle.session_model.specs.State.{goes_by_folders}
 
--- no fetch starts, ends or waits for another timer, the builds stay as they are, and the workspaces have the version that they had
+-- no fetch starts, ends or waits for another timer, the builds and the loads stay as they are, and the workspaces have the version that they had
 pub record AsksOnly (before after : Workspaces) : Type 0 where
   pub in_progress : after.fetches.queue.in_progress ≡ before.fetches.queue.in_progress
   pub builds : after.builds ≡ before.builds
+  pub loads : after.loads ≡ before.loads
   pub version : after.version ≡ before.version
   pub waiting : after.fetches.waiting ≡ before.fetches.waiting
 
 nothing-asked : (workspaces : Workspaces) → AsksOnly workspaces workspaces
-nothing-asked workspaces = record { in_progress = refl; builds = refl; version = refl; waiting = refl }
+nothing-asked workspaces = record { in_progress = refl; builds = refl; loads = refl; version = refl; waiting = refl }
 
 caused-asks : (cause : Option FetchCause) (workspaces : Workspaces) → AsksOnly workspaces (fetch_caused cause workspaces)
 caused-asks None workspaces = nothing-asked workspaces
-caused-asks (Some cause) workspaces = record { in_progress = refl; builds = refl; version = refl; waiting = refl }
+caused-asks (Some cause) workspaces = record { in_progress = refl; builds = refl; loads = refl; version = refl; waiting = refl }
 
 pub settings-asks : (old new : ConfigData) (workspaces : Workspaces) → AsksOnly workspaces (settings_told old new workspaces)
 settings-asks old new workspaces = caused-asks (cause_of (update_of old new)) workspaces
 
 if-asks : (counts : Bool) (workspaces : Workspaces) → AsksOnly workspaces (folders_told_if counts workspaces)
-if-asks true workspaces = record { in_progress = refl; builds = refl; version = refl; waiting = refl }
+if-asks true workspaces = record { in_progress = refl; builds = refl; loads = refl; version = refl; waiting = refl }
 if-asks false workspaces = nothing-asked workspaces
 
 pub folders-asks : (settings : ConfigData) (notice : Option Notice) (workspaces : Workspaces) → AsksOnly workspaces (folders_told settings notice workspaces)

@@ -1,5 +1,5 @@
 -- A turn that the machine can't take needs one more of a counter than there are.
-use Rattle.std.proofs.Common.{◌≡◌, ℕ, ◌+◌, ◌-◌, ◌^◌, ◌≤◌, ◌<◌, List, [], ◌∷◌, ◌++◌, length, Bool, true, false, refl, sym, ap, ◌∙◌, subst, arith, eqb-true}
+use Rattle.std.proofs.Common.{◌≡◌, ℕ, ◌+◌, ◌-◌, ◌^◌, ◌≤◌, ◌<◌, List, [], ◌∷◌, ◌++◌, length, Bool, true, false, refl, sym, ap, ◌∙◌, subst, arith, eqb-true, ⊎_elim}
 use Rattle.std.proofs.lemmas.List.{length-append}
 use Rattle.std.proofs.lemmas.Result.{IfErr-at_err, IfOk-at_ok}
 use Rattle.std.specs.Prelude.{Err, IfErr, if◌then◌else◌, is_some, None, Ok, Option, Result, Some, ◌==◌}
@@ -42,16 +42,17 @@ use Rattle.session_files.specs.Steps.{changed, closed as closed_document, loaded
 use Rattle.status.specs.declared.status.Status.{Status}
 use Rattle.workspaces.specs.Fetches.{fetch_to_start}
 use Rattle.workspaces.specs.declared.requests.FetchRequest.{FetchRequest}
-use Rattle.session_model.specs.Building.{build_due}
+use Rattle.session_model.specs.Building.{build_due, with_due_build}
 use Rattle.session_model.specs.Fetching.{fetch_jobs}
-use Rattle.session_model.specs.Headline.{batch_row, builds_in, client_after, client_left, fetch_in, fetches_in, files_told, NeedsMore, place_past, row, scene_at, status_after, statuses_at, switch_in}
-use Rattle.session_model.specs.Machine.{answer_taken, asked, asked_for_settings, at_client, at_desk, at_files, batched, begin_part, begun_fetches, build_part, build_started, changed_at, client_in, closed, closed_at}
+use Rattle.session_model.specs.Headline.{batch_row, builds_crates_in, builds_in, client_after, client_left, fetch_in, fetches_in, files_told, loads_in, NeedsMore, place_past, row, scene_at, status_after, statuses_at, switch_in}
+use Rattle.session_model.specs.Machine.{answer_taken, asked, asked_for_settings, at_client, at_desk, at_files, batched, begin_part, begun_fetches, build_part, changed_at, client_in, closed, closed_at}
 use Rattle.session_model.specs.Machine.{closing_part, counted, desk_in, event_part, fetch_part, fetch_started, files_in, files_part, files_processed, folders_taken, happened, kept, later_parts, noticed, opened_at, received}
-use Rattle.session_model.specs.Machine.{start_parts, state_in, status_done, status_part, step, switch_done, switch_part, switched_to, taken, taken_in, told, turned, Turning, turning, with_client, with_desk, with_files}
+use Rattle.session_model.specs.Machine.{runs_started, start_parts, state_in, status_done, status_part, step, switch_done, switch_part, switched_to, taken, taken_in, told, turned, Turning, turning, with_client, with_desk, with_files}
 use Rattle.session_model.specs.Machine.{with_state}
 use Rattle.session_model.specs.State.{columns_in, excludes_in, may_start, scene_of, snapshot_of, State}
 use Rattle.session_model.specs.Status.{client_after_status}
 use Rattle.session_model.specs.Hearing.{heard_of}
+use Rattle.session_model.specs.Loading.{MacroPaths, load_due}
 use Rattle.session_model.specs.Run.{begun}
 use Rattle.session_model.specs.declared.facts.Facts.{Facts}
 use Rattle.session_model.specs.declared.input.Event.{Event}
@@ -61,11 +62,11 @@ use Rattle.session_model.specs.declared.input.Input.TheVariants.{Start, Next}
 use Rattle.session_model.specs.declared.heard.Heard.{Heard}
 use Rattle.session_model.specs.declared.heard.Heard.TheVariants.{Told, Malformed, Unhandled, Silent}
 use Rattle.session_laws.specs.Invariant.{place_of}
-use Rattle.session_laws.proofs.Building.{built-errs}
+use Rattle.session_laws.proofs.Building.{TooManyRuns, runs-errs}
 use Rattle.session_laws.proofs.Filing.{AtLast, IsFull, change_of, changed-step-errs, full-err, loaded-errs-by, opened-errs, processed-errs}
 use Rattle.session_laws.proofs.Fetching.{started-errs}
 use Rattle.session_laws.proofs.Rows.{at, begin_and_close, begins, BegunTurn, BehindTurn, build-made, build_and_on, client-behind, counted-is, counted_turn, DoesAtDesk, event-fits, fetch-made, fetch_and_close, fetch_and_on}
-use Rattle.session_laws.proofs.Rows.{fetched-build, FetchedBehind, files-made, files_and_on, kept_past, MadeBehind, mid-switch, MidTurn, notification_input, place_at, ready-fetch, ReadyBehind, ReadyStart, ReadyTurn}
+use Rattle.session_laws.proofs.Rows.{fetched-build, fetched-load, FetchedBehind, files-made, files_and_on, kept_past, MadeBehind, mid-switch, MidTurn, notification_input, place_at, ready-fetch, ReadyBehind, ReadyStart, ReadyTurn}
 use Rattle.session_laws.proofs.Rows.{session_in, settled-place, status-begins, status_and_close, switch-made, taken-settles}
 use Rattle.session_laws.proofs.Statuses.{asked-errs, IsPast, left-more, status-errs}
 use Rattle.session_laws.proofs.Starting.{TooManyStarts}
@@ -104,14 +105,18 @@ batch-errs meaning turns (m ∷ ms) w =
 abbrev Needs : Meaning → State → Input → Counter → Type 0
 Needs meaning s input counter = NeedsMore meaning (place_of s) input counter
 
-no-less : (jobs fetches builds : ℕ) → 2 ^ 64 ≤ jobs → 2 ^ 64 ≤ jobs + fetches + builds
-no-less jobs fetches builds h = omega (arith, h)
+no-less : (jobs fetches runs : ℕ) → 2 ^ 64 ≤ jobs → 2 ^ 64 ≤ jobs + fetches + runs
+no-less jobs fetches runs h = omega (arith, h)
+
+-- the jobs of build data and of macros that a turn starts
+abbrev runs_in : Input → State → ℕ
+runs_in input s = builds_in input (place_of s) + loads_in input (place_of s)
 
 needs-jobs : (meaning : Meaning) (s : State) (input : Input) (done : Reaction) (counter : Counter) → row meaning input (place_of s) ≡ done → TooMany s.desk.handed done counter → Needs meaning s input counter
 needs-jobs meaning s input done counter is h =
     subst (Needs meaning s input) (sym h.0)
-    (subst (λ (d : Reaction). 2 ^ 64 ≤ s.desk.handed + length d.jobs + fetches_in input (place_of s) + builds_in input (place_of s)) (sym is)
-    (no-less (s.desk.handed + length done.jobs) (fetches_in input (place_of s)) (builds_in input (place_of s)) h.1))
+    (subst (λ (d : Reaction). 2 ^ 64 ≤ s.desk.handed + length d.jobs + fetches_in input (place_of s) + runs_in input s) (sym is)
+    (no-less (s.desk.handed + length done.jobs) (fetches_in input (place_of s)) (runs_in input s) h.1))
 
 read-errs : (meaning : Meaning) (s : State) (r : Request) → IfErr (asked meaning r (counted_turn s)) (Needs meaning s (Next (Lsp (RequestMessage r))))
 read-errs meaning s r =
@@ -241,16 +246,23 @@ closing-errs : (t : Working Turning) (P : Counter → Type 0) → IfErr (closing
 unfolding closing_part
 closing-errs t P = IfErr-within state_in with_state (closed t.state.facts) t P (closed-errs t.state.facts _ P)
 
--- a switch needs a version more
+more-last : (revision more : ℕ) → 2 ^ 64 - 1 ≤ revision → 2 ^ 64 - 1 ≤ revision + more
+more-last revision more h = omega (arith, h)
+
+-- a switch needs a version more, or a revision
 switch-part-errs : (meaning : Meaning) (s : State) (event : Event) (t : Working Turning) → MidTurn meaning s (Next event) t → IfErr (switch_part t) (Needs meaning s (Next event))
 unfolding switch_part switch_done
 switch-part-errs meaning s event t m =
     let u = session_in t in
     let made = switch_made u.state.client.settings u.state.files u.state.workspaces in
     IfErr-within state_in with_state switch_done t (Needs meaning s (Next event))
-    (err-weaker (switched_to made u) (λ counter. made ≡ Err counter) (Needs meaning s (Next event)) (switched-errs made u)
-    (λ counter refused. let is : counter ≡ LoaderSettings = IfErr-at_err (λ c. c ≡ LoaderSettings) refused (made-errs u.state.client.settings u.state.files u.state.workspaces) in
-    subst (Needs meaning s (Next event)) (sym is) (sym (mid-switch meaning s event u m.mid) ∙ refused ∙ ap Err is)))
+    (err-weaker (switched_to made u) _ (Needs meaning s (Next event)) (switched-errs made u)
+    (λ counter refused. ⊎_elim
+    (λ none. let is : counter ≡ LoaderSettings = IfErr-at_err (λ c. c ≡ LoaderSettings) none (made-errs u.state.client.settings u.state.files u.state.workspaces) in
+    subst (Needs meaning s (Next event)) (sym is) (sym (mid-switch meaning s event u m.mid) ∙ none ∙ ap Err is))
+    (λ last. subst (Needs meaning s (Next event)) (sym last.0)
+    (more-last s.files.host.revision (if builds_crates_in (Next event) (place_of s) then 1 else 0) (subst (λ (host : HostData). 2 ^ 64 - 1 ≤ host.revision) m.mid.host last.1)))
+    refused))
 
 -- the world is to change at the last revision
 files-part-errs : (meaning : Meaning) (s : State) (event : Event) (t : Working Turning) → BehindTurn meaning s event t → IfErr (files_part t) (Needs meaning s (Next event))
@@ -260,11 +272,11 @@ files-part-errs meaning s event t m =
     (err-and_then (at_files processed (session_in t)) _ (Needs meaning s (Next event))
     (IfErr-within files_in with_files processed (session_in t) (Needs meaning s (Next event))
     (err-weaker _ (AtLast t.state.state.files.host.revision) (Needs meaning s (Next event)) (processed-errs _)
-    (λ c h. subst (Needs meaning s (Next event)) (sym h.0) (subst (λ (host : HostData). 2 ^ 64 - 1 ≤ host.revision) m.behind.host h.1))))
+    (λ c h. subst (Needs meaning s (Next event)) (sym h.0) (subst (λ (n : ℕ). 2 ^ 64 - 1 ≤ n) m.behind.revision h.1))))
     (λ v is. tt))
 
-with-fetch : (handed jobs given fetches builds : ℕ) → given ≡ handed + jobs → 2 ^ 64 ≤ given + fetches → 2 ^ 64 ≤ handed + jobs + fetches + builds
-with-fetch handed jobs given fetches builds is h = omega (arith, is, h)
+with-fetch : (handed jobs given fetches runs : ℕ) → given ≡ handed + jobs → 2 ^ 64 ≤ given + fetches → 2 ^ 64 ≤ handed + jobs + fetches + runs
+with-fetch handed jobs given fetches runs is h = omega (arith, is, h)
 
 -- a fetch needs one job more
 fetch-part-errs : (meaning : Meaning) (s : State) (input : Input) (asked : Client) (last : Status) (sent : List Data) (t : Working Turning) → ReadyTurn meaning s input asked last sent t
@@ -280,16 +292,16 @@ fetch-part-errs meaning s input asked last sent t ready =
     (err-weaker (fetch_started may (session_in t)) (TooManyStarts given fetch) (Needs meaning s input) (started-errs may (session_in t))
     (λ c h. let many : 2 ^ 64 ≤ given + fetches_in input (place_of s) =
     subst (λ (f : Option (List ℕ × FetchRequest)). 2 ^ 64 ≤ given + (if is_some f then 1 else 0)) (ready-fetch meaning s input asked last sent t ready) h.1 in
-    subst (Needs meaning s input) (sym h.0) (with-fetch s.desk.handed (length jobs) given (fetches_in input (place_of s)) (builds_in input (place_of s)) handed many)))
+    subst (Needs meaning s input) (sym h.0) (with-fetch s.desk.handed (length jobs) given (fetches_in input (place_of s)) (runs_in input s) handed many)))
 
 one-fetch : (number : ℕ) (snapshot : SnapshotData) (fetch : Option (List ℕ × FetchRequest)) → length (fetch_jobs number snapshot fetch) ≡ (if is_some fetch then 1 else 0)
 one-fetch number snapshot None = refl
 one-fetch number snapshot (Some fetch) = refl
 
-with-build : (handed jobs fetches builds given hands : ℕ) → given ≡ handed + hands → hands ≡ jobs + fetches → 2 ^ 64 ≤ given + builds → 2 ^ 64 ≤ handed + jobs + fetches + builds
-with-build handed jobs fetches builds given hands is both h = omega (arith, is, both, h)
+with-runs : (handed jobs fetches runs given hands : ℕ) → given ≡ handed + hands → hands ≡ jobs + fetches → 2 ^ 64 ≤ given + runs → 2 ^ 64 ≤ handed + jobs + fetches + runs
+with-runs handed jobs fetches runs given hands is both h = omega (arith, is, both, h)
 
--- a run of build data needs one job more
+-- a run of build data needs one job more, and so does a load of macros
 build-part-errs : (meaning : Meaning) (s : State) (event : Event) (t : Working Turning) → FetchedBehind meaning s event t → IfErr (build_part t) (Needs meaning s (Next event))
 unfolding build_part
 build-part-errs meaning s event t fetched =
@@ -301,12 +313,15 @@ build-part-errs meaning s event t fetched =
     let handed : given ≡ s.desk.handed + length (jobs ++ fetch) = ap (λ (d : Desk). d.handed) fetched.made.serves.desk ∙ ap (λ (js : List Job). s.desk.handed + length js) fetched.hands in
     let both : length (jobs ++ fetch) ≡ length jobs + fetches_in input place =
     length-append jobs fetch ∙ ap (λ (n : ℕ). length jobs + n) (one-fetch given (snapshot_of t.state.state) (fetch_in input place)) in
-    IfErr-within state_in with_state build_started t (Needs meaning s input)
-    (err-weaker (build_started (session_in t)) (TooManyStarts given (build_due t.state.state.workspaces)) (Needs meaning s input) (built-errs (session_in t))
-    (λ c h. let many : 2 ^ 64 ≤ given + builds_in input place =
-    subst (λ (o : Option ℕ). 2 ^ 64 ≤ given + (if is_some o then 1 else 0)) (fetched-build meaning s event t fetched) h.1 in
+    let build : Option ℕ = build_due t.state.state.workspaces in
+    let load : Option MacroPaths = load_due build (with_due_build t.state.state.workspaces) in
+    let ones : Option ℕ → Option MacroPaths → ℕ = λ b l. (if is_some b then 1 else 0) + (if is_some l then 1 else 0) in
+    let runs : ones build load ≡ runs_in input s = λ i. ones (fetched-build meaning s event t fetched i) (fetched-load meaning s event t fetched i) in
+    IfErr-within state_in with_state runs_started t (Needs meaning s input)
+    (err-weaker (runs_started (session_in t)) (TooManyRuns given build load) (Needs meaning s input) (runs-errs (session_in t))
+    (λ c h. let many : 2 ^ 64 ≤ given + runs_in input s = subst (λ (n : ℕ). 2 ^ 64 ≤ given + n) runs h.1 in
     subst (Needs meaning s input) (sym h.0)
-    (with-build s.desk.handed (length jobs) (fetches_in input place) (builds_in input place) given (length (jobs ++ fetch)) handed both many)))
+    (with-runs s.desk.handed (length jobs) (fetches_in input place) (runs_in input s) given (length (jobs ++ fetch)) handed both many)))
 
 -- a status may ask the client
 status-part-errs : (meaning : Meaning) (s : State) (event : Event) (t : Working Turning) → MadeBehind meaning s event t → IfErr (status_part t) (Needs meaning s (Next event))

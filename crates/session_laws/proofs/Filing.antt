@@ -22,11 +22,12 @@ use Rattle.turn_parts.specs.declared.fault.Counter.TheVariants.{Files as FilesCo
 use Rattle.desk_laws.proofs.Refusing.{err-and_then}
 use Rattle.desk_laws.proofs.Results.{IfOk-if}
 use Rattle.session_files.specs.Changing.{has_skipped}
-use Rattle.session_files.specs.Folds.{after_changed, after_closing, after_each_changed, after_each_loaded, after_editing, after_loaded, after_message, after_messages, after_opening, after_processing}
+use Rattle.session_files.specs.Folds.{after_changed, after_closing, after_crates, after_each_changed, after_each_loaded, after_editing, after_loaded, after_message, after_messages, after_opening, after_processing}
 use Rattle.session_files.specs.Folds.{after_turn, contents_put, is_open, mark_put, table_put, text_edited, with_changes, world_put}
 use Rattle.session_files.specs.SessionFiles.{SessionFiles}
-use Rattle.session_files.specs.Steps.{become, changed, close_noted, closed, edited, loaded, open_noted, opened, processed, skip_noted}
+use Rattle.session_files.specs.Steps.{become, changed, close_noted, closed, crates_put, edited, loaded, open_noted, opened, processed, skip_noted}
 use Rattle.session_files.proofs.SoundLemmas.{editing_keeps, messages_keep, opening_keeps, turned}
+use Rattle.project_model.specs.declared.crates.CrateData.{CrateData}
 use Rattle.session_model.specs.Headline.{are_due}
 use Rattle.session_laws.specs.Beside.{Tells}
 use Rattle.session_laws.proofs.Telling.{tells-invalidated, tells-logged, tells-none, tells-on}
@@ -246,6 +247,27 @@ become-last (Err counter) w revision h = h
 pub processed-errs : (w : Working SessionFiles) → IfErr (processed w) (AtLast w.state.host.revision)
 unfolding processed
 processed-errs w = become-last (after_turn w.state) w w.state.host.revision (turn-last w.state)
+
+-- crate data goes into the world, and nothing is written and ordered for it
+pub record PutsCrates (crates : CrateData) (w v : Working SessionFiles) : Type 0 where
+  pub is : after_crates crates w.state ≡ Ok v.state
+  pub out : v.out ≡ w.out
+
+become-puts : (crates : CrateData) (r : Result SessionFiles Counter) (w : Working SessionFiles) → r ≡ after_crates crates w.state → IfOk (become r w) (PutsCrates crates w)
+become-puts crates (Ok files) w is = record { is = sym is; out = refl }
+become-puts crates (Err counter) w is = tt
+
+pub crates-put : (crates : CrateData) (w : Working SessionFiles) → IfOk (crates_put crates w) (PutsCrates crates w)
+unfolding crates_put
+crates-put crates w = become-puts crates (after_crates crates w.state) w refl
+
+crates-last : (crates : CrateData) (files : SessionFiles) → IfErr (after_crates crates files) (AtLast files.host.revision)
+unfolding after_crates
+crates-last crates files = put-last (ltb files.host.revision (2 ^ 64 - 1)) _ files refl
+
+pub crates-errs : (crates : CrateData) (w : Working SessionFiles) → IfErr (crates_put crates w) (AtLast w.state.host.revision)
+unfolding crates_put
+crates-errs crates w = become-last (after_crates crates w.state) w w.state.host.revision (crates-last crates w.state)
 
 -- the numbers of files are at their end
 pub full-err : (r : Result SessionFiles Counter) (c : Counter) → r ≡ Err c → IsFull c → r ≡ Err FilesCounter

@@ -56,17 +56,20 @@ use Rattle.status.specs.declared.status.Status.{Status}
 use Rattle.workspaces.specs.Fetches.{fetch_to_start, fires, start_fetch, start_up}
 use Rattle.workspaces.specs.Workspaces.{Workspaces}
 use Rattle.workspaces.specs.declared.requests.FetchRequest.{FetchRequest}
-use Rattle.session_model.specs.Building.{build_due, build_jobs, end_kept, ends_kept, request_told, with_due_build}
+use Rattle.session_model.specs.Building.{build_due, end_kept, ends_kept, request_told, with_due_build}
+use Rattle.session_model.specs.Crates.{files_followed, is_built_by}
 use Rattle.session_model.specs.Fetching.{fetch_jobs, folders_told_if, settings_told, with_fetches}
 use Rattle.session_model.specs.Headline.{Place, reaction_of, row, notice_row, batch_row, desk_after, place_after, place_past, client_after, last_of, revision_after, scene_at, snapshot_at}
-use Rattle.session_model.specs.Headline.{are_due, build_in, changes_due, changes_in, client_left, fetch_in, files_after, files_made, files_told, files_turned, is_changed, jobs_started, left_or, may_start_at, or_before, SetsTimer}
+use Rattle.session_model.specs.Headline.{are_due, build_in, builds_crates_in, changes_due, changes_in, client_left, fetch_in, files_after, files_made, files_switched, files_told, files_turned, is_changed, jobs_started, left_or, load_in, may_start_at, or_before}
+use Rattle.session_model.specs.Headline.{revisions_in, run_jobs, SetsTimer}
 use Rattle.session_model.specs.Headline.{status_after, statuses_at, switch_in, workspaces_after, workspaces_at, workspaces_fetched, workspaces_planned, workspaces_switched}
 use Rattle.session_model.specs.Inputs.{cancelled_by, request_in, turns_after}
-use Rattle.session_model.specs.Machine.{answer_taken, asked, asked_for_settings, at_client, at_desk, at_files, at_workspaces, batched, begin_part, begun_fetches, brought, build_part, build_started, changed_at, client_in, closed}
+use Rattle.session_model.specs.Machine.{answer_taken, asked, asked_for_settings, at_client, at_desk, at_files, at_workspaces, batched, begin_part, begun_fetches, brought, build_part, changed_at, client_in, closed}
 use Rattle.session_model.specs.Machine.{closed_at, closing_part, counted, desk_in, event_part, facts_of, fetch_part, fetch_started, file_changed, files_changed, files_in, files_part, files_planned, files_processed, folders_taken}
-use Rattle.session_model.specs.Machine.{happened, kept, later_parts, noticed, opened_at, received, revised, start_parts, state_in, status_done, status_part, step, switch_done, switch_part, taken, taken_in, timed, timer_set, told}
+use Rattle.session_model.specs.Machine.{happened, kept, later_parts, noticed, opened_at, received, revised, runs_started, start_parts, state_in, status_done, status_part, step, switch_done, switch_part, taken, taken_in, timed, timer_set, told}
 use Rattle.session_model.specs.Machine.{turned, Turning, turning, with_client, with_desk, with_files, with_state, with_workspaces}
 use Rattle.session_model.specs.Hearing.{heard_of, told_by}
+use Rattle.session_model.specs.Loading.{MacroPaths, load_due, with_due_load}
 use Rattle.session_model.specs.Switching.{switch_made}
 use Rattle.session_model.specs.Timing.{bring_files, planned_by, renewed_if, timer_of}
 use Rattle.session_model.specs.Run.{Turn, Steps, begun, after_input, out_after}
@@ -82,7 +85,7 @@ use Rattle.session_model.specs.declared.heard.Heard.TheVariants.{Told, Malformed
 use Rattle.session_laws.specs.Beside.{Serves, Tells, TellsOnly, turn_of}
 use Rattle.session_laws.specs.Invariant.{StepFits, place_of}
 use Rattle.session_laws.proofs.Beside.{beside-fits, beside-revised}
-use Rattle.session_laws.proofs.Building.{built-hands, jobs_of_build, no-build, same-fetch}
+use Rattle.session_laws.proofs.Building.{jobs_of_runs, no-build, no-load, runs-hand, same-fetch}
 use Rattle.session_laws.proofs.Fetching.{jobs_of_fetch, started-hands}
 use Rattle.session_laws.proofs.Filing.{DoesForFiles, KeepsHost, Processes, change-host, change_of, changed-does, closed-does, loaded-does, messages-host, opened-does, opening-host}
 use Rattle.session_laws.proofs.Filing.{processed-does, revision_by, revision_now, turn-revises}
@@ -90,7 +93,7 @@ use Rattle.session_laws.proofs.Numbered.{row-numbered}
 use Rattle.session_laws.proofs.Same.{none-handed, same_desk, same_place}
 use Rattle.session_laws.proofs.Statuses.{left-settings, status-does, TellsStatus, told-settings}
 use Rattle.session_laws.proofs.Starting.{StartsJobs}
-use Rattle.session_laws.proofs.Switching.{Switches, switched-does}
+use Rattle.session_laws.proofs.Switching.{Switches, made-follows, switched-does}
 use Rattle.session_laws.proofs.Telling.{answered-does, asked-does, beside-told, DoesForClient, folders-do, statuses-append, tells-invalidated, tells-logged, tells-none, tells-on, timers-append}
 
 -- the turn is counted, and nothing else was done
@@ -123,11 +126,14 @@ pub record Behind (meaning : Meaning) (s : State) (event : Event) (u : Working S
   pub serves : Serves meaning s (Next event) (after_input (Next event) s.desk.jobs) u
   pub client : u.state.client ≡ client_after (Next event) s.client
   pub status : u.state.status ≡ s.status
-  pub files : files_told s.client.settings (Next event) s.files ≡ Ok u.state.files
+  pub files : files_switched (Next event) (place_of s) ≡ Ok u.state.files
   pub unrevised : filter_map revision_of u.out.commands ≡ []
   pub untold : statuses_in u.out.messages ≡ []
   pub untimed : filter_map timer_of u.out.commands ≡ []
-  pub host : KeepsHost s.files u.state.files
+  -- crate data that was built has made a revision, and nothing has changed of what is due
+  pub revision : u.state.files.host.revision ≡ s.files.host.revision + (if builds_crates_in (Next event) (place_of s) then 1 else 0)
+  pub due : is_changed s.client.settings (Next event) s.files ≡ are_due (Ok u.state.files)
+  pub changes : changes_in (Next event) (place_of s) ≡ due_changes u.state.files
   pub workspaces : u.state.workspaces ≡ workspaces_switched (Next event) (place_of s)
   -- all jobs so far are for requests
   pub spawns : spawned u.out.commands ≡ (row meaning (Next event) (place_of s)).jobs
@@ -139,11 +145,11 @@ pub record Made (meaning : Meaning) (s : State) (input : Input) (asked : Client)
   pub status : u.state.status ≡ last
   -- the settings are those that the input leaves
   pub settings : asked.settings ≡ (client_after input s.client).settings
-  pub files : files_made s.client.settings input s.files ≡ Ok u.state.files
+  pub files : files_made input (place_of s) ≡ Ok u.state.files
   pub unrevised : filter_map revision_of u.out.commands ≡ []
   pub told : statuses_in u.out.messages ≡ sent
   pub untimed : filter_map timer_of u.out.commands ≡ []
-  pub revised : u.state.files.host.revision ≡ revision_now (is_changed s.client.settings input s.files) s.files
+  pub revised : u.state.files.host.revision ≡ s.files.host.revision + revisions_in input (place_of s)
 
 -- ---- the desk
 
@@ -565,6 +571,9 @@ mid-fits meaning s event =
     IfOk-and_then (counted (begun s)) (happened meaning event) (λ v. v ≡ counted_turn s) (Mid meaning s (Next event)) (counted-is s)
     (λ v is. subst (λ w. IfOk (happened meaning event w) (Mid meaning s (Next event))) (sym is) (event-mid meaning s event))
 
+none-more : (n : ℕ) → n ≡ n + (0 + 0)
+none-more n = omega arith
+
 -- the start, once its status was told
 start-made : (meaning : Meaning) (s : State) (u : Working State) → TellsOnly (statuses_at Start (place_of s)) nothing_done u.out → u.state.client ≡ client_left Start (place_of s)
     → u.state.status ≡ status_after Start (place_of s) → u.state.files ≡ s.files → u.state.desk ≡ s.desk
@@ -578,7 +587,7 @@ start-made meaning s u tells client status files desk = record {
   unrevised = ap (filter_map revision_of) tells.ordered ∙ tells.revises_none;
   untimed = ap (filter_map timer_of) tells.ordered ∙ tells.times_none;
   told = ap statuses_in tells.written ∙ tells.tells;
-  revised = ap (λ (f : SessionFiles). f.host.revision) files;
+  revised = ap (λ (f : SessionFiles). f.host.revision) files ∙ none-more s.files.host.revision;
 }
 
 -- a turn hands over the jobs of its row, and behind them those that it starts, on what it has left
@@ -592,7 +601,7 @@ pub record Fits (meaning : Meaning) (s : State) (input : Input) (v : Working Sta
   pub numbered : AreNumbered s.desk.handed (spawned v.out.commands)
   pub place : place_of v.state ≡ place_after (turn_of input v) (place_of s)
   pub later : s.files.host.revision ≤ v.state.files.host.revision
-  pub revised : v.state.files.host.revision ≡ revision_now (is_changed s.client.settings input s.files) s.files
+  pub revised : v.state.files.host.revision ≡ s.files.host.revision + revisions_in input (place_of s)
   pub hands : Hands meaning s input v
   pub told : statuses_in v.out.messages ≡ statuses_at input (place_of s)
 
@@ -617,13 +626,12 @@ abbrev pub Left : Meaning → State → Input → Working State → Type 0
 Left meaning s input u = Made meaning s input (client_left input (place_of s)) (status_after input (place_of s)) (statuses_at input (place_of s)) u
 
 -- the files that a turn makes are those after it
-files-now : (s : State) (input : Input) (now : SessionFiles) → files_made s.client.settings input s.files ≡ Ok now → now ≡ files_after s.client.settings input s.files
+files-now : (s : State) (input : Input) (now : SessionFiles) → files_made input (place_of s) ≡ Ok now → now ≡ files_after input (place_of s)
 files-now s input now made = sym (ap (or_before s.files) made)
 
 -- a revision doesn't fall
-no-less : (due : Bool) (files : SessionFiles) (revision : ℕ) → revision ≡ revision_now due files → files.host.revision ≤ revision
-no-less true files revision is = omega (arith, is)
-no-less false files revision is = omega (arith, is)
+no-less : (more before revision : ℕ) → revision ≡ before + more → before ≤ revision
+no-less more before revision is = omega (arith, is)
 
 close-cases : (meaning : Meaning) (s : State) (input : Input) (u : Working State) (b : Bool) → (u.state.files.host.revision == s.files.host.revision) ≡ b → Left meaning s input u
     → u.state.workspaces ≡ workspaces_after input (place_of s) → Hands meaning s input u
@@ -636,7 +644,7 @@ close-cases meaning s input u true h made workspaces hands =
       does = serves.does;
       numbered = serves.numbered;
       place = same_place _ _ made.client (files-now s input u.state.files made.files) same serves.desk workspaces made.status;
-      later = no-less _ s.files _ made.revised;
+      later = no-less (revisions_in input (place_of s)) s.files.host.revision u.state.files.host.revision made.revised;
       revised = made.revised;
       hands = hands;
       told = made.told;
@@ -654,7 +662,7 @@ close-cases meaning s input u false h made workspaces hands =
       numbered = serves.numbered;
       place = same_place _ _ made.client (files-now s input u.state.files made.files) (sym (ap (λ ns. last_of ns s.files.host.revision) numbers))
           (serves.desk ∙ ap (λ js. record (desk_after (turn_of input v) s.desk) { jobs = js }) jobs) workspaces made.status;
-      later = no-less _ s.files _ made.revised;
+      later = no-less (revisions_in input (place_of s)) s.files.host.revision u.state.files.host.revision made.revised;
       revised = made.revised;
       hands = spawns ∙ hands;
       told = made.told;
@@ -730,20 +738,29 @@ mid-switch meaning s event u mid =
 switched-behind : (meaning : Meaning) (s : State) (event : Event) (u : Working State) → Mid meaning s (Next event) u → IfOk (switch_done u) (Behind meaning s event)
 unfolding switch_done
 switched-behind meaning s event u mid =
+    let input : Input = Next event in
     let made = switch_made u.state.client.settings u.state.files u.state.workspaces in
-    IfOk-weaker _ (Switches (left_or u.state.workspaces made) u) (Behind meaning s event) (switched-does made u)
-    (λ v does. record {
+    let is : made ≡ switch_in input (place_of s) = mid-switch meaning s event u mid in
+    IfOk-weaker _ (Switches made u) (Behind meaning s event) (switched-does made u)
+    (λ v does. let follows = made-follows made u.state.client.settings u.state.files v.state.files does.files in record {
       serves = beside-fits meaning s (Next event) (after_input (Next event) s.desk.jobs) u v (beside-told u v does.tells (ap (λ (t : State). t.desk) does.state)) mid.serves;
       client = ap (λ (t : State). t.client) does.state ∙ mid.client;
       status = ap (λ (t : State). t.status) does.state ∙ mid.status;
-      files = mid.files ∙ sym (ap (λ (t : State). Ok t.files) does.state);
+      files = ap (λ r. and_then r (λ files. and_then (switch_in input (place_of s)) (files_followed (client_after input s.client).settings files))) mid.files
+          ∙ sym (λ i. and_then (is i) (files_followed (mid.client i).settings u.state.files)) ∙ does.files;
       unrevised = ap (filter_map revision_of) does.tells.ordered ∙ revisions-append u.out.commands does.tells.commands ∙ (λ i. mid.unrevised i ++ does.tells.revises_none i);
       untold = ap statuses_in does.tells.written ∙ statuses-append u.out.messages does.tells.messages ∙ (λ i. mid.untold i ++ does.tells.tells i);
       untimed = ap (filter_map timer_of) does.tells.ordered ∙ timers-append u.out.commands does.tells.commands ∙ (λ i. mid.untimed i ++ does.tells.times_none i);
-      host = ap (λ (t : State). t.files.host) does.state ∙ mid.host;
-      workspaces = ap (λ (t : State). t.workspaces) does.state ∙ (λ i. left_or (mid.workspaces i) (mid-switch meaning s event u mid i));
+      revision = follows.revision ∙ (λ i. (mid.host i).revision + (if is_built_by (is i) then 1 else 0));
+      due = ap are_due mid.files ∙ follows.due;
+      changes = ap changes_due mid.files ∙ follows.changes;
+      workspaces = ap (λ (t : State). t.workspaces) does.state ∙ (λ i. left_or (mid.workspaces i) (is i));
       spawns = ap spawned does.tells.ordered ∙ spawned-append u.out.commands does.tells.commands ∙ (λ i. mid.spawns i ++ does.tells.spawns_none i) ∙ append-nil _;
     })
+
+rises-by : (due : Bool) (host : HostData) (before built : ℕ) → host.revision ≡ before + built → revision_by due host ≡ before + (built + (if due then 1 else 0))
+rises-by true host before built is = omega (arith, is)
+rises-by false host before built is = omega (arith, is)
 
 -- the files are processed, and what the workspaces come to then is no matter
 made-now : (meaning : Meaning) (s : State) (event : Event) (u : Working State) (v : Working SessionFiles) (workspaces : Workspaces) → Behind meaning s event u
@@ -751,7 +768,7 @@ made-now : (meaning : Meaning) (s : State) (event : Event) (u : Working State) (
     → Made meaning s (Next event) (client_after (Next event) s.client) s.status [] (record { state = with_workspaces workspaces (with_files v.state u.state); out = v.out })
 made-now meaning s event u v workspaces mid p =
     let told = mid.files in
-    let due : is_changed s.client.settings (Next event) s.files ≡ are_due (Ok u.state.files) = ap are_due told in
+    let built : ℕ = if builds_crates_in (Next event) (place_of s) then 1 else 0 in
     let rises : v.state.host.revision ≡ revision_now (are_due (Ok u.state.files)) u.state.files = IfOk-at_ok (λ f. f.host.revision ≡ revision_now (are_due (Ok u.state.files)) u.state.files) p.is (turn-revises u.state.files) in
     record {
       serves = record {
@@ -766,7 +783,8 @@ made-now meaning s event u v workspaces mid p =
       unrevised = ap (λ (o : Written). filter_map revision_of o.commands) p.out ∙ mid.unrevised;
       told = ap (λ (o : Written). statuses_in o.messages) p.out ∙ mid.untold;
       untimed = ap (λ (o : Written). filter_map timer_of o.commands) p.out ∙ mid.untimed;
-      revised = rises ∙ ap (λ (h : HostData). revision_by (are_due (Ok u.state.files)) h) mid.host ∙ ap (λ b. revision_now b s.files) (sym due);
+      revised = rises ∙ rises-by (are_due (Ok u.state.files)) u.state.files.host s.files.host.revision built mid.revision
+          ∙ ap (λ b. s.files.host.revision + (built + (if b then 1 else 0))) (sym mid.due);
     }
 
 -- the session within a turn
@@ -834,7 +852,7 @@ planned-now : (meaning : Meaning) (s : State) (event : Event) (u : Working State
     → planned_by u.state.client.settings u.state.desk.turns (due_changes u.state.files) u.state.workspaces ≡ workspaces_planned (Next event) (place_of s)
 planned-now meaning s event u behind =
     let turns : u.state.desk.turns ≡ s.desk.turns + 1 = ap (λ (d : Desk). d.turns) behind.serves.desk in
-    let changed : due_changes u.state.files ≡ changes_in (Next event) (place_of s) = sym (ap changes_due behind.files) in
+    let changed : due_changes u.state.files ≡ changes_in (Next event) (place_of s) = sym behind.changes in
     λ i. planned_by (behind.client i).settings (turns i) (changed i) (behind.workspaces i)
 
 pub files-made : (meaning : Meaning) (s : State) (event : Event) (t : Working Turning) → BehindTurn meaning s event t → IfOk (files_part t) (ReadyBehind meaning s event)
@@ -895,7 +913,7 @@ started-now meaning s input asked last sent w v jobs workspaces made h = record 
   client = h.client ∙ made.client;
   status = h.status ∙ made.status;
   settings = made.settings;
-  files = subst (λ (f : SessionFiles). files_made s.client.settings input s.files ≡ Ok f) (sym h.files) made.files;
+  files = subst (λ (f : SessionFiles). files_made input (place_of s) ≡ Ok f) (sym h.files) made.files;
   unrevised = h.unrevised ∙ made.unrevised;
   told = ap statuses_in h.messages ∙ made.told;
   untimed = h.untimed ∙ made.untimed;
@@ -937,28 +955,39 @@ fetched-build meaning s event t fetched = ap build_due fetched.workspaces
 alone : (s : State) (event : Event) → is_some (fetch_in (Next event) (place_of s)) ≡ true → build_in (Next event) (place_of s) ≡ None
 alone s event some = no-build (may_start_at (Next event) s.client) (workspaces_planned (Next event) (place_of s)) some
 
--- build data is started
+-- the macros that are to be loaded, which are none where a fetch starts
+pub fetched-load : (meaning : Meaning) (s : State) (event : Event) (t : Working Turning) → FetchedBehind meaning s event t
+    → load_due (build_due t.state.state.workspaces) (with_due_build t.state.state.workspaces) ≡ load_in (Next event) (place_of s)
+fetched-load meaning s event t fetched = ap (λ (w : Workspaces). load_due (build_due w) (with_due_build w)) fetched.workspaces
+
+unloaded : (s : State) (event : Event) → is_some (fetch_in (Next event) (place_of s)) ≡ true → load_in (Next event) (place_of s) ≡ None
+unloaded s event some =
+    no-load (may_start_at (Next event) s.client) (build_in (Next event) (place_of s)) (workspaces_planned (Next event) (place_of s)) some
+
+-- build data is started, else macros
 pub build-made : (meaning : Meaning) (s : State) (event : Event) (t : Working Turning) → FetchedBehind meaning s event t → IfOk (build_part t) (MadeBehind meaning s event)
 unfolding build_part
 build-made meaning s event t fetched =
     let input : Input = Next event in
     let place = place_of s in
     let w = session_in t in
-    let version : Option ℕ = build_due w.state.workspaces in
-    let after : Workspaces = with_due_build w.state.workspaces in
-    let is : version ≡ build_in input place = fetched-build meaning s event t fetched in
+    let build : Option ℕ = build_due w.state.workspaces in
+    let load : Option MacroPaths = load_due build (with_due_build w.state.workspaces) in
+    let after : Workspaces = with_due_load build (with_due_build w.state.workspaces) in
+    let build_is : build ≡ build_in input place = fetched-build meaning s event t fetched in
+    let load_is : load ≡ load_in input place = fetched-load meaning s event t fetched in
     let jobs = (row meaning input place).jobs in
-    IfOk-within state_in with_state build_started t (MadeBehind meaning s event)
-    (IfOk-weaker (build_started w) (StartsJobs (jobs_of_build version) after w) _ (built-hands w)
+    IfOk-within state_in with_state runs_started t (MadeBehind meaning s event)
+    (IfOk-weaker (runs_started w) (StartsJobs (jobs_of_runs build load) after w) _ (runs-hand w)
     (λ v h. let fetch : List Job = fetch_jobs v.state.desk.handed (snapshot_of v.state) (fetch_in input place) in
-    let same = same-fetch (fetch_in input place) version w v (λ some. is ∙ alone s event some) h in
+    let same = same-fetch (fetch_in input place) build load w v (λ some. build_is ∙ alone s event some) (λ some. load_is ∙ unloaded s event some) h in
     record {
       facts = fetched.facts;
-      made = started-now meaning s input (client_after input s.client) s.status [] w v (jobs_of_build version) after fetched.made h;
-      workspaces = h.now ∙ ap with_due_build fetched.workspaces;
-      hands = h.hands ∙ ap (λ (js : List Job). js ++ build_jobs v.state.desk.handed (snapshot_of v.state) version) (fetched.hands ∙ ap (λ (js : List Job). jobs ++ js) same)
-          ∙ append_assoc jobs fetch (build_jobs v.state.desk.handed (snapshot_of v.state) version)
-          ∙ ap (λ (o : Option ℕ). jobs ++ (fetch ++ build_jobs v.state.desk.handed (snapshot_of v.state) o)) is;
+      made = started-now meaning s input (client_after input s.client) s.status [] w v (jobs_of_runs build load) after fetched.made h;
+      workspaces = h.now ∙ ap (λ (w : Workspaces). with_due_load (build_due w) (with_due_build w)) fetched.workspaces;
+      hands = h.hands ∙ ap (λ (js : List Job). js ++ run_jobs v.state.desk.handed (snapshot_of v.state) build load) (fetched.hands ∙ ap (λ (js : List Job). jobs ++ js) same)
+          ∙ append_assoc jobs fetch (run_jobs v.state.desk.handed (snapshot_of v.state) build load)
+          ∙ (λ i. jobs ++ (fetch ++ run_jobs v.state.desk.handed (snapshot_of v.state) (build_is i) (load_is i)));
     }))
 
 -- the start runs none

@@ -1,5 +1,5 @@
 -- What queries see of the files is what the lists say.
-use Rattle.std.proofs.Common.{◌≡◌, ℕ, List, [], ◌∷◌, false, ap, ◌∙◌}
+use Rattle.std.proofs.Common.{◌≡◌, ℕ, List, [], ◌∷◌, Bool, true, false, ap, ◌∙◌}
 use Rattle.std.specs.Prelude.{Option, None, Some, Result, Ok, Err, IfOk}
 use Rattle.std.specs.FinMap as map
 use Rattle.docs_vfs.specs.FileLaws.{taken}
@@ -8,7 +8,11 @@ use Rattle.docs_vfs.specs.FileUrls.{path_of}
 use Rattle.docs_vfs.specs.Paths.{path_cmp}
 use Rattle.docs_vfs.specs.declared.file_url.UrlFault.{UrlFault}
 use Rattle.ra_config.specs.Config.{ConfigData}
+use Rattle.project_model.specs.declared.workspace.ProjectWorkspace.{ProjectWorkspace}
+use Rattle.turn_parts.specs.Working.{and_then}
 use Rattle.turn_parts.specs.declared.fault.Counter.{Counter}
+use Rattle.workspaces.specs.Workspaces.{Workspaces}
+use Rattle.workspaces.specs.declared.follows.Follows.{Follows}
 use Rattle.notify.specs.declared.notice.DidChange.{DidChange}
 use Rattle.notify.specs.declared.notice.DidOpen.{DidOpen}
 use Rattle.notify.specs.declared.notice.Notice.{Notice}
@@ -17,9 +21,10 @@ use Rattle.desk_laws.proofs.Results.{IfOk-and_then, IfOk-if}
 use Rattle.session_files.specs.Current.{IsCurrent, IsSound}
 use Rattle.session_files.specs.SessionFiles.{SessionFiles, no_files}
 use Rattle.session_files.specs.Texts.{entry_of}
-use Rattle.session_files.proofs.SoundLemmas.{closing_keeps, editing_keeps, messages_keep, none_sound, opening_keeps, turned}
-use Rattle.session_model.specs.Headline.{Place, SeesFiles, beginning, changed_at, closed_at, documents_told, files_after, files_made, files_told, files_turned, opened_at, or_before}
-use Rattle.session_model.specs.Headline.{place_after, place_after_all}
+use Rattle.session_files.proofs.SoundLemmas.{closing_keeps, crates_keep, editing_keeps, messages_keep, none_sound, opening_keeps, turned}
+use Rattle.session_model.specs.Headline.{Place, SeesFiles, beginning, changed_at, client_after, closed_at, documents_told, files_after, files_made, files_switched, files_told, files_turned, opened_at, or_before}
+use Rattle.session_model.specs.Headline.{place_after, place_after_all, switch_in}
+use Rattle.session_model.specs.Crates.{builds_crates, crate_data, crates_put_if, files_followed}
 use Rattle.session_model.specs.Inputs.{notice_in}
 use Rattle.session_model.specs.Run.{Turn}
 use Rattle.session_laws.proofs.Filing.{ok-from}
@@ -69,22 +74,38 @@ told-sound settings (Vfs messages) files sound = ok-from _ IsSound (λ now is. (
 told-sound settings (Deferred tasks) files sound = sound
 told-sound settings (Timer ticket) files sound = sound
 
-made-seen : (settings : ConfigData) (input : Input) (files : SessionFiles) → AreSeen files → IfOk (files_made settings input files) AreSeen
-made-seen settings Start files seen = seen
-made-seen settings (Next event) files seen =
-    IfOk-and_then (files_told settings (Next event) files) (files_turned (Next event)) IsSound AreSeen (told-sound settings event files seen.sound)
+-- crate data that is built
+put-sound : (built : Bool) (settings : ConfigData) (present : List ProjectWorkspace) (files : SessionFiles) → IsSound files → IfOk (crates_put_if built settings present files) IsSound
+put-sound true settings present files sound = ok-from _ IsSound (λ now is. (crates_keep (crate_data settings files.ids present) files now is).sound sound)
+put-sound false settings present files sound = sound
+
+followed-sound : (made : Result (Follows × Workspaces) Counter) (settings : ConfigData) (files : SessionFiles) → IsSound files → IfOk (and_then made (files_followed settings files)) IsSound
+followed-sound (Ok made) settings files sound = put-sound (builds_crates made.0) settings made.1.present files sound
+followed-sound (Err counter) settings files sound = tt
+
+switched-sound : (event : Event) (place : Place) → IsSound place.files → IfOk (files_switched (Next event) place) IsSound
+switched-sound event place sound =
+    let settings = (client_after (Next event) place.client).settings in
+    let made = switch_in (Next event) place in
+    IfOk-and_then (files_told place.client.settings (Next event) place.files) (λ files. and_then made (files_followed settings files)) IsSound IsSound
+    (told-sound place.client.settings event place.files sound) (λ files told. followed-sound made settings files told)
+
+made-seen : (input : Input) (place : Place) → AreSeen place.files → IfOk (files_made input place) AreSeen
+made-seen Start place seen = seen
+made-seen (Next event) place seen =
+    IfOk-and_then (files_switched (Next event) place) (files_turned (Next event)) IsSound AreSeen (switched-sound event place seen.sound)
     (λ now sound. ok-from _ AreSeen (λ last is. let t = turned now last is in record { sound = t.sound sound; current = λ ready. t.current ready sound }))
 
 or-seen : (files : SessionFiles) (r : Result SessionFiles Counter) → AreSeen files → IfOk r AreSeen → AreSeen (or_before files r)
 or-seen files (Ok now) seen made = made
 or-seen files (Err counter) seen made = seen
 
-after-seen : (settings : ConfigData) (input : Input) (files : SessionFiles) → AreSeen files → AreSeen (files_after settings input files)
-after-seen settings input files seen = or-seen files (files_made settings input files) seen (made-seen settings input files seen)
+after-seen : (input : Input) (place : Place) → AreSeen place.files → AreSeen (files_after input place)
+after-seen input place seen = or-seen place.files (files_made input place) seen (made-seen input place seen)
 
 all-seen : (turns : List Turn) (place : Place) → AreSeen place.files → AreSeen (place_after_all turns place).files
 all-seen [] place seen = seen
-all-seen (turn ∷ turns) place seen = all-seen turns (place_after turn place) (after-seen place.client.settings turn.input place.files seen)
+all-seen (turn ∷ turns) place seen = all-seen turns (place_after turn place) (after-seen turn.input place seen)
 
 -- nothing has changed since the files were last processed
 never-changed : IsSound no_files → IsCurrent no_files

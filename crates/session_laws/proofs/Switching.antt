@@ -1,6 +1,6 @@
 -- What a switch to other workspaces does within a turn: it tells the user and the host something, and answers nobody.
-use Rattle.std.proofs.Common.{◌≡◌, ◌≤◌, ℕ, ◌+◌, List, [], ◌∷◌, Bool, true, false, refl, sym, ◌∙◌, append-nil, arith}
-use Rattle.std.specs.Prelude.{◌-◌, ◌^◌, ltb, Option, None, Some, option_map, Result, Ok, Err, IfOk, IfErr, if◌then◌else◌}
+use Rattle.std.proofs.Common.{◌≡◌, ◌≤◌, ℕ, ◌+◌, List, [], ◌∷◌, Bool, true, false, refl, sym, ap, subst, ◌∙◌, append-nil, arith, inl, inr}
+use Rattle.std.specs.Prelude.{◌⊎◌, ◌-◌, ◌^◌, ltb, Option, None, Some, option_map, Result, Ok, Err, IfOk, IfErr, if◌then◌else◌}
 use Rattle.project_model.specs.declared.workspace.ProjectWorkspace.{ProjectWorkspace}
 use Rattle.ra_config.specs.Config.{ConfigData}
 use Rattle.reload.specs.Switch.{is_empty}
@@ -13,18 +13,25 @@ use Rattle.turn_parts.specs.declared.fault.Counter.TheVariants.{LoaderSettings}
 use Rattle.client.specs.Steps.{notification_of}
 use Rattle.notify.specs.declared.outgo.MessageKind.TheVariants.{Warning}
 use Rattle.notify.specs.declared.outgo.Outgo.TheVariants.{ShowMessage}
+use Rattle.desk_laws.proofs.Refusing.{err-weaker}
+use Rattle.desk_laws.proofs.Results.{IfErr-within, IfOk-weaker, IfOk-within}
+use Rattle.session_files.specs.Folds.{due_changes, is_due}
 use Rattle.session_files.specs.SessionFiles.{SessionFiles}
+use Rattle.session_files.specs.Steps.{crates_put}
+use Rattle.session_files.proofs.SoundLemmas.{crates_keep}
 use Rattle.workspaces.specs.Switching.{asks_build, decided, followed as workspaces_followed, next_version, presents, renewed_by, switch_to, switched}
 use Rattle.workspaces.specs.Workspaces.{Workspaces}
 use Rattle.workspaces.specs.declared.follows.Follows.{Follows}
 use Rattle.workspaces.specs.declared.follows.Follows.TheVariants.{Nothing, CrateData, Wait, GoOn}
-use Rattle.session_model.specs.Headline.{Place, client_after, files_told, left_or, workspaces_at, workspaces_switched}
-use Rattle.session_model.specs.Machine.{at_workspaces, followed, loader_set, switched_to, warned, with_workspaces}
+use Rattle.session_model.specs.Crates.{Numbers, builds_crates, crate_data, crates_put_if, files_followed, followed_by, is_built_by, with_crates}
+use Rattle.session_model.specs.Headline.{Place, are_due, client_after, files_told, left_or, workspaces_at, workspaces_switched}
+use Rattle.session_model.specs.Machine.{at_workspaces, crates_built, files_in, followed, loader_set, switched_to, warned, with_files, with_workspaces}
 use Rattle.session_model.specs.State.{State, builds_scripts, discovers}
 use Rattle.session_model.specs.Switching.{is_switch_due, switch_by, switch_made, unless_exhausted}
 use Rattle.session_model.specs.declared.input.Input.{Input}
 use Rattle.session_model.specs.declared.input.Input.TheVariants.{Start, Next}
 use Rattle.session_laws.specs.Beside.{Tells}
+use Rattle.session_laws.proofs.Filing.{AtLast, PutsCrates, crates-errs, crates-put}
 use Rattle.session_laws.proofs.Telling.{tells-none, tells-notification, tells-on}
 
 -- ---- what is told
@@ -73,57 +80,127 @@ followed-same CrateData w = refl
 followed-same (Wait msrv) w = warned-same msrv w
 followed-same (GoOn msrv version initial) w = loader-same version (warned msrv w) ∙ warned-same msrv w
 
--- the workspaces come to these, nothing else changes, and nobody is answered
-pub record Switches (workspaces : Workspaces) (w v : Working State) : Type 0 where
-  pub tells : Tells w.out v.out
-  pub state : v.state ≡ with_workspaces workspaces w.state
+-- where this flag is set crate data goes into the world, and nothing else changes
+record Builds (built : Bool) (w v : Working State) : Type 0 where
+  files : crates_put_if built w.state.client.settings w.state.workspaces.present w.state.files ≡ Ok v.state.files
+  state : v.state ≡ with_files v.state.files w.state
+  out : v.out ≡ w.out
 
-pub switched-does : (made : Result (Follows × Workspaces) Counter) (w : Working State)
-    → IfOk (switched_to made w) (Switches (left_or w.state.workspaces made) w)
+built-does : (built : Bool) (w : Working State) → IfOk (crates_built built w) (Builds built w)
+unfolding crates_built
+built-does false w = record { files = refl; state = refl; out = refl }
+built-does true w =
+    let crates = crate_data w.state.client.settings w.state.files.ids w.state.workspaces.present in
+    IfOk-within files_in with_files (crates_put crates) w (Builds true w)
+    (IfOk-weaker _ (PutsCrates crates (record { state = w.state.files; out = w.out })) _ (crates-put crates _) (λ v puts. record { files = puts.is; state = refl; out = puts.out }))
+
+-- the workspaces come to what is left, crate data that is built goes into the world, nothing else changes, and nobody is answered
+pub record Switches (made : Result (Follows × Workspaces) Counter) (w v : Working State) : Type 0 where
+  pub tells : Tells w.out v.out
+  pub files : and_then made (files_followed w.state.client.settings w.state.files) ≡ Ok v.state.files
+  pub state : v.state ≡ with_workspaces (left_or w.state.workspaces made) (with_files v.state.files w.state)
+
+pub switched-does : (made : Result (Follows × Workspaces) Counter) (w : Working State) → IfOk (switched_to made w) (Switches made w)
 unfolding switched_to
 switched-does (Err counter) w = tt
 switched-does (Ok made) w =
+    let built : Bool = builds_crates made.0 in
     let now : Working State = at_workspaces (λ before. made.1) w in
-    record { tells = followed-tells made.0 now; state = followed-same made.0 now }
+    let told : Working State = followed made.0 now in
+    let same : told.state ≡ with_workspaces made.1 w.state = followed-same made.0 now in
+    IfOk-weaker (crates_built built told) (Builds built told) (Switches (Ok made) w) (built-does built told)
+    (λ v builds. record {
+      tells = subst (Tells w.out) (sym builds.out) (followed-tells made.0 now);
+      files = ap (λ (s : State). crates_put_if built s.client.settings s.workspaces.present s.files) (sym same) ∙ builds.files;
+      state = builds.state ∙ ap (with_files v.state.files) same;
+    })
+
+-- ---- what it leaves of the files
+
+-- they have changed as before, and the revision is one more where this flag is set
+pub record FollowsFiles (built : Bool) (files now : SessionFiles) : Type 0 where
+  pub revision : now.host.revision ≡ files.host.revision + (if built then 1 else 0)
+  pub due : are_due (Ok files) ≡ are_due (Ok now)
+  pub changes : due_changes files ≡ due_changes now
+
+none-more : (n : ℕ) → n ≡ n + 0
+none-more n = omega arith
+
+ok-same : (a b : SessionFiles) → (let made : Result SessionFiles Counter = Ok a in made) ≡ Ok b → a ≡ b
+ok-same a b is = cc
+
+put-follows : (built : Bool) (settings : ConfigData) (present : List ProjectWorkspace) (files now : SessionFiles) → crates_put_if built settings present files ≡ Ok now
+    → FollowsFiles built files now
+put-follows false settings present files now is =
+    subst (FollowsFiles false files) (ok-same files now is) (record { revision = none-more files.host.revision; due = refl; changes = refl })
+put-follows true settings present files now is =
+    let made = crates_keep (crate_data settings files.ids present) files now is in
+    record { revision = made.revision; due = sym (ap is_due made.rest); changes = sym (ap due_changes made.rest) }
+
+err-ok : {P : Type 0} (counter : Counter) (now : SessionFiles) → (let made : Result SessionFiles Counter = Err counter in made) ≡ Ok now → P
+err-ok counter now is = absurd cc
+
+pub made-follows : (made : Result (Follows × Workspaces) Counter) (settings : ConfigData) (files now : SessionFiles) → and_then made (files_followed settings files) ≡ Ok now
+    → FollowsFiles (is_built_by made) files now
+made-follows (Ok made) settings files now is = put-follows (builds_crates made.0) settings made.1.present files now is
+made-follows (Err counter) settings files now is = err-ok counter now is
 
 -- ---- where it is refused
 
-pub switched-errs : (made : Result (Follows × Workspaces) Counter) (w : Working State) → IfErr (switched_to made w) (λ counter. made ≡ Err counter)
+built-errs : (built : Bool) (w : Working State) → IfErr (crates_built built w) (AtLast w.state.files.host.revision)
+unfolding crates_built
+built-errs false w = tt
+built-errs true w =
+    let crates = crate_data w.state.client.settings w.state.files.ids w.state.workspaces.present in
+    IfErr-within files_in with_files (crates_put crates) w (AtLast w.state.files.host.revision) (crates-errs crates (record { state = w.state.files; out = w.out }))
+
+-- no version is left, or no revision
+pub switched-errs : (made : Result (Follows × Workspaces) Counter) (w : Working State)
+    → IfErr (switched_to made w) (λ counter. (made ≡ Err counter) ⊎ AtLast w.state.files.host.revision counter)
 unfolding switched_to
-switched-errs (Err counter) w = refl
-switched-errs (Ok made) w = tt
+switched-errs (Err counter) w = inl refl
+switched-errs (Ok made) w =
+    let told : Working State = followed made.0 (at_workspaces (λ before. made.1) w) in
+    err-weaker (crates_built (builds_crates made.0) told) (AtLast told.state.files.host.revision) _ (built-errs (builds_crates made.0) told)
+    (λ counter last. inr (subst (λ (s : State). AtLast s.files.host.revision counter) (followed-same made.0 (at_workspaces (λ before. made.1) w)) last))
 
 exhausted-errs : (made : Option (Follows × Workspaces)) → IfErr (unless_exhausted made) (λ counter. counter ≡ LoaderSettings)
 exhausted-errs None = refl
 exhausted-errs (Some made) = tt
 
-due-errs : (due : Bool) (made : Option (Follows × Workspaces)) (workspaces : Workspaces)
-    → IfErr (if due then unless_exhausted made else Ok (Nothing, workspaces)) (λ counter. counter ≡ LoaderSettings)
-due-errs true made workspaces = exhausted-errs made
-due-errs false made workspaces = tt
+sought-errs : (files : SessionFiles) (made : Result (Follows × Workspaces) Counter) → IfErr made (λ counter. counter ≡ LoaderSettings)
+    → IfErr (with_crates files made) (λ counter. counter ≡ LoaderSettings)
+sought-errs files (Ok made) h = tt
+sought-errs files (Err counter) h = h
+
+due-errs : (files : SessionFiles) (due : Bool) (made : Option (Follows × Workspaces)) (workspaces : Workspaces)
+    → IfErr (if due then with_crates files (unless_exhausted made) else Ok (Nothing, workspaces)) (λ counter. counter ≡ LoaderSettings)
+due-errs files true made workspaces = sought-errs files (unless_exhausted made) (exhausted-errs made)
+due-errs files false made workspaces = tt
 
 pub made-errs : (settings : ConfigData) (files : SessionFiles) (workspaces : Workspaces) → IfErr (switch_made settings files workspaces) (λ counter. counter ≡ LoaderSettings)
-made-errs settings files workspaces = due-errs (is_switch_due files workspaces) (switch_by settings workspaces) workspaces
+made-errs settings files workspaces = due-errs files (is_switch_due files workspaces) (switch_by settings workspaces) workspaces
 
 -- ---- what it leaves
 
--- the fetches stay as they are, no run of build data starts or ends, and the workspaces get one version at most
+-- the fetches stay as they are, no run of build data and no load of macros starts or ends, and the workspaces get one version at most
 pub record Moves (before after : Workspaces) : Type 0 where
   pub fetches : after.fetches ≡ before.fetches
   pub building : after.builds.queue.in_progress ≡ before.builds.queue.in_progress
+  pub loading : after.loads.queue.in_progress ≡ before.loads.queue.in_progress
   pub version : after.version ≤ before.version + 1
 
 stays : (workspaces : Workspaces) → Moves workspaces workspaces
-stays workspaces = record { fetches = refl; building = refl; version = omega arith }
+stays workspaces = record { fetches = refl; building = refl; loading = refl; version = omega arith }
 
 asked-moves : (asks : Bool) (before workspaces : Workspaces) → Moves before workspaces → Moves before (asks_build asks workspaces)
-asked-moves true before workspaces m = record { fetches = m.fetches; building = m.building; version = m.version }
+asked-moves true before workspaces m = record { fetches = m.fetches; building = m.building; loading = m.loading; version = m.version }
 asked-moves false before workspaces m = m
 
 follows-moves : (msrv : List (List ℕ)) (initial : Bool) (before workspaces : Workspaces) (version : Option ℕ) → Moves before workspaces
     → Moves before (workspaces_followed msrv initial workspaces version).1
 follows-moves msrv initial before workspaces None m = m
-follows-moves msrv initial before workspaces (Some version) m = record { fetches = m.fetches; building = m.building; version = m.version }
+follows-moves msrv initial before workspaces (Some version) m = record { fetches = m.fetches; building = m.building; loading = m.loading; version = m.version }
 
 version-moves : (msrv : List (List ℕ)) (initial : Bool) (before workspaces : Workspaces) (version : Option (Option ℕ)) → Moves before workspaces
     → Moves before (left_or before (unless_exhausted (option_map (workspaces_followed msrv initial workspaces) version)))
@@ -131,7 +208,7 @@ version-moves msrv initial before workspaces None m = stays before
 version-moves msrv initial before workspaces (Some version) m = follows-moves msrv initial before workspaces version m
 
 presents-moves : (new : List ProjectWorkspace) (workspaces : Workspaces) → Moves workspaces (presents new workspaces)
-presents-moves new workspaces = record { fetches = refl; building = refl; version = omega arith }
+presents-moves new workspaces = record { fetches = refl; building = refl; loading = refl; version = omega arith }
 
 renewed-moves : (new : List ProjectWorkspace) (msrv : List (List ℕ)) (asks goes_on : Bool) (workspaces : Workspaces)
     → Moves workspaces (left_or workspaces (unless_exhausted (renewed_by new msrv asks goes_on workspaces)))
@@ -140,8 +217,8 @@ renewed-moves new msrv asks goes_on workspaces =
     (asked-moves asks workspaces (presents new workspaces) (presents-moves new workspaces))
 
 to-moves : (to : Switch) (workspaces : Workspaces) → Moves workspaces (left_or workspaces (unless_exhausted (switch_to to workspaces)))
-to-moves switch.End workspaces = record { fetches = refl; building = refl; version = omega arith }
-to-moves switch.CrateData workspaces = record { fetches = refl; building = refl; version = omega arith }
+to-moves switch.End workspaces = record { fetches = refl; building = refl; loading = refl; version = omega arith }
+to-moves switch.CrateData workspaces = record { fetches = refl; building = refl; loading = refl; version = omega arith }
 to-moves (switch.Join made) workspaces = renewed-moves made [] false true workspaces
 to-moves (switch.Replace new msrv asks goes_on) workspaces = renewed-moves new msrv asks goes_on workspaces
 
@@ -150,14 +227,26 @@ by-moves : (some discover build_scripts : Bool) (workspaces : Workspaces)
 by-moves true discover build_scripts workspaces = to-moves (decided discover build_scripts workspaces) workspaces
 by-moves false discover build_scripts workspaces = stays workspaces
 
-due-moves : (due : Bool) (made : Option (Follows × Workspaces)) (workspaces : Workspaces) → Moves workspaces (left_or workspaces (unless_exhausted made))
-    → Moves workspaces (left_or workspaces (if due then unless_exhausted made else Ok (Nothing, workspaces)))
-due-moves true made workspaces m = m
-due-moves false made workspaces m = stays workspaces
+-- crate data is built behind it
+built-moves : (numbers : Numbers) (follows : Follows) (before workspaces : Workspaces) → Moves before workspaces → Moves before (followed_by numbers follows workspaces)
+built-moves numbers Nothing before workspaces m = m
+built-moves numbers CrateData before workspaces m = record { fetches = m.fetches; building = m.building; loading = m.loading; version = m.version }
+built-moves numbers (Wait msrv) before workspaces m = m
+built-moves numbers (GoOn msrv version initial) before workspaces m = record { fetches = m.fetches; building = m.building; loading = m.loading; version = m.version }
+
+crates-move : (files : SessionFiles) (made : Result (Follows × Workspaces) Counter) (workspaces : Workspaces) → Moves workspaces (left_or workspaces made)
+    → Moves workspaces (left_or workspaces (with_crates files made))
+crates-move files (Ok made) workspaces m = built-moves files.ids made.0 workspaces made.1 m
+crates-move files (Err counter) workspaces m = m
+
+due-moves : (files : SessionFiles) (due : Bool) (made : Option (Follows × Workspaces)) (workspaces : Workspaces) → Moves workspaces (left_or workspaces (unless_exhausted made))
+    → Moves workspaces (left_or workspaces (if due then with_crates files (unless_exhausted made) else Ok (Nothing, workspaces)))
+due-moves files true made workspaces m = crates-move files (unless_exhausted made) workspaces m
+due-moves files false made workspaces m = stays workspaces
 
 made-moves : (settings : ConfigData) (files : SessionFiles) (workspaces : Workspaces) → Moves workspaces (left_or workspaces (switch_made settings files workspaces))
 made-moves settings files workspaces =
-    due-moves (is_switch_due files workspaces) (switch_by settings workspaces) workspaces
+    due-moves files (is_switch_due files workspaces) (switch_by settings workspaces) workspaces
     (by-moves (ltb workspaces.version (2 ^ 64 - 1)) (discovers settings) (builds_scripts settings) workspaces)
 
 told-moves : (settings : ConfigData) (told : Result SessionFiles Counter) (workspaces : Workspaces)

@@ -10,8 +10,10 @@ use Rattle.client.specs.Folds.{after_answer}
 use Rattle.desk.specs.Building.{BuildEnd, build_ended}
 use Rattle.desk.specs.Desk.{Desk}
 use Rattle.desk.specs.Fetching.{FetchEnd, fetch_ended}
+use Rattle.desk.specs.Loading.{LoadEnd, load_ended}
 use Rattle.workspaces.specs.Builds.{end_build}
 use Rattle.workspaces.specs.Fetches.{ask_waiting, end_fetch, fire, fires, is_served, renewed, start_fetch, start_up, waits_from}
+use Rattle.workspaces.specs.Loads.{end_load}
 use Rattle.workspaces.specs.Workspaces.{Fetches, Workspaces}
 use Rattle.workspaces.specs.declared.requests.FetchRequest.{FetchRequest}
 use Rattle.workspaces.specs.declared.requests.WaitingFetch.{WaitingFetch}
@@ -20,6 +22,7 @@ use Rattle.session_model.specs.Fetching.{fetch_kept, reloaded_if, reloads}
 use Rattle.session_model.specs.Headline.{changes_in, client_after, may_start_at, next_turn, Place, place_after, place_after_all, workspaces_after, workspaces_fetched, workspaces_planned, workspaces_switched, workspaces_told}
 use Rattle.session_model.specs.Hearing.{heard_of, told_by}
 use Rattle.session_model.specs.Inputs.{turns_after}
+use Rattle.session_model.specs.Loading.{load_kept}
 use Rattle.session_model.specs.Run.{Turn}
 use Rattle.session_model.specs.State.{discovers}
 use Rattle.session_model.specs.Timing.{bring_files, fetch_for_files, fetch_planned, renewed_if}
@@ -65,9 +68,14 @@ build-same None workspaces = refl
 build-same (Some made) workspaces =
     kept-cases workspaces.builds.queue.in_progress (record workspaces { builds = end_build made workspaces.present workspaces.builds; switch_wanted = true }) workspaces refl
 
+load-same : (end : Option LoadEnd) (workspaces : Workspaces) → (load_kept end workspaces).fetches.waiting ≡ workspaces.fetches.waiting
+load-same None workspaces = refl
+load-same (Some told) workspaces = kept-cases workspaces.loads.queue.in_progress (record workspaces { loads = end_load told workspaces.loads }) workspaces refl
+
 end-same : (message : TaskMsg) (out : Jobs) (workspaces : Workspaces) → (end_kept message out workspaces).fetches.waiting ≡ workspaces.fetches.waiting
 end-same message out workspaces =
-    build-same (build_ended message out) (fetch_kept (fetch_ended message out) workspaces) ∙ fetch-same (fetch_ended message out) workspaces
+    load-same (load_ended message out) (build_kept (build_ended message out) (fetch_kept (fetch_ended message out) workspaces))
+    ∙ build-same (build_ended message out) (fetch_kept (fetch_ended message out) workspaces) ∙ fetch-same (fetch_ended message out) workspaces
 
 batch-same : (batch : List TaskMsg) (out : Jobs) (workspaces : Workspaces) → (ends_kept batch out workspaces).fetches.waiting ≡ workspaces.fetches.waiting
 batch-same [] out workspaces = refl
@@ -140,7 +148,7 @@ fetched-tickets input place h =
     subst (IsOfTurns (turns_after input place.desk.turns)) (sym (start-same (may_start_at input place.client) (workspaces_planned input place).fetches))
     (planned-tickets input place h)
 
--- a run of build data that starts leaves the fetches
+-- a run of build data or a load of macros that starts leaves the fetches
 after-tickets : (input : Input) (place : Place) → IsOfTurns place.desk.turns place.workspaces.fetches.waiting
     → IsOfTurns (turns_after input place.desk.turns) (workspaces_after input place).fetches.waiting
 after-tickets Start place h = fetched-tickets Start place h

@@ -10,19 +10,20 @@ use Rattle.session_model.specs.Headline.{changes_in, client_after, next_turn, Pl
 use Rattle.session_model.specs.Timing.{fetch_for_files, fetch_planned, planned_by, renewed_if}
 use Rattle.session_model.specs.declared.input.Input.{Input}
 
--- no fetch starts or ends, the builds stay as they are, and the workspaces have the version that they had
+-- no fetch starts or ends, the builds and the loads stay as they are, and the workspaces have the version that they had
 pub record WaitsOnly (before after : Workspaces) : Type 0 where
   pub in_progress : after.fetches.queue.in_progress ≡ before.fetches.queue.in_progress
   pub builds : after.builds ≡ before.builds
+  pub loads : after.loads ≡ before.loads
   pub version : after.version ≡ before.version
 
 nothing-waits : (workspaces : Workspaces) → WaitsOnly workspaces workspaces
-nothing-waits workspaces = record { in_progress = refl; builds = refl; version = refl }
+nothing-waits workspaces = record { in_progress = refl; builds = refl; loads = refl; version = refl }
 
 served-waits : (served : Bool) (turn : ℕ) (request : FetchRequest) (workspaces : Workspaces)
     → WaitsOnly workspaces (record workspaces { fetches = if served then workspaces.fetches else waits_from turn request workspaces.fetches })
-served-waits true turn request workspaces = record { in_progress = refl; builds = refl; version = refl }
-served-waits false turn request workspaces = record { in_progress = refl; builds = refl; version = refl }
+served-waits true turn request workspaces = record { in_progress = refl; builds = refl; loads = refl; version = refl }
+served-waits false turn request workspaces = record { in_progress = refl; builds = refl; loads = refl; version = refl }
 
 planned-waits : (turn : ℕ) (request : Option FetchRequest) (workspaces : Workspaces) → WaitsOnly workspaces (fetch_planned turn request workspaces)
 planned-waits turn None workspaces = nothing-waits workspaces
@@ -38,5 +39,5 @@ turn-waits input place = files-wait (client_after input place.client).settings (
 
 -- a loader brings files
 pub renewed-waits : (brings : Bool) (turn : ℕ) (workspaces : Workspaces) → WaitsOnly workspaces (renewed_if brings turn workspaces)
-renewed-waits true turn workspaces = record { in_progress = refl; builds = refl; version = refl }
+renewed-waits true turn workspaces = record { in_progress = refl; builds = refl; loads = refl; version = refl }
 renewed-waits false turn workspaces = nothing-waits workspaces

@@ -10,14 +10,17 @@ use Rattle.client.specs.Folds.{after_answer}
 use Rattle.desk.specs.Desk.{Desk}
 use Rattle.desk.specs.Building.{BuildEnd, build_ended}
 use Rattle.desk.specs.Fetching.{FetchEnd, fetch_ended}
+use Rattle.desk.specs.Loading.{LoadEnd, load_ended}
 use Rattle.workspaces.specs.Builds.{end_build, rebuild_macros, reload}
 use Rattle.workspaces.specs.Fetches.{end_fetch}
+use Rattle.workspaces.specs.Loads.{end_load}
 use Rattle.workspaces.specs.Workspaces.{Workspaces}
 use Rattle.session_model.specs.Fetching.{fetch_kept, reloaded_if, reloads}
 use Rattle.session_model.specs.Headline.{Place, place_after, place_after_all, workspaces_after, workspaces_at, workspaces_planned, workspaces_switched, workspaces_told}
 use Rattle.session_model.specs.Building.{build_kept, end_kept, ends_kept, rebuilds, request_told}
 use Rattle.session_model.specs.Hearing.{heard_of, told_by}
 use Rattle.session_model.specs.Inputs.{turns_after}
+use Rattle.session_model.specs.Loading.{load_kept}
 use Rattle.session_model.specs.Run.{Turn}
 use Rattle.session_model.specs.Timing.{bring_files}
 use Rattle.session_model.specs.declared.input.Event.TheVariants.{Lsp, Task, Vfs, Deferred, Timer}
@@ -48,13 +51,20 @@ build-shows (Some made) workspaces =
     kept-cases workspaces.builds.queue.in_progress (record workspaces { builds = end_build made workspaces.present workspaces.builds; switch_wanted = true }) workspaces
     (record { present = refl; version = refl })
 
+load-shows : (end : Option LoadEnd) (workspaces : Workspaces) → ShowsSame workspaces (load_kept end workspaces)
+load-shows None workspaces = record { present = refl; version = refl }
+load-shows (Some told) workspaces =
+    kept-cases workspaces.loads.queue.in_progress (record workspaces { loads = end_load told workspaces.loads }) workspaces (record { present = refl; version = refl })
+
 shows-on : (first second third : Workspaces) → ShowsSame first second → ShowsSame second third → ShowsSame first third
 shows-on first second third p q = record { present = q.present ∙ p.present; version = q.version ∙ p.version }
 
 pub kept-shows : (message : TaskMsg) (out : Jobs) (workspaces : Workspaces) → ShowsSame workspaces (end_kept message out workspaces)
 kept-shows message out workspaces =
     let fetched = fetch_kept (fetch_ended message out) workspaces in
-    shows-on workspaces fetched (end_kept message out workspaces) (fetch-shows (fetch_ended message out) workspaces) (build-shows (build_ended message out) fetched)
+    let built = build_kept (build_ended message out) fetched in
+    shows-on workspaces fetched (end_kept message out workspaces) (fetch-shows (fetch_ended message out) workspaces)
+    (shows-on fetched built (end_kept message out workspaces) (build-shows (build_ended message out) fetched) (load-shows (load_ended message out) built))
 
 batch-version : (batch : List TaskMsg) (out : Jobs) (workspaces : Workspaces) → (ends_kept batch out workspaces).version ≡ workspaces.version
 batch-version [] out workspaces = refl

@@ -47,6 +47,13 @@ is_build (FetchWorkspaces projects detached path force) = false
 is_build (FetchBuildData version) = true
 is_build (LoadProcMacros paths ignored) = false
 
+-- the job is a load of macros
+abbrev pub is_load : JobKind → Bool
+is_load (Request ticket row params) = false
+is_load (FetchWorkspaces projects detached path force) = false
+is_load (FetchBuildData version) = false
+is_load (LoadProcMacros paths ignored) = true
+
 -- exactly one job out is one of these
 pub record IsOneOut (is : JobKind → Bool) (jobs : Jobs) : Type 0 where
   pub number : ℕ
@@ -71,6 +78,10 @@ FetchIsOut place = IsOutIf is_fetch place.workspaces.fetches.queue.in_progress p
 abbrev pub BuildIsOut : Place → Type 0
 BuildIsOut place = IsOutIf is_build place.workspaces.builds.queue.in_progress place.desk.jobs
 
+-- a load of macros is in progress exactly where one job out is one
+abbrev pub LoadIsOut : Place → Type 0
+LoadIsOut place = IsOutIf is_load place.workspaces.loads.queue.in_progress place.desk.jobs
+
 -- a fetch that waits for a timer has the number of one of so many turns
 abbrev pub IsOfTurns : ℕ → Option WaitingFetch → Type 0
 IsOfTurns turns None = Unit {0}
@@ -90,12 +101,13 @@ pub record StepFits (meaning : Meaning) (s : State) (turn : Turn) (new : State) 
   pub timer : SetsTimer turn (place_after turn (place_of s))
 
 -- after some turns of a fresh machine: it stands where the lists say, the invariant holds, a fetch is in progress exactly where a job out is one, and so is a
--- run of build data; and each job out for a request was handed over by one of the turns, for a request that waits or was answered
+-- run of build data and a load of macros; and each job out for a request was handed over by one of the turns, for a request that waits or was answered
 pub record Stands (settings : ConfigData) (turns : List Turn) (s : State) : Type 0 where
   pub place : place_of s ≡ place_after_all turns (beginning settings)
   pub sound : SoundAt (place_after_all turns (beginning settings))
   pub fetching : FetchIsOut (place_after_all turns (beginning settings))
   pub building : BuildIsOut (place_after_all turns (beginning settings))
+  pub loading : LoadIsOut (place_after_all turns (beginning settings))
   pub handed : AreHandedOver settings turns (place_after_all turns (beginning settings)).desk.jobs
   pub accounted : let place = place_after_all turns (beginning settings) in
       AreAccountedFor place.desk.pending (answered_by turns (beginning settings)) place.desk.jobs

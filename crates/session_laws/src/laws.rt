@@ -23,7 +23,7 @@ ghost use Rattle.session_model.specs.State.{State, fresh};
 ghost use Rattle.session_model.specs.declared.input.Input.{Input};
 ghost use Rattle.session_laws.specs.Answering.{answered_by};
 ghost use Rattle.session_laws.specs.Beside.{Beside, Serves};
-ghost use Rattle.session_laws.specs.Invariant.{BuildIsOut, FetchIsOut, IsOfTurns, SoundAt, Stands, StepFits, place_of};
+ghost use Rattle.session_laws.specs.Invariant.{BuildIsOut, FetchIsOut, IsOfTurns, LoadIsOut, SoundAt, Stands, StepFits, place_of};
 
 /// Bytes that come are as bytes that are held: a session's course is that of its bytes, however they are cut.
 pub fn any_pieces()
@@ -77,6 +77,14 @@ pub fn builds_in_progress_are_out()
     ensures beginning { (settings : ConfigData) → BuildIsOut (beginning settings) }
     ensures kept { (meaning : Meaning) (old : State) (turn : Turn) (new : State)
         → Steps meaning old turn new → SoundAt (place_of old) → BuildIsOut (place_of old) → BuildIsOut (place_of new) }
+{}
+
+/// A load of macros is in progress exactly where one job out is one: it is so at the beginning, and each turn of the machine keeps
+/// it.
+pub fn loads_in_progress_are_out()
+    ensures beginning { (settings : ConfigData) → LoadIsOut (beginning settings) }
+    ensures kept { (meaning : Meaning) (old : State) (turn : Turn) (new : State)
+        → Steps meaning old turn new → SoundAt (place_of old) → LoadIsOut (place_of old) → LoadIsOut (place_of new) }
 {}
 
 /// The workspaces have had no more versions than there were turns.

@@ -50,8 +50,10 @@ use Rattle.workspaces.specs.declared.follows.Follows.{Follows}
 use Rattle.workspaces.specs.declared.follows.Follows.TheVariants.{Nothing}
 use Rattle.workspaces.specs.declared.requests.FetchRequest.{FetchRequest}
 use Rattle.session_model.specs.Building.{build_due, build_jobs, end_kept, ends_kept, request_told, with_due_build}
+use Rattle.session_model.specs.Crates.{files_followed, is_built_by}
 use Rattle.session_model.specs.Fetching.{fetch_jobs, folders_told_if, settings_told, with_fetches}
 use Rattle.session_model.specs.Hearing.{heard_of, told_by}
+use Rattle.session_model.specs.Loading.{MacroPaths, load_due, load_jobs, with_due_load}
 use Rattle.session_model.specs.State.{columns_in, discovers, excludes_in, first_status, goes_by_folders, macros_loaded_in, may_start}
 use Rattle.session_model.specs.Status.{client_after_status, status_now, statuses_due, statuses_in}
 use Rattle.session_model.specs.Switching.{switch_made}
@@ -74,7 +76,7 @@ pub record Place : Type 0 where
   pub revision : ℕ
   -- the turns, the requests that are read and not answered, the jobs handed over and not ended
   pub desk : Desk
-  -- the workspaces, and the fetches and the build data of them that are asked for
+  -- the workspaces, and the fetches, the build data and the macros of them that are asked for
   pub workspaces : Workspaces
   -- the status that was told last
   pub status : Status
@@ -100,9 +102,9 @@ snapshot_at place = record {
   revision = place.revision;
 }
 
--- what a request meets here; the crate graph counts as complete
+-- what a request meets here
 abbrev pub scene_at : Place → Scene
-scene_at place = record { snapshot = snapshot_at place; loading = place.files.loading; incomplete = false }
+scene_at place = record { snapshot = snapshot_at place; loading = place.files.loading; incomplete = place.workspaces.incomplete }
 
 -- ---- what a turn changes of it
 
@@ -143,17 +145,6 @@ abbrev pub files_turned : Input → SessionFiles → Result SessionFiles Counter
 files_turned Start files = Ok files
 files_turned (Next event) files = after_turn files
 
-abbrev pub files_made : ConfigData → Input → SessionFiles → Result SessionFiles Counter
-files_made settings input files = and_then (files_told settings input files) (files_turned input)
-
--- a turn that needs one more of a counter than there are doesn't come to be
-abbrev pub or_before : SessionFiles → Result SessionFiles Counter → SessionFiles
-or_before files (Ok made) = made
-or_before files (Err counter) = files
-
-abbrev pub files_after : ConfigData → Input → SessionFiles → SessionFiles
-files_after settings input files = or_before files (files_made settings input files)
-
 -- the client is asked for its settings, or tells which folders its workspaces have
 abbrev pub client_told : Option Notice → Client → Client
 client_told None client = client
@@ -177,7 +168,7 @@ folders_told settings (Some other) workspaces = workspaces
 
 -- what an input tells of the workspaces, by the client, the requests that wait and the jobs that are out: the start and a request to reload ask for a fetch,
 -- so do other folders and other settings, a loader's files renew the timer of one, and a timer may ask for one; a request to rebuild macros asks for build
--- data; and a job's message may end a fetch or a run of build data
+-- data; and a job's message may end a fetch, a run of build data or a load of macros
 abbrev pub workspaces_told : Client → Input → Desk → Workspaces → Workspaces
 workspaces_told client Start desk workspaces = with_fetches (start_up (discovers client.settings)) workspaces
 workspaces_told client (Next (Lsp (RequestMessage r))) desk workspaces = request_told r desk workspaces
@@ -206,6 +197,24 @@ left_or workspaces (Err counter) = workspaces
 -- the workspaces behind the switch
 abbrev pub workspaces_switched : Input → Place → Workspaces
 workspaces_switched input place = left_or (workspaces_at input place) (switch_in input place)
+
+-- the files behind it: crate data that it builds goes into the world, by the settings that the input leaves
+abbrev pub files_switched : Input → Place → Result SessionFiles Counter
+files_switched Start place = Ok place.files
+files_switched (Next event) place =
+    and_then (files_told place.client.settings (Next event) place.files)
+    (λ files. and_then (switch_in (Next event) place) (files_followed (client_after (Next event) place.client).settings files))
+
+abbrev pub files_made : Input → Place → Result SessionFiles Counter
+files_made input place = and_then (files_switched input place) (files_turned input)
+
+-- a turn that needs one more of a counter than there are doesn't come to be
+abbrev pub or_before : SessionFiles → Result SessionFiles Counter → SessionFiles
+or_before files (Ok made) = made
+or_before files (Err counter) = files
+
+abbrev pub files_after : Input → Place → SessionFiles
+files_after input place = or_before place.files (files_made input place)
 
 -- the files that a turn puts into the world: those that have changed behind its input, unless files are loading; the start puts none
 abbrev pub changes_due : Result SessionFiles Counter → List ChangedFile
@@ -238,21 +247,31 @@ abbrev pub build_in : Input → Place → Option ℕ
 build_in Start place = None
 build_in (Next event) place = build_due (workspaces_fetched (Next event) place)
 
+-- the workspaces behind it
+abbrev pub workspaces_built : Input → Place → Workspaces
+workspaces_built Start place = workspaces_fetched Start place
+workspaces_built (Next event) place = with_due_build (workspaces_fetched (Next event) place)
+
+-- the libraries of the macros that a turn loads, if it loads some: behind its run of build data, where it starts none. The start loads none
+abbrev pub load_in : Input → Place → Option MacroPaths
+load_in Start place = None
+load_in (Next event) place = load_due (build_in (Next event) place) (workspaces_built (Next event) place)
+
 abbrev pub workspaces_after : Input → Place → Workspaces
-workspaces_after Start place = workspaces_fetched Start place
-workspaces_after (Next event) place = with_due_build (workspaces_fetched (Next event) place)
+workspaces_after Start place = workspaces_built Start place
+workspaces_after (Next event) place = with_due_load (build_in (Next event) place) (workspaces_built (Next event) place)
 
 -- the status of a turn: the start tells it first, any other turn last
 abbrev pub status_after : Input → Place → Status
 status_after Start place = status_now place.client.settings place.files place.workspaces
 status_after (Next event) place =
-    status_now (client_after (Next event) place.client).settings (files_after place.client.settings (Next event) place.files) (workspaces_after (Next event) place)
+    status_now (client_after (Next event) place.client).settings (files_after (Next event) place) (workspaces_after (Next event) place)
 
 -- the client behind all that a turn tells it: it may be asked whether the logs are to be opened
 abbrev pub client_left : Input → Place → Client
 client_left Start place = client_after_status place.status place.files place.workspaces place.client
 client_left (Next event) place =
-    client_after_status place.status (files_after place.client.settings (Next event) place.files) (workspaces_after (Next event) place) (client_after (Next event) place.client)
+    client_after_status place.status (files_after (Next event) place) (workspaces_after (Next event) place) (client_after (Next event) place.client)
 
 -- the last of numbers, else the one before
 abbrev pub last_of : List ℕ → ℕ → ℕ
@@ -275,7 +294,7 @@ desk_after turn desk = record {
 abbrev pub place_after : Turn → Place → Place
 place_after turn place = record {
   client = client_left turn.input place;
-  files = files_after place.client.settings turn.input place.files;
+  files = files_after turn.input place;
   revision = revision_after turn.commands place.revision;
   desk = desk_after turn place.desk;
   workspaces = workspaces_after turn.input place;
@@ -320,10 +339,15 @@ row meaning (Next (Vfs messages)) place = silent
 row meaning (Next (Deferred tasks)) place = silent
 row meaning (Next (Timer ticket)) place = silent
 
--- the jobs for no request that a turn hands over, with this number, on this snapshot: that of the fetch that it starts, then that of the build data that it
--- starts. It starts at most one of both, since no build data starts while a fetch is in progress
+-- the job of the run of build data and that of the load of macros that start, if they do
+abbrev pub run_jobs : ℕ → SnapshotData → Option ℕ → Option MacroPaths → List Job
+run_jobs number snapshot build load = build_jobs number snapshot build ++ load_jobs number snapshot load
+
+-- the jobs for no request that a turn hands over, with this number, on this snapshot: that of the fetch that it starts, of the build data, or of the load of
+-- macros. It starts at most one of them, since nothing else starts while a fetch is in progress, and no macros are loaded where build data starts
 abbrev pub jobs_started : Input → Place → ℕ → SnapshotData → List Job
-jobs_started input place number snapshot = fetch_jobs number snapshot (fetch_in input place) ++ build_jobs number snapshot (build_in input place)
+jobs_started input place number snapshot =
+    fetch_jobs number snapshot (fetch_in input place) ++ run_jobs number snapshot (build_in input place) (load_in input place)
 
 -- a turn hands over the jobs of its row, and behind them those that it starts: on what the turn leaves
 abbrev pub HandsOver : Meaning → Turn → Place → Type 0
@@ -366,15 +390,22 @@ abbrev pub are_due : Result SessionFiles Counter → Bool
 are_due (Ok files) = is_due files
 are_due (Err counter) = false
 
--- a turn changes the world
+-- a turn changes the texts of the world
 abbrev pub is_changed : ConfigData → Input → SessionFiles → Bool
 is_changed settings Start files = false
 is_changed settings (Next event) files = are_due (files_told settings (Next event) files)
 
--- the revision is one more where the turn changes the world, and else the same
+-- a turn builds crate data, behind its switch
+abbrev pub builds_crates_in : Input → Place → Bool
+builds_crates_in input place = is_built_by (switch_in input place)
+
+-- the revisions that a turn makes: one where it builds crate data, and one where it changes the texts of the world
+abbrev pub revisions_in : Input → Place → ℕ
+revisions_in input place =
+    (if builds_crates_in input place then 1 else 0) + (if is_changed place.client.settings input place.files then 1 else 0)
+
 abbrev pub Revises : Turn → Place → Type 0
-Revises turn place =
-    (place_after turn place).revision ≡ (if is_changed place.client.settings turn.input place.files then place.revision + 1 else place.revision)
+Revises turn place = (place_after turn place).revision ≡ place.revision + revisions_in turn.input place
 
 -- the numbers of the files are the table's; and where no files are loading, the world has, of each path, its contents, normalised, where they are a text
 pub record SeesFiles (files : SessionFiles) : Type 0 where
@@ -387,7 +418,7 @@ pub record SeesFiles (files : SessionFiles) : Type 0 where
 pub record Answers (meaning : Meaning) (settings : ConfigData) (honest : Bool) (before : List Turn) (turn : Turn) : Type 0 where
   -- it answers by the reply table
   pub does : let place = place_after_all before (beginning settings) in reaction_of turn ≡ row meaning turn.input place
-  -- and it hands over no other jobs than these, that of a fetch of workspaces and that of a run of build data
+  -- and it hands over no other jobs than these, that of a fetch of workspaces, that of a run of build data and that of a load of macros
   pub hands_over : HandsOver meaning turn (place_after_all before (beginning settings))
   -- it tells a client that takes statuses its own, exactly where that is another than the one told last
   pub tells_status : TellsItsStatus turn (place_after_all before (beginning settings))
@@ -400,7 +431,7 @@ pub record Answers (meaning : Meaning) (settings : ConfigData) (honest : Bool) (
   pub held : AreHeld (place_after_all (before ++ turn ∷ []) (beginning settings)).desk
   -- each job out for a request was handed over by the turn that read it, or a later one, on the documents of all inputs before that turn
   pub handed_over : AreHandedOver settings before (place_after_all before (beginning settings)).desk.jobs
-  -- the revision rises by one exactly where the contents of some path are others than those that the world was last made of
+  -- the revision rises by one where crate data is built, and by one where the contents of some path are others than those that the world was last made of
   pub revised : Revises turn (place_after_all before (beginning settings))
   -- what queries see of the files: the snapshots that this turn hands over are made of it
   pub sees : SeesFiles (place_after_all before (beginning settings)).files
@@ -433,15 +464,19 @@ fetches_in input place = if is_some (fetch_in input place) then 1 else 0
 abbrev pub builds_in : Input → Place → ℕ
 builds_in input place = if is_some (build_in input place) then 1 else 0
 
--- a turn needs one more of a counter than there are: its number is past the last one, it hands over more jobs, for requests, for a fetch and for build data,
+-- the same, where it starts a load of macros
+abbrev pub loads_in : Input → Place → ℕ
+loads_in input place = if is_some (load_in input place) then 1 else 0
+
+-- a turn needs one more of a counter than there are: its number is past the last one, it hands over more jobs, for requests and of its own,
 -- it asks the client more than there are numbers of requests, it changes the world at the last revision, one of its files needs a number where all were
 -- given, or its switch a version
 abbrev pub NeedsMore : Meaning → Place → Input → Counter → Type 0
 NeedsMore meaning place input Turns = 2 ^ 64 ≤ next_turn place
 NeedsMore meaning place input Bytes = ⊥
 NeedsMore meaning place input JobsCounter =
-    2 ^ 64 ≤ place.desk.handed + length (row meaning input place).jobs + fetches_in input place + builds_in input place
-NeedsMore meaning place input Revisions = 2 ^ 64 - 1 ≤ place.revision
+    2 ^ 64 ≤ place.desk.handed + length (row meaning input place).jobs + fetches_in input place + (builds_in input place + loads_in input place)
+NeedsMore meaning place input Revisions = 2 ^ 64 - 1 ≤ place.revision + (if builds_crates_in input place then 1 else 0)
 NeedsMore meaning place input Outgoing = number_limit < (client_left input place).asked.given
 NeedsMore meaning place input Files = files_told place.client.settings input place.files ≡ Err Files
 NeedsMore meaning place input LoaderSettings = switch_in input place ≡ Err LoaderSettings

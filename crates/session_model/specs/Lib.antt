@@ -1,10 +1,12 @@
 pub mod Building
 pub mod Codes
 pub mod Course
+pub mod Crates
 pub mod Fetching
 pub mod Headline
 pub mod Hearing
 pub mod Inputs
+pub mod Loading
 pub mod Machine
 pub mod Run
 pub mod State

@@ -33,7 +33,7 @@ use Rattle.desk.specs.Meaning.{Meaning}
 use Rattle.desk.specs.Steps.{requested, cancelled, counted as counted_at_desk, handed_over, taken as taken_at_desk, kept as kept_at_desk}
 use Rattle.session_files.specs.Folds.{due_changes}
 use Rattle.session_files.specs.SessionFiles.{SessionFiles}
-use Rattle.session_files.specs.Steps.{changed, closed as closed_document, loaded, opened, processed}
+use Rattle.session_files.specs.Steps.{changed, closed as closed_document, crates_put, loaded, opened, processed}
 use Rattle.status.specs.Same.{is_same_status}
 use Rattle.status.specs.declared.status.Status.{Status}
 use Rattle.workspaces.specs.Fetches.{fetch_to_start, fire, fires, start_fetch, start_up}
@@ -43,8 +43,10 @@ use Rattle.workspaces.specs.declared.follows.Follows.{Follows}
 use Rattle.workspaces.specs.declared.follows.Follows.TheVariants.{Nothing, CrateData, Wait, GoOn}
 use Rattle.workspaces.specs.declared.requests.FetchRequest.{FetchRequest}
 use Rattle.session_model.specs.Building.{build_due, end_kept, request_told, with_due_build}
+use Rattle.session_model.specs.Crates.{builds_crates, crate_data}
 use Rattle.session_model.specs.Fetching.{folders_told_if, settings_told, with_fetches}
 use Rattle.session_model.specs.Hearing.{heard_of}
+use Rattle.session_model.specs.Loading.{MacroPaths, load_due, load_kind, with_due_load}
 use Rattle.session_model.specs.State.{client_watches, columns_in, discovers, excludes_in, fetch_kind, goes_by_folders, may_start, scene_of, snapshot_of, State}
 use Rattle.session_model.specs.Status.{opens_logs, shown_of, status_message, status_now, takes_status}
 use Rattle.session_model.specs.Switching.{switch_made}
@@ -180,7 +182,7 @@ received meaning (ResponseMessage r) w = answer_taken r w
 
 -- ---- results
 
--- a message of a job, on the present snapshot; one that ends a fetch or a run of build data is told to the workspaces
+-- a message of a job, on the present snapshot; one that ends a fetch, a run of build data or a load of macros is told to the workspaces
 abbrev pub taken : Meaning → TaskMsg → Working State → Result (Working State) Counter
 taken meaning message w =
     and_then (at_desk (taken_at_desk meaning (scene_of w.state) message) w)
@@ -256,17 +258,22 @@ loader_set version w =
     let settings = w.state.client.settings in
     ordered (SetLoader (loader_roots (excludes_in settings) w.state.workspaces.present) (not (client_watches settings)) version) w
 
--- what follows a switch; crate data is not built yet
+-- what the user and the host are told behind a switch
 unfoldable pub followed : Follows → Working State → Working State
 followed Nothing w = w
 followed CrateData w = w
 followed (Wait msrv) w = warned msrv w
 followed (GoOn msrv version initial) w = loader_set version (warned msrv w)
 
+-- where this flag is set, crate data of the workspaces that are present goes into the world. Its macros are not loaded yet
+unfoldable pub crates_built : Bool → Working State → Result (Working State) Counter
+crates_built false w = Ok w
+crates_built true w = at_files (crates_put (crate_data w.state.client.settings w.state.files.ids w.state.workspaces.present)) w
+
 -- a switch leaves these workspaces, and what follows it is done
 unfoldable pub switched_to : Result (Follows × Workspaces) Counter → Working State → Result (Working State) Counter
 switched_to (Err counter) w = Err counter
-switched_to (Ok made) w = Ok (followed made.0 (at_workspaces (λ before. made.1) w))
+switched_to (Ok made) w = crates_built (builds_crates made.0) (followed made.0 (at_workspaces (λ before. made.1) w))
 
 -- the switch that is wanted is made, unless files are loading
 unfoldable pub switch_done : Working State → Result (Working State) Counter
@@ -315,8 +322,21 @@ build_handed_over (Some version) w = at_desk (handed_over (snapshot_of w.state) 
 unfoldable pub build_started : Working State → Result (Working State) Counter
 build_started w = build_handed_over (build_due w.state.workspaces) (at_workspaces with_due_build w)
 
+-- a load of macros that is to start is handed over on the present snapshot
+unfoldable pub load_handed_over : Option MacroPaths → Working State → Result (Working State) Counter
+load_handed_over None w = Ok w
+load_handed_over (Some paths) w = at_desk (handed_over (snapshot_of w.state) Worker (load_kind w.state.client.settings paths)) w
+
+-- the load that is asked for starts, where neither a fetch is in progress nor this run of build data starts
+unfoldable pub load_started : Option ℕ → Working State → Result (Working State) Counter
+load_started build w = load_handed_over (load_due build w.state.workspaces) (at_workspaces (with_due_load build) w)
+
+-- build data starts, else macros
+unfoldable pub runs_started : Working State → Result (Working State) Counter
+runs_started w = and_then (build_started w) (load_started (build_due w.state.workspaces))
+
 unfoldable pub build_part : Working Turning → Result (Working Turning) Counter
-build_part w = in_state build_started w
+build_part w = in_state runs_started w
 
 abbrev pub prime_part : Working Turning → Result (Working Turning) Counter
 prime_part w = Ok w

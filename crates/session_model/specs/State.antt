@@ -1,12 +1,12 @@
 -- The session's state, as contracts see it: a record of its parts.
 use Rattle.std.specs.Prelude.{[], Bool, false, is_some, length, List, None, not, Option, Some, true, ℕ, ◌&&◌, ◌==◌, ◌||◌}
 use Rattle.text_core.specs.declared.position.PositionEncoding.{PositionEncoding}
-use Rattle.ra_settings.specs.declared.row.Row.TheVariants.{CargoAutoreload, CargoBuildScriptsEnable, DetachedFiles, FilesExclude, FilesWatcher, LinkedProjects, ProcMacroEnable, WorkspaceDiscoverConfig}
+use Rattle.ra_settings.specs.declared.row.Row.TheVariants.{CargoAutoreload, CargoBuildScriptsEnable, DetachedFiles, FilesExclude, FilesWatcher, LinkedProjects, ProcMacroEnable, ProcMacroIgnored, WorkspaceDiscoverConfig}
 use Rattle.ra_settings.specs.declared.value.DiscoverConfig.{DiscoverConfig}
 use Rattle.ra_settings.specs.declared.value.LinkedProject.{LinkedProject}
 use Rattle.ra_settings.specs.declared.value.FilesWatcher.TheVariants.{Client as ByClient, Server as ByServer}
 use Rattle.ra_settings.specs.declared.value.SettingValue.{SettingValue}
-use Rattle.ra_settings.specs.declared.value.SettingValue.TheVariants.{Discover, Paths, Truth, Watcher}
+use Rattle.ra_settings.specs.declared.value.SettingValue.TheVariants.{Discover, Lists, Paths, Truth, Watcher}
 use Rattle.layered_settings.specs.Search.{setting}
 use Rattle.ra_config.specs.Config.{ConfigData, linked_in, projects_of}
 use Rattle.analysis_host.specs.SnapshotData.{SnapshotData}
@@ -55,6 +55,14 @@ truth_in other = false
 -- whether no proc macros are wanted: the setting `procMacro.enable`. None are loaded yet
 abbrev pub macros_loaded_in : ConfigData → Bool
 macros_loaded_in settings = not (truth_in (setting ProcMacroEnable None settings.settings))
+
+abbrev pub lists_in : SettingValue → List (List ℕ × List (List ℕ))
+lists_in (Lists lists) = lists
+lists_in other = []
+
+-- the names of the macros that are not to be expanded, by package: the setting `procMacro.ignored`
+abbrev pub ignored_macros : ConfigData → List (List ℕ × List (List ℕ))
+ignored_macros settings = lists_in (setting ProcMacroIgnored None settings.settings)
 
 -- the setting `workspace.discoverConfig` is set
 abbrev pub is_discovering : SettingValue → Bool
@@ -129,9 +137,9 @@ snapshot_of state = record {
   revision = state.files.host.revision;
 }
 
--- what a request meets; the crate graph counts as complete
+-- what a request meets
 abbrev pub scene_of : State → Scene
-scene_of state = record { snapshot = snapshot_of state; loading = state.files.loading; incomplete = false }
+scene_of state = record { snapshot = snapshot_of state; loading = state.files.loading; incomplete = state.workspaces.incomplete }
 
 -- the status that the first one is compared with: all is well, and nothing is worked on
 abbrev pub first_status : Status

@@ -8,6 +8,7 @@ use Rattle.workspaces.specs.Switching.{switched}
 use Rattle.workspaces.specs.Workspaces.{Workspaces}
 use Rattle.workspaces.specs.declared.follows.Follows.{Follows}
 use Rattle.workspaces.specs.declared.follows.Follows.TheVariants.{Nothing}
+use Rattle.session_model.specs.Crates.{with_crates}
 use Rattle.session_model.specs.State.{builds_scripts, discovers}
 
 -- a switch that is wanted is made once no files are loading
@@ -24,7 +25,7 @@ abbrev pub unless_exhausted : Option (Follows × Workspaces) → Result (Follows
 unless_exhausted None = Err LoaderSettings
 unless_exhausted (Some made) = Ok made
 
--- the same where a switch is due; else nothing follows, and all stays
+-- the same where a switch is due, with the crate data that is built behind it; else nothing follows, and all stays
 abbrev pub switch_made : ConfigData → SessionFiles → Workspaces → Result (Follows × Workspaces) Counter
 switch_made settings files workspaces =
-    if is_switch_due files workspaces then unless_exhausted (switch_by settings workspaces) else Ok (Nothing, workspaces)
+    if is_switch_due files workspaces then with_crates files (unless_exhausted (switch_by settings workspaces)) else Ok (Nothing, workspaces)

@@ -14,8 +14,10 @@ ghost use Rattle.session_model.specs.declared.input.Input.TheVariants.{Start, Ne
 
 mod asking;
 mod building;
+mod crates;
 mod fetching;
 mod filing;
+mod loading;
 mod messages;
 mod notifications;
 mod switching;
@@ -131,14 +133,14 @@ impl GlobalState {
         }))
     }
 
-    // What a request meets. The crate graph counts as complete.
+    // What a request meets.
     fn scene(&self) -> Result<Scene, AllocError>
         ensures { IfOk result (λ scene. scene ≡ scene_of self.now) }
     {
         Ok(Scene {
             snapshot: self.snapshot()?,
             loading: self.files.is_loading(),
-            incomplete: false,
+            incomplete: self.workspaces.is_incomplete(),
         })
     }
 }
@@ -309,7 +311,7 @@ impl GlobalState {
         self.process(out)?;
         let may = self.may_fetch();
         self.start_fetch(may, out)?;
-        self.start_build(out)?;
+        self.start_runs(out)?;
         self.report_status(out)?;
         self.close_turn(facts, out)
     }

@@ -10,6 +10,8 @@ mod building;
 #[cfg(test)]
 mod counters;
 #[cfg(test)]
+mod crates;
+#[cfg(test)]
 mod fetching;
 #[cfg(test)]
 mod methods;

@@ -4,12 +4,13 @@ use docs_vfs::VfsPath;
 use lsp_frame::{Message, Notification, Request, RequestId, Response};
 use method_table::PoolClass;
 use plain::{Bytes, Items, Json, Text};
-use project_model::ProjectWorkspace;
+use project_model::{CrateEntry, ProjectWorkspace};
 use ra_config::Config;
 use ra_settings::LinkedProject;
 use session_model::{Counter, Event, TurnError};
 use session_port::{
-    Command, Job, JobResult, JobValue, LoadedFile, LoaderMsg, LoadingProgress, TaskBody, TaskMsg,
+    Command, Job, JobKind, JobResult, JobValue, LoadedFile, LoaderMsg, LoadingProgress, TaskBody,
+    TaskMsg,
 };
 use session_state::TurnOut;
 use small_project::workspaces_of;
@@ -169,11 +170,32 @@ fn brought(alloc: Global, job: u64, words: &str) -> Option<Event> {
     ended(alloc, job, JobResult::Value(JobValue::Workspaces(found)))
 }
 
+/// The crate whose root file this is.
+fn crate_at(alloc: Global, root: &str) -> Option<CrateEntry> {
+    Some(CrateEntry {
+        root: VfsPath::new(alloc, root).ok()??,
+        name: None,
+        deps: Items::new(alloc),
+        is_proc_macro: false,
+    })
+}
+
+/// `MANIFEST ROOT`: the workspace of a manifest, with the crate of this root file.
+fn with_crate(alloc: Global, job: u64, words: &str) -> Option<Event> {
+    let (manifest, root) = cut(words, " ");
+    let mut fetched = Items::new(alloc);
+    for mut workspace in workspaces_at(alloc, manifest)?.into_vec() {
+        workspace.crates.push(crate_at(alloc, root)?).ok()?;
+        fetched.push(Ok(workspace)).ok()?;
+    }
+    ended(alloc, job, JobResult::Value(JobValue::Workspaces(fetched)))
+}
+
 /// `ask` and `tell` with a method and its params, `answer` with the result in the response to the session's request 0,
 /// `loading` and `loaded` where files begin to load and are loaded, `file` and `read` with a path, and perhaps a text, where the
 /// loader tells that a file has changed and where it has read it first, `open` where `/w/a.rs` is opened, `null` and `stopped` as results of the first
 /// job, or of the `second` or the `third`, `fetched` and `builds` as results that are no request's, `brought` where such a job brings the workspace
-/// of a manifest, perhaps with the version of its compiler, `deferred`, `timer` with its ticket, and `shutdown` as a request.
+/// of a manifest, perhaps with the version of its compiler, `crate` where it brings one with the crate of a root file, `deferred`, `timer` with its ticket, and `shutdown` as a request.
 pub fn event_of(alloc: Global, words: &str) -> Option<Event> {
     let (kind, rest) = cut(words, " ");
     let (job, found) = job_in(rest);
@@ -203,6 +225,7 @@ pub fn event_of(alloc: Global, words: &str) -> Option<Event> {
             JobResult::Value(JobValue::BuildData(Items::new(alloc))),
         ),
         "brought" => brought(alloc, job, found),
+        "crate" => with_crate(alloc, job, found),
         "deferred" => Some(Event::Deferred(Items::new(alloc))),
         "timer" => Some(Event::Timer(rest.parse::<u64>().unwrap_or(1))),
         "shutdown" => request(alloc, 1, "shutdown", "null"),
@@ -218,8 +241,12 @@ fn class_name(class: PoolClass) -> &'static str {
     }
 }
 
+// The class of a job; a fetch that is forced has a name of its own.
 fn class_of(job: &Job) -> &'static str {
-    class_name(job.class)
+    match &job.kind {
+        JobKind::FetchWorkspaces { force: true, .. } => "forced",
+        _ => class_name(job.class),
+    }
 }
 
 fn timer_name(ticket: u64) -> &'static str {

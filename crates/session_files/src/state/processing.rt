@@ -2,19 +2,31 @@
 ghost use Rattle.std.specs.Prelude.{◌≡◌, map as each, Some, IfOk, IfSome};
 ghost use Rattle.docs_vfs.specs.Files.{changes};
 ghost use Rattle.turn_parts.specs.Meets.{Meets};
-ghost use Rattle.session_files.specs.Folds.{world_put, taken_up, after_processing, after_turn, due_changes};
+ghost use Rattle.session_files.specs.Folds.{world_put, taken_up, after_crates, after_processing, after_turn, crates_only, due_changes};
 ghost use Rattle.session_files.specs.Meets.{Leaves};
-ghost use Rattle.session_files.specs.Steps.{processed};
+ghost use Rattle.session_files.specs.Steps.{crates_put, processed};
 ghost use Rattle.session_files.specs.Texts.{entry_of, file_change};
-ghost use Rattle.analysis_host.specs.HostData.{changed, files_only};
+ghost use Rattle.analysis_host.specs.HostData.{changed};
 
 use crate::entries::{entry_of_bytes, entry_of_document};
 use crate::state::SessionFiles;
 use analysis_host::{Change, FileChange, SharedText, TextEntry, WorldFault};
 use docs_vfs::{ChangedFile, SharedBytes, VfsPath};
 use plain::Items;
-use std::alloc::AllocError;
+use project_model::CrateData;
+use std::alloc::{AllocError, Global};
 use turn_parts::{Counter, TurnError, TurnOut};
+
+// A change of the crate graph alone.
+fn crates_only(alloc: Global, crates: CrateData) -> Change
+    ensures { result ≡ crates_only crates }
+{
+    Change {
+        files: Items::new(alloc),
+        roots: None,
+        crates: Some(crates),
+    }
+}
 
 impl SessionFiles {
     // The document of a path, where its text is these bytes.
@@ -63,10 +75,10 @@ impl SessionFiles {
     }
 
     // One change of the world, and so one revision more.
-    fn change_world(&mut self, files: Items<FileChange>) -> Result<(), TurnError>
-        ensures { Leaves result (world_put (changed (files_only files) self.old.host) self.old) self.new }
+    fn change_world(&mut self, change: Change) -> Result<(), TurnError>
+        ensures { Leaves result (world_put (changed change self.old.host) self.old) self.new }
     {
-        match self.host.apply_change(Change::files_only(files)) {
+        match self.host.apply_change(change) {
             Ok(()) => Ok(()),
             Err(WorldFault::Exhausted) => Err(TurnError::Exhausted {
                 counter: Counter::Revisions,
@@ -92,7 +104,7 @@ impl SessionFiles {
         let files = self.take_changes()?;
         if !files.is_empty() {
             let changes = self.file_changes(files.as_slice())?;
-            self.change_world(changes)?;
+            self.change_world(Change::files_only(changes))?;
         }
         Ok(files)
     }
@@ -108,5 +120,13 @@ impl SessionFiles {
             return Ok(Items::new(self.alloc));
         }
         self.process_changes()
+    }
+
+    /// The world gets another crate graph, by one change. After an `Err` the files are spent.
+    #[tactic(auto, using(crate::proofs::Steps::become_meets), unfolding(crate::specs::Steps::crates_put, crate::specs::Folds::after_crates))]
+    pub fn put_crates(&mut self, crates: CrateData, out: &mut TurnOut) -> Result<(), TurnError>
+        ensures { Meets result (crates_put crates (record { state = self.old; out = out.old })) self.new out.new }
+    {
+        self.change_world(crates_only(self.alloc, crates))
     }
 }

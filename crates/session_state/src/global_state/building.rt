@@ -1,8 +1,8 @@
 // Build data of workspaces.
-ghost use Rattle.std.specs.Prelude.{◌≡◌};
+ghost use Rattle.std.specs.Prelude.{◌≡◌, IfOk};
 ghost use Rattle.turn_parts.specs.Meets.{Meets, Gives};
-ghost use Rattle.session_model.specs.Building.{build_kept, rebuilt_if};
-ghost use Rattle.session_model.specs.Machine.{at_workspaces, build_handed_over, build_started};
+ghost use Rattle.session_model.specs.Building.{build_due, build_kept, rebuilt_if};
+ghost use Rattle.session_model.specs.Machine.{at_workspaces, build_handed_over, build_started, runs_started};
 
 use crate::global_state::GlobalState;
 use desk::BuildEnd;
@@ -53,12 +53,24 @@ impl GlobalState {
         }
     }
 
-    // Starts the run of build data that is asked for, where neither a fetch nor another run is in progress.
+    // Starts the run of build data that is asked for, where neither a fetch nor another run is in progress. Answers the version of the
+    // workspaces that it is on.
     #[tactic(auto, unfolding(session_model::specs::Machine::build_started))]
-    pub(super) fn start_build(&mut self, out: &mut TurnOut) -> Result<(), TurnError>
-        ensures { Meets result (build_started (record { state = self.old; out = out.old })) self.new out.new }
+    fn start_build(&mut self, out: &mut TurnOut) -> Result<Option<u64>, TurnError>
+        ensures meets { Meets result (build_started (record { state = self.old; out = out.old })) self.new out.new }
+        ensures value { IfOk result (λ version. version ≡ build_due self.old.workspaces) }
     {
         let version = self.workspaces.start_build();
-        self.hand_over_build(version, out)
+        self.hand_over_build(version, out)?;
+        Ok(version)
+    }
+
+    // Starts build data, else macros.
+    #[tactic(auto, unfolding(session_model::specs::Machine::runs_started))]
+    pub(super) fn start_runs(&mut self, out: &mut TurnOut) -> Result<(), TurnError>
+        ensures { Meets result (runs_started (record { state = self.old; out = out.old })) self.new out.new }
+    {
+        let build = self.start_build(out)?;
+        self.start_load(build, out)
     }
 }

@@ -119,7 +119,7 @@ impl GlobalState {
         self.desk.on_task(&scene, message, analysis, out)
     }
 
-    // A message of a job. One that ends a fetch or a run of build data is told to the workspaces.
+    // A message of a job. One that ends a fetch, a run of build data or a load of macros is told to the workspaces.
     fn on_task<A: Analysis>(
         &mut self,
         message: TaskMsg,
@@ -130,9 +130,11 @@ impl GlobalState {
     {
         let fetched = self.desk.fetch_end(&message)?;
         let built = self.desk.build_end(&message)?;
+        let loaded = self.desk.load_end(&message)?;
         self.bring(message, analysis, out)?;
         self.keep_fetch(fetched, out)?;
-        self.keep_build(built, out)
+        self.keep_build(built, out)?;
+        self.keep_load(loaded, out)
     }
 
     // The messages of a batch, one after another.

@@ -8,6 +8,7 @@ ghost use Rattle.session_model.specs.State.{builds_scripts, client_watches, excl
 ghost use Rattle.session_model.specs.Switching.{switch_by, switch_made};
 
 use crate::global_state::GlobalState;
+use crate::global_state::crates::builds_crates;
 use docs_vfs::VfsPath;
 use notify::{MessageKind, Outgo};
 use plain::{Items, Text};
@@ -72,7 +73,7 @@ impl GlobalState {
         )
     }
 
-    // What follows a switch.
+    // What the user and the host are told behind a switch.
     #[tactic(auto, unfolding(session_model::specs::Machine::followed))]
     fn follow(&mut self, follows: Follows, out: &mut TurnOut) -> Result<(), TurnError>
         ensures { Gives result (followed follows (record { state = self.old; out = out.old })) self.new out.new }
@@ -113,7 +114,7 @@ impl GlobalState {
         }
     }
 
-    // The same where a switch is wanted and no files are loading; else nothing follows.
+    // The same where a switch is wanted and no files are loading, with the crate data that is built behind it; else nothing follows.
     fn make_switch_if_due(&mut self) -> Result<Follows, TurnError>
         ensures made { IfOk result (λ follows. switch_made self.old.client.settings self.old.files self.old.workspaces ≡ Ok (follows, self.new.workspaces)) }
         ensures rest { self.new ≡ record self.old { workspaces = self.new.workspaces } }
@@ -121,7 +122,9 @@ impl GlobalState {
             ⊎ ((e ≡ Exhausted LoaderSettings) × (switch_made self.old.client.settings self.old.files self.old.workspaces ≡ Err LoaderSettings))) }
     {
         if self.workspaces.is_switch_wanted() && !self.files.is_loading() {
-            self.make_switch()
+            let follows = self.make_switch()?;
+            self.follow_crates(&follows)?;
+            Ok(follows)
         } else {
             Ok(Follows::Nothing)
         }
@@ -133,6 +136,8 @@ impl GlobalState {
         ensures { Meets result (switch_done (record { state = self.old; out = out.old })) self.new out.new }
     {
         let follows = self.make_switch_if_due()?;
-        self.follow(follows, out)
+        let built = builds_crates(&follows);
+        self.follow(follows, out)?;
+        self.build_crates(built, out)
     }
 }

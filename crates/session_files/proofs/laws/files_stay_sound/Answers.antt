@@ -1,4 +1,4 @@
-use Rattle.session_files.proofs.SoundLemmas.{none_sound, opening_keeps, editing_keeps, closing_keeps, messages_keep, turned}
+use Rattle.session_files.proofs.SoundLemmas.{crates_keep, none_sound, opening_keeps, editing_keeps, closing_keeps, messages_keep, turned}
 use Rattle.session_files.proofs.laws.files_stay_sound.Goals as goal
 
 pub returns : goal.returns
@@ -8,6 +8,7 @@ returns c = record {
   editing = λ columns path version edits files now sound is. (editing_keeps columns path version edits files now is).sound sound;
   closing = λ path files sound. (closing_keeps path files).sound sound;
   messages = λ messages files now sound is. (messages_keep messages files now is).sound sound;
+  crates = λ crates files now sound is. (crates_keep crates files now is).sound sound;
   turn = λ files now sound is. (turned files now is).sound sound;
   current = λ files now sound is ready. (turned files now is).current ready sound;
   taken = λ files now is ready. (turned files now is).taken ready;

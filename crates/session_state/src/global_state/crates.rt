@@ -1,0 +1,132 @@
+// Crate data of the workspaces.
+ghost use Rattle.std.specs.Prelude.{◌≡◌, ◌<◌, ◌^◌, length, IfOk, OnOk};
+ghost use Rattle.std.specs.FinMap as map;
+ghost use Rattle.turn_parts.specs.Meets.{Meets};
+ghost use Rattle.session_files.specs.Steps.{crates_put};
+ghost use Rattle.session_model.specs.Crates.{are_unknown, builds_crates, crate_data, crate_graph, crates_asked, file_of, followed_by, is_unknown, with_paths};
+ghost use Rattle.session_model.specs.Machine.{at_files, crates_built};
+
+use crate::global_state::GlobalState;
+use docs_vfs::{ByPath, FileExcluded, FileId, VfsPath};
+use file_ids::FileIds;
+use plain::{Items, NoMemory};
+use project_model::{CrateData, MacroPath};
+use reload::{crate_roots, ws_to_crate_graph};
+use session_model::TurnError;
+use std::alloc::Global;
+use turn_parts::TurnOut;
+use workspaces::{Follows, without_macros};
+
+/// A crate graph, and for each workspace what was built of its proc macro crates.
+type Graph = (CrateData, Items<Items<(u32, MacroPath)>>);
+
+// Whether a path has neither contents nor a mark.
+fn is_unknown(numbers: &FileIds, path: &VfsPath) -> bool
+    ensures { result ≡ is_unknown numbers.now path.now }
+{
+    numbers.get(path).is_none()
+}
+
+// Whether one of these paths has neither.
+fn are_unknown(numbers: &FileIds, paths: &[VfsPath]) -> bool
+    ensures { result ≡ are_unknown numbers.now paths.now }
+{
+    paths.iter().any(|path| is_unknown(numbers, path))
+}
+
+// The paths of a list.
+fn paths_of(alloc: Global, list: Items<VfsPath>) -> Result<ByPath<()>, NoMemory>
+    ensures { IfOk result (λ paths. paths ≡ with_paths map.empty list) }
+{
+    let mut paths = ByPath::new(alloc);
+    for path in list.into_vec() {
+        paths.insert(path, ())?;
+    }
+    Ok(paths)
+}
+
+// The file that a root is loaded as: none where it has neither contents nor a mark, or is excluded.
+fn file_of(entry: Option<(FileId, FileExcluded)>) -> Option<FileId>
+    ensures { result ≡ file_of entry }
+{
+    match entry {
+        None => None,
+        Some((_, FileExcluded::Yes)) => None,
+        Some((file, FileExcluded::No)) => Some(file),
+    }
+}
+
+// Whether crate data is built behind a switch that this follows.
+pub(super) fn builds_crates(follows: &Follows) -> bool
+    ensures { result ≡ builds_crates follows.now }
+{
+    match follows {
+        Follows::CrateData | Follows::GoOn { .. } => true,
+        Follows::Nothing | Follows::Wait { .. } => false,
+    }
+}
+
+impl GlobalState {
+    // Crate data asks for the root file of each crate of the workspaces that are present.
+    fn ask_for_crates(&mut self) -> Result<(), NoMemory>
+        ensures { OnOk result (self.new ≡ record self.old { workspaces = crates_asked self.old.files.ids self.old.workspaces }) }
+    {
+        let roots = crate_roots(self.alloc, self.workspaces.present())?;
+        let numbers = self.files.file_ids()?;
+        let incomplete = are_unknown(&numbers, roots.as_slice());
+        let asked = paths_of(self.alloc, roots)?;
+        self.workspaces.keep_asked(asked, incomplete);
+        Ok(())
+    }
+
+    // What follows a switch may be that crate data is built.
+    pub(super) fn follow_crates(&mut self, follows: &Follows) -> Result<(), NoMemory>
+        ensures { OnOk result (self.new ≡ record self.old { workspaces = followed_by self.old.files.ids follows.now self.old.workspaces }) }
+    {
+        match follows {
+            Follows::CrateData | Follows::GoOn { .. } => self.ask_for_crates(),
+            Follows::Nothing | Follows::Wait { .. } => Ok(()),
+        }
+    }
+
+    // The crate graph of the workspaces that are present, by the settings and the numbers of the files.
+    fn load_graph(&self, numbers: &FileIds) -> Result<Graph, NoMemory>
+        ensures { IfOk result (λ made. made ≡ crate_graph self.now.client.settings numbers.now self.now.workspaces.present) }
+    {
+        ws_to_crate_graph(
+            self.alloc,
+            self.workspaces.present(),
+            self.client.settings().cargo_extra_env(None),
+            |root| file_of(numbers.get(root)),
+        )
+    }
+
+    // The same with the macros of each crate, which are not yet built, or disabled.
+    fn crate_data(&self) -> Result<CrateData, NoMemory>
+        ensures { IfOk result (λ made. made ≡ crate_data self.now.client.settings self.now.files.ids self.now.workspaces.present) }
+    {
+        let numbers = self.files.file_ids()?;
+        let (graph, _paths) = self.load_graph(&numbers)?;
+        let enabled = self.client.settings().proc_macro_enable();
+        without_macros(self.alloc, graph, enabled)
+    }
+
+    // This crate graph goes into the world.
+    fn put_crates(&mut self, crates: CrateData, out: &mut TurnOut) -> Result<(), TurnError>
+        ensures { Meets result (at_files (crates_put crates) (record { state = self.old; out = out.old })) self.new out.new }
+    {
+        self.files.put_crates(crates, out)
+    }
+
+    // Where this flag is set, crate data of the workspaces that are present goes into the world. Its macros are not loaded yet.
+    #[tactic(auto, unfolding(session_model::specs::Machine::crates_built))]
+    pub(super) fn build_crates(&mut self, built: bool, out: &mut TurnOut) -> Result<(), TurnError>
+        ensures { Meets result (crates_built built (record { state = self.old; out = out.old })) self.new out.new }
+    {
+        if !built {
+            return Ok(());
+        }
+        let crates = self.crate_data()?;
+        self.put_crates(crates, out)
+    }
+}

@@ -1,0 +1,93 @@
+// Loads of the macros of workspaces.
+ghost use Rattle.std.specs.Prelude.{◌≡◌, IfOk};
+ghost use Rattle.turn_parts.specs.Meets.{Meets, Gives};
+ghost use Rattle.session_model.specs.Loading.{load_kept, load_kind};
+ghost use Rattle.session_model.specs.Machine.{at_workspaces, load_handed_over, load_started};
+
+use crate::global_state::GlobalState;
+use desk::LoadEnd;
+use plain::{Items, Text};
+use project_model::MacroPath;
+use session_model::TurnError;
+use session_port::JobKind;
+use std::alloc::{AllocError, Global};
+use turn_parts::TurnOut;
+
+// A copy of texts by their names.
+fn copied(
+    alloc: Global,
+    lists: &[(Text, Items<Text>)],
+) -> Result<Items<(Text, Items<Text>)>, AllocError>
+    ensures { IfOk result (λ copy. copy ≡ lists.now) }
+{
+    let mut copy = Items::new(alloc);
+    for (name, texts) in lists {
+        copy.push((name.clone()?, texts.clone()?))?;
+    }
+    Ok(copy)
+}
+
+impl GlobalState {
+    // A load of macros ends, where one is in progress.
+    pub(super) fn keep_load(
+        &mut self,
+        end: Option<LoadEnd>,
+        out: &mut TurnOut,
+    ) -> Result<(), TurnError>
+        ensures { Gives result (at_workspaces (load_kept end) (record { state = self.old; out = out.old })) self.new out.new }
+    {
+        let Some(told) = end else {
+            return Ok(());
+        };
+        if self.workspaces.is_loading() {
+            self.workspaces.end_load(told)?;
+        }
+        Ok(())
+    }
+
+    // What the job of a load of these libraries is to find.
+    fn load_kind(&self, paths: Items<Items<(u32, MacroPath)>>) -> Result<JobKind, AllocError>
+        ensures { IfOk result (λ kind. kind ≡ load_kind self.now.client.settings paths) }
+    {
+        Ok(JobKind::LoadProcMacros {
+            paths,
+            ignored: copied(self.alloc, self.client.settings().proc_macro_ignored(None))?,
+        })
+    }
+
+    // Hands over the job of a load that is to start.
+    #[tactic(auto, unfolding(session_model::specs::Machine::load_handed_over))]
+    fn hand_over_load(
+        &mut self,
+        paths: Option<Items<Items<(u32, MacroPath)>>>,
+        out: &mut TurnOut,
+    ) -> Result<(), TurnError>
+        ensures { Meets result (load_handed_over paths (record { state = self.old; out = out.old })) self.new out.new }
+    {
+        match paths {
+            None => Ok(()),
+            Some(paths) => {
+                let kind = self.load_kind(paths)?;
+                self.hand_over(kind, out)
+            }
+        }
+    }
+
+    // Starts the load that is asked for, where neither a fetch nor another load is in progress, nor this run of build data starts.
+    #[tactic(auto, unfolding(session_model::specs::Machine::load_started, session_model::specs::Machine::load_handed_over))]
+    pub(super) fn start_load(
+        &mut self,
+        build: Option<u64>,
+        out: &mut TurnOut,
+    ) -> Result<(), TurnError>
+        ensures { Meets result (load_started build (record { state = self.old; out = out.old })) self.new out.new }
+    {
+        match build {
+            Some(_) => Ok(()),
+            None => {
+                let paths = self.workspaces.start_load();
+                self.hand_over_load(paths, out)
+            }
+        }
+    }
+}
