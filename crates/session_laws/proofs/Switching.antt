@@ -1,5 +1,5 @@
 -- What a switch to other workspaces does within a turn: it tells the user and the host something, and answers nobody.
-use Rattle.std.proofs.Common.{◌≡◌, ◌≤◌, ℕ, ◌+◌, List, [], ◌∷◌, Bool, true, false, refl, sym, ◌∙◌, append-nil, arith}
+use Rattle.std.proofs.Common.{◌≡◌, ◌≤◌, ℕ, ◌+◌, List, [], ◌∷◌, Bool, true, false, refl, sym, ap, ◌∙◌, append-nil, arith}
 use Rattle.std.specs.Prelude.{◌-◌, ◌^◌, ltb, Option, None, Some, option_map, Result, Ok, Err, IfOk, IfErr, if◌then◌else◌}
 use Rattle.project_model.specs.declared.workspace.ProjectWorkspace.{ProjectWorkspace}
 use Rattle.ra_config.specs.Config.{ConfigData}
@@ -19,8 +19,9 @@ use Rattle.workspaces.specs.Workspaces.{Workspaces}
 use Rattle.workspaces.specs.declared.follows.Follows.{Follows}
 use Rattle.workspaces.specs.declared.follows.Follows.TheVariants.{Nothing, CrateData, Wait, GoOn}
 use Rattle.session_model.specs.Headline.{Place, client_after, files_told, left_or, workspaces_at, workspaces_switched}
-use Rattle.session_model.specs.Machine.{at_workspaces, followed, loader_set, switched_to, warned, with_workspaces}
-use Rattle.session_model.specs.State.{State, builds_scripts, discovers}
+use Rattle.session_model.specs.Machine.{at_workspaces, followed, loader_set, roots_renewed, switched_to, warned, with_sources, with_workspaces}
+use Rattle.session_model.specs.Sources.{sources_behind, sources_left, sources_now}
+use Rattle.session_model.specs.State.{Sources, State, builds_scripts, discovers}
 use Rattle.session_model.specs.Switching.{is_switch_due, switch_by, switch_made, unless_exhausted}
 use Rattle.session_model.specs.declared.input.Input.{Input}
 use Rattle.session_model.specs.declared.input.Input.TheVariants.{Start, Next}
@@ -60,31 +61,33 @@ unfolding loader_set ordered
 loader-same version w = refl
 
 followed-tells : (follows : Follows) (w : Working State) → Tells w.out (followed follows w).out
-unfolding followed
+unfolding followed roots_renewed
 followed-tells Nothing w = tells-none w.out
 followed-tells CrateData w = tells-none w.out
 followed-tells (Wait msrv) w = warned-tells msrv w
 followed-tells (GoOn msrv version initial) w = tells-on _ _ _ (warned-tells msrv w) (loader-tells version (warned msrv w))
 
-followed-same : (follows : Follows) (w : Working State) → (followed follows w).state ≡ w.state
-unfolding followed
-followed-same Nothing w = refl
-followed-same CrateData w = refl
-followed-same (Wait msrv) w = warned-same msrv w
-followed-same (GoOn msrv version initial) w = loader-same version (warned msrv w) ∙ warned-same msrv w
+followed-state : (follows : Follows) (w : Working State)
+    → (followed follows w).state ≡ with_sources (sources_behind w.state.client.settings w.state.workspaces follows w.state.sources) w.state
+unfolding followed roots_renewed
+followed-state Nothing w = refl
+followed-state CrateData w = refl
+followed-state (Wait msrv) w = warned-same msrv w
+followed-state (GoOn msrv version initial) w =
+    ap (λ (s : State). with_sources (sources_now s.client.settings s.workspaces) s) (loader-same version (warned msrv w) ∙ warned-same msrv w)
 
--- the workspaces come to these, nothing else changes, and nobody is answered
-pub record Switches (workspaces : Workspaces) (w v : Working State) : Type 0 where
+-- the workspaces and the source roots come to these, nothing else changes, and nobody is answered
+pub record Switches (workspaces : Workspaces) (sources : Sources) (w v : Working State) : Type 0 where
   pub tells : Tells w.out v.out
-  pub state : v.state ≡ with_workspaces workspaces w.state
+  pub state : v.state ≡ with_sources sources (with_workspaces workspaces w.state)
 
 pub switched-does : (made : Result (Follows × Workspaces) Counter) (w : Working State)
-    → IfOk (switched_to made w) (Switches (left_or w.state.workspaces made) w)
+    → IfOk (switched_to made w) (Switches (left_or w.state.workspaces made) (sources_left w.state.client.settings made w.state.sources) w)
 unfolding switched_to
 switched-does (Err counter) w = tt
 switched-does (Ok made) w =
     let now : Working State = at_workspaces (λ before. made.1) w in
-    record { tells = followed-tells made.0 now; state = followed-same made.0 now }
+    record { tells = followed-tells made.0 now; state = followed-state made.0 now }
 
 -- ---- where it is refused
 

@@ -7,6 +7,7 @@ pub mod Hearing
 pub mod Inputs
 pub mod Machine
 pub mod Run
+pub mod Sources
 pub mod State
 pub mod Status
 pub mod Switching

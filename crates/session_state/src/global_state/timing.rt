@@ -1,12 +1,12 @@
-// Fetches of workspaces that wait for a timer.
+// What follows from changed files, and fetches of workspaces that wait for a timer.
 ghost use Rattle.std.specs.Prelude.{◌≡◌, IfOk};
 ghost use Rattle.turn_parts.specs.Meets.{Gives};
-ghost use Rattle.session_model.specs.Machine.{at_workspaces, files_planned, timer_set};
+ghost use Rattle.session_model.specs.Machine.{at_workspaces, effects_done, fetch_waits, timer_set};
 ghost use Rattle.session_model.specs.State.{watched_names};
-ghost use Rattle.session_model.specs.Timing.{fetch_for_files, fetch_planned, renewed_if};
+ghost use Rattle.session_model.specs.Timing.{effects_for, renewed_if};
 
 use crate::global_state::GlobalState;
-use change_effects::effects_of;
+use change_effects::{ChangeEffects, effects_of};
 use docs_vfs::ChangedFile;
 use plain::{NoMemory, Text};
 use session_model::TurnError;
@@ -25,22 +25,22 @@ impl GlobalState {
         }
     }
 
-    // The fetch that changed files ask for.
-    fn fetch_for_files(&self, changed: &[ChangedFile]) -> Result<Option<FetchRequest>, NoMemory>
-        ensures { IfOk result (λ request. request ≡ fetch_for_files self.now.client.settings changed.now self.now.workspaces) }
+    // What follows from changed files.
+    pub(super) fn effects_for(&self, changed: &[ChangedFile]) -> Result<ChangeEffects, NoMemory>
+        ensures { IfOk result (λ effects. effects ≡ effects_for self.now.client.settings changed.now self.now.workspaces) }
     {
         let names = self.watched_names();
-        let effects = effects_of(self.alloc, changed, self.workspaces.asked(), names)?;
-        Ok(effects.fetch)
+        effects_of(self.alloc, changed, self.workspaces.asked(), names)
     }
 
     // A fetch that is asked for waits for a timer with this turn's number, unless one serves that is about to start.
+    #[tactic(auto, unfolding(session_model::specs::Machine::fetch_waits))]
     fn plan_fetch(
         &mut self,
         request: Option<FetchRequest>,
         out: &mut TurnOut,
     ) -> Result<(), TurnError>
-        ensures { Gives result (at_workspaces (fetch_planned self.old.desk.turns request) (record { state = self.old; out = out.old })) self.new out.new }
+        ensures { Gives result (fetch_waits request (record { state = self.old; out = out.old })) self.new out.new }
     {
         if let Some(request) = request {
             let turn = self.desk.turns();
@@ -49,16 +49,17 @@ impl GlobalState {
         Ok(())
     }
 
-    // The fetch that changed files ask for waits for a timer.
-    pub(super) fn plan_fetch_for(
+    // Changed files have this done: their settings are taken, and the fetch that they ask for waits.
+    #[tactic(auto, unfolding(session_model::specs::Machine::effects_done))]
+    pub(super) fn do_effects(
         &mut self,
-        changed: &[ChangedFile],
+        effects: ChangeEffects,
         out: &mut TurnOut,
     ) -> Result<(), TurnError>
-        ensures { Gives result (files_planned changed.now (record { state = self.old; out = out.old })) self.new out.new }
+        ensures { Gives result (effects_done effects (record { state = self.old; out = out.old })) self.new out.new }
     {
-        let request = self.fetch_for_files(changed)?;
-        self.plan_fetch(request, out)
+        self.file_settings(effects.settings, out)?;
+        self.plan_fetch(effects.fetch, out)
     }
 
     // Where this flag is set, a fetch that waits gets a timer with this turn's number.
