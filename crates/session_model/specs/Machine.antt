@@ -8,8 +8,10 @@ use Rattle.lsp_frame.specs.declared.message.Response.{Response}
 use Rattle.plain.specs.Texts.{text_cmp}
 use Rattle.docs_vfs.specs.FileUrls.{path_of}
 use Rattle.docs_vfs.specs.declared.file_kinds.ChangedFile.{ChangedFile}
+use Rattle.docs_vfs.specs.declared.file_kinds.FileId.{FileId}
 use Rattle.docs_vfs.specs.declared.file_url.UrlFault.{UrlFault}
-use Rattle.session_port.specs.declared.command.Command.TheVariants.{Revise, Invalidate, SetLoader, Timer as SetTimer}
+use Rattle.session_port.specs.declared.command.Command.TheVariants.{Defer, Revise, Invalidate, SetLoader, Timer as SetTimer}
+use Rattle.session_port.specs.declared.command.DeferredTask.TheVariants.{CheckProcMacroSources}
 use Rattle.session_port.specs.declared.command.LogCode.TheVariants.{MalformedNotification, UnhandledNotification}
 use Rattle.session_port.specs.declared.command.LogCode.TheVariants.{BadPath}
 use Rattle.session_port.specs.declared.event.LoaderMsg.{LoaderMsg}
@@ -293,13 +295,18 @@ settings_filed files w =
     let client = client_with (change_for files w.state.sources w.state.workspaces.present) w.state.client in
     record w { state = with_sources (parents_told w.state.sources) (with_client client w.state) }
 
+-- the host is to ask, once there is nothing else to do, for a check of these files as sources of macros
+unfoldable pub sources_deferred : Option (List FileId) → Working State → Working State
+sources_deferred None w = w
+sources_deferred (Some files) w = ordered (Defer (CheckProcMacroSources files)) w
+
 -- a fetch that is asked for waits for a timer
 unfoldable pub fetch_waits : Option FetchRequest → Working State → Working State
 fetch_waits request w = at_workspaces (fetch_planned w.state.desk.turns request) w
 
--- what changed files have a session do: their settings are taken, and the fetch that they ask for waits
+-- what changed files have a session do: their settings are taken, the check of sources is put off, and the fetch that they ask for waits
 unfoldable pub effects_done : ChangeEffects → Working State → Working State
-effects_done effects w = fetch_waits effects.fetch (settings_filed effects.settings w)
+effects_done effects w = fetch_waits effects.fetch (sources_deferred effects.macro_sources (settings_filed effects.settings w))
 
 -- the same by the files that changed; without any, nothing is done
 unfoldable pub files_followed : List ChangedFile → Working State → Working State

@@ -20,7 +20,8 @@ start then brought /w/Cargo.toml then loading then file /w/rust-analyzer.toml ch
 start then brought /w/Cargo.toml then loading then file /w/rust-analyzer.toml checkOnSave = false then loaded then at first > unchecked, diagnosed"#;
 
 // A root that lies below another has its settings too, from the first change of a file on behind the switch that brought both.
-const ROOTS: &str = r#"start then brought /w/Cargo.toml,/w/a/Cargo.toml then file /w/rust-analyzer.toml checkOnSave = false then at second > unchecked, diagnosed
+const ROOTS: &str =
+    r#"start then brought /w/Cargo.toml,/w/a/Cargo.toml then file /w/rust-analyzer.toml checkOnSave = false then at second > unchecked, diagnosed
 start then brought /w/Cargo.toml,/w/a/Cargo.toml then file /w/a/rust-analyzer.toml checkOnSave = false then at second > unchecked, diagnosed
 start then brought /w/Cargo.toml,/w/a/Cargo.toml then file /w/a/rust-analyzer.toml checkOnSave = false then at first > checked, diagnosed
 start then brought /w/Cargo.toml,/x/Cargo.toml then file /w/rust-analyzer.toml checkOnSave = false then at second > checked, diagnosed

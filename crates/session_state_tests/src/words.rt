@@ -245,7 +245,7 @@ fn command_name(command: &Command) -> &'static str {
         Command::SetLoader { version: 1, .. } => "load",
         Command::SetLoader { .. } => "load anew",
         Command::Timer(ticket) => timer_name(*ticket),
-        Command::Defer(_) => "other",
+        Command::Defer(_) => "defer",
         Command::Stop => "stop",
     }
 }

@@ -61,9 +61,11 @@ fn is_at_workspace(
     ensures { IfOk result (λ is_at. is_at ≡ is_at_workspace workspaces.now path.now) }
 {
     let folder = path.parent(alloc)?;
-    Ok(workspaces
-        .iter()
-        .any(|workspace| is_folder(&folder, &workspace.root)))
+    Ok(
+        workspaces
+            .iter()
+            .any(|workspace| is_folder(&folder, &workspace.root)),
+    )
 }
 
 /// A file in a local root, with its root.

@@ -1,16 +1,16 @@
 // What follows from changed files, and fetches of workspaces that wait for a timer.
 ghost use Rattle.std.specs.Prelude.{◌≡◌, IfOk};
 ghost use Rattle.turn_parts.specs.Meets.{Gives};
-ghost use Rattle.session_model.specs.Machine.{at_workspaces, effects_done, fetch_waits, timer_set};
+ghost use Rattle.session_model.specs.Machine.{at_workspaces, effects_done, fetch_waits, sources_deferred, timer_set};
 ghost use Rattle.session_model.specs.State.{watched_names};
 ghost use Rattle.session_model.specs.Timing.{effects_for, renewed_if};
 
 use crate::global_state::GlobalState;
 use change_effects::{ChangeEffects, effects_of};
-use docs_vfs::ChangedFile;
-use plain::{NoMemory, Text};
+use docs_vfs::{ChangedFile, FileId};
+use plain::{Items, NoMemory, Text};
 use session_model::TurnError;
-use session_port::Command;
+use session_port::{Command, DeferredTask};
 use turn_parts::TurnOut;
 use workspaces::FetchRequest;
 
@@ -49,7 +49,26 @@ impl GlobalState {
         Ok(())
     }
 
-    // Changed files have this done: their settings are taken, and the fetch that they ask for waits.
+    // The host is to ask for a check of these files as sources of macros, once there is nothing else to do.
+    #[tactic(auto, unfolding(session_model::specs::Machine::sources_deferred))]
+    fn defer_sources(
+        &mut self,
+        sources: Option<Items<FileId>>,
+        out: &mut TurnOut,
+    ) -> Result<(), TurnError>
+        ensures { Gives result (sources_deferred sources (record { state = self.old; out = out.old })) self.new out.new }
+    {
+        match sources {
+            None => Ok(()),
+            Some(files) => {
+                let task = DeferredTask::CheckProcMacroSources(files);
+                self.order(Command::Defer(task), out)
+            }
+        }
+    }
+
+    // Changed files have this done: their settings are taken, the check of sources is put off, and the fetch that they ask
+    // for waits.
     #[tactic(auto, unfolding(session_model::specs::Machine::effects_done))]
     pub(super) fn do_effects(
         &mut self,
@@ -58,8 +77,15 @@ impl GlobalState {
     ) -> Result<(), TurnError>
         ensures { Gives result (effects_done effects (record { state = self.old; out = out.old })) self.new out.new }
     {
-        self.file_settings(effects.settings, out)?;
-        self.plan_fetch(effects.fetch, out)
+        let ChangeEffects {
+            settings,
+            macro_sources,
+            fetch,
+            ..
+        } = effects;
+        self.file_settings(settings, out)?;
+        self.defer_sources(macro_sources, out)?;
+        self.plan_fetch(fetch, out)
     }
 
     // Where this flag is set, a fetch that waits gets a timer with this turn's number.
