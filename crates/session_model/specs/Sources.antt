@@ -42,9 +42,9 @@ sources_left settings (Err counter) sources = sources
 
 -- ---- settings files
 
--- no settings file has changed, and the settings have the parents of the roots
+-- the settings have the parents of the roots, and no settings file has changed
 abbrev pub is_settled : List SettingsFile → Sources → Bool
-is_settled files sources = length files == 0 && is_none sources.parents
+is_settled files sources = is_none sources.parents && length files == 0
 
 -- else they are one change of the settings
 abbrev pub change_for : List SettingsFile → Sources → List ProjectWorkspace → Option ConfigChange

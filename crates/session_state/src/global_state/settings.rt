@@ -14,11 +14,11 @@ use settings_files::settings_change;
 use turn_parts::TurnOut;
 
 impl GlobalState {
-    // Whether no settings file has changed, and the settings have the parents of the roots.
+    // Whether the settings have the parents of the roots, and no settings file has changed.
     fn is_settled(&self, files: &Items<SettingsFile>) -> bool
         ensures { result ≡ is_settled files.now self.now.sources }
     {
-        files.is_empty() && self.parents.is_none()
+        self.parents.is_none() && files.is_empty()
     }
 
     // The change of settings that settings files are, with the parents of the roots, which the settings have from then on.
@@ -45,7 +45,7 @@ impl GlobalState {
     }
 
     // Settings files that changed, and the parents of new roots, go into the settings.
-    #[tactic(auto, unfolding(session_model::specs::Machine::settings_filed))]
+    #[tactic(auto, using(crate::proofs::Settled::settled_stays), unfolding(session_model::specs::Machine::settings_filed))]
     pub(super) fn file_settings(
         &mut self,
         files: Items<SettingsFile>,
