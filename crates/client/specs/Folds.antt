@@ -37,9 +37,13 @@ asked_after (Some id) asked = completed id asked
 abbrev pub client_change : Data → ConfigChange
 client_change value = record { client = Some value; user = None; workspace_toml = []; crate_toml = []; parents = None }
 
+-- the settings behind a change
+abbrev pub with_change : ConfigChange → ConfigData → ConfigData
+with_change change settings = record settings { settings = after settings.root_path change settings.settings }
+
 abbrev pub with_client : Option Data → ConfigData → ConfigData
 with_client None settings = settings
-with_client (Some value) settings = record settings { settings = after settings.root_path (client_change value) settings.settings }
+with_client (Some value) settings = with_change (client_change value) settings
 
 -- an answer to a request for the settings brings those that it says
 abbrev pub settings_after : Option ReqHandler → Response → ConfigData → ConfigData
@@ -54,6 +58,12 @@ after_answer response client = record {
   settings = settings_after (follows response.id client.asked) response client.settings;
   asked = asked_after response.id client.asked;
 }
+
+-- ---- settings files
+
+-- the settings change, and nothing else that is agreed
+abbrev pub after_change : ConfigChange → Client → Client
+after_change change client = record client { settings = with_change change client.settings }
 
 -- ---- the workspaces
 

@@ -7,7 +7,7 @@ ghost use Rattle.turn_parts.specs.Meets.{Meets};
 ghost use Rattle.turn_parts.specs.declared.fault.TurnError.TheVariants.{Exhausted, NoMemory as OutOfMemory};
 ghost use Rattle.turn_parts.specs.declared.fault.Counter.TheVariants.{Outgoing as OutgoingNumbers};
 ghost use Rattle.client.specs.Client.{new_client, new_client_at};
-ghost use Rattle.client.specs.Folds.{after_asking};
+ghost use Rattle.client.specs.Folds.{after_asking, after_change};
 ghost use Rattle.client.specs.Steps.{asked_for, notification_of};
 ghost use Rattle.turn_parts.specs.Working.{written};
 
@@ -19,7 +19,7 @@ use lsp_frame::{Message, Notification, Request, RequestId};
 use notify::{Outgo, outgo_body};
 use outgoing::{Outgoing, OutgoingFault};
 use plain::NoMemory;
-use ra_config::Config;
+use ra_config::{Config, ConfigChange};
 use std::alloc::{AllocError, Global};
 use std::marker::Model;
 use std::sync::Arc;
@@ -71,6 +71,15 @@ impl Client {
         ensures { arc_value result.now ≡ self.now.settings }
     {
         &self.settings
+    }
+
+    /// The settings change.
+    pub fn change_settings(&mut self, change: ConfigChange) -> Result<(), AllocError>
+        ensures { OnOk result (self.new ≡ after_change change self.old) }
+    {
+        let applied = self.settings.apply_change(self.alloc, change)?;
+        self.settings = Arc::new(self.alloc, applied.config)?;
+        Ok(())
     }
 
     // Gives the next number to a request that is to wait.

@@ -44,7 +44,7 @@ use Rattle.workspaces.specs.Fetches.{fetch_to_start}
 use Rattle.workspaces.specs.declared.requests.FetchRequest.{FetchRequest}
 use Rattle.session_model.specs.Building.{build_due, with_due_build}
 use Rattle.session_model.specs.Fetching.{fetch_jobs}
-use Rattle.session_model.specs.Headline.{batch_row, builds_crates_in, builds_in, client_after, client_left, fetch_in, fetches_in, files_told, loads_in, NeedsMore, place_past, row, scene_at, status_after, statuses_at, switch_in}
+use Rattle.session_model.specs.Headline.{batch_row, builds_crates_in, builds_in, client_after, client_filed, client_left, fetch_in, fetches_in, files_told, loads_in, NeedsMore, place_past, row, scene_at, status_after, statuses_at, switch_in}
 use Rattle.session_model.specs.Machine.{answer_taken, asked, asked_for_settings, at_client, at_desk, at_files, batched, begin_part, begun_fetches, build_part, changed_at, client_in, closed, closed_at}
 use Rattle.session_model.specs.Machine.{closing_part, counted, desk_in, event_part, fetch_part, fetch_started, files_in, files_part, files_processed, folders_taken, happened, kept, later_parts, noticed, opened_at, received}
 use Rattle.session_model.specs.Machine.{runs_started, start_parts, state_in, status_done, status_part, step, switch_done, switch_part, switched_to, taken, taken_in, told, turned, Turning, turning, with_client, with_desk, with_files}
@@ -363,9 +363,9 @@ build-on-errs meaning s event t fetched =
 fetch-on-errs : (meaning : Meaning) (s : State) (event : Event) (t : Working Turning) → ReadyBehind meaning s event t → IfErr (fetch_and_on event t) (Needs meaning s (Next event))
 fetch-on-errs meaning s event t ready =
     err-and_then (fetch_part (Next event) t) build_and_on (Needs meaning s (Next event))
-    (fetch-part-errs meaning s (Next event) (client_after (Next event) s.client) s.status [] t ready)
+    (fetch-part-errs meaning s (Next event) (client_filed (Next event) (place_of s)) s.status [] t ready)
     (λ u is. build-on-errs meaning s event u
-    (IfOk-at_ok (FetchedBehind meaning s event) is (fetch-made meaning s (Next event) (client_after (Next event) s.client) s.status [] t ready)))
+    (IfOk-at_ok (FetchedBehind meaning s event) is (fetch-made meaning s (Next event) (client_filed (Next event) (place_of s)) s.status [] t ready)))
 
 files-on-errs : (meaning : Meaning) (s : State) (event : Event) (t : Working Turning) → BehindTurn meaning s event t → IfErr (files_and_on event t) (Needs meaning s (Next event))
 files-on-errs meaning s event t behind =

@@ -502,7 +502,7 @@ turn-keeps-fetching meaning turn place does numbered hands sound h =
           (fetch-told-out place.client input place.desk place.workspaces h));
     } in
     let rowed = on-others is_fetch (fetching workspaces) place.desk.handed jobs out (row-numbered meaning input place) none told in
-    let started = fetch-out (may_start_at input place.client) workspaces.fetches after.desk.handed (snapshot_at after) (place.desk.handed + length jobs) (with_jobs jobs out) all.fetch_numbered rowed in
+    let started = fetch-out (may_start_at input place) workspaces.fetches after.desk.handed (snapshot_at after) (place.desk.handed + length jobs) (with_jobs jobs out) all.fetch_numbered rowed in
     let built = on-others is_fetch (fetching (workspaces_fetched input place)) (place.desk.handed + length jobs + length fetch) build (with_jobs fetch (with_jobs jobs out)) all.build_numbered
     (build-no-fetch after.desk.handed (snapshot_at after) (build_in input place)) started in
     let loaded = on-others is_fetch (fetching (workspaces_fetched input place)) (place.desk.handed + length jobs + length fetch + length build) load

@@ -11,6 +11,7 @@ pub mod Each
 pub mod Exhausting
 pub mod Fetching
 pub mod Filing
+pub mod Following
 pub mod Handed
 pub mod Held
 pub mod InProgress

@@ -57,19 +57,20 @@ use Rattle.workspaces.specs.Fetches.{fetch_to_start, fires, start_fetch, start_u
 use Rattle.workspaces.specs.Workspaces.{Workspaces}
 use Rattle.workspaces.specs.declared.requests.FetchRequest.{FetchRequest}
 use Rattle.session_model.specs.Building.{build_due, end_kept, ends_kept, request_told, with_due_build}
-use Rattle.session_model.specs.Crates.{files_followed, is_built_by}
+use Rattle.session_model.specs.Crates.{files_with_crates, is_built_by}
 use Rattle.session_model.specs.Fetching.{fetch_jobs, folders_told_if, settings_told, with_fetches}
 use Rattle.session_model.specs.Headline.{Place, reaction_of, row, notice_row, batch_row, desk_after, place_after, place_past, client_after, last_of, revision_after, scene_at, snapshot_at}
-use Rattle.session_model.specs.Headline.{are_due, build_in, builds_crates_in, changes_due, changes_in, client_left, fetch_in, files_after, files_made, files_switched, files_told, files_turned, is_changed, jobs_started, left_or, load_in, may_start_at, or_before}
+use Rattle.session_model.specs.Headline.{are_due, build_in, builds_crates_in, changes_due, changes_in, client_filed, client_left, fetch_in, files_after, files_made, files_switched, files_told, files_turned, is_changed, jobs_started, left_or, load_in, may_start_at, or_before}
 use Rattle.session_model.specs.Headline.{revisions_in, run_jobs, SetsTimer}
-use Rattle.session_model.specs.Headline.{status_after, statuses_at, switch_in, workspaces_after, workspaces_at, workspaces_fetched, workspaces_planned, workspaces_switched}
+use Rattle.session_model.specs.Headline.{sources_filed, sources_switched, status_after, statuses_at, switch_in, workspaces_after, workspaces_at, workspaces_fetched, workspaces_planned, workspaces_switched}
 use Rattle.session_model.specs.Inputs.{cancelled_by, request_in, turns_after}
 use Rattle.session_model.specs.Machine.{answer_taken, asked, asked_for_settings, at_client, at_desk, at_files, at_workspaces, batched, begin_part, begun_fetches, brought, build_part, changed_at, client_in, closed}
-use Rattle.session_model.specs.Machine.{closed_at, closing_part, counted, desk_in, event_part, facts_of, fetch_part, fetch_started, file_changed, files_changed, files_in, files_part, files_planned, files_processed, folders_taken}
+use Rattle.session_model.specs.Machine.{closed_at, closing_part, counted, desk_in, event_part, facts_of, fetch_part, fetch_started, file_changed, files_changed, files_followed, files_in, files_part, files_processed, folders_taken}
 use Rattle.session_model.specs.Machine.{happened, kept, later_parts, noticed, opened_at, received, revised, runs_started, start_parts, state_in, status_done, status_part, step, switch_done, switch_part, taken, taken_in, timed, timer_set, told}
 use Rattle.session_model.specs.Machine.{turned, Turning, turning, with_client, with_desk, with_files, with_state, with_workspaces}
 use Rattle.session_model.specs.Hearing.{heard_of, told_by}
 use Rattle.session_model.specs.Loading.{MacroPaths, load_due, with_due_load}
+use Rattle.session_model.specs.Sources.{change_by, client_with, sources_after, sources_left}
 use Rattle.session_model.specs.Switching.{switch_made}
 use Rattle.session_model.specs.Timing.{bring_files, planned_by, renewed_if, timer_of}
 use Rattle.session_model.specs.Run.{Turn, Steps, begun, after_input, out_after}
@@ -89,6 +90,7 @@ use Rattle.session_laws.proofs.Building.{jobs_of_runs, no-build, no-load, runs-h
 use Rattle.session_laws.proofs.Fetching.{jobs_of_fetch, started-hands}
 use Rattle.session_laws.proofs.Filing.{DoesForFiles, KeepsHost, Processes, change-host, change_of, changed-does, closed-does, loaded-does, messages-host, opened-does, opening-host}
 use Rattle.session_laws.proofs.Filing.{processed-does, revision_by, revision_now, turn-revises}
+use Rattle.session_laws.proofs.Following.{FollowsFiles, followed-does}
 use Rattle.session_laws.proofs.Numbered.{row-numbered}
 use Rattle.session_laws.proofs.Same.{none-handed, same_desk, same_place}
 use Rattle.session_laws.proofs.Statuses.{left-settings, status-does, TellsStatus, told-settings}
@@ -118,6 +120,7 @@ pub record Mid (meaning : Meaning) (s : State) (input : Input) (u : Working Stat
   pub untimed : filter_map timer_of u.out.commands ≡ []
   pub host : KeepsHost s.files u.state.files
   pub workspaces : u.state.workspaces ≡ workspaces_at input (place_of s)
+  pub sources : u.state.sources ≡ s.sources
   -- all jobs so far are for requests
   pub spawns : spawned u.out.commands ≡ (row meaning input (place_of s)).jobs
 
@@ -135,6 +138,7 @@ pub record Behind (meaning : Meaning) (s : State) (event : Event) (u : Working S
   pub due : is_changed s.client.settings (Next event) s.files ≡ are_due (Ok u.state.files)
   pub changes : changes_in (Next event) (place_of s) ≡ due_changes u.state.files
   pub workspaces : u.state.workspaces ≡ workspaces_switched (Next event) (place_of s)
+  pub sources : u.state.sources ≡ sources_switched (Next event) (place_of s)
   -- all jobs so far are for requests
   pub spawns : spawned u.out.commands ≡ (row meaning (Next event) (place_of s)).jobs
 
@@ -143,8 +147,9 @@ pub record Made (meaning : Meaning) (s : State) (input : Input) (asked : Client)
   pub serves : Serves meaning s input (after_input input s.desk.jobs) u
   pub client : u.state.client ≡ asked
   pub status : u.state.status ≡ last
-  -- the settings are those that the input leaves
-  pub settings : asked.settings ≡ (client_after input s.client).settings
+  -- the settings are those that the input and its files leave
+  pub settings : asked.settings ≡ (client_filed input (place_of s)).settings
+  pub sources : u.state.sources ≡ sources_filed input (place_of s)
   pub files : files_made input (place_of s) ≡ Ok u.state.files
   pub unrevised : filter_map revision_of u.out.commands ≡ []
   pub told : statuses_in u.out.messages ≡ sent
@@ -204,6 +209,7 @@ both-mid meaning s input done v workspaces number is quiet told a =
       untimed = a.others timer_of (record { jobs = λ job. refl; logs = λ code text. refl });
       host = refl;
       workspaces = sym told;
+      sources = refl;
       spawns = a.spawns ∙ ap (λ (d : Reaction). d.jobs) (sym is);
     }
 
@@ -216,8 +222,8 @@ desk-mid meaning s input done v number is still a =
 -- a turn that leaves the desk as it is, once it is counted
 told-mid : (meaning : Meaning) (s : State) (input : Input) (u : Working State) → Serves meaning s input (after_input input s.desk.jobs) (counted_turn s) → Tells nothing_done u.out
     → u.state.desk ≡ (counted_turn s).state.desk → u.state.client ≡ client_after input s.client → u.state.status ≡ s.status → files_told s.client.settings input s.files ≡ Ok u.state.files
-    → KeepsHost s.files u.state.files → u.state.workspaces ≡ workspaces_at input (place_of s) → Mid meaning s input u
-told-mid meaning s input u serves tells desk client status files host workspaces = record {
+    → KeepsHost s.files u.state.files → u.state.workspaces ≡ workspaces_at input (place_of s) → u.state.sources ≡ s.sources → Mid meaning s input u
+told-mid meaning s input u serves tells desk client status files host workspaces sources = record {
   serves = beside-fits meaning s input (after_input input s.desk.jobs) (counted_turn s) u (beside-told (counted_turn s) u tells desk) serves;
   client = client;
   status = status;
@@ -227,6 +233,7 @@ told-mid meaning s input u serves tells desk client status files host workspaces
   untimed = ap (filter_map timer_of) tells.ordered ∙ tells.times_none;
   host = host;
   workspaces = workspaces;
+  sources = sources;
   spawns = ap spawned tells.ordered ∙ tells.spawns_none ∙ ap (λ (d : Reaction). d.jobs) serves.does;
 }
 
@@ -236,7 +243,7 @@ still-mid : (meaning : Meaning) (s : State) (input : Input) (u : Working State) 
 still-mid meaning s input u serves still tells same =
     told-mid meaning s input u serves tells (ap (λ (t : State). t.desk) same) (ap (λ (t : State). t.client) same ∙ sym still.client) (ap (λ (t : State). t.status) same)
     (subst (λ (t : State). files_told s.client.settings input s.files ≡ Ok t.files) (sym same) still.files) (ap (λ (t : State). t.files.host) same)
-    (ap (λ (t : State). t.workspaces) same ∙ sym still.workspaces)
+    (ap (λ (t : State). t.workspaces) same ∙ sym still.workspaces) (ap (λ (t : State). t.sources) same)
 
 -- with a log line
 logged-mid : (meaning : Meaning) (s : State) (input : Input) (code : LogCode) (text : List ℕ) → Serves meaning s input (after_input input s.desk.jobs) (counted_turn s) → IsStill s input
@@ -257,7 +264,7 @@ client-mid : (meaning : Meaning) (s : State) (input : Input) (v : Working Client
     → Serves meaning s input (after_input input s.desk.jobs) (counted_turn s) → client ≡ client_after input s.client → files_told s.client.settings input s.files ≡ Ok s.files
     → workspaces ≡ workspaces_at input (place_of s) → DoesForClient (client_turn s) v client → Mid meaning s input (client_now s v workspaces)
 client-mid meaning s input v client workspaces serves is same told does =
-    told-mid meaning s input (client_now s v workspaces) serves does.tells refl (does.is ∙ is) refl same refl told
+    told-mid meaning s input (client_now s v workspaces) serves does.tells refl (does.is ∙ is) refl same refl told refl
 
 -- the files, at the beginning of a turn
 abbrev files_turn : State → Working SessionFiles
@@ -271,7 +278,7 @@ files-mid : (meaning : Meaning) (s : State) (input : Input) (work : Working Sess
 files-mid meaning s input work r serves client told host untold does =
     IfOk-within files_in with_files work (counted_turn s) (Mid meaning s input)
     (IfOk-weaker _ (λ v. DoesForFiles (files_turn s) v r) _ does
-    (λ v d. told-mid meaning s input _ serves d.tells refl (sym client) refl (told ∙ d.is) (IfOk-at_ok (KeepsHost s.files) d.is host) (sym untold)))
+    (λ v d. told-mid meaning s input _ serves d.tells refl (sym client) refl (told ∙ d.is) (IfOk-at_ok (KeepsHost s.files) d.is host) (sym untold) refl))
 
 -- ---- requests
 
@@ -340,7 +347,7 @@ brought-mid meaning s messages =
     (IfOk-within files_in with_files (loaded messages) (counted_turn s) (λ v. Mid meaning s input (told v))
     (IfOk-weaker _ (λ v. DoesForFiles (files_turn s) v (after_messages messages s.files)) _ (loaded-does messages (files_turn s))
     (λ v d. told-mid meaning s input _ (serves-desk meaning s input silent (counted_desk s.desk) refl refl (nothing-settles (counted_desk s.desk)))
-    d.tells refl refl refl d.is (IfOk-at_ok (KeepsHost s.files) d.is (messages-host messages s.files)) refl)))
+    d.tells refl refl refl d.is (IfOk-at_ok (KeepsHost s.files) d.is (messages-host messages s.files)) refl refl)))
     (λ v mid. mid)
 
 cancel-mid : (meaning : Meaning) (s : State) (n : Notification) (id : RequestId) → heard_of n ≡ Told (notices.CancelRequest id)
@@ -488,7 +495,8 @@ pub settled-place : (turns : ℕ) (message : TaskMsg) (w v : Working State) (don
     → DoesAtDesk w v done (after_message message w.state.desk.jobs) (kept_past message w.state) → place_at turns v.state ≡ place_past message done (place_at turns w.state)
 settled-place turns message w v done a = same_place _ _
     (ap (λ (s : State). s.client) a.rest) (ap (λ (s : State). s.files) a.rest) (ap (λ (s : State). s.files.host.revision) a.rest)
-    (same_desk _ _ refl a.desk.pending a.desk.out a.desk.handed a.desk.shutdown) (ap (λ (s : State). s.workspaces) a.rest) (ap (λ (s : State). s.status) a.rest)
+    (same_desk _ _ refl a.desk.pending a.desk.out a.desk.handed a.desk.shutdown) (ap (λ (s : State). s.workspaces) a.rest) (ap (λ (s : State). s.sources) a.rest)
+    (ap (λ (s : State). s.status) a.rest)
 
 does-on : (w v u : Working State) (a b : Reaction) (js ks : Jobs) (first last : Workspaces) → DoesAtDesk w v a js first → DoesAtDesk v u b ks last → DoesAtDesk w u (joined a b) ks last
 does-on w v u a b js ks first last p q = record {
@@ -576,13 +584,14 @@ none-more n = omega arith
 
 -- the start, once its status was told
 start-made : (meaning : Meaning) (s : State) (u : Working State) → TellsOnly (statuses_at Start (place_of s)) nothing_done u.out → u.state.client ≡ client_left Start (place_of s)
-    → u.state.status ≡ status_after Start (place_of s) → u.state.files ≡ s.files → u.state.desk ≡ s.desk
+    → u.state.status ≡ status_after Start (place_of s) → u.state.files ≡ s.files → u.state.desk ≡ s.desk → u.state.sources ≡ s.sources
     → Made meaning s Start (client_left Start (place_of s)) (status_after Start (place_of s)) (statuses_at Start (place_of s)) u
-start-made meaning s u tells client status files desk = record {
+start-made meaning s u tells client status files desk sources = record {
   serves = beside-fits meaning s Start s.desk.jobs (begun s) u (beside-told (begun s) u tells desk) (record { does = refl; numbered = tt; desk = none-handed s.desk });
   client = client;
   status = status;
   settings = left-settings Start (place_of s);
+  sources = sources;
   files = sym (ap (λ (f : SessionFiles). Ok f) files);
   unrevised = ap (filter_map revision_of) tells.ordered ∙ tells.revises_none;
   untimed = ap (filter_map timer_of) tells.ordered ∙ tells.times_none;
@@ -643,7 +652,7 @@ close-cases meaning s input u true h made workspaces hands =
     record {
       does = serves.does;
       numbered = serves.numbered;
-      place = same_place _ _ made.client (files-now s input u.state.files made.files) same serves.desk workspaces made.status;
+      place = same_place _ _ made.client (files-now s input u.state.files made.files) same serves.desk workspaces made.sources made.status;
       later = no-less (revisions_in input (place_of s)) s.files.host.revision u.state.files.host.revision made.revised;
       revised = made.revised;
       hands = hands;
@@ -661,7 +670,7 @@ close-cases meaning s input u false h made workspaces hands =
       does = serves.does;
       numbered = serves.numbered;
       place = same_place _ _ made.client (files-now s input u.state.files made.files) (sym (ap (λ ns. last_of ns s.files.host.revision) numbers))
-          (serves.desk ∙ ap (λ js. record (desk_after (turn_of input v) s.desk) { jobs = js }) jobs) workspaces made.status;
+          (serves.desk ∙ ap (λ js. record (desk_after (turn_of input v) s.desk) { jobs = js }) jobs) workspaces made.sources made.status;
       later = no-less (revisions_in input (place_of s)) s.files.host.revision u.state.files.host.revision made.revised;
       revised = made.revised;
       hands = spawns ∙ hands;
@@ -685,7 +694,7 @@ timer-fits meaning s input ticket v fits =
     let revisions : filter_map revision_of more ≡ filter_map revision_of v.out.commands = revisions-append v.out.commands _ ∙ append-nil _ in
     let next : place_after (turn_of input (ordered (SetTimer ticket) v)) place ≡ place_after (turn_of input v) place =
     same_place _ _ refl refl (ap (λ ns. last_of ns s.files.host.revision) revisions)
-    (same_desk _ _ refl refl (ap (λ js. with_jobs js (after_input input s.desk.jobs)) spawns) (ap (λ (js : List Job). s.desk.handed + length js) spawns) refl) refl refl in
+    (same_desk _ _ refl refl (ap (λ js. with_jobs js (after_input input s.desk.jobs)) spawns) (ap (λ (js : List Job). s.desk.handed + length js) spawns) refl) refl refl refl in
     record {
       does = ap (λ (js : List Job). record { responses = (reaction_of (turn_of input v)).responses; jobs = asked_among js }) spawns ∙ fits.does;
       numbered = subst (AreNumbered s.desk.handed) (sym spawns) fits.numbered;
@@ -746,8 +755,8 @@ switched-behind meaning s event u mid =
       serves = beside-fits meaning s (Next event) (after_input (Next event) s.desk.jobs) u v (beside-told u v does.tells (ap (λ (t : State). t.desk) does.state)) mid.serves;
       client = ap (λ (t : State). t.client) does.state ∙ mid.client;
       status = ap (λ (t : State). t.status) does.state ∙ mid.status;
-      files = ap (λ r. and_then r (λ files. and_then (switch_in input (place_of s)) (files_followed (client_after input s.client).settings files))) mid.files
-          ∙ sym (λ i. and_then (is i) (files_followed (mid.client i).settings u.state.files)) ∙ does.files;
+      files = ap (λ r. and_then r (λ files. and_then (switch_in input (place_of s)) (files_with_crates (client_after input s.client).settings files))) mid.files
+          ∙ sym (λ i. and_then (is i) (files_with_crates (mid.client i).settings u.state.files)) ∙ does.files;
       unrevised = ap (filter_map revision_of) does.tells.ordered ∙ revisions-append u.out.commands does.tells.commands ∙ (λ i. mid.unrevised i ++ does.tells.revises_none i);
       untold = ap statuses_in does.tells.written ∙ statuses-append u.out.messages does.tells.messages ∙ (λ i. mid.untold i ++ does.tells.tells i);
       untimed = ap (filter_map timer_of) does.tells.ordered ∙ timers-append u.out.commands does.tells.commands ∙ (λ i. mid.untimed i ++ does.tells.times_none i);
@@ -755,6 +764,7 @@ switched-behind meaning s event u mid =
       due = ap are_due mid.files ∙ follows.due;
       changes = ap changes_due mid.files ∙ follows.changes;
       workspaces = ap (λ (t : State). t.workspaces) does.state ∙ (λ i. left_or (mid.workspaces i) (is i));
+      sources = ap (λ (t : State). t.sources) does.state ∙ (λ i. sources_left (mid.client i).settings (is i) (mid.sources i));
       spawns = ap spawned does.tells.ordered ∙ spawned-append u.out.commands does.tells.commands ∙ (λ i. mid.spawns i ++ does.tells.spawns_none i) ∙ append-nil _;
     })
 
@@ -762,29 +772,49 @@ rises-by : (due : Bool) (host : HostData) (before built : ℕ) → host.revision
 rises-by true host before built is = omega (arith, is)
 rises-by false host before built is = omega (arith, is)
 
--- the files are processed, and what the workspaces come to then is no matter
-made-now : (meaning : Meaning) (s : State) (event : Event) (u : Working State) (v : Working SessionFiles) (workspaces : Workspaces) → Behind meaning s event u
-    → Processes (record { state = u.state.files; out = u.out }) v
-    → Made meaning s (Next event) (client_after (Next event) s.client) s.status [] (record { state = with_workspaces workspaces (with_files v.state u.state); out = v.out })
-made-now meaning s event u v workspaces mid p =
-    let told = mid.files in
+-- the session where the files have come to this
+abbrev pub files_now : State → Working SessionFiles → Working State
+files_now s v = record { state = with_files v.state s; out = v.out }
+
+-- the files that a turn puts into the world
+changed-now : (meaning : Meaning) (s : State) (event : Event) (u : Working State) → Behind meaning s event u → due_changes u.state.files ≡ changes_in (Next event) (place_of s)
+changed-now meaning s event u behind = sym behind.changes
+
+-- the files are processed
+processed-serves : (meaning : Meaning) (s : State) (event : Event) (u : Working State) (v : Working SessionFiles) → Behind meaning s event u
+    → Processes (record { state = u.state.files; out = u.out }) v → Serves meaning s (Next event) (after_input (Next event) s.desk.jobs) (files_now u.state v)
+processed-serves meaning s event u v behind p = record {
+  does = ap (λ (o : Written). reaction_of (turn_of (Next event) (record { state = u.state; out = o }))) p.out ∙ behind.serves.does;
+  numbered = subst (λ (o : Written). AreNumbered s.desk.handed (spawned o.commands)) (sym p.out) behind.serves.numbered;
+  desk = behind.serves.desk ∙ ap (λ (o : Written). record (desk_after (turn_of (Next event) (record { state = u.state; out = o })) s.desk) { jobs = after_input (Next event) s.desk.jobs }) (sym p.out);
+}
+
+-- and what follows from them is done
+made-now : (meaning : Meaning) (s : State) (event : Event) (u : Working State) (v : Working SessionFiles) (x : Working State) → Behind meaning s event u
+    → Processes (record { state = u.state.files; out = u.out }) v → FollowsFiles (due_changes u.state.files) (files_now u.state v) x
+    → Made meaning s (Next event) (client_filed (Next event) (place_of s)) s.status [] x
+made-now meaning s event u v x behind p f =
+    let told = behind.files in
+    let w = files_now u.state v in
+    let changed = changed-now meaning s event u behind in
     let built : ℕ = if builds_crates_in (Next event) (place_of s) then 1 else 0 in
     let rises : v.state.host.revision ≡ revision_now (are_due (Ok u.state.files)) u.state.files = IfOk-at_ok (λ f. f.host.revision ≡ revision_now (are_due (Ok u.state.files)) u.state.files) p.is (turn-revises u.state.files) in
+    let unrevised : filter_map revision_of v.out.commands ≡ [] = ap (λ (o : Written). filter_map revision_of o.commands) p.out ∙ behind.unrevised in
+    let untold : statuses_in v.out.messages ≡ [] = ap (λ (o : Written). statuses_in o.messages) p.out ∙ behind.untold in
+    let untimed : filter_map timer_of v.out.commands ≡ [] = ap (λ (o : Written). filter_map timer_of o.commands) p.out ∙ behind.untimed in
     record {
-      serves = record {
-        does = ap (λ (o : Written). reaction_of (turn_of (Next event) (record { state = u.state; out = o }))) p.out ∙ mid.serves.does;
-        numbered = subst (λ (o : Written). AreNumbered s.desk.handed (spawned o.commands)) (sym p.out) mid.serves.numbered;
-        desk = mid.serves.desk ∙ ap (λ (o : Written). record (desk_after (turn_of (Next event) (record { state = u.state; out = o })) s.desk) { jobs = after_input (Next event) s.desk.jobs }) (sym p.out);
-      };
-      client = mid.client;
-      status = mid.status;
+      serves = beside-fits meaning s (Next event) (after_input (Next event) s.desk.jobs) w x
+          (beside-told w x f.tells (ap (λ (t : State). t.desk) f.state)) (processed-serves meaning s event u v behind p);
+      client = ap (λ (t : State). t.client) f.state ∙ (λ i. client_with (change_by (changed i) (behind.sources i) (behind.workspaces i).present) (behind.client i));
+      status = ap (λ (t : State). t.status) f.state ∙ behind.status;
       settings = refl;
-      files = ap (λ r. and_then r (files_turned (Next event))) told ∙ p.is;
-      unrevised = ap (λ (o : Written). filter_map revision_of o.commands) p.out ∙ mid.unrevised;
-      told = ap (λ (o : Written). statuses_in o.messages) p.out ∙ mid.untold;
-      untimed = ap (λ (o : Written). filter_map timer_of o.commands) p.out ∙ mid.untimed;
-      revised = rises ∙ rises-by (are_due (Ok u.state.files)) u.state.files.host s.files.host.revision built mid.revision
-          ∙ ap (λ b. s.files.host.revision + (built + (if b then 1 else 0))) (sym mid.due);
+      sources = ap (λ (t : State). t.sources) f.state ∙ (λ i. sources_after (changed i) (behind.sources i));
+      files = ap (λ r. and_then r (files_turned (Next event))) told ∙ p.is ∙ sym (ap (λ (t : State). Ok t.files) f.state);
+      unrevised = ap (filter_map revision_of) f.tells.ordered ∙ revisions-append v.out.commands f.tells.commands ∙ (λ i. unrevised i ++ f.tells.revises_none i);
+      told = ap statuses_in f.tells.written ∙ statuses-append v.out.messages f.tells.messages ∙ (λ i. untold i ++ f.tells.tells i);
+      untimed = ap (filter_map timer_of) f.tells.ordered ∙ timers-append v.out.commands f.tells.commands ∙ (λ i. untimed i ++ f.tells.times_none i);
+      revised = ap (λ (t : State). t.files.host.revision) f.state ∙ rises ∙ rises-by (are_due (Ok u.state.files)) u.state.files.host s.files.host.revision built behind.revision
+          ∙ ap (λ b. s.files.host.revision + (built + (if b then 1 else 0))) (sym behind.due);
     }
 
 -- the session within a turn
@@ -826,13 +856,13 @@ pub record FetchedTurn (meaning : Meaning) (s : State) (input : Input) (asked : 
 
 -- these behind an event, whose status comes last
 abbrev pub ReadyBehind : Meaning → State → Event → Working Turning → Type 0
-ReadyBehind meaning s event t = ReadyTurn meaning s (Next event) (client_after (Next event) s.client) s.status [] t
+ReadyBehind meaning s event t = ReadyTurn meaning s (Next event) (client_filed (Next event) (place_of s)) s.status [] t
 
 abbrev pub FetchedBehind : Meaning → State → Event → Working Turning → Type 0
-FetchedBehind meaning s event t = FetchedTurn meaning s (Next event) (client_after (Next event) s.client) s.status [] t
+FetchedBehind meaning s event t = FetchedTurn meaning s (Next event) (client_filed (Next event) (place_of s)) s.status [] t
 
 abbrev pub MadeBehind : Meaning → State → Event → Working Turning → Type 0
-MadeBehind meaning s event t = MadeTurn meaning s (Next event) (client_after (Next event) s.client) s.status [] t
+MadeBehind meaning s event t = MadeTurn meaning s (Next event) (client_filed (Next event) (place_of s)) s.status [] t
 
 -- these of the start, whose status comes first
 abbrev pub ReadyStart : Meaning → State → Working Turning → Type 0
@@ -852,24 +882,27 @@ planned-now : (meaning : Meaning) (s : State) (event : Event) (u : Working State
     → planned_by u.state.client.settings u.state.desk.turns (due_changes u.state.files) u.state.workspaces ≡ workspaces_planned (Next event) (place_of s)
 planned-now meaning s event u behind =
     let turns : u.state.desk.turns ≡ s.desk.turns + 1 = ap (λ (d : Desk). d.turns) behind.serves.desk in
-    let changed : due_changes u.state.files ≡ changes_in (Next event) (place_of s) = sym behind.changes in
+    let changed = changed-now meaning s event u behind in
     λ i. planned_by (behind.client i).settings (turns i) (changed i) (behind.workspaces i)
 
 pub files-made : (meaning : Meaning) (s : State) (event : Event) (t : Working Turning) → BehindTurn meaning s event t → IfOk (files_part t) (ReadyBehind meaning s event)
 unfolding files_part files_processed
 files-made meaning s event t m =
     let u = session_in t in
-    let told : Working State → Working State = files_planned (due_changes u.state.files) in
+    let changes = due_changes u.state.files in
     let Goal : Working State → Type 0 = λ v. ReadyBehind meaning s event (record { state = with_state v.state t.state; out = v.out }) in
     IfOk-within state_in with_state files_processed t (ReadyBehind meaning s event)
-    (IfOk-and_then (at_files processed u) (λ v. Ok (told v)) (λ v. Goal (told v)) Goal
-    (IfOk-within files_in with_files processed u (λ v. Goal (told v))
+    (IfOk-and_then (at_files processed u) (λ v. Ok (files_followed changes v)) (λ v. Goal (files_followed changes v)) Goal
+    (IfOk-within files_in with_files processed u (λ v. Goal (files_followed changes v))
     (IfOk-weaker _ (Processes (record { state = t.state.state.files; out = t.out })) _ (processed-does _)
-    (λ v p. record {
+    (λ v p. let w = files_now u.state v in
+    let f : FollowsFiles changes w (files_followed changes w) = followed-does changes w in
+    record {
       facts = m.facts;
-      made = made-now meaning s event u v _ m.behind p;
-      workspaces = planned-now meaning s event u m.behind;
-      spawns = ap (λ (o : Written). spawned o.commands) p.out ∙ m.behind.spawns;
+      made = made-now meaning s event u v (files_followed changes w) m.behind p f;
+      workspaces = ap (λ (x : State). x.workspaces) f.state ∙ planned-now meaning s event u m.behind;
+      spawns = ap spawned f.tells.ordered ∙ spawned-append v.out.commands f.tells.commands
+          ∙ (λ i. (ap (λ (o : Written). spawned o.commands) p.out ∙ m.behind.spawns) i ++ f.tells.spawns_none i) ∙ append-nil _;
     })))
     (λ v ready. ready))
 
@@ -900,7 +933,7 @@ begins meaning s t b =
     (record {
       facts = b.facts;
       made = start-made meaning s _ b.tells (ap (λ (x : State). x.client) b.state) (ap (λ (x : State). x.status) b.state) (ap (λ (x : State). x.files) b.state)
-          (ap (λ (x : State). x.desk) b.state);
+          (ap (λ (x : State). x.desk) b.state) (ap (λ (x : State). x.sources) b.state);
       workspaces = λ i. with_fetches (start_up (discovers (settings i))) (workspaces i);
       spawns = ap spawned b.tells.ordered ∙ b.tells.spawns_none;
     })
@@ -913,6 +946,7 @@ started-now meaning s input asked last sent w v jobs workspaces made h = record 
   client = h.client ∙ made.client;
   status = h.status ∙ made.status;
   settings = made.settings;
+  sources = h.sources ∙ made.sources;
   files = subst (λ (f : SessionFiles). files_made input (place_of s) ≡ Ok f) (sym h.files) made.files;
   unrevised = h.unrevised ∙ made.unrevised;
   told = ap statuses_in h.messages ∙ made.told;
@@ -922,7 +956,7 @@ started-now meaning s input asked last sent w v jobs workspaces made h = record 
 
 -- the settings by which it starts
 ready-settings : (meaning : Meaning) (s : State) (input : Input) (asked : Client) (last : Status) (sent : List Data) (t : Working Turning) → ReadyTurn meaning s input asked last sent t
-    → t.state.state.client.settings ≡ (client_after input s.client).settings
+    → t.state.state.client.settings ≡ (client_filed input (place_of s)).settings
 ready-settings meaning s input asked last sent t ready = ap (λ (c : Client). c.settings) ready.made.client ∙ ready.made.settings
 
 -- the fetch that is to start
@@ -953,7 +987,7 @@ pub fetched-build : (meaning : Meaning) (s : State) (event : Event) (t : Working
 fetched-build meaning s event t fetched = ap build_due fetched.workspaces
 
 alone : (s : State) (event : Event) → is_some (fetch_in (Next event) (place_of s)) ≡ true → build_in (Next event) (place_of s) ≡ None
-alone s event some = no-build (may_start_at (Next event) s.client) (workspaces_planned (Next event) (place_of s)) some
+alone s event some = no-build (may_start_at (Next event) (place_of s)) (workspaces_planned (Next event) (place_of s)) some
 
 -- the macros that are to be loaded, which are none where a fetch starts
 pub fetched-load : (meaning : Meaning) (s : State) (event : Event) (t : Working Turning) → FetchedBehind meaning s event t
@@ -962,7 +996,7 @@ fetched-load meaning s event t fetched = ap (λ (w : Workspaces). load_due (buil
 
 unloaded : (s : State) (event : Event) → is_some (fetch_in (Next event) (place_of s)) ≡ true → load_in (Next event) (place_of s) ≡ None
 unloaded s event some =
-    no-load (may_start_at (Next event) s.client) (build_in (Next event) (place_of s)) (workspaces_planned (Next event) (place_of s)) some
+    no-load (may_start_at (Next event) (place_of s)) (build_in (Next event) (place_of s)) (workspaces_planned (Next event) (place_of s)) some
 
 -- build data is started, else macros
 pub build-made : (meaning : Meaning) (s : State) (event : Event) (t : Working Turning) → FetchedBehind meaning s event t → IfOk (build_part t) (MadeBehind meaning s event)
@@ -983,7 +1017,7 @@ build-made meaning s event t fetched =
     let same = same-fetch (fetch_in input place) build load w v (λ some. build_is ∙ alone s event some) (λ some. load_is ∙ unloaded s event some) h in
     record {
       facts = fetched.facts;
-      made = started-now meaning s input (client_after input s.client) s.status [] w v (jobs_of_runs build load) after fetched.made h;
+      made = started-now meaning s input (client_filed input place) s.status [] w v (jobs_of_runs build load) after fetched.made h;
       workspaces = h.now ∙ ap (λ (w : Workspaces). with_due_load (build_due w) (with_due_build w)) fetched.workspaces;
       hands = h.hands ∙ ap (λ (js : List Job). js ++ run_jobs v.state.desk.handed (snapshot_of v.state) build load) (fetched.hands ∙ ap (λ (js : List Job). jobs ++ js) same)
           ∙ append_assoc jobs fetch (run_jobs v.state.desk.handed (snapshot_of v.state) build load)
@@ -1044,6 +1078,7 @@ told-now meaning s event t v m told = record {
   client = ap (λ (x : State). x.client) told.state ∙ client-behind meaning s event t m;
   status = ap (λ (x : State). x.status) told.state ∙ status-behind meaning s event t m;
   settings = left-settings (Next event) (place_of s);
+  sources = ap (λ (x : State). x.sources) told.state ∙ m.made.sources;
   files = m.made.files ∙ sym (ap (λ (x : State). Ok x.files) told.state);
   unrevised = ap (filter_map revision_of) told.tells.ordered ∙ revisions-append t.out.commands told.tells.commands ∙ (λ i. m.made.unrevised i ++ told.tells.revises_none i);
   untimed = ap (filter_map timer_of) told.tells.ordered ∙ timers-append t.out.commands told.tells.commands ∙ (λ i. m.made.untimed i ++ told.tells.times_none i);
@@ -1117,7 +1152,7 @@ fetch_and_on event t = and_then (fetch_part (Next event) t) build_and_on
 fetch-fits : (meaning : Meaning) (s : State) (event : Event) (t : Working Turning) → ReadyBehind meaning s event t → IfOk (fetch_and_on event t) (λ v. Closes meaning s (Next event) (session_in v))
 fetch-fits meaning s event t ready =
     IfOk-and_then (fetch_part (Next event) t) build_and_on (FetchedBehind meaning s event) (λ v. Closes meaning s (Next event) (session_in v))
-    (fetch-made meaning s (Next event) (client_after (Next event) s.client) s.status [] t ready)
+    (fetch-made meaning s (Next event) (client_filed (Next event) (place_of s)) s.status [] t ready)
     (λ u fetched. build-fits meaning s event u fetched)
 
 -- what has changed goes into the world before that

@@ -24,7 +24,7 @@ use Rattle.session_files.specs.Texts.{entry_of}
 use Rattle.session_files.proofs.SoundLemmas.{closing_keeps, crates_keep, editing_keeps, messages_keep, none_sound, opening_keeps, turned}
 use Rattle.session_model.specs.Headline.{Place, SeesFiles, beginning, changed_at, client_after, closed_at, documents_told, files_after, files_made, files_switched, files_told, files_turned, opened_at, or_before}
 use Rattle.session_model.specs.Headline.{place_after, place_after_all, switch_in}
-use Rattle.session_model.specs.Crates.{builds_crates, crate_data, crates_put_if, files_followed}
+use Rattle.session_model.specs.Crates.{builds_crates, crate_data, crates_put_if, files_with_crates}
 use Rattle.session_model.specs.Inputs.{notice_in}
 use Rattle.session_model.specs.Run.{Turn}
 use Rattle.session_laws.proofs.Filing.{ok-from}
@@ -79,7 +79,7 @@ put-sound : (built : Bool) (settings : ConfigData) (present : List ProjectWorksp
 put-sound true settings present files sound = ok-from _ IsSound (λ now is. (crates_keep (crate_data settings files.ids present) files now is).sound sound)
 put-sound false settings present files sound = sound
 
-followed-sound : (made : Result (Follows × Workspaces) Counter) (settings : ConfigData) (files : SessionFiles) → IsSound files → IfOk (and_then made (files_followed settings files)) IsSound
+followed-sound : (made : Result (Follows × Workspaces) Counter) (settings : ConfigData) (files : SessionFiles) → IsSound files → IfOk (and_then made (files_with_crates settings files)) IsSound
 followed-sound (Ok made) settings files sound = put-sound (builds_crates made.0) settings made.1.present files sound
 followed-sound (Err counter) settings files sound = tt
 
@@ -87,7 +87,7 @@ switched-sound : (event : Event) (place : Place) → IsSound place.files → IfO
 switched-sound event place sound =
     let settings = (client_after (Next event) place.client).settings in
     let made = switch_in (Next event) place in
-    IfOk-and_then (files_told place.client.settings (Next event) place.files) (λ files. and_then made (files_followed settings files)) IsSound IsSound
+    IfOk-and_then (files_told place.client.settings (Next event) place.files) (λ files. and_then made (files_with_crates settings files)) IsSound IsSound
     (told-sound place.client.settings event place.files sound) (λ files told. followed-sound made settings files told)
 
 made-seen : (input : Input) (place : Place) → AreSeen place.files → IfOk (files_made input place) AreSeen

@@ -33,6 +33,7 @@ pub record StartsJobs (jobs : ℕ → SnapshotData → List Job) (workspaces : W
   pub client : v.state.client ≡ w.state.client
   pub files : v.state.files ≡ w.state.files
   pub status : v.state.status ≡ w.state.status
+  pub sources : v.state.sources ≡ w.state.sources
   pub now : v.state.workspaces ≡ workspaces
   pub unrevised : filter_map revision_of v.out.commands ≡ filter_map revision_of w.out.commands
   pub messages : v.out.messages ≡ w.out.messages
@@ -46,6 +47,7 @@ starts-none w = record {
   client = refl;
   files = refl;
   status = refl;
+  sources = refl;
   now = refl;
   unrevised = refl;
   messages = refl;
@@ -71,6 +73,7 @@ starts-behind jobs workspaces step w v h = record {
   client = h.client;
   files = h.files;
   status = h.status;
+  sources = h.sources;
   now = h.now;
   unrevised = h.unrevised;
   messages = h.messages;
@@ -104,6 +107,7 @@ one-starts kind_of w none =
       client = refl;
       files = refl;
       status = refl;
+      sources = refl;
       now = refl;
       unrevised = revisions-append w.out.commands _ ∙ append-nil _;
       messages = refl;

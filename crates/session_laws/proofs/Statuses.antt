@@ -2,6 +2,7 @@
 use Rattle.std.proofs.Common.{◌≡◌, ◌≤◌, ◌<◌, ℕ, ◌+◌, List, [], ◌∷◌, Bool, true, false, refl, ap, ◌∙◌, arith, eqb-true}
 use Rattle.std.specs.Prelude.{◌==◌, not, ◌&&◌, Option, None, Some, is_some, Ok, Err, IfOk, IfErr, if◌then◌else◌}
 use Rattle.serde_json.specs.Data.{Data}
+use Rattle.layered_settings.specs.declared.change.ConfigChange.{ConfigChange}
 use Rattle.turn_parts.specs.Working.{Working, and_then, written}
 use Rattle.turn_parts.specs.declared.fault.Counter.{Counter}
 use Rattle.turn_parts.specs.declared.fault.Counter.TheVariants.{Outgoing}
@@ -9,7 +10,7 @@ use Rattle.notify.specs.Showing.{status_params}
 use Rattle.notify.specs.declared.outgo.MessageKind.{MessageKind}
 use Rattle.notify.specs.declared.outgo.Outgo.{Outgo}
 use Rattle.notify.specs.declared.outgo.Outgo.TheVariants.{ShowMessageRequest}
-use Rattle.outgoing.specs.Outgoing.{number_limit}
+use Rattle.outgoing.specs.Outgoing.{Outgoing as Requests, number_limit}
 use Rattle.client.specs.Client.{Client}
 use Rattle.client.specs.Folds.{after_asking}
 use Rattle.client.specs.Steps.{asked_for, notification_of, request_at}
@@ -19,8 +20,9 @@ use Rattle.desk_laws.proofs.Refusing.{err-and_then, err-weaker}
 use Rattle.desk_laws.proofs.Results.{IfErr-within, IfOk-and_then, IfOk-weaker, IfOk-within}
 use Rattle.status.specs.Same.{is_same_status}
 use Rattle.status.specs.declared.status.Status.{Status}
-use Rattle.session_model.specs.Headline.{Place, client_after, client_left}
+use Rattle.session_model.specs.Headline.{Place, client_after, client_filed, client_left, settings_changed}
 use Rattle.session_model.specs.Machine.{client_in, status_changed, status_done, status_kept, status_told, text_shown, with_client, with_status}
+use Rattle.session_model.specs.Sources.{client_with}
 use Rattle.session_model.specs.State.{State}
 use Rattle.session_model.specs.Status.{after_asking_if, client_after_status, health_text, opens_logs, shown_of, status_message, status_now, statuses_due, takes_status}
 use Rattle.session_model.specs.declared.input.Input.{Input}
@@ -105,14 +107,23 @@ asked-more false client = omega arith
 pub told-settings : (w v : Working State) → TellsStatus w v → v.state.client.settings ≡ w.state.client.settings
 told-settings w v told = ap (λ (s : State). s.client.settings) told.state ∙ asked-settings _ w.state.client
 
-pub left-settings : (input : Input) (place : Place) → (client_left input place).settings ≡ (client_after input place.client).settings
+pub left-settings : (input : Input) (place : Place) → (client_left input place).settings ≡ (client_filed input place).settings
 left-settings Start place = asked-settings _ place.client
-left-settings (Next event) place = asked-settings _ (client_after (Next event) place.client)
+left-settings (Next event) place = asked-settings _ (client_filed (Next event) place)
+
+-- settings files ask the client nothing
+filed-asked : (change : Option ConfigChange) (client : Client) → (client_with change client).asked ≡ client.asked
+filed-asked None client = refl
+filed-asked (Some change) client = refl
 
 -- no number of a request is given back
 pub left-more : (input : Input) (place : Place) → (client_after input place.client).asked.given ≤ (client_left input place).asked.given
 left-more Start place = asked-more _ place.client
-left-more (Next event) place = asked-more _ (client_after (Next event) place.client)
+left-more (Next event) place =
+    let same : (client_filed (Next event) place).asked.given ≡ (client_after (Next event) place.client).asked.given =
+    ap (λ (asked : Requests ReqHandler). asked.given) (filed-asked (settings_changed (Next event) place) (client_after (Next event) place.client)) in
+    let more : (client_filed (Next event) place).asked.given ≤ (client_left (Next event) place).asked.given = asked-more _ (client_filed (Next event) place) in
+    omega (arith, same, more)
 
 -- ---- where it is refused
 

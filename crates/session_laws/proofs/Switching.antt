@@ -23,10 +23,11 @@ use Rattle.workspaces.specs.Switching.{asks_build, decided, followed as workspac
 use Rattle.workspaces.specs.Workspaces.{Workspaces}
 use Rattle.workspaces.specs.declared.follows.Follows.{Follows}
 use Rattle.workspaces.specs.declared.follows.Follows.TheVariants.{Nothing, CrateData, Wait, GoOn}
-use Rattle.session_model.specs.Crates.{Numbers, builds_crates, crate_data, crates_put_if, files_followed, followed_by, is_built_by, with_crates}
+use Rattle.session_model.specs.Crates.{Numbers, builds_crates, crate_data, crates_put_if, files_with_crates, followed_by, is_built_by, with_crates}
 use Rattle.session_model.specs.Headline.{Place, are_due, client_after, files_told, left_or, workspaces_at, workspaces_switched}
-use Rattle.session_model.specs.Machine.{at_workspaces, crates_built, files_in, followed, loader_set, switched_to, warned, with_files, with_workspaces}
-use Rattle.session_model.specs.State.{State, builds_scripts, discovers}
+use Rattle.session_model.specs.Machine.{at_workspaces, crates_built, files_in, followed, loader_set, roots_renewed, switched_to, warned, with_files, with_sources, with_workspaces}
+use Rattle.session_model.specs.Sources.{sources_behind, sources_left, sources_now}
+use Rattle.session_model.specs.State.{Sources, State, builds_scripts, discovers}
 use Rattle.session_model.specs.Switching.{is_switch_due, switch_by, switch_made, unless_exhausted}
 use Rattle.session_model.specs.declared.input.Input.{Input}
 use Rattle.session_model.specs.declared.input.Input.TheVariants.{Start, Next}
@@ -67,18 +68,20 @@ unfolding loader_set ordered
 loader-same version w = refl
 
 followed-tells : (follows : Follows) (w : Working State) → Tells w.out (followed follows w).out
-unfolding followed
+unfolding followed roots_renewed
 followed-tells Nothing w = tells-none w.out
 followed-tells CrateData w = tells-none w.out
 followed-tells (Wait msrv) w = warned-tells msrv w
 followed-tells (GoOn msrv version initial) w = tells-on _ _ _ (warned-tells msrv w) (loader-tells version (warned msrv w))
 
-followed-same : (follows : Follows) (w : Working State) → (followed follows w).state ≡ w.state
-unfolding followed
-followed-same Nothing w = refl
-followed-same CrateData w = refl
-followed-same (Wait msrv) w = warned-same msrv w
-followed-same (GoOn msrv version initial) w = loader-same version (warned msrv w) ∙ warned-same msrv w
+followed-state : (follows : Follows) (w : Working State)
+    → (followed follows w).state ≡ with_sources (sources_behind w.state.client.settings w.state.workspaces follows w.state.sources) w.state
+unfolding followed roots_renewed
+followed-state Nothing w = refl
+followed-state CrateData w = refl
+followed-state (Wait msrv) w = warned-same msrv w
+followed-state (GoOn msrv version initial) w =
+    ap (λ (s : State). with_sources (sources_now s.client.settings s.workspaces) s) (loader-same version (warned msrv w) ∙ warned-same msrv w)
 
 -- where this flag is set crate data goes into the world, and nothing else changes
 record Builds (built : Bool) (w v : Working State) : Type 0 where
@@ -94,11 +97,12 @@ built-does true w =
     IfOk-within files_in with_files (crates_put crates) w (Builds true w)
     (IfOk-weaker _ (PutsCrates crates (record { state = w.state.files; out = w.out })) _ (crates-put crates _) (λ v puts. record { files = puts.is; state = refl; out = puts.out }))
 
--- the workspaces come to what is left, crate data that is built goes into the world, nothing else changes, and nobody is answered
+-- the workspaces and the source roots come to what is left, crate data that is built goes into the world, nothing else changes, and nobody is answered
 pub record Switches (made : Result (Follows × Workspaces) Counter) (w v : Working State) : Type 0 where
   pub tells : Tells w.out v.out
-  pub files : and_then made (files_followed w.state.client.settings w.state.files) ≡ Ok v.state.files
-  pub state : v.state ≡ with_workspaces (left_or w.state.workspaces made) (with_files v.state.files w.state)
+  pub files : and_then made (files_with_crates w.state.client.settings w.state.files) ≡ Ok v.state.files
+  pub state : v.state ≡ with_sources (sources_left w.state.client.settings made w.state.sources)
+      (with_workspaces (left_or w.state.workspaces made) (with_files v.state.files w.state))
 
 pub switched-does : (made : Result (Follows × Workspaces) Counter) (w : Working State) → IfOk (switched_to made w) (Switches made w)
 unfolding switched_to
@@ -107,7 +111,8 @@ switched-does (Ok made) w =
     let built : Bool = builds_crates made.0 in
     let now : Working State = at_workspaces (λ before. made.1) w in
     let told : Working State = followed made.0 now in
-    let same : told.state ≡ with_workspaces made.1 w.state = followed-same made.0 now in
+    let sources : Sources = sources_behind w.state.client.settings made.1 made.0 w.state.sources in
+    let same : told.state ≡ with_sources sources (with_workspaces made.1 w.state) = followed-state made.0 now in
     IfOk-weaker (crates_built built told) (Builds built told) (Switches (Ok made) w) (built-does built told)
     (λ v builds. record {
       tells = subst (Tells w.out) (sym builds.out) (followed-tells made.0 now);
@@ -118,7 +123,7 @@ switched-does (Ok made) w =
 -- ---- what it leaves of the files
 
 -- they have changed as before, and the revision is one more where this flag is set
-pub record FollowsFiles (built : Bool) (files now : SessionFiles) : Type 0 where
+pub record KeepsDue (built : Bool) (files now : SessionFiles) : Type 0 where
   pub revision : now.host.revision ≡ files.host.revision + (if built then 1 else 0)
   pub due : are_due (Ok files) ≡ are_due (Ok now)
   pub changes : due_changes files ≡ due_changes now
@@ -130,9 +135,9 @@ ok-same : (a b : SessionFiles) → (let made : Result SessionFiles Counter = Ok 
 ok-same a b is = cc
 
 put-follows : (built : Bool) (settings : ConfigData) (present : List ProjectWorkspace) (files now : SessionFiles) → crates_put_if built settings present files ≡ Ok now
-    → FollowsFiles built files now
+    → KeepsDue built files now
 put-follows false settings present files now is =
-    subst (FollowsFiles false files) (ok-same files now is) (record { revision = none-more files.host.revision; due = refl; changes = refl })
+    subst (KeepsDue false files) (ok-same files now is) (record { revision = none-more files.host.revision; due = refl; changes = refl })
 put-follows true settings present files now is =
     let made = crates_keep (crate_data settings files.ids present) files now is in
     record { revision = made.revision; due = sym (ap is_due made.rest); changes = sym (ap due_changes made.rest) }
@@ -140,8 +145,8 @@ put-follows true settings present files now is =
 err-ok : {P : Type 0} (counter : Counter) (now : SessionFiles) → (let made : Result SessionFiles Counter = Err counter in made) ≡ Ok now → P
 err-ok counter now is = absurd cc
 
-pub made-follows : (made : Result (Follows × Workspaces) Counter) (settings : ConfigData) (files now : SessionFiles) → and_then made (files_followed settings files) ≡ Ok now
-    → FollowsFiles (is_built_by made) files now
+pub made-follows : (made : Result (Follows × Workspaces) Counter) (settings : ConfigData) (files now : SessionFiles) → and_then made (files_with_crates settings files) ≡ Ok now
+    → KeepsDue (is_built_by made) files now
 made-follows (Ok made) settings files now is = put-follows (builds_crates made.0) settings made.1.present files now is
 made-follows (Err counter) settings files now is = err-ok counter now is
 
@@ -162,7 +167,7 @@ switched-errs (Err counter) w = inl refl
 switched-errs (Ok made) w =
     let told : Working State = followed made.0 (at_workspaces (λ before. made.1) w) in
     err-weaker (crates_built (builds_crates made.0) told) (AtLast told.state.files.host.revision) _ (built-errs (builds_crates made.0) told)
-    (λ counter last. inr (subst (λ (s : State). AtLast s.files.host.revision counter) (followed-same made.0 (at_workspaces (λ before. made.1) w)) last))
+    (λ counter last. inr (subst (λ (s : State). AtLast s.files.host.revision counter) (followed-state made.0 (at_workspaces (λ before. made.1) w)) last))
 
 exhausted-errs : (made : Option (Follows × Workspaces)) → IfErr (unless_exhausted made) (λ counter. counter ≡ LoaderSettings)
 exhausted-errs None = refl

@@ -145,7 +145,7 @@ planned-tickets (Next event) place h =
 fetched-tickets : (input : Input) (place : Place) → IsOfTurns place.desk.turns place.workspaces.fetches.waiting
     → IsOfTurns (turns_after input place.desk.turns) (workspaces_fetched input place).fetches.waiting
 fetched-tickets input place h =
-    subst (IsOfTurns (turns_after input place.desk.turns)) (sym (start-same (may_start_at input place.client) (workspaces_planned input place).fetches))
+    subst (IsOfTurns (turns_after input place.desk.turns)) (sym (start-same (may_start_at input place) (workspaces_planned input place).fetches))
     (planned-tickets input place h)
 
 -- a run of build data or a load of macros that starts leaves the fetches

@@ -28,6 +28,7 @@ place_of s = record {
   revision = s.files.host.revision;
   desk = s.desk;
   workspaces = s.workspaces;
+  sources = s.sources;
   status = s.status;
 }
 

@@ -103,8 +103,8 @@ abbrev pub crates_put_if : Bool → ConfigData → List ProjectWorkspace → Ses
 crates_put_if built settings present files = if built then after_crates (crate_data settings files.ids present) files else Ok files
 
 -- that of a switch that was made
-abbrev pub files_followed : ConfigData → SessionFiles → Follows × Workspaces → Result SessionFiles Counter
-files_followed settings files made = crates_put_if (builds_crates made.0) settings made.1.present files
+abbrev pub files_with_crates : ConfigData → SessionFiles → Follows × Workspaces → Result SessionFiles Counter
+files_with_crates settings files made = crates_put_if (builds_crates made.0) settings made.1.present files
 
 abbrev pub is_built_by : Result (Follows × Workspaces) Counter → Bool
 is_built_by (Ok made) = builds_crates made.0

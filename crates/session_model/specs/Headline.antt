@@ -11,6 +11,7 @@ use Rattle.lsp_frame.specs.Reader.{Reader}
 use Rattle.lsp_frame.specs.declared.message.Message.TheVariants.{Request as RequestMessage, Notification as NotificationMessage, Response as ResponseMessage}
 use Rattle.lsp_frame.specs.declared.message.RequestId.{RequestId}
 use Rattle.lsp_frame.specs.declared.message.Response.{Response}
+use Rattle.layered_settings.specs.declared.change.ConfigChange.{ConfigChange}
 use Rattle.ra_config.specs.Config.{ConfigData}
 use Rattle.analysis_host.specs.SnapshotData.{SnapshotData}
 use Rattle.session_port.specs.Events.{revision_of}
@@ -50,11 +51,12 @@ use Rattle.workspaces.specs.declared.follows.Follows.{Follows}
 use Rattle.workspaces.specs.declared.follows.Follows.TheVariants.{Nothing}
 use Rattle.workspaces.specs.declared.requests.FetchRequest.{FetchRequest}
 use Rattle.session_model.specs.Building.{build_due, build_jobs, end_kept, ends_kept, request_told, with_due_build}
-use Rattle.session_model.specs.Crates.{files_followed, is_built_by}
+use Rattle.session_model.specs.Crates.{files_with_crates, is_built_by}
 use Rattle.session_model.specs.Fetching.{fetch_jobs, folders_told_if, settings_told, with_fetches}
 use Rattle.session_model.specs.Hearing.{heard_of, told_by}
 use Rattle.session_model.specs.Loading.{MacroPaths, load_due, load_jobs, with_due_load}
-use Rattle.session_model.specs.State.{columns_in, discovers, excludes_in, first_status, goes_by_folders, macros_loaded_in, may_start}
+use Rattle.session_model.specs.Sources.{change_by, client_with, sources_after, sources_left}
+use Rattle.session_model.specs.State.{columns_in, discovers, excludes_in, first_status, goes_by_folders, macros_loaded_in, may_start, no_sources, Sources}
 use Rattle.session_model.specs.Status.{client_after_status, status_now, statuses_due, statuses_in}
 use Rattle.session_model.specs.Switching.{switch_made}
 use Rattle.session_model.specs.Timing.{bring_files, planned_by, renewed_if, timer_of, timers_set}
@@ -78,12 +80,14 @@ pub record Place : Type 0 where
   pub desk : Desk
   -- the workspaces, and the fetches, the build data and the macros of them that are asked for
   pub workspaces : Workspaces
+  -- the source roots of the workspaces
+  pub sources : Sources
   -- the status that was told last
   pub status : Status
 
 abbrev pub beginning : ConfigData → Place
 beginning settings =
-    record { client = new_client settings; files = no_files; revision = 0; desk = new_desk; workspaces = no_workspaces; status = first_status }
+    record { client = new_client settings; files = no_files; revision = 0; desk = new_desk; workspaces = no_workspaces; sources = no_sources; status = first_status }
 
 -- the number of the next turn, from 1; the start has none
 abbrev pub next_turn : Place → ℕ
@@ -203,7 +207,7 @@ abbrev pub files_switched : Input → Place → Result SessionFiles Counter
 files_switched Start place = Ok place.files
 files_switched (Next event) place =
     and_then (files_told place.client.settings (Next event) place.files)
-    (λ files. and_then (switch_in (Next event) place) (files_followed (client_after (Next event) place.client).settings files))
+    (λ files. and_then (switch_in (Next event) place) (files_with_crates (client_after (Next event) place.client).settings files))
 
 abbrev pub files_made : Input → Place → Result SessionFiles Counter
 files_made input place = and_then (files_switched input place) (files_turned input)
@@ -230,17 +234,33 @@ abbrev pub workspaces_planned : Input → Place → Workspaces
 workspaces_planned input place =
     planned_by (client_after input place.client).settings (next_turn place) (changes_in input place) (workspaces_switched input place)
 
--- behind an input fetches may start, by the settings that it leaves
-abbrev pub may_start_at : Input → Client → Bool
-may_start_at input client = may_start input (client_after input client).settings
+-- the source roots behind the switch: new ones where the loader gets them, by the settings that the input leaves
+abbrev pub sources_switched : Input → Place → Sources
+sources_switched input place = sources_left (client_after input place.client).settings (switch_in input place) place.sources
+
+-- the change of settings that a turn's files are: the settings files that changed, by the roots behind its switch, and the parents of new roots
+abbrev pub settings_changed : Input → Place → Option ConfigChange
+settings_changed input place = change_by (changes_in input place) (sources_switched input place) (workspaces_switched input place).present
+
+-- the client behind these files
+abbrev pub client_filed : Input → Place → Client
+client_filed input place = client_with (settings_changed input place) (client_after input place.client)
+
+-- the source roots behind them
+abbrev pub sources_filed : Input → Place → Sources
+sources_filed input place = sources_after (changes_in input place) (sources_switched input place)
+
+-- behind an input and its files fetches may start, by the settings that they leave
+abbrev pub may_start_at : Input → Place → Bool
+may_start_at input place = may_start input (client_filed input place).settings
 
 -- the fetch that a turn starts: the one that is asked for behind its input, its switch and its files, where none is in progress
 abbrev pub fetch_in : Input → Place → Option (List ℕ × FetchRequest)
-fetch_in input place = fetch_to_start (may_start_at input place.client) (workspaces_planned input place).fetches
+fetch_in input place = fetch_to_start (may_start_at input place) (workspaces_planned input place).fetches
 
 -- the workspaces behind it
 abbrev pub workspaces_fetched : Input → Place → Workspaces
-workspaces_fetched input place = with_fetches (start_fetch (may_start_at input place.client)) (workspaces_planned input place)
+workspaces_fetched input place = with_fetches (start_fetch (may_start_at input place)) (workspaces_planned input place)
 
 -- the version of the workspaces on which a turn starts a run of build data, if it starts one: behind its fetch. The start starts none
 abbrev pub build_in : Input → Place → Option ℕ
@@ -265,13 +285,13 @@ workspaces_after (Next event) place = with_due_load (build_in (Next event) place
 abbrev pub status_after : Input → Place → Status
 status_after Start place = status_now place.client.settings place.files place.workspaces
 status_after (Next event) place =
-    status_now (client_after (Next event) place.client).settings (files_after (Next event) place) (workspaces_after (Next event) place)
+    status_now (client_filed (Next event) place).settings (files_after (Next event) place) (workspaces_after (Next event) place)
 
 -- the client behind all that a turn tells it: it may be asked whether the logs are to be opened
 abbrev pub client_left : Input → Place → Client
 client_left Start place = client_after_status place.status place.files place.workspaces place.client
 client_left (Next event) place =
-    client_after_status place.status (files_after (Next event) place) (workspaces_after (Next event) place) (client_after (Next event) place.client)
+    client_after_status place.status (files_after (Next event) place) (workspaces_after (Next event) place) (client_filed (Next event) place)
 
 -- the last of numbers, else the one before
 abbrev pub last_of : List ℕ → ℕ → ℕ
@@ -298,6 +318,7 @@ place_after turn place = record {
   revision = revision_after turn.commands place.revision;
   desk = desk_after turn place.desk;
   workspaces = workspaces_after turn.input place;
+  sources = sources_filed turn.input place;
   status = status_after turn.input place;
 }
 

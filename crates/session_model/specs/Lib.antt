@@ -9,6 +9,7 @@ pub mod Inputs
 pub mod Loading
 pub mod Machine
 pub mod Run
+pub mod Sources
 pub mod State
 pub mod Status
 pub mod Switching

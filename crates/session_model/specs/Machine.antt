@@ -8,8 +8,10 @@ use Rattle.lsp_frame.specs.declared.message.Response.{Response}
 use Rattle.plain.specs.Texts.{text_cmp}
 use Rattle.docs_vfs.specs.FileUrls.{path_of}
 use Rattle.docs_vfs.specs.declared.file_kinds.ChangedFile.{ChangedFile}
+use Rattle.docs_vfs.specs.declared.file_kinds.FileId.{FileId}
 use Rattle.docs_vfs.specs.declared.file_url.UrlFault.{UrlFault}
-use Rattle.session_port.specs.declared.command.Command.TheVariants.{Revise, Invalidate, SetLoader, Timer as SetTimer}
+use Rattle.session_port.specs.declared.command.Command.TheVariants.{Defer, Revise, Invalidate, SetLoader, Timer as SetTimer}
+use Rattle.session_port.specs.declared.command.DeferredTask.TheVariants.{CheckProcMacroSources}
 use Rattle.session_port.specs.declared.command.LogCode.TheVariants.{MalformedNotification, UnhandledNotification}
 use Rattle.session_port.specs.declared.command.LogCode.TheVariants.{BadPath}
 use Rattle.session_port.specs.declared.event.LoaderMsg.{LoaderMsg}
@@ -42,15 +44,18 @@ use Rattle.workspaces.specs.Workspaces.{Workspaces}
 use Rattle.workspaces.specs.declared.follows.Follows.{Follows}
 use Rattle.workspaces.specs.declared.follows.Follows.TheVariants.{Nothing, CrateData, Wait, GoOn}
 use Rattle.workspaces.specs.declared.requests.FetchRequest.{FetchRequest}
+use Rattle.change_effects.specs.declared.effects.ChangeEffects.{ChangeEffects}
+use Rattle.change_effects.specs.declared.effects.SettingsFile.{SettingsFile}
 use Rattle.session_model.specs.Building.{build_due, end_kept, request_told, with_due_build}
 use Rattle.session_model.specs.Crates.{builds_crates, crate_data}
 use Rattle.session_model.specs.Fetching.{folders_told_if, settings_told, with_fetches}
 use Rattle.session_model.specs.Hearing.{heard_of}
 use Rattle.session_model.specs.Loading.{MacroPaths, load_due, load_kind, with_due_load}
-use Rattle.session_model.specs.State.{client_watches, columns_in, discovers, excludes_in, fetch_kind, goes_by_folders, may_start, scene_of, snapshot_of, State}
+use Rattle.session_model.specs.Sources.{change_for, client_with, parents_told, sources_now}
+use Rattle.session_model.specs.State.{client_watches, columns_in, discovers, excludes_in, fetch_kind, goes_by_folders, may_start, scene_of, snapshot_of, Sources, State}
 use Rattle.session_model.specs.Status.{opens_logs, shown_of, status_message, status_now, takes_status}
 use Rattle.session_model.specs.Switching.{switch_made}
-use Rattle.session_model.specs.Timing.{bring_files, planned_by, renewed_if}
+use Rattle.session_model.specs.Timing.{bring_files, effects_for, fetch_planned, renewed_if}
 use Rattle.session_model.specs.declared.facts.Facts.{Facts}
 use Rattle.session_model.specs.declared.input.Event.{Event}
 use Rattle.session_model.specs.declared.input.Event.TheVariants.{Lsp, Task, Vfs, Deferred, Timer}
@@ -107,6 +112,11 @@ with_workspaces workspaces state = record state { workspaces = workspaces }
 -- the workspaces come to this; nothing is written for it
 abbrev pub at_workspaces : (Workspaces → Workspaces) → Working State → Working State
 at_workspaces step w = record w { state = with_workspaces (step w.state.workspaces) w.state }
+
+-- ---- the source roots, within the session
+
+abbrev pub with_sources : Sources → State → State
+with_sources sources state = record state { sources = sources }
 
 -- ---- requests
 
@@ -258,12 +268,16 @@ loader_set version w =
     let settings = w.state.client.settings in
     ordered (SetLoader (loader_roots (excludes_in settings) w.state.workspaces.present) (not (client_watches settings)) version) w
 
--- what the user and the host are told behind a switch
+-- the source roots are those that the loader gets
+unfoldable pub roots_renewed : Working State → Working State
+roots_renewed w = record w { state = with_sources (sources_now w.state.client.settings w.state.workspaces) w.state }
+
+-- what the user and the host are told behind a switch, and the roots that it renews
 unfoldable pub followed : Follows → Working State → Working State
 followed Nothing w = w
 followed CrateData w = w
 followed (Wait msrv) w = warned msrv w
-followed (GoOn msrv version initial) w = loader_set version (warned msrv w)
+followed (GoOn msrv version initial) w = roots_renewed (loader_set version (warned msrv w))
 
 -- where this flag is set, crate data of the workspaces that are present goes into the world. Its macros are not loaded yet
 unfoldable pub crates_built : Bool → Working State → Result (Working State) Counter
@@ -282,15 +296,35 @@ switch_done w = switched_to (switch_made w.state.client.settings w.state.files w
 unfoldable pub switch_part : Working Turning → Result (Working Turning) Counter
 switch_part w = in_state switch_done w
 
--- the fetch that changed files ask for waits for a timer
-abbrev pub files_planned : List ChangedFile → Working State → Working State
-files_planned changes w = at_workspaces (planned_by w.state.client.settings w.state.desk.turns changes) w
+-- settings files that changed, and the parents of new roots, go into the settings: they are one change of them
+unfoldable pub settings_filed : List SettingsFile → Working State → Working State
+settings_filed files w =
+    let client = client_with (change_for files w.state.sources w.state.workspaces.present) w.state.client in
+    record w { state = with_sources (parents_told w.state.sources) (with_client client w.state) }
 
--- what has changed goes into the world, unless files are loading; it may ask for a fetch
+-- the host is to ask, once there is nothing else to do, for a check of these files as sources of macros
+unfoldable pub sources_deferred : Option (List FileId) → Working State → Working State
+sources_deferred None w = w
+sources_deferred (Some files) w = ordered (Defer (CheckProcMacroSources files)) w
+
+-- a fetch that is asked for waits for a timer
+unfoldable pub fetch_waits : Option FetchRequest → Working State → Working State
+fetch_waits request w = at_workspaces (fetch_planned w.state.desk.turns request) w
+
+-- what changed files have a session do: their settings are taken, the check of sources is put off, and the fetch that they ask for waits
+unfoldable pub effects_done : ChangeEffects → Working State → Working State
+effects_done effects w = fetch_waits effects.fetch (sources_deferred effects.macro_sources (settings_filed effects.settings w))
+
+-- the same by the files that changed; without any, nothing is done
+unfoldable pub files_followed : List ChangedFile → Working State → Working State
+files_followed [] w = w
+files_followed (change ∷ changes) w = effects_done (effects_for w.state.client.settings (change ∷ changes) w.state.workspaces) w
+
+-- what has changed goes into the world, unless files are loading, and what follows from it is done
 unfoldable pub files_processed : Working State → Result (Working State) Counter
 files_processed w =
     and_then (at_files processed w)
-    (λ v. Ok (files_planned (due_changes w.state.files) v))
+    (λ v. Ok (files_followed (due_changes w.state.files) v))
 
 unfoldable pub files_part : Working Turning → Result (Working Turning) Counter
 files_part w = in_state files_processed w

@@ -1,5 +1,6 @@
 -- The session's state, as contracts see it: a record of its parts.
 use Rattle.std.specs.Prelude.{[], Bool, false, is_some, length, List, None, not, Option, Some, true, ℕ, ◌&&◌, ◌==◌, ◌||◌}
+use Rattle.docs_vfs.specs.declared.source_roots.Root.{Root}
 use Rattle.text_core.specs.declared.position.PositionEncoding.{PositionEncoding}
 use Rattle.ra_settings.specs.declared.row.Row.TheVariants.{CargoAutoreload, CargoBuildScriptsEnable, DetachedFiles, FilesExclude, FilesWatcher, LinkedProjects, ProcMacroEnable, ProcMacroIgnored, WorkspaceDiscoverConfig}
 use Rattle.ra_settings.specs.declared.value.DiscoverConfig.{DiscoverConfig}
@@ -24,6 +25,16 @@ use Rattle.session_model.specs.declared.counters.Counters.{Counters}
 use Rattle.session_model.specs.declared.input.Input.{Input}
 use Rattle.session_model.specs.declared.input.Input.TheVariants.{Start, Next}
 
+-- the source roots, as a switch made them
+pub record Sources : Type 0 where
+  pub roots : List Root
+  -- their parents, where the settings don't have them yet
+  pub parents : Option (List (ℕ × ℕ))
+
+-- no roots, and so no parents
+abbrev pub no_sources : Sources
+no_sources = record { roots = []; parents = None }
+
 pub record State : Type 0 where
   -- the settings, and what the client was asked
   pub client : Client
@@ -33,6 +44,8 @@ pub record State : Type 0 where
   pub desk : Desk
   -- the workspaces, and what is asked for to renew them
   pub workspaces : Workspaces
+  -- the source roots of the workspaces
+  pub sources : Sources
   -- the status that was told last
   pub status : Status
 
@@ -147,7 +160,8 @@ first_status = record { health = health.Ok; quiescent = true; message = None }
 
 -- the state before any turn
 abbrev pub fresh : ConfigData → State
-fresh settings = record { client = new_client settings; files = no_files; desk = new_desk; workspaces = no_workspaces; status = first_status }
+fresh settings =
+    record { client = new_client settings; files = no_files; desk = new_desk; workspaces = no_workspaces; sources = no_sources; status = first_status }
 
 -- the same, where so many of each counter were used
 abbrev pub fresh_at : Counters → ConfigData → State
@@ -156,5 +170,6 @@ fresh_at used settings = record {
   files = no_files_at used.files used.revisions;
   desk = new_desk_at used.turns used.jobs;
   workspaces = no_workspaces_at used.loader_settings;
+  sources = no_sources;
   status = first_status;
 }

@@ -3,3 +3,4 @@ pub mod AtDesk
 pub mod AtFiles
 pub mod Heard
 pub mod Projects
+pub mod Settled

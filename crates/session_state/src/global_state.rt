@@ -1,5 +1,5 @@
 // The session's state and its turns.
-ghost use Rattle.std.specs.Prelude.{◌≡◌, ◌≤◌, IfOk, OnOk, Some, is_some, not};
+ghost use Rattle.std.specs.Prelude.{◌≡◌, ◌≤◌, [], IfOk, OnOk, Some, is_some, not};
 ghost use Rattle.lsp_frame.specs.Pending.{IsAbove, id_of, is_pending};
 ghost use Rattle.lsp_frame.specs.Written.{AreWritable};
 ghost use Rattle.lsp_frame.specs.declared.message.Message.TheVariants.{Response as ResponseMessage};
@@ -20,6 +20,7 @@ mod filing;
 mod loading;
 mod messages;
 mod notifications;
+mod settings;
 mod switching;
 mod telling;
 mod timing;
@@ -28,8 +29,9 @@ mod watching;
 use analysis_host::{Analysis, GlobalStateSnapshot, SnapshotParts};
 use client::Client;
 use desk::{Desk, Scene};
+use docs_vfs::SourceRoots;
 use lsp_frame::{RequestId, Response};
-use plain::{NoMemory, Text};
+use plain::{Items, NoMemory, Text};
 use ra_config::Config;
 use session_files::SessionFiles;
 use session_model::{Counters, Event, Facts, TurnError};
@@ -49,8 +51,19 @@ pub struct GlobalState {
     files: SessionFiles,
     desk: Desk,
     workspaces: Workspaces,
+    /// The source roots of the workspaces, as a switch made them.
+    roots: SourceRoots,
+    /// Their parents, where the settings don't have them yet.
+    parents: Option<Items<(u32, u32)>>,
     /// The status that was told last.
     status: Status,
+}
+
+// No source roots.
+fn no_roots(alloc: Global) -> Result<SourceRoots, NoMemory>
+    ensures { IfOk result (λ roots. roots ≡ []) }
+{
+    SourceRoots::new(Items::new(alloc))
 }
 
 // The status that the first one is compared with: all is well, and nothing is worked on.
@@ -77,7 +90,7 @@ impl Model for GlobalState {
 
     ghost coded = { state_code handler.the_row.coded files_of.the_row.coded job.the_row.coded workspaces_of.the_row.coded status_of.the_row.coded };
 
-    ghost view = { λ g. record { client = g.client; files = g.files; desk = g.desk; workspaces = g.workspaces; status = g.status } };
+    ghost view = { λ g. record { client = g.client; files = g.files; desk = g.desk; workspaces = g.workspaces; sources = record { roots = g.roots; parents = g.parents }; status = g.status } };
 }
 
 impl GlobalState {
@@ -91,6 +104,8 @@ impl GlobalState {
             files: SessionFiles::new(alloc)?,
             desk: Desk::new(alloc),
             workspaces: Workspaces::new(alloc)?,
+            roots: no_roots(alloc)?,
+            parents: None,
             status: first_status(),
         })
     }
@@ -106,6 +121,8 @@ impl GlobalState {
             files: SessionFiles::new_at(alloc, used.files, used.revisions)?,
             desk: Desk::new_at(alloc, used.turns, used.jobs),
             workspaces: Workspaces::new_at(alloc, used.loader_settings)?,
+            roots: no_roots(alloc)?,
+            parents: None,
             status: first_status(),
         })
     }

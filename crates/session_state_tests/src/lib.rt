@@ -18,6 +18,8 @@ mod methods;
 #[cfg(test)]
 mod results;
 #[cfg(test)]
+mod roots;
+#[cfg(test)]
 mod statuses;
 #[cfg(test)]
 mod switching;

@@ -3,17 +3,17 @@ use crate::asking::agrees;
 
 // A file that is created or deleted asks for a fetch, and a manifest that changes; a source that changes asks for none. While files
 // are loading none is asked for.
-const CHANGES: &str = r#"open > revisetimer 1
-start then open > revisetimer 1
-open then tell textDocument/didChange {"textDocument":{"uri":"file:///w/a.rs","version":2},"contentChanges":[{"text":"b"}]} > revise
-file /w/b.rs a > revisetimer 1
-file /w/b.rs a then timer 1 then fetched then file /w/b.rs b > revise
-file /w/b.rs a then timer 1 then brought /w/Cargo.toml then file /w/b.rs > revisetimer 4
-file /w/Cargo.toml a then timer 1 then brought /w/Cargo.toml then file /w/Cargo.toml b > revisetimer 4
-file /w/BUILD a then timer 1 then fetched then file /w/BUILD b > revise
-tell workspace/didChangeConfiguration {} then answer [{"workspace":{"discoverConfig":{"command":["x"],"progressLabel":"x","filesToWatch":["BUILD"]}}}] then file /w/BUILD a then timer 3 then file /w/BUILD b > revisetimer 5
+const CHANGES: &str = r#"open > deferrevisetimer 1
+start then open > deferrevisetimer 1
+open then tell textDocument/didChange {"textDocument":{"uri":"file:///w/a.rs","version":2},"contentChanges":[{"text":"b"}]} > deferrevise
+file /w/b.rs a > deferrevisetimer 1
+file /w/b.rs a then timer 1 then fetched then file /w/b.rs b > deferrevise
+file /w/b.rs a then timer 1 then brought /w/Cargo.toml then file /w/b.rs > deferrevisetimer 4
+file /w/Cargo.toml a then timer 1 then brought /w/Cargo.toml then file /w/Cargo.toml b > deferrevisetimer 4
+file /w/BUILD a then timer 1 then fetched then file /w/BUILD b > deferrevise
+tell workspace/didChangeConfiguration {} then answer [{"workspace":{"discoverConfig":{"command":["x"],"progressLabel":"x","filesToWatch":["BUILD"]}}}] then file /w/BUILD a then timer 3 then file /w/BUILD b > deferrevisetimer 5
 loading then file /w/b.rs a
-loading then file /w/b.rs a then loaded > revisetimer 3"#;
+loading then file /w/b.rs a then loaded > deferrevisetimer 3"#;
 
 // The newest timer alone starts the fetch, and once. Files that a loader brings renew it, also an open one; that they are loaded
 // doesn't. A fetch that is about to start serves as well.
@@ -22,7 +22,7 @@ open then timer 2
 open then timer 1 then timer 1
 start then open then timer 1
 start then open then timer 1 then brought /w/Cargo.toml > loadWorker
-open then file /w/b.rs a > revisetimer 2
+open then file /w/b.rs a > deferrevisetimer 2
 open then file /w/b.rs a then timer 1
 open then file /w/b.rs a then timer 2 > Worker
 open then read /w/a.rs a > timer 2
@@ -30,7 +30,7 @@ open then loading then read /w/b.rs a > timer 3
 open then loaded
 open then timer 1 then read /w/a.rs a
 tell workspace/didChangeConfiguration {} then answer [{"cargo":{"autoreload":false}}] then open then timer 3 > Content-Length: 176\r\n\r\n{"jsonrpc":"2.0","method":"window/showMessage","params":{"message":"Auto-reloading is disabled and the workspace has changed, a manual workspace reload is required.","type":2}}
-tell workspace/didChangeConfiguration {} then answer [{"cargo":{"autoreload":false}}] then open then timer 3 then file /w/b.rs a > revise"#;
+tell workspace/didChangeConfiguration {} then answer [{"cargo":{"autoreload":false}}] then open then timer 3 then file /w/b.rs a > deferrevise"#;
 
 #[test]
 fn changed_files_ask_for_fetches(rt: HostRuntime) {

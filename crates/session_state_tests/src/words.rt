@@ -139,23 +139,25 @@ fn job_in(words: &str) -> (u64, &str) {
     }
 }
 
-/// What a host that runs no build system answers for one manifest.
-fn workspaces_at(alloc: Global, manifest: &str) -> Option<Items<ProjectWorkspace>> {
+/// What a host that runs no build system answers for manifests, of which a comma stands between two.
+fn workspaces_at(alloc: Global, manifests: &str) -> Option<Items<ProjectWorkspace>> {
     let mut projects = Items::new(alloc);
-    projects
-        .push(LinkedProject::ProjectManifest(VfsPath::new(alloc, manifest).ok()??))
-        .ok()?;
+    for manifest in manifests.split(',') {
+        projects
+            .push(LinkedProject::ProjectManifest(VfsPath::new(alloc, manifest).ok()??))
+            .ok()?;
+    }
     workspaces_of(alloc, projects.as_slice()).ok()
 }
 
 /// The same, each with a compiler of this version, if one is named.
 fn fetched_at(
     alloc: Global,
-    manifest: &str,
+    manifests: &str,
     toolchain: &str,
 ) -> Option<Items<Result<ProjectWorkspace, Text>>> {
     let mut fetched = Items::new(alloc);
-    for mut workspace in workspaces_at(alloc, manifest)?.into_vec() {
+    for mut workspace in workspaces_at(alloc, manifests)?.into_vec() {
         if !toolchain.is_empty() {
             workspace.toolchain = Some(text_of(alloc, toolchain)?);
         }
@@ -165,8 +167,8 @@ fn fetched_at(
 }
 
 fn brought(alloc: Global, job: u64, words: &str) -> Option<Event> {
-    let (manifest, toolchain) = cut(words, " ");
-    let found = fetched_at(alloc, manifest, toolchain)?;
+    let (manifests, toolchain) = cut(words, " ");
+    let found = fetched_at(alloc, manifests, toolchain)?;
     ended(alloc, job, JobResult::Value(JobValue::Workspaces(found)))
 }
 
@@ -194,8 +196,9 @@ fn with_crate(alloc: Global, job: u64, words: &str) -> Option<Event> {
 /// `ask` and `tell` with a method and its params, `answer` with the result in the response to the session's request 0,
 /// `loading` and `loaded` where files begin to load and are loaded, `file` and `read` with a path, and perhaps a text, where the
 /// loader tells that a file has changed and where it has read it first, `open` where `/w/a.rs` is opened, `null` and `stopped` as results of the first
-/// job, or of the `second` or the `third`, `fetched` and `builds` as results that are no request's, `brought` where such a job brings the workspace
-/// of a manifest, perhaps with the version of its compiler, `crate` where it brings one with the crate of a root file, `deferred`, `timer` with its ticket, and `shutdown` as a request.
+/// job, or of the `second` or the `third`, `fetched` and `builds` as results that are no request's, `brought` where such a job brings the workspaces
+/// of some manifests, perhaps with the version of their compiler, `crate` where it brings one with the crate of a root file, `deferred`, `timer` with its ticket,
+/// and `shutdown` as a request.
 pub fn event_of(alloc: Global, words: &str) -> Option<Event> {
     let (kind, rest) = cut(words, " ");
     let (job, found) = job_in(rest);
@@ -270,7 +273,7 @@ fn command_name(command: &Command) -> &'static str {
         Command::SetLoader { version: 1, .. } => "load",
         Command::SetLoader { .. } => "load anew",
         Command::Timer(ticket) => timer_name(*ticket),
-        Command::Defer(_) => "other",
+        Command::Defer(_) => "defer",
         Command::Stop => "stop",
     }
 }
@@ -340,6 +343,24 @@ fn settings_name(is_checked: bool, folders: usize) -> &'static str {
 /// Whether checks run when a file is saved, and how many folders there are.
 pub fn settings_text(alloc: Global, config: &Config) -> Option<String> {
     let name = settings_name(config.check_on_save(None), config.workspace_roots().len());
+    String::from_str(alloc, name).ok()
+}
+
+fn root_name(is_checked: bool, is_diagnosed: bool) -> &'static str {
+    match (is_checked, is_diagnosed) {
+        (true, true) => "checked, diagnosed",
+        (false, true) => "unchecked, diagnosed",
+        (true, false) => "checked, undiagnosed",
+        (false, false) => "unchecked, undiagnosed",
+    }
+}
+
+/// Whether files of the root with this number are checked when one is saved, and whether they have diagnostics.
+pub fn root_text(alloc: Global, config: &Config, root: u32) -> Option<String> {
+    let name = root_name(
+        config.check_on_save(Some(root)),
+        config.diagnostics_enable(Some(root)),
+    );
     String::from_str(alloc, name).ok()
 }
 

@@ -16,7 +16,6 @@ use plain::{Items, Json};
 use ra_config::ConfigChange;
 use session_port::{Command, LogCode};
 use std::alloc::{AllocError, Global};
-use std::sync::Arc;
 use turn_parts::{TurnError, TurnOut};
 
 // A change of the client's settings alone.
@@ -52,9 +51,7 @@ impl Client {
             return Ok(());
         };
         let change = client_change(self.alloc, value);
-        let applied = self.settings.apply_change(self.alloc, change)?;
-        self.settings = Arc::new(self.alloc, applied.config)?;
-        Ok(())
+        self.change_settings(change)
     }
 
     // The answer to a request for the settings.

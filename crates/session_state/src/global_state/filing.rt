@@ -1,10 +1,10 @@
 // Documents, the loader's files, and the world that is made of them.
 ghost use Rattle.std.specs.Prelude.{◌≡◌, ◌<◌, ◌^◌, length, Ok, IfOk};
 ghost use Rattle.docs_vfs.specs.FileUrls.{path_of};
-ghost use Rattle.turn_parts.specs.Meets.{Meets};
+ghost use Rattle.turn_parts.specs.Meets.{Meets, Gives};
 ghost use Rattle.session_files.specs.Folds.{due_changes, is_due};
 ghost use Rattle.session_files.specs.Steps.{changed, closed as closed_document, loaded, opened, processed};
-ghost use Rattle.session_model.specs.Machine.{at_files, brought, changed_at, closed_at, files_processed, opened_at};
+ghost use Rattle.session_model.specs.Machine.{at_files, brought, changed_at, closed_at, files_followed, files_processed, opened_at};
 ghost use Rattle.session_model.specs.State.{columns_in, excludes_in};
 ghost use Rattle.session_model.specs.Timing.{bring_files, brings_files};
 
@@ -143,15 +143,32 @@ impl GlobalState {
         self.files.process(out)
     }
 
-    /// What has changed goes into the world, unless files are loading: one change, and so one revision. The fetch that it
-    /// asks for waits for a timer. Answers whether something has changed. After an `Err` the state is spent.
+    // What follows from files that have changed is done; without any, nothing is.
+    #[tactic(auto, unfolding(session_model::specs::Machine::files_followed))]
+    fn follow_files(
+        &mut self,
+        changed: &Items<ChangedFile>,
+        out: &mut TurnOut,
+    ) -> Result<(), TurnError>
+        ensures { Gives result (files_followed changed.now (record { state = self.old; out = out.old })) self.new out.new }
+    {
+        if changed.is_empty() {
+            return Ok(());
+        }
+        let effects = self.effects_for(changed.as_slice())?;
+        self.do_effects(effects, out)
+    }
+
+    /// What has changed goes into the world, unless files are loading: one change, and so one revision. The settings files
+    /// among it go into the settings, and the fetch that it asks for waits for a timer. Answers whether something has
+    /// changed. After an `Err` the state is spent.
     #[tactic(auto, unfolding(session_model::specs::Machine::files_processed))]
     pub fn process_changes(&mut self, out: &mut TurnOut) -> Result<bool, TurnError>
         ensures meets { Meets result (files_processed (record { state = self.old; out = out.old })) self.new out.new }
         ensures some { IfOk result (λ some. some ≡ is_due self.old.files) }
     {
         let changed = self.take_up(out)?;
-        self.plan_fetch_for(changed.as_slice(), out)?;
+        self.follow_files(&changed, out)?;
         Ok(!changed.is_empty())
     }
 

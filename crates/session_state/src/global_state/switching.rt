@@ -3,18 +3,20 @@ ghost use Rattle.std.specs.Prelude.{◌≡◌, ◌⊎◌, None, Some, Ok, Err, I
 ghost use Rattle.turn_parts.specs.Meets.{Meets, Gives};
 ghost use Rattle.turn_parts.specs.declared.fault.Counter.TheVariants.{LoaderSettings};
 ghost use Rattle.turn_parts.specs.declared.fault.TurnError.TheVariants.{Exhausted, NoMemory as OutOfMemory};
-ghost use Rattle.session_model.specs.Machine.{followed, loader_set, switch_done, warned};
+ghost use Rattle.session_model.specs.Machine.{followed, loader_set, roots_renewed, switch_done, warned};
+ghost use Rattle.session_model.specs.Sources.{sources_now};
 ghost use Rattle.session_model.specs.State.{builds_scripts, client_watches, excludes_in};
 ghost use Rattle.session_model.specs.Switching.{switch_by, switch_made};
 
 use crate::global_state::GlobalState;
 use crate::global_state::crates::builds_crates;
-use docs_vfs::VfsPath;
+use docs_vfs::{SourceRoots, VfsPath};
 use notify::{MessageKind, Outgo};
 use plain::{Items, Text};
 use ra_config::FilesWatcher;
 use session_model::{Counter, TurnError};
 use session_port::Command;
+use std::alloc::AllocError;
 use turn_parts::TurnOut;
 use workspaces::{Follows, SwitchFault};
 
@@ -73,7 +75,25 @@ impl GlobalState {
         )
     }
 
-    // What the user and the host are told behind a switch.
+    // The roots that the loader gets for the workspaces that are present.
+    fn roots_now(&self) -> Result<SourceRoots, AllocError>
+        ensures { IfOk result (λ roots. roots ≡ (sources_now self.now.client.settings self.now.workspaces).roots) }
+    {
+        SourceRoots::new(self.workspaces.loader_roots(self.excludes())?)
+    }
+
+    // The source roots are those that the loader gets.
+    #[tactic(auto, unfolding(session_model::specs::Machine::roots_renewed))]
+    fn renew_roots(&mut self, out: &mut TurnOut) -> Result<(), TurnError>
+        ensures { Gives result (roots_renewed (record { state = self.old; out = out.old })) self.new out.new }
+    {
+        let roots = self.roots_now()?;
+        self.parents = Some(roots.parent_map()?);
+        self.roots = roots;
+        Ok(())
+    }
+
+    // What the user and the host are told behind a switch, and the roots that it renews.
     #[tactic(auto, unfolding(session_model::specs::Machine::followed))]
     fn follow(&mut self, follows: Follows, out: &mut TurnOut) -> Result<(), TurnError>
         ensures { Gives result (followed follows (record { state = self.old; out = out.old })) self.new out.new }
@@ -87,7 +107,8 @@ impl GlobalState {
                 ..
             } => {
                 self.warn(msrv, out)?;
-                self.set_loader(loader_version, out)
+                self.set_loader(loader_version, out)?;
+                self.renew_roots(out)
             }
         }
     }

@@ -1,0 +1,43 @@
+// Settings files that change, and the roots that their settings are of.
+use crate::asking::agrees;
+
+// A file at the root of a workspace may turn checks off, and any other in a local root diagnostics; one in no root says nothing. One
+// that is deleted says nothing more, and no file says anything while others are loading. What no root is asked for stays.
+const FILES: &str = r#"start then at first > checked, diagnosed
+start then brought /w/Cargo.toml then at first > checked, diagnosed
+start then brought /w/Cargo.toml then file /w/rust-analyzer.toml checkOnSave = false then at first > unchecked, diagnosed
+start then brought /w/Cargo.toml then file /w/rust-analyzer.toml checkOnSave = false then settings > checked, 1 folder
+start then brought /w/Cargo.toml then file /w/rust-analyzer.toml checkOnSave = false then file /w/b.rs a then at first > unchecked, diagnosed
+start then brought /w/Cargo.toml then file /w/rust-analyzer.toml checkOnSave = false then file /w/rust-analyzer.toml then at first > checked, diagnosed
+start then brought /w/Cargo.toml then file /w/rust-analyzer.toml checkOnSave = false then file /w/rust-analyzer.toml checkOnSave = then at first > checked, diagnosed
+start then brought /w/Cargo.toml then file /w/a/rust-analyzer.toml checkOnSave = false then at first > checked, diagnosed
+start then brought /w/Cargo.toml then file /w/a/rust-analyzer.toml diagnostics.enable = false then at first > checked, undiagnosed
+start then brought /w/Cargo.toml then file /w/rust-analyzer.toml diagnostics.enable = true then file /w/a/rust-analyzer.toml diagnostics.enable = false then at first > checked, diagnosed
+start then brought /w/Cargo.toml then file /x/rust-analyzer.toml checkOnSave = false then at first > checked, diagnosed
+start then brought /w/Cargo.toml then file /w/rust-analyzer checkOnSave = false then at first > checked, diagnosed
+start then file /w/rust-analyzer.toml checkOnSave = false then brought /w/Cargo.toml then at first > checked, diagnosed
+start then brought /w/Cargo.toml then loading then file /w/rust-analyzer.toml checkOnSave = false then at first > checked, diagnosed
+start then brought /w/Cargo.toml then loading then file /w/rust-analyzer.toml checkOnSave = false then loaded then at first > unchecked, diagnosed"#;
+
+// A root that lies below another has its settings too, from the first change of a file on behind the switch that brought both.
+const ROOTS: &str =
+    r#"start then brought /w/Cargo.toml,/w/a/Cargo.toml then file /w/rust-analyzer.toml checkOnSave = false then at second > unchecked, diagnosed
+start then brought /w/Cargo.toml,/w/a/Cargo.toml then file /w/a/rust-analyzer.toml checkOnSave = false then at second > unchecked, diagnosed
+start then brought /w/Cargo.toml,/w/a/Cargo.toml then file /w/a/rust-analyzer.toml checkOnSave = false then at first > checked, diagnosed
+start then brought /w/Cargo.toml,/x/Cargo.toml then file /w/rust-analyzer.toml checkOnSave = false then at second > checked, diagnosed
+tell workspace/didChangeConfiguration {} then answer [{"cargo":{"buildScripts":{"enable":false}}}] then brought /w/Cargo.toml then file /w/rust-analyzer.toml checkOnSave = false then ask rust-analyzer/reloadWorkspace null then brought second /w/Cargo.toml,/w/a/Cargo.toml then at second > checked, diagnosed
+tell workspace/didChangeConfiguration {} then answer [{"cargo":{"buildScripts":{"enable":false}}}] then brought /w/Cargo.toml then file /w/rust-analyzer.toml checkOnSave = false then ask rust-analyzer/reloadWorkspace null then brought second /w/Cargo.toml,/w/a/Cargo.toml then file /w/b.rs a then at second > unchecked, diagnosed"#;
+
+#[test]
+fn settings_files_change_settings(rt: HostRuntime) {
+    for line in FILES.lines() {
+        assert!(rt; agrees(rt.alloc(), line) == Some(true), "at {line}");
+    }
+}
+
+#[test]
+fn roots_have_the_settings_of_those_above(rt: HostRuntime) {
+    for line in ROOTS.lines() {
+        assert!(rt; agrees(rt.alloc(), line) == Some(true), "at {line}");
+    }
+}
