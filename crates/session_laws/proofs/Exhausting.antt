@@ -1,8 +1,8 @@
 -- A turn that the machine can't take needs one more of a counter than there are.
-use Rattle.std.proofs.Common.{◌≡◌, ℕ, ◌+◌, ◌-◌, ◌^◌, ◌≤◌, ◌<◌, List, [], ◌∷◌, ◌++◌, length, Bool, true, false, refl, sym, ap, ◌∙◌, subst, arith, eqb-true, ⊎_elim}
+use Rattle.std.proofs.Common.{◌≡◌, ℕ, ◌+◌, ◌-◌, ◌^◌, ◌≤◌, ◌<◌, List, [], ◌∷◌, ◌++◌, length, Bool, true, false, refl, sym, ap, ◌∙◌, subst, inl, inr, arith, eqb-true}
 use Rattle.std.proofs.lemmas.List.{length-append}
 use Rattle.std.proofs.lemmas.Result.{IfErr-at_err, IfOk-at_ok}
-use Rattle.std.specs.Prelude.{Err, IfErr, if◌then◌else◌, is_some, None, Ok, Option, Result, Some, ◌==◌}
+use Rattle.std.specs.Prelude.{◌⊎◌, Err, IfErr, if◌then◌else◌, is_some, None, Ok, Option, Result, Some, ◌==◌}
 use Rattle.serde_json.specs.Data.{Data}
 use Rattle.docs_vfs.specs.FileUrls.{path_of}
 use Rattle.docs_vfs.specs.declared.file_url.UrlFault.{UrlFault}
@@ -44,12 +44,13 @@ use Rattle.workspaces.specs.Fetches.{fetch_to_start}
 use Rattle.workspaces.specs.declared.requests.FetchRequest.{FetchRequest}
 use Rattle.session_model.specs.Building.{build_due, with_due_build}
 use Rattle.session_model.specs.Fetching.{fetch_jobs}
-use Rattle.session_model.specs.Headline.{batch_row, builds_crates_in, builds_in, client_after, client_filed, client_left, fetch_in, fetches_in, files_told, loads_in, NeedsMore, place_past, row, scene_at, status_after, statuses_at, switch_in}
+use Rattle.session_model.specs.Headline.{batch_row, builds_crates_in, builds_in, client_after, client_asked, client_filed, client_left, client_switched, fetch_in, fetches_in, files_told, loads_in, NeedsMore, place_past, row, scene_at, status_after, statuses_at, switch_in}
 use Rattle.session_model.specs.Machine.{answer_taken, asked, asked_for_settings, at_client, at_desk, at_files, batched, begin_part, begun_fetches, build_part, changed_at, client_in, closed, closed_at}
 use Rattle.session_model.specs.Machine.{closing_part, counted, desk_in, event_part, fetch_part, fetch_started, files_in, files_part, files_processed, folders_taken, happened, kept, later_parts, noticed, opened_at, received}
-use Rattle.session_model.specs.Machine.{runs_started, start_parts, state_in, status_done, status_part, step, switch_done, switch_part, switched_to, taken, taken_in, told, turned, Turning, turning, with_client, with_desk, with_files}
+use Rattle.session_model.specs.Machine.{quiet_done, quiet_part, register_part, runs_started, saves_registered, start_parts, state_in, status_done, status_part, step, switch_done, switch_part, switched_to, taken, taken_in, told, turned, Turning, turning, with_client, with_desk, with_files}
 use Rattle.session_model.specs.Machine.{with_state}
 use Rattle.session_model.specs.State.{columns_in, excludes_in, may_start, scene_of, snapshot_of, State}
+use Rattle.session_model.specs.Asking.{client_refreshed_if, client_registered, client_watching}
 use Rattle.session_model.specs.Status.{client_after_status}
 use Rattle.session_model.specs.Hearing.{heard_of}
 use Rattle.session_model.specs.Loading.{MacroPaths, load_due}
@@ -63,14 +64,16 @@ use Rattle.session_model.specs.declared.heard.Heard.{Heard}
 use Rattle.session_model.specs.declared.heard.Heard.TheVariants.{Told, Malformed, Unhandled, Silent}
 use Rattle.session_laws.specs.Invariant.{place_of}
 use Rattle.session_laws.proofs.Building.{TooManyRuns, runs-errs}
+use Rattle.session_laws.proofs.Clients.{begun_client, left-more, registered-more, told-more, watched-more}
 use Rattle.session_laws.proofs.Filing.{AtLast, IsFull, change_of, changed-step-errs, full-err, loaded-errs-by, opened-errs, processed-errs}
 use Rattle.session_laws.proofs.Fetching.{started-errs}
 use Rattle.session_laws.proofs.Rows.{at, begin_and_close, begins, BegunTurn, BehindTurn, build-made, build_and_on, client-behind, counted-is, counted_turn, DoesAtDesk, event-fits, fetch-made, fetch_and_close, fetch_and_on}
-use Rattle.session_laws.proofs.Rows.{fetched-build, fetched-load, FetchedBehind, files-made, files_and_on, kept_past, MadeBehind, mid-switch, MidTurn, notification_input, place_at, ready-fetch, ReadyBehind, ReadyStart, ReadyTurn}
-use Rattle.session_laws.proofs.Rows.{session_in, settled-place, status-begins, status_and_close, switch-made, taken-settles}
-use Rattle.session_laws.proofs.Statuses.{asked-errs, IsPast, left-more, status-errs}
+use Rattle.session_laws.proofs.Rows.{fetched-build, fetched-load, FetchedBehind, files-made, files_and_on, kept_past, MadeBehind, Mid, mid-switch, MidTurn, notification_input, place_at, ready-fetch, ReadyBehind, ReadyStart, ReadyTurn}
+use Rattle.session_laws.proofs.Rows.{quiet-made, QuietTurn, quiet_and_on, ready-client, register_and_on, RegisteredTurn, registers, session_in, settled-place, status-begins, status_and_close, switch-made, taken-settles}
+use Rattle.session_laws.proofs.Requests.{asked-errs, due_in, IsPast, quiet-errs, registered-errs}
+use Rattle.session_laws.proofs.Statuses.{status-errs}
 use Rattle.session_laws.proofs.Starting.{TooManyStarts}
-use Rattle.session_laws.proofs.Switching.{made-errs, switched-errs}
+use Rattle.session_laws.proofs.Switching.{IsRefused, made-errs, switched-errs}
 use Rattle.session_model.specs.Switching.{switch_made}
 
 -- ---- jobs
@@ -249,20 +252,33 @@ closing-errs t P = IfErr-within state_in with_state (closed t.state.facts) t P (
 more-last : (revision more : ℕ) → 2 ^ 64 - 1 ≤ revision → 2 ^ 64 - 1 ≤ revision + more
 more-last revision more h = omega (arith, h)
 
--- a switch needs a version more, or a revision
+-- a request that is one too many is so of the turn
+past-needs : (meaning : Meaning) (s : State) (input : Input) (client : Client) (counter : Counter) → client.asked.given ≤ (client_left input (place_of s)).asked.given
+    → IsPast client counter → Needs meaning s input counter
+past-needs meaning s input client counter more h = subst (Needs meaning s input) (sym h.0) (omega (arith, h.1, more))
+
+-- a switch needs a version more, a request more or a revision more
+switch-needs : (meaning : Meaning) (s : State) (event : Event) (u : Working State) (counter : Counter) → Mid meaning s (Next event) u
+    → IsRefused (switch_made u.state.client.settings u.state.files u.state.workspaces) u.state counter → Needs meaning s (Next event) counter
+switch-needs meaning s event u counter mid (inl refused) =
+    let is : counter ≡ LoaderSettings = IfErr-at_err (λ c. c ≡ LoaderSettings) refused (made-errs u.state.client.settings u.state.files u.state.workspaces) in
+    subst (Needs meaning s (Next event)) (sym is) (sym (mid-switch meaning s event u mid) ∙ refused ∙ ap Err is)
+switch-needs meaning s event u counter mid (inr (inl past)) =
+    let client : client_watching (switch_made u.state.client.settings u.state.files u.state.workspaces) u.state.client ≡ client_switched (Next event) (place_of s) =
+    λ i. client_watching (mid-switch meaning s event u mid i) (mid.client i) in
+    past-needs meaning s (Next event) (client_switched (Next event) (place_of s)) counter (watched-more event (place_of s)) (subst (λ (k : Client). IsPast k counter) client past)
+switch-needs meaning s event u counter mid (inr (inr last)) =
+    subst (Needs meaning s (Next event)) (sym last.0)
+    (more-last s.files.host.revision (if builds_crates_in (Next event) (place_of s) then 1 else 0) (subst (λ (host : HostData). 2 ^ 64 - 1 ≤ host.revision) mid.host last.1))
+
 switch-part-errs : (meaning : Meaning) (s : State) (event : Event) (t : Working Turning) → MidTurn meaning s (Next event) t → IfErr (switch_part t) (Needs meaning s (Next event))
 unfolding switch_part switch_done
 switch-part-errs meaning s event t m =
     let u = session_in t in
     let made = switch_made u.state.client.settings u.state.files u.state.workspaces in
     IfErr-within state_in with_state switch_done t (Needs meaning s (Next event))
-    (err-weaker (switched_to made u) _ (Needs meaning s (Next event)) (switched-errs made u)
-    (λ counter refused. ⊎_elim
-    (λ none. let is : counter ≡ LoaderSettings = IfErr-at_err (λ c. c ≡ LoaderSettings) none (made-errs u.state.client.settings u.state.files u.state.workspaces) in
-    subst (Needs meaning s (Next event)) (sym is) (sym (mid-switch meaning s event u m.mid) ∙ none ∙ ap Err is))
-    (λ last. subst (Needs meaning s (Next event)) (sym last.0)
-    (more-last s.files.host.revision (if builds_crates_in (Next event) (place_of s) then 1 else 0) (subst (λ (host : HostData). 2 ^ 64 - 1 ≤ host.revision) m.mid.host last.1)))
-    refused))
+    (err-weaker (switched_to made u) (IsRefused made u.state) (Needs meaning s (Next event)) (switched-errs made u)
+    (λ counter refused. switch-needs meaning s event u counter m.mid refused))
 
 -- the world is to change at the last revision
 files-part-errs : (meaning : Meaning) (s : State) (event : Event) (t : Working Turning) → BehindTurn meaning s event t → IfErr (files_part t) (Needs meaning s (Next event))
@@ -323,7 +339,17 @@ build-part-errs meaning s event t fetched =
     subst (Needs meaning s input) (sym h.0)
     (with-runs s.desk.handed (length jobs) (fetches_in input place) (runs_in input s) given (length (jobs ++ fetch)) handed both many)))
 
--- a status may ask the client
+-- what is shown may ask the client
+quiet-part-errs : (meaning : Meaning) (s : State) (event : Event) (t : Working Turning) → ReadyBehind meaning s event t → IfErr (quiet_part t) (Needs meaning s (Next event))
+unfolding quiet_part
+quiet-part-errs meaning s event t ready =
+    let u = session_in t in
+    IfErr-within state_in with_state (quiet_done t.state.facts) t (Needs meaning s (Next event))
+    (err-weaker (quiet_done t.state.facts u) (IsPast (client_refreshed_if (due_in t.state.facts u.state) u.state.client)) (Needs meaning s (Next event)) (quiet-errs t.state.facts u)
+    (λ c h. past-needs meaning s (Next event) (client_asked (Next event) (place_of s)) c (told-more event (place_of s))
+    (subst (λ (k : Client). IsPast k c) (ready-client meaning s event t ready) h)))
+
+-- so may a status
 status-part-errs : (meaning : Meaning) (s : State) (event : Event) (t : Working Turning) → MadeBehind meaning s event t → IfErr (status_part t) (Needs meaning s (Next event))
 unfolding status_part
 status-part-errs meaning s event t m =
@@ -337,19 +363,32 @@ begin-status-errs : (meaning : Meaning) (s : State) → IfErr (status_part (turn
 unfolding status_part
 begin-status-errs meaning s =
     IfErr-within state_in with_state status_done (turning (begun s)) (Needs meaning s Start)
-    (err-weaker (status_done (begun s)) (IsPast (client_left Start (place_of s))) (Needs meaning s Start) (status-errs (begun s))
-    (λ c h. subst (Needs meaning s Start) (sym h.0) h.1))
+    (err-weaker (status_done (begun s)) (IsPast (begun_client s)) (Needs meaning s Start) (status-errs (begun s))
+    (λ c h. past-needs meaning s Start (begun_client s) c (registered-more (begun_client s)) h))
+
+-- so may the registration of saved documents
+register-part-errs : (meaning : Meaning) (s : State) (t : Working Turning) → BegunTurn s t → IfErr (register_part t) (Needs meaning s Start)
+unfolding register_part
+register-part-errs meaning s t b =
+    IfErr-within state_in with_state saves_registered t (Needs meaning s Start)
+    (err-weaker (saves_registered (session_in t)) (IsPast (client_registered t.state.state.client)) (Needs meaning s Start) (registered-errs (session_in t))
+    (λ c h. subst (Needs meaning s Start) (sym h.0) (subst (λ (x : State). number_limit < (client_registered x.client).asked.given) b.state h.1)))
 
 begin-errs : (t : Working Turning) (P : Counter → Type 0) → IfErr (begin_part t) P
 unfolding begin_part begun_fetches
 begin-errs t P = IfErr-within state_in with_state begun_fetches t P tt
 
-begin-close-errs : (meaning : Meaning) (s : State) (t : Working Turning) → BegunTurn s t → IfErr (begin_and_close t) (Needs meaning s Start)
+begin-close-errs : (meaning : Meaning) (s : State) (t : Working Turning) → RegisteredTurn s t → IfErr (begin_and_close t) (Needs meaning s Start)
 begin-close-errs meaning s t b =
     err-and_then (begin_part t) fetch_and_close (Needs meaning s Start) (begin-errs t (Needs meaning s Start))
     (λ u is. err-and_then (fetch_part Start u) closing_part (Needs meaning s Start)
     (fetch-part-errs meaning s Start (client_left Start (place_of s)) (status_after Start (place_of s)) (statuses_at Start (place_of s)) u (IfOk-at_ok (ReadyStart meaning s) is (begins meaning s t b)))
     (λ v is. closing-errs v (Needs meaning s Start)))
+
+register-on-errs : (meaning : Meaning) (s : State) (t : Working Turning) → BegunTurn s t → IfErr (register_and_on t) (Needs meaning s Start)
+register-on-errs meaning s t b =
+    err-and_then (register_part t) begin_and_close (Needs meaning s Start) (register-part-errs meaning s t b)
+    (λ u is. begin-close-errs meaning s u (IfOk-at_ok (RegisteredTurn s) is (registers s t b)))
 
 status-close-errs : (meaning : Meaning) (s : State) (event : Event) (t : Working Turning) → MadeBehind meaning s event t → IfErr (status_and_close t) (Needs meaning s (Next event))
 status-close-errs meaning s event t m =
@@ -360,24 +399,29 @@ build-on-errs meaning s event t fetched =
     err-and_then (build_part t) status_and_close (Needs meaning s (Next event)) (build-part-errs meaning s event t fetched)
     (λ u is. status-close-errs meaning s event u (IfOk-at_ok (MadeBehind meaning s event) is (build-made meaning s event t fetched)))
 
-fetch-on-errs : (meaning : Meaning) (s : State) (event : Event) (t : Working Turning) → ReadyBehind meaning s event t → IfErr (fetch_and_on event t) (Needs meaning s (Next event))
+fetch-on-errs : (meaning : Meaning) (s : State) (event : Event) (t : Working Turning) → QuietTurn meaning s event t → IfErr (fetch_and_on event t) (Needs meaning s (Next event))
 fetch-on-errs meaning s event t ready =
     err-and_then (fetch_part (Next event) t) build_and_on (Needs meaning s (Next event))
-    (fetch-part-errs meaning s (Next event) (client_filed (Next event) (place_of s)) s.status [] t ready)
+    (fetch-part-errs meaning s (Next event) (client_asked (Next event) (place_of s)) s.status [] t ready)
     (λ u is. build-on-errs meaning s event u
-    (IfOk-at_ok (FetchedBehind meaning s event) is (fetch-made meaning s (Next event) (client_filed (Next event) (place_of s)) s.status [] t ready)))
+    (IfOk-at_ok (FetchedBehind meaning s event) is (fetch-made meaning s (Next event) (client_asked (Next event) (place_of s)) s.status [] t ready)))
+
+quiet-on-errs : (meaning : Meaning) (s : State) (event : Event) (t : Working Turning) → ReadyBehind meaning s event t → IfErr (quiet_and_on event t) (Needs meaning s (Next event))
+quiet-on-errs meaning s event t ready =
+    err-and_then (quiet_part t) (fetch_and_on event) (Needs meaning s (Next event)) (quiet-part-errs meaning s event t ready)
+    (λ u is. fetch-on-errs meaning s event u (IfOk-at_ok (QuietTurn meaning s event) is (quiet-made meaning s event t ready)))
 
 files-on-errs : (meaning : Meaning) (s : State) (event : Event) (t : Working Turning) → BehindTurn meaning s event t → IfErr (files_and_on event t) (Needs meaning s (Next event))
 files-on-errs meaning s event t behind =
-    err-and_then (files_part t) (fetch_and_on event) (Needs meaning s (Next event)) (files-part-errs meaning s event t behind)
-    (λ u made. fetch-on-errs meaning s event u (IfOk-at_ok (ReadyBehind meaning s event) made (files-made meaning s event t behind)))
+    err-and_then (files_part t) (quiet_and_on event) (Needs meaning s (Next event)) (files-part-errs meaning s event t behind)
+    (λ u made. quiet-on-errs meaning s event u (IfOk-at_ok (ReadyBehind meaning s event) made (files-made meaning s event t behind)))
 
 step-errs : (meaning : Meaning) (s : State) (input : Input) → IfErr (step meaning input (begun s)) (Needs meaning s input)
 unfolding step
 step-errs meaning s Start =
     err-and_then (start_parts (turning (begun s))) turned (Needs meaning s Start)
-    (err-and_then (status_part (turning (begun s))) begin_and_close (Needs meaning s Start) (begin-status-errs meaning s)
-    (λ t is. begin-close-errs meaning s t (IfOk-at_ok (BegunTurn s) is (status-begins s)))) (λ v is. tt)
+    (err-and_then (status_part (turning (begun s))) register_and_on (Needs meaning s Start) (begin-status-errs meaning s)
+    (λ t is. register-on-errs meaning s t (IfOk-at_ok (BegunTurn s) is (status-begins s)))) (λ v is. tt)
 step-errs meaning s (Next event) =
     err-and_then (and_then (event_part meaning event (turning (begun s))) (later_parts (Next event))) turned (Needs meaning s (Next event))
     (err-and_then (event_part meaning event (turning (begun s))) (later_parts (Next event)) (Needs meaning s (Next event)) (event-part-errs meaning s event)

@@ -4,6 +4,7 @@ pub mod Asking
 pub mod Beside
 pub mod Building
 pub mod Causes
+pub mod Clients
 pub mod Changing
 pub mod Counted
 pub mod Courses
@@ -19,6 +20,7 @@ pub mod Joined
 pub mod Numbered
 pub mod Once
 pub mod OneOut
+pub mod Requests
 pub mod Rising
 pub mod Rows
 pub mod Same

@@ -1,7 +1,7 @@
 -- The machine's turns are the rows of the reply table.
-use Rattle.std.proofs.Common.{◌≡◌, ℕ, ◌+◌, ◌≤◌, List, [], ◌∷◌, ◌++◌, length, Bool, true, false, refl, sym, ap, ◌∙◌, subst, arith, eqb-true, append-nil, append_assoc}
+use Rattle.std.proofs.Common.{◌≡◌, ℕ, ◌+◌, ◌≤◌, List, [], ◌∷◌, ◌++◌, length, Bool, true, false, refl, sym, ap, ◌∙◌, subst, arith, eq-eqb, eqb-true, append-nil, append_assoc}
 use Rattle.plain.specs.Texts.{text_cmp}
-use Rattle.std.specs.Prelude.{Result, Ok, Err, IfOk, Option, None, Some, ◌==◌, is_some, map as list_map, if◌then◌else◌}
+use Rattle.std.specs.Prelude.{Result, Ok, Err, IfOk, Option, None, Some, ◌==◌, is_some, not, ◌||◌, map as list_map, if◌then◌else◌}
 use Rattle.std.specs.FinMap as map
 use Rattle.std.specs.List.{filter_map}
 use Rattle.std.proofs.lemmas.Result.{IfOk-at_ok}
@@ -56,17 +56,19 @@ use Rattle.status.specs.declared.status.Status.{Status}
 use Rattle.workspaces.specs.Fetches.{fetch_to_start, fires, start_fetch, start_up}
 use Rattle.workspaces.specs.Workspaces.{Workspaces}
 use Rattle.workspaces.specs.declared.requests.FetchRequest.{FetchRequest}
+use Rattle.session_model.specs.Asking.{client_refreshed_if, client_registered, client_watching, is_refresh_due}
 use Rattle.session_model.specs.Building.{build_due, end_kept, ends_kept, request_told, with_due_build}
 use Rattle.session_model.specs.Crates.{files_with_crates, is_built_by}
 use Rattle.session_model.specs.Fetching.{fetch_jobs, folders_told_if, settings_told, with_fetches}
 use Rattle.session_model.specs.Headline.{Place, reaction_of, row, notice_row, batch_row, desk_after, place_after, place_past, client_after, last_of, revision_after, scene_at, snapshot_at}
-use Rattle.session_model.specs.Headline.{are_due, build_in, builds_crates_in, changes_due, changes_in, client_filed, client_left, fetch_in, files_after, files_made, files_switched, files_told, files_turned, is_changed, jobs_started, left_or, load_in, may_start_at, or_before}
-use Rattle.session_model.specs.Headline.{revisions_in, run_jobs, SetsTimer}
+use Rattle.session_model.specs.Headline.{are_due, build_in, builds_crates_in, changes_due, changes_in, changes_world, client_asked, client_filed, client_left, client_switched, fetch_in, files_after, files_made, files_switched, files_told, files_turned}
+use Rattle.session_model.specs.Headline.{is_changed, jobs_started, left_or, load_in, may_start_at, or_before, refreshes_at, revisions_in, run_jobs, SetsTimer}
 use Rattle.session_model.specs.Headline.{sources_filed, sources_switched, status_after, statuses_at, switch_in, workspaces_after, workspaces_at, workspaces_fetched, workspaces_planned, workspaces_switched}
 use Rattle.session_model.specs.Inputs.{cancelled_by, request_in, turns_after}
 use Rattle.session_model.specs.Machine.{answer_taken, asked, asked_for_settings, at_client, at_desk, at_files, at_workspaces, batched, begin_part, begun_fetches, brought, build_part, changed_at, client_in, closed}
 use Rattle.session_model.specs.Machine.{closed_at, closing_part, counted, desk_in, event_part, facts_of, fetch_part, fetch_started, file_changed, files_changed, files_followed, files_in, files_part, files_processed, folders_taken}
-use Rattle.session_model.specs.Machine.{happened, kept, later_parts, noticed, opened_at, received, revised, runs_started, start_parts, state_in, status_done, status_part, step, switch_done, switch_part, taken, taken_in, timed, timer_set, told}
+use Rattle.session_model.specs.Machine.{happened, has_new_world, kept, later_parts, noticed, opened_at, quiet_done, quiet_part, received, register_part, revised, runs_started, saves_registered, start_parts, state_in}
+use Rattle.session_model.specs.Machine.{status_done, status_part, step, switch_done, switch_part, taken, taken_in, timed, timer_set, told}
 use Rattle.session_model.specs.Machine.{turned, Turning, turning, with_client, with_desk, with_files, with_state, with_workspaces}
 use Rattle.session_model.specs.Hearing.{heard_of, told_by}
 use Rattle.session_model.specs.Loading.{MacroPaths, load_due, with_due_load}
@@ -75,7 +77,7 @@ use Rattle.session_model.specs.Switching.{switch_made}
 use Rattle.session_model.specs.Timing.{bring_files, planned_by, renewed_if, timer_of}
 use Rattle.session_model.specs.Run.{Turn, Steps, begun, after_input, out_after}
 use Rattle.session_model.specs.State.{State, columns_in, discovers, excludes_in, goes_by_folders, macros_loaded_in, may_start, scene_of, snapshot_of}
-use Rattle.session_model.specs.Status.{client_after_status, status_now, statuses_due, statuses_in}
+use Rattle.session_model.specs.Status.{client_after_status, is_quiescent, status_now, statuses_due, statuses_in}
 use Rattle.session_model.specs.declared.facts.Facts.{Facts}
 use Rattle.session_model.specs.declared.input.Event.{Event}
 use Rattle.session_model.specs.declared.input.Event.TheVariants.{Lsp, Task, Vfs, Deferred, Timer}
@@ -87,16 +89,18 @@ use Rattle.session_laws.specs.Beside.{Serves, Tells, TellsOnly, turn_of}
 use Rattle.session_laws.specs.Invariant.{StepFits, place_of}
 use Rattle.session_laws.proofs.Beside.{beside-fits, beside-revised}
 use Rattle.session_laws.proofs.Building.{jobs_of_runs, no-build, no-load, runs-hand, same-fetch}
+use Rattle.session_laws.proofs.Clients.{begun_client, left-settings, quiet-settings, switched-settings}
 use Rattle.session_laws.proofs.Fetching.{jobs_of_fetch, started-hands}
 use Rattle.session_laws.proofs.Filing.{DoesForFiles, KeepsHost, Processes, change-host, change_of, changed-does, closed-does, loaded-does, messages-host, opened-does, opening-host}
 use Rattle.session_laws.proofs.Filing.{processed-does, revision_by, revision_now, turn-revises}
 use Rattle.session_laws.proofs.Following.{FollowsFiles, followed-does}
 use Rattle.session_laws.proofs.Numbered.{row-numbered}
+use Rattle.session_laws.proofs.Requests.{due_in, quiet-does, registered-does, TellsClient}
 use Rattle.session_laws.proofs.Same.{none-handed, same_desk, same_place}
-use Rattle.session_laws.proofs.Statuses.{left-settings, status-does, TellsStatus, told-settings}
+use Rattle.session_laws.proofs.Statuses.{status-does, TellsStatus, told-settings}
 use Rattle.session_laws.proofs.Starting.{StartsJobs}
 use Rattle.session_laws.proofs.Switching.{Switches, made-follows, switched-does}
-use Rattle.session_laws.proofs.Telling.{answered-does, asked-does, beside-told, DoesForClient, folders-do, statuses-append, tells-invalidated, tells-logged, tells-none, tells-on, timers-append}
+use Rattle.session_laws.proofs.Telling.{answered-does, asked-does, beside-told, DoesForClient, folders-do, statuses-append, tells-invalidated, tells-logged, tells-more, tells-none, tells-on, timers-append}
 
 -- the turn is counted, and nothing else was done
 abbrev pub counted_desk : Desk → Working Desk
@@ -127,7 +131,7 @@ pub record Mid (meaning : Meaning) (s : State) (input : Input) (u : Working Stat
 -- a turn behind its switch
 pub record Behind (meaning : Meaning) (s : State) (event : Event) (u : Working State) : Type 0 where
   pub serves : Serves meaning s (Next event) (after_input (Next event) s.desk.jobs) u
-  pub client : u.state.client ≡ client_after (Next event) s.client
+  pub client : u.state.client ≡ client_switched (Next event) (place_of s)
   pub status : u.state.status ≡ s.status
   pub files : files_switched (Next event) (place_of s) ≡ Ok u.state.files
   pub unrevised : filter_map revision_of u.out.commands ≡ []
@@ -753,7 +757,7 @@ switched-behind meaning s event u mid =
     IfOk-weaker _ (Switches made u) (Behind meaning s event) (switched-does made u)
     (λ v does. let follows = made-follows made u.state.client.settings u.state.files v.state.files does.files in record {
       serves = beside-fits meaning s (Next event) (after_input (Next event) s.desk.jobs) u v (beside-told u v does.tells (ap (λ (t : State). t.desk) does.state)) mid.serves;
-      client = ap (λ (t : State). t.client) does.state ∙ mid.client;
+      client = ap (λ (t : State). t.client) does.state ∙ (λ i. client_watching (is i) (mid.client i));
       status = ap (λ (t : State). t.status) does.state ∙ mid.status;
       files = ap (λ r. and_then r (λ files. and_then (switch_in input (place_of s)) (files_with_crates (client_after input s.client).settings files))) mid.files
           ∙ sym (λ i. and_then (is i) (files_with_crates (mid.client i).settings u.state.files)) ∙ does.files;
@@ -854,15 +858,19 @@ pub record FetchedTurn (meaning : Meaning) (s : State) (input : Input) (asked : 
   pub workspaces : t.state.state.workspaces ≡ workspaces_fetched input (place_of s)
   pub hands : spawned t.out.commands ≡ (row meaning input (place_of s)).jobs ++ fetch_jobs t.state.state.desk.handed (snapshot_of t.state.state) (fetch_in input (place_of s))
 
+-- a turn behind its quiet part
+abbrev pub QuietTurn : Meaning → State → Event → Working Turning → Type 0
+QuietTurn meaning s event t = ReadyTurn meaning s (Next event) (client_asked (Next event) (place_of s)) s.status [] t
+
 -- these behind an event, whose status comes last
 abbrev pub ReadyBehind : Meaning → State → Event → Working Turning → Type 0
 ReadyBehind meaning s event t = ReadyTurn meaning s (Next event) (client_filed (Next event) (place_of s)) s.status [] t
 
 abbrev pub FetchedBehind : Meaning → State → Event → Working Turning → Type 0
-FetchedBehind meaning s event t = FetchedTurn meaning s (Next event) (client_filed (Next event) (place_of s)) s.status [] t
+FetchedBehind meaning s event t = FetchedTurn meaning s (Next event) (client_asked (Next event) (place_of s)) s.status [] t
 
 abbrev pub MadeBehind : Meaning → State → Event → Working Turning → Type 0
-MadeBehind meaning s event t = MadeTurn meaning s (Next event) (client_filed (Next event) (place_of s)) s.status [] t
+MadeBehind meaning s event t = MadeTurn meaning s (Next event) (client_asked (Next event) (place_of s)) s.status [] t
 
 -- these of the start, whose status comes first
 abbrev pub ReadyStart : Meaning → State → Working Turning → Type 0
@@ -883,7 +891,9 @@ planned-now : (meaning : Meaning) (s : State) (event : Event) (u : Working State
 planned-now meaning s event u behind =
     let turns : u.state.desk.turns ≡ s.desk.turns + 1 = ap (λ (d : Desk). d.turns) behind.serves.desk in
     let changed = changed-now meaning s event u behind in
-    λ i. planned_by (behind.client i).settings (turns i) (changed i) (behind.workspaces i)
+    let settings : u.state.client.settings ≡ (client_after (Next event) s.client).settings =
+    ap (λ (c : Client). c.settings) behind.client ∙ switched-settings (Next event) (place_of s) in
+    λ i. planned_by (settings i) (turns i) (changed i) (behind.workspaces i)
 
 pub files-made : (meaning : Meaning) (s : State) (event : Event) (t : Working Turning) → BehindTurn meaning s event t → IfOk (files_part t) (ReadyBehind meaning s event)
 unfolding files_part files_processed
@@ -906,8 +916,77 @@ files-made meaning s event t m =
     })))
     (λ v ready. ready))
 
+-- ---- the quiet part
+
+-- the client is told something, and has come to this
+told-made : (meaning : Meaning) (s : State) (input : Input) (asked client : Client) (last : Status) (sent : List Data) (w v : Working State) → Made meaning s input asked last sent w
+    → TellsClient client [] w v → client.settings ≡ asked.settings → Made meaning s input client last sent v
+told-made meaning s input asked client last sent w v made told same = record {
+  serves = beside-fits meaning s input (after_input input s.desk.jobs) w v (beside-told w v told.tells (ap (λ (x : State). x.desk) told.state)) made.serves;
+  client = ap (λ (x : State). x.client) told.state;
+  status = ap (λ (x : State). x.status) told.state ∙ made.status;
+  settings = same ∙ made.settings;
+  sources = ap (λ (x : State). x.sources) told.state ∙ made.sources;
+  files = made.files ∙ sym (ap (λ (x : State). Ok x.files) told.state);
+  unrevised = ap (filter_map revision_of) told.tells.ordered ∙ revisions-append w.out.commands told.tells.commands ∙ (λ i. made.unrevised i ++ told.tells.revises_none i);
+  told = ap statuses_in told.tells.written ∙ statuses-append w.out.messages told.tells.messages ∙ (λ i. made.told i ++ told.tells.tells i) ∙ append-nil sent;
+  untimed = ap (filter_map timer_of) told.tells.ordered ∙ timers-append w.out.commands told.tells.commands ∙ (λ i. made.untimed i ++ told.tells.times_none i);
+  revised = ap (λ (x : State). x.files.host.revision) told.state ∙ made.revised;
+}
+
+-- a revision that rises is another
+risen : (n more : ℕ) (b : Bool) → (n + (1 + more) == n) ≡ b → b ≡ false
+risen n more true is = let same : n + (1 + more) ≡ n = eqb-true _ _ is in absurd (omega (arith, same))
+risen n more false is = refl
+
+is-risen : (built changed : Bool) (n : ℕ) → not (n + ((if built then 1 else 0) + (if changed then 1 else 0)) == n) ≡ (built || changed)
+is-risen true true n = ap not (risen n 1 (n + (1 + 1) == n) refl)
+is-risen true false n = ap not (risen n 0 (n + (1 + 0) == n) refl)
+is-risen false true n = ap not (risen n 0 (n + (0 + 1) == n) refl)
+is-risen false false n = ap not (eq-eqb (n + (0 + 0)) n (sym (none-more n)))
+
+-- what the quiet part finds is what the lists say
+pub ready-due : (meaning : Meaning) (s : State) (event : Event) (t : Working Turning) → ReadyBehind meaning s event t
+    → due_in t.state.facts t.state.state ≡ refreshes_at (Next event) (place_of s)
+ready-due meaning s event t ready =
+    let revision : ℕ = t.state.state.files.host.revision in
+    let built : Bool = builds_crates_in (Next event) (place_of s) in
+    let changed : Bool = is_changed s.client.settings (Next event) s.files in
+    let new : has_new_world t.state.facts t.state.state ≡ changes_world (Next event) (place_of s) =
+    ap (λ (f : Facts). not (revision == f.revision)) ready.facts ∙ ap (λ (n : ℕ). not (n == s.files.host.revision)) ready.made.revised
+    ∙ is-risen built changed s.files.host.revision in
+    λ i. is_refresh_due (ready.facts i).quiescent (is_quiescent (files-now s (Next event) t.state.state.files ready.made.files i) (ready.workspaces i)) (new i)
+
+-- the client that it leaves
+pub ready-client : (meaning : Meaning) (s : State) (event : Event) (t : Working Turning) → ReadyBehind meaning s event t
+    → client_refreshed_if (due_in t.state.facts t.state.state) t.state.state.client ≡ client_asked (Next event) (place_of s)
+ready-client meaning s event t ready = λ i. client_refreshed_if (ready-due meaning s event t ready i) (ready.made.client i)
+
+pub quiet-made : (meaning : Meaning) (s : State) (event : Event) (t : Working Turning) → ReadyBehind meaning s event t → IfOk (quiet_part t) (QuietTurn meaning s event)
+unfolding quiet_part
+quiet-made meaning s event t ready =
+    let w = session_in t in
+    let left : Client = client_asked (Next event) (place_of s) in
+    IfOk-within state_in with_state (quiet_done t.state.facts) t (QuietTurn meaning s event)
+    (IfOk-weaker (quiet_done t.state.facts w) (TellsClient (client_refreshed_if (due_in t.state.facts w.state) w.state.client) [] w) _ (quiet-does t.state.facts w)
+    (λ v told. let now : TellsClient left [] w v = subst (λ (c : Client). TellsClient c [] w v) (ready-client meaning s event t ready) told in
+    record {
+      facts = ready.facts;
+      made = told-made meaning s (Next event) (client_filed (Next event) (place_of s)) left s.status [] w v ready.made now (quiet-settings (Next event) (place_of s));
+      workspaces = ap (λ (x : State). x.workspaces) now.state ∙ ready.workspaces;
+      spawns = ap spawned now.tells.ordered ∙ spawned-append w.out.commands now.tells.commands ∙ (λ i. ready.spawns i ++ now.tells.spawns_none i) ∙ append-nil _;
+    }))
+
+-- ---- the start
+
 -- the start tells its status
 pub record BegunTurn (s : State) (t : Working Turning) : Type 0 where
+  pub facts : t.state.facts ≡ facts_of (begun s)
+  pub tells : TellsOnly (statuses_at Start (place_of s)) nothing_done t.out
+  pub state : t.state.state ≡ record s { client = begun_client s; status = status_after Start (place_of s) }
+
+-- and asks to be told of saved documents
+pub record RegisteredTurn (s : State) (t : Working Turning) : Type 0 where
   pub facts : t.state.facts ≡ facts_of (begun s)
   pub tells : TellsOnly (statuses_at Start (place_of s)) nothing_done t.out
   pub state : t.state.state ≡ record s { client = client_left Start (place_of s); status = status_after Start (place_of s) }
@@ -923,8 +1002,19 @@ status-begins s =
       state = told.state;
     }))
 
+pub registers : (s : State) (t : Working Turning) → BegunTurn s t → IfOk (register_part t) (RegisteredTurn s)
+unfolding register_part
+registers s t b =
+    IfOk-within state_in with_state saves_registered t (RegisteredTurn s)
+    (IfOk-weaker (saves_registered (session_in t)) (TellsClient (client_registered t.state.state.client) [] (session_in t)) _ (registered-does (session_in t))
+    (λ v told. record {
+      facts = b.facts;
+      tells = tells-more _ _ _ _ b.tells told.tells;
+      state = told.state ∙ ap (λ (x : State). with_client (client_registered x.client) x) b.state;
+    }))
+
 -- and asks for a fetch
-pub begins : (meaning : Meaning) (s : State) (t : Working Turning) → BegunTurn s t → IfOk (begin_part t) (ReadyStart meaning s)
+pub begins : (meaning : Meaning) (s : State) (t : Working Turning) → RegisteredTurn s t → IfOk (begin_part t) (ReadyStart meaning s)
 unfolding begin_part begun_fetches
 begins meaning s t b =
     let settings : t.state.state.client.settings ≡ s.client.settings = ap (λ (x : State). x.client.settings) b.state ∙ left-settings Start (place_of s) in
@@ -1017,7 +1107,7 @@ build-made meaning s event t fetched =
     let same = same-fetch (fetch_in input place) build load w v (λ some. build_is ∙ alone s event some) (λ some. load_is ∙ unloaded s event some) h in
     record {
       facts = fetched.facts;
-      made = started-now meaning s input (client_filed input place) s.status [] w v (jobs_of_runs build load) after fetched.made h;
+      made = started-now meaning s input (client_asked input place) s.status [] w v (jobs_of_runs build load) after fetched.made h;
       workspaces = h.now ∙ ap (λ (w : Workspaces). with_due_load (build_due w) (with_due_build w)) fetched.workspaces;
       hands = h.hands ∙ ap (λ (js : List Job). js ++ run_jobs v.state.desk.handed (snapshot_of v.state) build load) (fetched.hands ∙ ap (λ (js : List Job). jobs ++ js) same)
           ∙ append_assoc jobs fetch (run_jobs v.state.desk.handed (snapshot_of v.state) build load)
@@ -1044,7 +1134,8 @@ client-behind meaning s event t m =
 status-behind : (meaning : Meaning) (s : State) (event : Event) (t : Working Turning) → MadeBehind meaning s event t
     → status_now t.state.state.client.settings t.state.state.files t.state.state.workspaces ≡ status_after (Next event) (place_of s)
 status-behind meaning s event t m =
-    λ i. status_now (m.made.client i).settings (files-now s (Next event) t.state.state.files m.made.files i) (m.workspaces i)
+    let settings : t.state.state.client.settings ≡ (client_filed (Next event) (place_of s)).settings = ap (λ (c : Client). c.settings) m.made.client ∙ m.made.settings in
+    λ i. status_now (settings i) (files-now s (Next event) t.state.state.files m.made.files i) (m.workspaces i)
 
 -- the status that is told
 due-behind : (meaning : Meaning) (s : State) (event : Event) (t : Working Turning) → MadeBehind meaning s event t
@@ -1052,7 +1143,7 @@ due-behind : (meaning : Meaning) (s : State) (event : Event) (t : Working Turnin
     ≡ statuses_at (Next event) (place_of s)
 due-behind meaning s event t m =
     let settings : t.state.state.client.settings ≡ (client_left (Next event) (place_of s)).settings =
-    ap (λ (c : Client). c.settings) m.made.client ∙ sym (left-settings (Next event) (place_of s)) in
+    ap (λ (c : Client). c.settings) m.made.client ∙ m.made.settings ∙ sym (left-settings (Next event) (place_of s)) in
     λ i. statuses_due (settings i) (m.made.status i) (status-behind meaning s event t m i)
 
 -- a snapshot has the settings of the client, and nothing else of it
@@ -1119,16 +1210,25 @@ event-fits meaning s event =
 abbrev pub fetch_and_close : Working Turning → Result (Working Turning) Counter
 fetch_and_close t = and_then (fetch_part Start t) closing_part
 
--- it tells its status, and asks for the fetch
+-- it asks for the fetch before
 abbrev pub begin_and_close : Working Turning → Result (Working Turning) Counter
 begin_and_close t = and_then (begin_part t) fetch_and_close
 
-start-fits : (meaning : Meaning) (s : State) (t : Working Turning) → BegunTurn s t → IfOk (begin_and_close t) (λ v. Closes meaning s Start (session_in v))
-start-fits meaning s t b =
+-- and to be told of saved documents before that
+abbrev pub register_and_on : Working Turning → Result (Working Turning) Counter
+register_and_on t = and_then (register_part t) begin_and_close
+
+begin-fits : (meaning : Meaning) (s : State) (t : Working Turning) → RegisteredTurn s t → IfOk (begin_and_close t) (λ v. Closes meaning s Start (session_in v))
+begin-fits meaning s t b =
     IfOk-and_then (begin_part t) fetch_and_close (ReadyStart meaning s) (λ v. Closes meaning s Start (session_in v)) (begins meaning s t b)
     (λ u ready. IfOk-and_then (fetch_part Start u) closing_part (FetchedStart meaning s) (λ v. Closes meaning s Start (session_in v))
     (fetch-made meaning s Start (client_left Start (place_of s)) (status_after Start (place_of s)) (statuses_at Start (place_of s)) u ready)
     (λ v fetched. closing-fits meaning s Start v (start-built meaning s v fetched)))
+
+start-fits : (meaning : Meaning) (s : State) (t : Working Turning) → BegunTurn s t → IfOk (register_and_on t) (λ v. Closes meaning s Start (session_in v))
+start-fits meaning s t b =
+    IfOk-and_then (register_part t) begin_and_close (RegisteredTurn s) (λ v. Closes meaning s Start (session_in v)) (registers s t b)
+    (λ u registered. begin-fits meaning s u registered)
 
 -- behind an event: the status is told, and the turn closes
 abbrev pub status_and_close : Working Turning → Result (Working Turning) Counter
@@ -1149,26 +1249,35 @@ build-fits meaning s event t fetched =
 abbrev pub fetch_and_on : Event → Working Turning → Result (Working Turning) Counter
 fetch_and_on event t = and_then (fetch_part (Next event) t) build_and_on
 
-fetch-fits : (meaning : Meaning) (s : State) (event : Event) (t : Working Turning) → ReadyBehind meaning s event t → IfOk (fetch_and_on event t) (λ v. Closes meaning s (Next event) (session_in v))
+fetch-fits : (meaning : Meaning) (s : State) (event : Event) (t : Working Turning) → QuietTurn meaning s event t → IfOk (fetch_and_on event t) (λ v. Closes meaning s (Next event) (session_in v))
 fetch-fits meaning s event t ready =
     IfOk-and_then (fetch_part (Next event) t) build_and_on (FetchedBehind meaning s event) (λ v. Closes meaning s (Next event) (session_in v))
-    (fetch-made meaning s (Next event) (client_filed (Next event) (place_of s)) s.status [] t ready)
+    (fetch-made meaning s (Next event) (client_asked (Next event) (place_of s)) s.status [] t ready)
     (λ u fetched. build-fits meaning s event u fetched)
+
+-- the client is asked for what it shows before that
+abbrev pub quiet_and_on : Event → Working Turning → Result (Working Turning) Counter
+quiet_and_on event t = and_then (quiet_part t) (fetch_and_on event)
+
+quiet-fits : (meaning : Meaning) (s : State) (event : Event) (t : Working Turning) → ReadyBehind meaning s event t → IfOk (quiet_and_on event t) (λ v. Closes meaning s (Next event) (session_in v))
+quiet-fits meaning s event t ready =
+    IfOk-and_then (quiet_part t) (fetch_and_on event) (QuietTurn meaning s event) (λ v. Closes meaning s (Next event) (session_in v))
+    (quiet-made meaning s event t ready) (λ u quiet. fetch-fits meaning s event u quiet)
 
 -- what has changed goes into the world before that
 abbrev pub files_and_on : Event → Working Turning → Result (Working Turning) Counter
-files_and_on event t = and_then (files_part t) (fetch_and_on event)
+files_and_on event t = and_then (files_part t) (quiet_and_on event)
 
 files-fit : (meaning : Meaning) (s : State) (event : Event) (t : Working Turning) → BehindTurn meaning s event t → IfOk (files_and_on event t) (λ v. Closes meaning s (Next event) (session_in v))
 files-fit meaning s event t behind =
-    IfOk-and_then (files_part t) (fetch_and_on event) (ReadyBehind meaning s event) (λ v. Closes meaning s (Next event) (session_in v))
-    (files-made meaning s event t behind) (λ u ready. fetch-fits meaning s event u ready)
+    IfOk-and_then (files_part t) (quiet_and_on event) (ReadyBehind meaning s event) (λ v. Closes meaning s (Next event) (session_in v))
+    (files-made meaning s event t behind) (λ u ready. quiet-fits meaning s event u ready)
 
 step-fits : (meaning : Meaning) (s : State) (input : Input) → IfOk (step meaning input (begun s)) (Closes meaning s input)
 unfolding step
 step-fits meaning s Start =
     IfOk-and_then (start_parts (turning (begun s))) turned (λ v. Closes meaning s Start (session_in v)) (Closes meaning s Start)
-    (IfOk-and_then (status_part (turning (begun s))) begin_and_close (BegunTurn s) (λ v. Closes meaning s Start (session_in v))
+    (IfOk-and_then (status_part (turning (begun s))) register_and_on (BegunTurn s) (λ v. Closes meaning s Start (session_in v))
     (status-begins s) (λ t b. start-fits meaning s t b)) (λ v fits. fits)
 step-fits meaning s (Next event) =
     IfOk-and_then (and_then (event_part meaning event (turning (begun s))) (later_parts (Next event))) turned (λ v. Closes meaning s (Next event) (session_in v)) (Closes meaning s (Next event))

@@ -1,6 +1,7 @@
 -- What a switch to other workspaces does within a turn: it tells the user and the host something, and answers nobody.
 use Rattle.std.proofs.Common.{◌≡◌, ◌≤◌, ℕ, ◌+◌, List, [], ◌∷◌, Bool, true, false, refl, sym, ap, subst, ◌∙◌, append-nil, arith, inl, inr}
-use Rattle.std.specs.Prelude.{◌⊎◌, ◌-◌, ◌^◌, ltb, Option, None, Some, option_map, Result, Ok, Err, IfOk, IfErr, if◌then◌else◌}
+use Rattle.std.proofs.lemmas.Result.{IfOk-at_ok}
+use Rattle.std.specs.Prelude.{◌⊎◌, ◌-◌, ◌^◌, ◌&&◌, ltb, Option, None, Some, option_map, Result, Ok, Err, IfOk, IfErr, if◌then◌else◌}
 use Rattle.project_model.specs.declared.workspace.ProjectWorkspace.{ProjectWorkspace}
 use Rattle.ra_config.specs.Config.{ConfigData}
 use Rattle.reload.specs.Switch.{is_empty}
@@ -10,11 +11,13 @@ use Rattle.session_port.specs.declared.command.Command.TheVariants.{SetLoader}
 use Rattle.turn_parts.specs.Working.{Working, and_then, ordered, written}
 use Rattle.turn_parts.specs.declared.fault.Counter.{Counter}
 use Rattle.turn_parts.specs.declared.fault.Counter.TheVariants.{LoaderSettings}
+use Rattle.client.specs.Client.{Client}
 use Rattle.client.specs.Steps.{notification_of}
+use Rattle.client.specs.declared.handler.ReqHandler.TheVariants.{Ignore}
 use Rattle.notify.specs.declared.outgo.MessageKind.TheVariants.{Warning}
 use Rattle.notify.specs.declared.outgo.Outgo.TheVariants.{ShowMessage}
-use Rattle.desk_laws.proofs.Refusing.{err-weaker}
-use Rattle.desk_laws.proofs.Results.{IfErr-within, IfOk-weaker, IfOk-within}
+use Rattle.desk_laws.proofs.Refusing.{err-and_then, err-weaker}
+use Rattle.desk_laws.proofs.Results.{IfErr-within, IfOk-and_then, IfOk-weaker, IfOk-within}
 use Rattle.session_files.specs.Folds.{due_changes, is_due}
 use Rattle.session_files.specs.SessionFiles.{SessionFiles}
 use Rattle.session_files.specs.Steps.{crates_put}
@@ -23,16 +26,18 @@ use Rattle.workspaces.specs.Switching.{asks_build, decided, followed as workspac
 use Rattle.workspaces.specs.Workspaces.{Workspaces}
 use Rattle.workspaces.specs.declared.follows.Follows.{Follows}
 use Rattle.workspaces.specs.declared.follows.Follows.TheVariants.{Nothing, CrateData, Wait, GoOn}
+use Rattle.session_model.specs.Asking.{after_asking_if, client_watching, goes_on}
 use Rattle.session_model.specs.Crates.{Numbers, builds_crates, crate_data, crates_put_if, files_with_crates, followed_by, is_built_by, with_crates}
 use Rattle.session_model.specs.Headline.{Place, are_due, client_after, files_told, left_or, workspaces_at, workspaces_switched}
-use Rattle.session_model.specs.Machine.{at_workspaces, crates_built, files_in, followed, loader_set, roots_renewed, switched_to, warned, with_files, with_sources, with_workspaces}
+use Rattle.session_model.specs.Machine.{at_workspaces, crates_built, files_in, followed, loader_set, roots_renewed, switched_to, warned, watchers_registered, with_client, with_files, with_sources, with_workspaces}
 use Rattle.session_model.specs.Sources.{sources_behind, sources_left, sources_now}
-use Rattle.session_model.specs.State.{Sources, State, builds_scripts, discovers}
+use Rattle.session_model.specs.State.{State, builds_scripts, client_watches, discovers}
 use Rattle.session_model.specs.Switching.{is_switch_due, switch_by, switch_made, unless_exhausted}
 use Rattle.session_model.specs.declared.input.Input.{Input}
 use Rattle.session_model.specs.declared.input.Input.TheVariants.{Start, Next}
 use Rattle.session_laws.specs.Beside.{Tells}
 use Rattle.session_laws.proofs.Filing.{AtLast, PutsCrates, crates-errs, crates-put}
+use Rattle.session_laws.proofs.Requests.{IsPast, TellsClient, asked-settings, watched-does, watched-errs}
 use Rattle.session_laws.proofs.Telling.{tells-none, tells-notification, tells-on}
 
 -- ---- what is told
@@ -67,21 +72,35 @@ loader-same : (version : ℕ) (w : Working State) → (loader_set version w).sta
 unfolding loader_set ordered
 loader-same version w = refl
 
-followed-tells : (follows : Follows) (w : Working State) → Tells w.out (followed follows w).out
-unfolding followed roots_renewed
-followed-tells Nothing w = tells-none w.out
-followed-tells CrateData w = tells-none w.out
-followed-tells (Wait msrv) w = warned-tells msrv w
-followed-tells (GoOn msrv version initial) w = tells-on _ _ _ (warned-tells msrv w) (loader-tells version (warned msrv w))
+-- the client, where the switch goes on and it is the client that watches
+abbrev watching_by : Bool → Client → Client
+watching_by on client = after_asking_if Ignore (on && client_watches client.settings) client
 
-followed-state : (follows : Follows) (w : Working State)
-    → (followed follows w).state ≡ with_sources (sources_behind w.state.client.settings w.state.workspaces follows w.state.sources) w.state
+watching-settings : (on : Bool) (client : Client) → (watching_by on client).settings ≡ client.settings
+watching-settings on client = asked-settings Ignore (on && client_watches client.settings) client
+
+-- the client and the source roots come to what follows the switch, nothing else changes, and nobody is answered
+record FollowsSwitch (follows : Follows) (w v : Working State) : Type 0 where
+  tells : Tells w.out v.out
+  state : v.state ≡ with_sources (sources_behind w.state.client.settings w.state.workspaces follows w.state.sources)
+      (with_client (watching_by (goes_on follows) w.state.client) w.state)
+
+followed-does : (follows : Follows) (w : Working State) → IfOk (followed follows w) (FollowsSwitch follows w)
 unfolding followed roots_renewed
-followed-state Nothing w = refl
-followed-state CrateData w = refl
-followed-state (Wait msrv) w = warned-same msrv w
-followed-state (GoOn msrv version initial) w =
-    ap (λ (s : State). with_sources (sources_now s.client.settings s.workspaces) s) (loader-same version (warned msrv w) ∙ warned-same msrv w)
+followed-does Nothing w = record { tells = tells-none w.out; state = refl }
+followed-does CrateData w = record { tells = tells-none w.out; state = refl }
+followed-does (Wait msrv) w = record { tells = warned-tells msrv w; state = warned-same msrv w }
+followed-does (GoOn msrv version initial) w =
+    let v : Working State = warned msrv w in
+    let asked : State → Client = λ s. watching_by true s.client in
+    IfOk-and_then (watchers_registered v) (λ u. Ok (roots_renewed (loader_set version u))) (TellsClient (asked v.state) [] v) (FollowsSwitch (GoOn msrv version initial) w)
+    (watched-does v)
+    (λ u told. record {
+      tells = tells-on _ _ _ (warned-tells msrv w) (tells-on _ _ _ told.tells (loader-tells version u));
+      state = ap (λ (s : State). with_sources (sources_now s.client.settings s.workspaces) s)
+              (loader-same version u ∙ told.state ∙ ap (λ (s : State). with_client (asked s) s) (warned-same msrv w))
+          ∙ ap (λ (settings : ConfigData). with_sources (sources_now settings w.state.workspaces) (with_client (asked w.state) w.state)) (watching-settings true w.state.client);
+    })
 
 -- where this flag is set crate data goes into the world, and nothing else changes
 record Builds (built : Bool) (w v : Working State) : Type 0 where
@@ -97,12 +116,13 @@ built-does true w =
     IfOk-within files_in with_files (crates_put crates) w (Builds true w)
     (IfOk-weaker _ (PutsCrates crates (record { state = w.state.files; out = w.out })) _ (crates-put crates _) (λ v puts. record { files = puts.is; state = refl; out = puts.out }))
 
--- the workspaces and the source roots come to what is left, crate data that is built goes into the world, nothing else changes, and nobody is answered
+-- the client, the workspaces and the source roots come to what is left, crate data that is built goes into the world, nothing else changes, and nobody is
+-- answered
 pub record Switches (made : Result (Follows × Workspaces) Counter) (w v : Working State) : Type 0 where
   pub tells : Tells w.out v.out
   pub files : and_then made (files_with_crates w.state.client.settings w.state.files) ≡ Ok v.state.files
   pub state : v.state ≡ with_sources (sources_left w.state.client.settings made w.state.sources)
-      (with_workspaces (left_or w.state.workspaces made) (with_files v.state.files w.state))
+      (with_client (client_watching made w.state.client) (with_workspaces (left_or w.state.workspaces made) (with_files v.state.files w.state)))
 
 pub switched-does : (made : Result (Follows × Workspaces) Counter) (w : Working State) → IfOk (switched_to made w) (Switches made w)
 unfolding switched_to
@@ -110,15 +130,14 @@ switched-does (Err counter) w = tt
 switched-does (Ok made) w =
     let built : Bool = builds_crates made.0 in
     let now : Working State = at_workspaces (λ before. made.1) w in
-    let told : Working State = followed made.0 now in
-    let sources : Sources = sources_behind w.state.client.settings made.1 made.0 w.state.sources in
-    let same : told.state ≡ with_sources sources (with_workspaces made.1 w.state) = followed-state made.0 now in
-    IfOk-weaker (crates_built built told) (Builds built told) (Switches (Ok made) w) (built-does built told)
+    IfOk-and_then (followed made.0 now) (crates_built built) (FollowsSwitch made.0 now) (Switches (Ok made) w) (followed-does made.0 now)
+    (λ told follows. IfOk-weaker (crates_built built told) (Builds built told) (Switches (Ok made) w) (built-does built told)
     (λ v builds. record {
-      tells = subst (Tells w.out) (sym builds.out) (followed-tells made.0 now);
-      files = ap (λ (s : State). crates_put_if built s.client.settings s.workspaces.present s.files) (sym same) ∙ builds.files;
-      state = builds.state ∙ ap (with_files v.state.files) same;
-    })
+      tells = subst (Tells w.out) (sym builds.out) follows.tells;
+      files = ap (λ (settings : ConfigData). crates_put_if built settings made.1.present w.state.files) (sym (watching-settings (goes_on made.0) w.state.client))
+          ∙ ap (λ (s : State). crates_put_if built s.client.settings s.workspaces.present s.files) (sym follows.state) ∙ builds.files;
+      state = builds.state ∙ ap (with_files v.state.files) follows.state;
+    }))
 
 -- ---- what it leaves of the files
 
@@ -159,15 +178,33 @@ built-errs true w =
     let crates = crate_data w.state.client.settings w.state.files.ids w.state.workspaces.present in
     IfErr-within files_in with_files (crates_put crates) w (AtLast w.state.files.host.revision) (crates-errs crates (record { state = w.state.files; out = w.out }))
 
--- no version is left, or no revision
-pub switched-errs : (made : Result (Follows × Workspaces) Counter) (w : Working State)
-    → IfErr (switched_to made w) (λ counter. (made ≡ Err counter) ⊎ AtLast w.state.files.host.revision counter)
+followed-errs : (follows : Follows) (w : Working State) → IfErr (followed follows w) (IsPast (watching_by (goes_on follows) w.state.client))
+unfolding followed
+followed-errs Nothing w = tt
+followed-errs CrateData w = tt
+followed-errs (Wait msrv) w = tt
+followed-errs (GoOn msrv version initial) w =
+    let v : Working State = warned msrv w in
+    let asked : State → Client = λ s. watching_by true s.client in
+    err-and_then (watchers_registered v) (λ u. Ok (roots_renewed (loader_set version u))) (IsPast (asked w.state))
+    (subst (λ (s : State). IfErr (watchers_registered v) (IsPast (asked s))) (warned-same msrv w) (watched-errs v)) (λ u is. tt)
+
+-- no version is left, or the client is asked for more than there are numbers, or no revision is left
+abbrev pub IsRefused : Result (Follows × Workspaces) Counter → State → Counter → Type 0
+IsRefused made state counter = (made ≡ Err counter) ⊎ (IsPast (client_watching made state.client) counter ⊎ AtLast state.files.host.revision counter)
+
+pub switched-errs : (made : Result (Follows × Workspaces) Counter) (w : Working State) → IfErr (switched_to made w) (IsRefused made w.state)
 unfolding switched_to
 switched-errs (Err counter) w = inl refl
 switched-errs (Ok made) w =
-    let told : Working State = followed made.0 (at_workspaces (λ before. made.1) w) in
-    err-weaker (crates_built (builds_crates made.0) told) (AtLast told.state.files.host.revision) _ (built-errs (builds_crates made.0) told)
-    (λ counter last. inr (subst (λ (s : State). AtLast s.files.host.revision counter) (followed-state made.0 (at_workspaces (λ before. made.1) w)) last))
+    let built : Bool = builds_crates made.0 in
+    let now : Working State = at_workspaces (λ before. made.1) w in
+    err-and_then (followed made.0 now) (crates_built built) (IsRefused (Ok made) w.state)
+    (err-weaker (followed made.0 now) (IsPast (watching_by (goes_on made.0) w.state.client)) (IsRefused (Ok made) w.state) (followed-errs made.0 now)
+    (λ counter past. inr (inl past)))
+    (λ told is. let follows : FollowsSwitch made.0 now told = IfOk-at_ok (FollowsSwitch made.0 now) is (followed-does made.0 now) in
+    err-weaker (crates_built built told) (AtLast told.state.files.host.revision) (IsRefused (Ok made) w.state) (built-errs built told)
+    (λ counter last. inr (inr (subst (λ (s : State). AtLast s.files.host.revision counter) follows.state last))))
 
 exhausted-errs : (made : Option (Follows × Workspaces)) → IfErr (unless_exhausted made) (λ counter. counter ≡ LoaderSettings)
 exhausted-errs None = refl

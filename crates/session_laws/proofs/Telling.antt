@@ -58,9 +58,9 @@ tells-none out = record {
   times_none = refl;
 }
 
--- one thing and then another
-pub tells-on : (a b c : Written) → Tells a b → Tells b c → Tells a c
-tells-on a b c p q = record {
+-- one thing that may tell statuses, and then one that tells none
+pub tells-more : (told : List Data) (a b c : Written) → TellsOnly told a b → Tells b c → TellsOnly told a c
+tells-more told a b c p q = record {
   messages = p.messages ++ q.messages;
   commands = p.commands ++ q.commands;
   written = q.written ∙ ap (λ ms. ms ++ q.messages) p.written ∙ append_assoc a.messages p.messages q.messages;
@@ -68,9 +68,13 @@ tells-on a b c p q = record {
   answers_none = responses-append p.messages q.messages ∙ (λ i. p.answers_none i ++ q.answers_none i);
   spawns_none = spawned-append p.commands q.commands ∙ (λ i. p.spawns_none i ++ q.spawns_none i);
   revises_none = revisions-append p.commands q.commands ∙ (λ i. p.revises_none i ++ q.revises_none i);
-  tells = statuses-append p.messages q.messages ∙ (λ i. p.tells i ++ q.tells i);
+  tells = statuses-append p.messages q.messages ∙ (λ i. p.tells i ++ q.tells i) ∙ append-nil told;
   times_none = timers-append p.commands q.commands ∙ (λ i. p.times_none i ++ q.times_none i);
 }
+
+-- neither does
+pub tells-on : (a b c : Written) → Tells a b → Tells b c → Tells a c
+tells-on a b c p q = tells-more [] a b c p q
 
 -- a log line
 pub tells-logged : {S : Type 0} (code : LogCode) (text : List ℕ) (w : Working S) → Tells w.out (logged code text w).out

@@ -1,6 +1,6 @@
 -- What a session's record says of requests and answers: by the lists of inputs, messages and commands alone.
 use Rattle.std.specs.Prelude.{◌≡◌, ◌≤◌, ◌<◌, ℕ, ◌+◌, ◌-◌, ◌^◌, ◌⊎◌, List, [], ◌∷◌, ◌++◌, length, Contains, Bool, false}
-use Rattle.std.specs.Prelude.{IsTrue, Option, None, Some, is_some, Result, Ok, Err, if◌then◌else◌}
+use Rattle.std.specs.Prelude.{◌||◌, IsTrue, Option, None, Some, is_some, Result, Ok, Err, if◌then◌else◌}
 use Rattle.std.specs.FinMap as map
 use Rattle.std.specs.List.{filter_map}
 use Rattle.serde_json.specs.Data.{Data}
@@ -50,6 +50,7 @@ use Rattle.workspaces.specs.Workspaces.{Workspaces, no_workspaces}
 use Rattle.workspaces.specs.declared.follows.Follows.{Follows}
 use Rattle.workspaces.specs.declared.follows.Follows.TheVariants.{Nothing}
 use Rattle.workspaces.specs.declared.requests.FetchRequest.{FetchRequest}
+use Rattle.session_model.specs.Asking.{client_refreshed_if, client_registered, client_watching, is_refresh_due}
 use Rattle.session_model.specs.Building.{build_due, build_jobs, end_kept, ends_kept, request_told, with_due_build}
 use Rattle.session_model.specs.Crates.{files_with_crates, is_built_by}
 use Rattle.session_model.specs.Fetching.{fetch_jobs, folders_told_if, settings_told, with_fetches}
@@ -57,7 +58,7 @@ use Rattle.session_model.specs.Hearing.{heard_of, told_by}
 use Rattle.session_model.specs.Loading.{MacroPaths, load_due, load_jobs, with_due_load}
 use Rattle.session_model.specs.Sources.{change_by, client_with, sources_after, sources_left}
 use Rattle.session_model.specs.State.{columns_in, discovers, excludes_in, first_status, goes_by_folders, macros_loaded_in, may_start, no_sources, Sources}
-use Rattle.session_model.specs.Status.{client_after_status, status_now, statuses_due, statuses_in}
+use Rattle.session_model.specs.Status.{client_after_status, is_quiescent, status_now, statuses_due, statuses_in}
 use Rattle.session_model.specs.Switching.{switch_made}
 use Rattle.session_model.specs.Timing.{bring_files, planned_by, renewed_if, timer_of, timers_set}
 use Rattle.session_model.specs.Run.{Turn, Told, AllRead, AsksLast, IsHonestInput, commands_of, fed_bytes, out_after, taking, telling}
@@ -149,6 +150,16 @@ abbrev pub files_turned : Input → SessionFiles → Result SessionFiles Counter
 files_turned Start files = Ok files
 files_turned (Next event) files = after_turn files
 
+-- the contents of some path aren't those that the world was last made of, and no files are loading
+abbrev pub are_due : Result SessionFiles Counter → Bool
+are_due (Ok files) = is_due files
+are_due (Err counter) = false
+
+-- a turn changes the texts of the world
+abbrev pub is_changed : ConfigData → Input → SessionFiles → Bool
+is_changed settings Start files = false
+is_changed settings (Next event) files = are_due (files_told settings (Next event) files)
+
 -- the client is asked for its settings, or tells which folders its workspaces have
 abbrev pub client_told : Option Notice → Client → Client
 client_told None client = client
@@ -198,6 +209,18 @@ abbrev pub left_or : Workspaces → Result (Follows × Workspaces) Counter → W
 left_or workspaces (Ok made) = made.1
 left_or workspaces (Err counter) = workspaces
 
+-- the client behind the switch: it may be asked to watch files
+abbrev pub client_switched : Input → Place → Client
+client_switched input place = client_watching (switch_in input place) (client_after input place.client)
+
+-- a turn builds crate data, behind its switch
+abbrev pub builds_crates_in : Input → Place → Bool
+builds_crates_in input place = is_built_by (switch_in input place)
+
+-- a turn changes the world: its crate data or its texts
+abbrev pub changes_world : Input → Place → Bool
+changes_world input place = builds_crates_in input place || is_changed place.client.settings input place.files
+
 -- the workspaces behind the switch
 abbrev pub workspaces_switched : Input → Place → Workspaces
 workspaces_switched input place = left_or (workspaces_at input place) (switch_in input place)
@@ -244,11 +267,23 @@ settings_changed input place = change_by (changes_in input place) (sources_switc
 
 -- the client behind these files
 abbrev pub client_filed : Input → Place → Client
-client_filed input place = client_with (settings_changed input place) (client_after input place.client)
+client_filed input place = client_with (settings_changed input place) (client_switched input place)
 
 -- the source roots behind them
 abbrev pub sources_filed : Input → Place → Sources
 sources_filed input place = sources_after (changes_in input place) (sources_switched input place)
+
+-- a turn asks the client to ask anew for what it shows: behind its switch and its files it is quiescent, and was not before, or it changes the world. The
+-- start asks for nothing of it
+abbrev pub refreshes_at : Input → Place → Bool
+refreshes_at Start place = false
+refreshes_at (Next event) place =
+    is_refresh_due (is_quiescent place.files place.workspaces)
+    (is_quiescent (files_after (Next event) place) (workspaces_planned (Next event) place)) (changes_world (Next event) place)
+
+-- the client behind that
+abbrev pub client_asked : Input → Place → Client
+client_asked input place = client_refreshed_if (refreshes_at input place) (client_filed input place)
 
 -- behind an input and its files fetches may start, by the settings that they leave
 abbrev pub may_start_at : Input → Place → Bool
@@ -287,11 +322,11 @@ status_after Start place = status_now place.client.settings place.files place.wo
 status_after (Next event) place =
     status_now (client_filed (Next event) place).settings (files_after (Next event) place) (workspaces_after (Next event) place)
 
--- the client behind all that a turn tells it: it may be asked whether the logs are to be opened
+-- the client behind all that a turn tells it: the start may ask it to tell of saved documents, and each turn may ask whether the logs are to be opened
 abbrev pub client_left : Input → Place → Client
-client_left Start place = client_after_status place.status place.files place.workspaces place.client
+client_left Start place = client_registered (client_after_status place.status place.files place.workspaces place.client)
 client_left (Next event) place =
-    client_after_status place.status (files_after (Next event) place) (workspaces_after (Next event) place) (client_filed (Next event) place)
+    client_after_status place.status (files_after (Next event) place) (workspaces_after (Next event) place) (client_asked (Next event) place)
 
 -- the last of numbers, else the one before
 abbrev pub last_of : List ℕ → ℕ → ℕ
@@ -405,20 +440,6 @@ pub record WasHandedOver (settings : ConfigData) (turns : List Turn) (ticket : �
 abbrev pub AreHandedOver : ConfigData → List Turn → Jobs → Type 0
 AreHandedOver settings turns jobs =
     (number : ℕ) (job : Job) (ticket : ℕ) → map.get jobs number ≡ Some job → ticket_of job.kind ≡ Some ticket → WasHandedOver settings turns ticket job
-
--- the contents of some path aren't those that the world was last made of, and no files are loading
-abbrev pub are_due : Result SessionFiles Counter → Bool
-are_due (Ok files) = is_due files
-are_due (Err counter) = false
-
--- a turn changes the texts of the world
-abbrev pub is_changed : ConfigData → Input → SessionFiles → Bool
-is_changed settings Start files = false
-is_changed settings (Next event) files = are_due (files_told settings (Next event) files)
-
--- a turn builds crate data, behind its switch
-abbrev pub builds_crates_in : Input → Place → Bool
-builds_crates_in input place = is_built_by (switch_in input place)
 
 -- the revisions that a turn makes: one where it builds crate data, and one where it changes the texts of the world
 abbrev pub revisions_in : Input → Place → ℕ

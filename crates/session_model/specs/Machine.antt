@@ -22,10 +22,12 @@ use Rattle.turn_parts.specs.Working.{Working, and_then, ordered, logged, within,
 use Rattle.turn_parts.specs.declared.fault.Counter.{Counter}
 use Rattle.client.specs.Client.{Client}
 use Rattle.client.specs.Steps.{asked_for, answered, folders_changed, notification_of}
-use Rattle.client.specs.declared.handler.ReqHandler.TheVariants.{OpenLogs, Settings}
+use Rattle.client.specs.declared.handler.ReqHandler.TheVariants.{Ignore, OpenLogs, Settings}
 use Rattle.notify.specs.declared.outgo.MessageKind.{MessageKind}
 use Rattle.notify.specs.declared.outgo.MessageKind.TheVariants.{Warning}
-use Rattle.notify.specs.declared.outgo.Outgo.TheVariants.{Configuration, ShowMessage, ShowMessageRequest}
+use Rattle.notify.specs.declared.outgo.Outgo.{Outgo}
+use Rattle.notify.specs.declared.outgo.Outgo.TheVariants.{CodeLensRefresh, Configuration, DiagnosticRefresh, InlayHintRefresh, RegisterSave, RegisterWatch}
+use Rattle.notify.specs.declared.outgo.Outgo.TheVariants.{SemanticTokensRefresh, ShowMessage, ShowMessageRequest}
 use Rattle.notify.specs.declared.notice.DidChange.{DidChange}
 use Rattle.notify.specs.declared.notice.DidOpen.{DidOpen}
 use Rattle.notify.specs.declared.notice.Notice.{Notice}
@@ -33,6 +35,7 @@ use Rattle.notify.specs.declared.notice.Notice.TheVariants as notices
 use Rattle.desk.specs.Desk.{Desk}
 use Rattle.desk.specs.Meaning.{Meaning}
 use Rattle.desk.specs.Steps.{requested, cancelled, counted as counted_at_desk, handed_over, taken as taken_at_desk, kept as kept_at_desk}
+use Rattle.ra_config.specs.declared.capabilities.Capabilities.{Capabilities}
 use Rattle.session_files.specs.Folds.{due_changes}
 use Rattle.session_files.specs.SessionFiles.{SessionFiles}
 use Rattle.session_files.specs.Steps.{changed, closed as closed_document, crates_put, loaded, opened, processed}
@@ -46,14 +49,15 @@ use Rattle.workspaces.specs.declared.follows.Follows.TheVariants.{Nothing, Crate
 use Rattle.workspaces.specs.declared.requests.FetchRequest.{FetchRequest}
 use Rattle.change_effects.specs.declared.effects.ChangeEffects.{ChangeEffects}
 use Rattle.change_effects.specs.declared.effects.SettingsFile.{SettingsFile}
+use Rattle.session_model.specs.Asking.{is_refresh_due, registers_saves, watchers_asked}
 use Rattle.session_model.specs.Building.{build_due, end_kept, request_told, with_due_build}
 use Rattle.session_model.specs.Crates.{builds_crates, crate_data}
 use Rattle.session_model.specs.Fetching.{folders_told_if, settings_told, with_fetches}
 use Rattle.session_model.specs.Hearing.{heard_of}
 use Rattle.session_model.specs.Loading.{MacroPaths, load_due, load_kind, with_due_load}
 use Rattle.session_model.specs.Sources.{change_for, client_with, parents_told, sources_now}
-use Rattle.session_model.specs.State.{client_watches, columns_in, discovers, excludes_in, fetch_kind, goes_by_folders, may_start, scene_of, snapshot_of, Sources, State}
-use Rattle.session_model.specs.Status.{opens_logs, shown_of, status_message, status_now, takes_status}
+use Rattle.session_model.specs.State.{client_watches, columns_in, discovers, excludes_in, fetch_kind, goes_by_folders, may_start, scene_of, snapshot_of, Sources, State, watched_names}
+use Rattle.session_model.specs.Status.{is_quiescent, opens_logs, shown_of, status_message, status_now, takes_status}
 use Rattle.session_model.specs.Switching.{switch_made}
 use Rattle.session_model.specs.Timing.{bring_files, effects_for, fetch_planned, renewed_if}
 use Rattle.session_model.specs.declared.facts.Facts.{Facts}
@@ -91,6 +95,10 @@ asked_for_settings w = asked_for Configuration Settings w
 -- a step of it
 abbrev pub at_client : (Working Client → Result (Working Client) Counter) → Working State → Result (Working State) Counter
 at_client step w = within client_in with_client step w
+
+-- where this flag is set, the client is asked for this; nothing follows its answer
+unfoldable pub asked_if : Bool → Outgo → Working State → Result (Working State) Counter
+asked_if wanted message w = if wanted then at_client (asked_for message Ignore) w else Ok w
 
 -- ---- the files, within the session
 
@@ -268,16 +276,22 @@ loader_set version w =
     let settings = w.state.client.settings in
     ordered (SetLoader (loader_roots (excludes_in settings) w.state.workspaces.present) (not (client_watches settings)) version) w
 
+-- the client is asked to watch the files of the workspaces that are present, where it is the client that watches
+unfoldable pub watchers_registered : Working State → Result (Working State) Counter
+watchers_registered w =
+    let settings = w.state.client.settings in
+    asked_if (client_watches settings) (RegisterWatch (watchers_asked settings w.state.workspaces.present)) w
+
 -- the source roots are those that the loader gets
 unfoldable pub roots_renewed : Working State → Working State
 roots_renewed w = record w { state = with_sources (sources_now w.state.client.settings w.state.workspaces) w.state }
 
--- what the user and the host are told behind a switch, and the roots that it renews
-unfoldable pub followed : Follows → Working State → Working State
-followed Nothing w = w
-followed CrateData w = w
-followed (Wait msrv) w = warned msrv w
-followed (GoOn msrv version initial) w = roots_renewed (loader_set version (warned msrv w))
+-- what the user, the client and the host are told behind a switch, and the roots that it renews
+unfoldable pub followed : Follows → Working State → Result (Working State) Counter
+followed Nothing w = Ok w
+followed CrateData w = Ok w
+followed (Wait msrv) w = Ok (warned msrv w)
+followed (GoOn msrv version initial) w = and_then (watchers_registered (warned msrv w)) (λ v. Ok (roots_renewed (loader_set version v)))
 
 -- where this flag is set, crate data of the workspaces that are present goes into the world. Its macros are not loaded yet
 unfoldable pub crates_built : Bool → Working State → Result (Working State) Counter
@@ -287,7 +301,7 @@ crates_built true w = at_files (crates_put (crate_data w.state.client.settings w
 -- a switch leaves these workspaces, and what follows it is done
 unfoldable pub switched_to : Result (Follows × Workspaces) Counter → Working State → Result (Working State) Counter
 switched_to (Err counter) w = Err counter
-switched_to (Ok made) w = crates_built (builds_crates made.0) (followed made.0 (at_workspaces (λ before. made.1) w))
+switched_to (Ok made) w = and_then (followed made.0 (at_workspaces (λ before. made.1) w)) (crates_built (builds_crates made.0))
 
 -- the switch that is wanted is made, unless files are loading
 unfoldable pub switch_done : Working State → Result (Working State) Counter
@@ -329,8 +343,24 @@ files_processed w =
 unfoldable pub files_part : Working Turning → Result (Working Turning) Counter
 files_part w = in_state files_processed w
 
-abbrev pub quiet_part : Working Turning → Result (Working Turning) Counter
-quiet_part w = Ok w
+-- the client is asked to ask anew for what it shows, for each thing where it can be asked
+unfoldable pub refreshed : Capabilities → Working State → Result (Working State) Counter
+refreshed can w =
+    and_then (asked_if can.semantic_tokens_refresh SemanticTokensRefresh w) (λ w. and_then (asked_if can.code_lens_refresh CodeLensRefresh w)
+    (λ w. and_then (asked_if can.inlay_hints_refresh InlayHintRefresh w) (asked_if can.diagnostics_refresh DiagnosticRefresh)))
+
+-- the world is another than before the event
+abbrev pub has_new_world : Facts → State → Bool
+has_new_world facts state = not (state.files.host.revision == facts.revision)
+
+-- in a session that has come to be quiescent, and in one that is and whose world has changed
+unfoldable pub quiet_done : Facts → Working State → Result (Working State) Counter
+quiet_done facts w =
+    if is_refresh_due facts.quiescent (is_quiescent w.state.files w.state.workspaces) (has_new_world facts w.state)
+    then refreshed w.state.client.settings.capabilities w else Ok w
+
+unfoldable pub quiet_part : Working Turning → Result (Working Turning) Counter
+quiet_part w = in_state (quiet_done w.state.facts) w
 
 abbrev pub publish_part : Working Turning → Result (Working Turning) Counter
 publish_part w = Ok w
@@ -423,6 +453,13 @@ later_parts input w =
     and_then (switch_part w) (λ w. and_then (files_part w) (λ w. and_then (quiet_part w) (λ w. and_then (publish_part w)
     (λ w. and_then (fetch_part input w) (λ w. and_then (build_part w) (λ w. and_then (prime_part w) (λ w. and_then (status_part w) closing_part)))))))
 
+-- the client is asked to tell of the documents that it saves, where it can be asked: those of Rust and Cargo, and those of the names that are watched
+unfoldable pub saves_registered : Working State → Result (Working State) Counter
+saves_registered w = asked_if (registers_saves w.state.client.settings) (RegisterSave (watched_names w.state.client.settings)) w
+
+unfoldable pub register_part : Working Turning → Result (Working Turning) Counter
+register_part w = in_state saves_registered w
+
 -- the start asks for the first fetch, unless the projects are discovered
 unfoldable pub begun_fetches : Working State → Result (Working State) Counter
 begun_fetches w = Ok (at_workspaces (with_fetches (start_up (discovers w.state.client.settings))) w)
@@ -432,11 +469,16 @@ begin_part w = in_state begun_fetches w
 
 -- the parts of the start
 abbrev pub start_parts : Working Turning → Result (Working Turning) Counter
-start_parts w = and_then (status_part w) (λ w. and_then (begin_part w) (λ w. and_then (fetch_part Start w) closing_part))
+start_parts w =
+    and_then (status_part w) (λ w. and_then (register_part w) (λ w. and_then (begin_part w) (λ w. and_then (fetch_part Start w) closing_part)))
 
 -- the facts before a turn
 abbrev pub facts_of : Working State → Facts
-facts_of w = record { revision = w.state.files.host.revision; ordered = length w.out.commands }
+facts_of w = record {
+  revision = w.state.files.host.revision;
+  ordered = length w.out.commands;
+  quiescent = is_quiescent w.state.files w.state.workspaces;
+}
 
 abbrev pub turning : Working State → Working Turning
 turning w = record { state = record { state = w.state; facts = facts_of w }; out = w.out }

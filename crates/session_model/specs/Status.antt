@@ -18,11 +18,11 @@ use Rattle.notify.specs.declared.outgo.MessageKind.TheVariants as kinds
 use Rattle.notify.specs.declared.outgo.Outgo.{Outgo}
 use Rattle.notify.specs.declared.outgo.Outgo.TheVariants.{ServerStatus}
 use Rattle.client.specs.Client.{Client}
-use Rattle.client.specs.Folds.{after_asking}
 use Rattle.client.specs.declared.handler.ReqHandler.TheVariants.{OpenLogs}
 use Rattle.session_files.specs.SessionFiles.{SessionFiles}
 use Rattle.workspaces.specs.Switching.{list_fetched, runs_built}
 use Rattle.workspaces.specs.Workspaces.{Workspaces, is_idle}
+use Rattle.session_model.specs.Asking.{after_asking_if}
 use Rattle.session_model.specs.State.{detached_of, discovers, linked_of, may_fetch}
 use Rattle.session_model.specs.Texts.{same_text}
 
@@ -106,14 +106,10 @@ abbrev pub asks_logs : Status → Status → ConfigData → Workspaces → Bool
 asks_logs last status settings workspaces =
     not (is_same_status last status) && not (takes_status settings) && opens_logs settings workspaces && is_some (shown_of status)
 
-abbrev pub after_asking_if : Bool → Client → Client
-after_asking_if true client = after_asking OpenLogs client
-after_asking_if false client = client
-
 -- the client behind the status, where the last one was this
 abbrev pub client_after_status : Status → SessionFiles → Workspaces → Client → Client
 client_after_status last files workspaces client =
-    after_asking_if (asks_logs last (status_now client.settings files workspaces) client.settings workspaces) client
+    after_asking_if OpenLogs (asks_logs last (status_now client.settings files workspaces) client.settings workspaces) client
 
 -- ---- statuses among messages
 

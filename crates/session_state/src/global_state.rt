@@ -20,6 +20,8 @@ mod filing;
 mod loading;
 mod messages;
 mod notifications;
+mod refreshing;
+mod registering;
 mod settings;
 mod switching;
 mod telling;
@@ -297,23 +299,25 @@ impl GlobalState {
         Facts {
             revision: self.files.revision(),
             ordered: out.commands().len(),
+            quiescent: self.is_quiescent(),
         }
     }
 
     /// Turn 0. It uses no number of the turns. After an `Err` the state is spent.
-    #[tactic(auto, unfolding(session_model::specs::Machine::step, session_model::specs::Machine::begin_part, session_model::specs::Machine::fetch_part, session_model::specs::Machine::status_part, session_model::specs::Machine::closing_part, turn_parts::specs::Working::within))]
+    #[tactic(auto, unfolding(session_model::specs::Machine::step, session_model::specs::Machine::register_part, session_model::specs::Machine::begin_part, session_model::specs::Machine::fetch_part, session_model::specs::Machine::status_part, session_model::specs::Machine::closing_part, turn_parts::specs::Working::within))]
     pub fn start(&mut self, out: &mut TurnOut) -> Result<(), TurnError>
         ensures { (meaning : Meaning) → Meets result (step meaning Start (record { state = self.old; out = out.old })) self.new out.new }
     {
         let facts = self.facts(out);
         self.report_status(out)?;
+        self.register_saves(out)?;
         self.begin_fetches(out)?;
         self.start_fetch(true, out)?;
         self.close_turn(facts, out)
     }
 
     /// One turn. After an `Err` the state is spent.
-    #[tactic(auto, unfolding(session_model::specs::Machine::step, session_model::specs::Machine::event_part, session_model::specs::Machine::switch_part, session_model::specs::Machine::files_part, session_model::specs::Machine::fetch_part, session_model::specs::Machine::build_part, session_model::specs::Machine::status_part, session_model::specs::Machine::closing_part, turn_parts::specs::Working::within))]
+    #[tactic(auto, unfolding(session_model::specs::Machine::step, session_model::specs::Machine::event_part, session_model::specs::Machine::switch_part, session_model::specs::Machine::files_part, session_model::specs::Machine::quiet_part, session_model::specs::Machine::fetch_part, session_model::specs::Machine::build_part, session_model::specs::Machine::status_part, session_model::specs::Machine::closing_part, turn_parts::specs::Working::within))]
     pub fn handle_event<A: Analysis>(
         &mut self,
         event: Event,
@@ -326,6 +330,7 @@ impl GlobalState {
         self.take_in(event, analysis, out)?;
         self.switch_workspaces(out)?;
         self.process(out)?;
+        self.refresh(facts, out)?;
         let may = self.may_fetch();
         self.start_fetch(may, out)?;
         self.start_runs(out)?;

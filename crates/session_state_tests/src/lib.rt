@@ -16,6 +16,10 @@ mod fetching;
 #[cfg(test)]
 mod methods;
 #[cfg(test)]
+mod refreshing;
+#[cfg(test)]
+mod registering;
+#[cfg(test)]
 mod results;
 #[cfg(test)]
 mod roots;

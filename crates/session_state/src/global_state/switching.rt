@@ -36,7 +36,7 @@ impl GlobalState {
     }
 
     // Whether the client watches files.
-    fn client_watches(&self) -> bool
+    pub(super) fn client_watches(&self) -> bool
         ensures { result ≡ client_watches self.now.client.settings }
     {
         let settings = self.client.settings();
@@ -93,10 +93,10 @@ impl GlobalState {
         Ok(())
     }
 
-    // What the user and the host are told behind a switch, and the roots that it renews.
+    // What the user, the client and the host are told behind a switch, and the roots that it renews.
     #[tactic(auto, unfolding(session_model::specs::Machine::followed))]
     fn follow(&mut self, follows: Follows, out: &mut TurnOut) -> Result<(), TurnError>
-        ensures { Gives result (followed follows (record { state = self.old; out = out.old })) self.new out.new }
+        ensures { Meets result (followed follows (record { state = self.old; out = out.old })) self.new out.new }
     {
         match follows {
             Follows::Nothing | Follows::CrateData => Ok(()),
@@ -107,6 +107,7 @@ impl GlobalState {
                 ..
             } => {
                 self.warn(msrv, out)?;
+                self.register_watchers(out)?;
                 self.set_loader(loader_version, out)?;
                 self.renew_roots(out)
             }
