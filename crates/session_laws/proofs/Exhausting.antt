@@ -1,8 +1,8 @@
 -- A turn that the machine can't take needs one more of a counter than there are.
-use Rattle.std.proofs.Common.{◌≡◌, ℕ, ◌+◌, ◌-◌, ◌^◌, ◌≤◌, ◌<◌, List, [], ◌∷◌, ◌++◌, length, Bool, true, false, refl, sym, ap, ◌∙◌, subst, inl, inr, arith, eqb-true}
+use Rattle.std.proofs.Common.{◌≡◌, ℕ, ◌+◌, ◌-◌, ◌^◌, ◌≤◌, ◌<◌, List, [], ◌∷◌, ◌++◌, length, refl, sym, ap, ◌∙◌, subst, inl, inr, arith}
 use Rattle.std.proofs.lemmas.List.{length-append}
 use Rattle.std.proofs.lemmas.Result.{IfErr-at_err, IfOk-at_ok}
-use Rattle.std.specs.Prelude.{◌⊎◌, Err, IfErr, if◌then◌else◌, is_some, None, Ok, Option, Result, Some, ◌==◌}
+use Rattle.std.specs.Prelude.{Err, IfErr, if◌then◌else◌, is_some, None, Ok, Option, Result, Some}
 use Rattle.serde_json.specs.Data.{Data}
 use Rattle.docs_vfs.specs.FileUrls.{path_of}
 use Rattle.docs_vfs.specs.declared.file_url.UrlFault.{UrlFault}
@@ -44,7 +44,7 @@ use Rattle.workspaces.specs.Fetches.{fetch_to_start}
 use Rattle.workspaces.specs.declared.requests.FetchRequest.{FetchRequest}
 use Rattle.session_model.specs.Building.{build_due, with_due_build}
 use Rattle.session_model.specs.Fetching.{fetch_jobs}
-use Rattle.session_model.specs.Headline.{batch_row, builds_crates_in, builds_in, client_after, client_asked, client_filed, client_left, client_switched, fetch_in, fetches_in, files_told, loads_in, NeedsMore, place_past, row, scene_at, status_after, statuses_at, switch_in}
+use Rattle.session_model.specs.Headline.{batch_row, builds_crates_in, builds_in, client_after, client_asked, client_left, client_switched, fetch_in, fetches_in, files_told, loads_in, NeedsMore, place_past, row, scene_at, status_after, statuses_at}
 use Rattle.session_model.specs.Machine.{answer_taken, asked, asked_for_settings, at_client, at_desk, at_files, batched, begin_part, begun_fetches, build_part, changed_at, client_in, closed, closed_at}
 use Rattle.session_model.specs.Machine.{closing_part, counted, desk_in, event_part, fetch_part, fetch_started, files_in, files_part, files_processed, folders_taken, happened, kept, later_parts, noticed, opened_at, received}
 use Rattle.session_model.specs.Machine.{quiet_done, quiet_part, register_part, runs_started, saves_registered, start_parts, state_in, status_done, status_part, step, switch_done, switch_part, switched_to, taken, taken_in, told, turned, Turning, turning, with_client, with_desk, with_files}

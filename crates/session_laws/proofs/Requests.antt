@@ -1,10 +1,10 @@
 -- What a request of the session's own does within a turn: it asks the client, and answers nobody.
-use Rattle.std.proofs.Common.{◌≡◌, ◌≤◌, ◌<◌, ℕ, ◌+◌, List, [], Bool, true, false, refl, ap, ◌∙◌, subst, arith, eqb-true}
+use Rattle.std.proofs.Common.{◌≡◌, ◌≤◌, ◌<◌, ℕ, List, [], Bool, true, false, refl, ap, ◌∙◌, subst, arith, eqb-true}
 use Rattle.std.proofs.lemmas.Result.{IfOk-at_ok}
 use Rattle.std.specs.Prelude.{◌==◌, Ok, Err, IfOk, IfErr, if◌then◌else◌}
 use Rattle.serde_json.specs.Data.{Data}
 use Rattle.ra_config.specs.declared.capabilities.Capabilities.{Capabilities}
-use Rattle.turn_parts.specs.Working.{Working, and_then, written}
+use Rattle.turn_parts.specs.Working.{Working, written}
 use Rattle.turn_parts.specs.declared.fault.Counter.{Counter}
 use Rattle.turn_parts.specs.declared.fault.Counter.TheVariants.{Outgoing}
 use Rattle.notify.specs.declared.outgo.Outgo.{Outgo}

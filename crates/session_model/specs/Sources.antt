@@ -1,5 +1,5 @@
 -- The source roots of a session, and what changed settings files do to its settings.
-use Rattle.std.specs.Prelude.{◌==◌, ◌&&◌, ℕ, Bool, List, [], ◌∷◌, length, take, Option, None, Some, is_none, Result, Ok, Err, if◌then◌else◌}
+use Rattle.std.specs.Prelude.{◌==◌, ◌&&◌, Bool, List, [], ◌∷◌, length, take, Option, None, Some, is_none, Result, Ok, Err, if◌then◌else◌}
 use Rattle.docs_vfs.specs.Roots.{most_roots, parent_map}
 use Rattle.docs_vfs.specs.declared.file_kinds.ChangedFile.{ChangedFile}
 use Rattle.docs_vfs.specs.declared.source_roots.Root.{Root}
