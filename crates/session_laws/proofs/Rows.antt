@@ -49,7 +49,7 @@ use Rattle.desk_laws.specs.Settled.{Settled}
 use Rattle.desk_laws.proofs.Appends.{spawned-append, revisions-append}
 use Rattle.desk_laws.proofs.Results.{IfOk-and_then, IfOk-next, IfOk-weaker, IfOk-within}
 use Rattle.desk_laws.proofs.Settling.{cancel-settles, message-settles, message-turns, nothing-settles, request-settles, request-turns, settled-on}
-use Rattle.session_files.specs.Folds.{after_closing, after_messages, after_opening, due_changes}
+use Rattle.session_files.specs.Folds.{after_closing, after_messages, after_opening, after_turn, due_changes}
 use Rattle.session_files.specs.SessionFiles.{SessionFiles}
 use Rattle.session_files.specs.Steps.{changed, closed as closed_document, loaded, opened, processed}
 use Rattle.status.specs.declared.status.Status.{Status}
@@ -59,7 +59,7 @@ use Rattle.workspaces.specs.declared.requests.FetchRequest.{FetchRequest}
 use Rattle.session_model.specs.Building.{build_due, build_jobs, end_kept, ends_kept, request_told, with_due_build}
 use Rattle.session_model.specs.Fetching.{fetch_jobs, folders_told_if, settings_told, with_fetches}
 use Rattle.session_model.specs.Headline.{Place, reaction_of, row, notice_row, batch_row, desk_after, place_after, place_past, client_after, last_of, revision_after, scene_at, snapshot_at}
-use Rattle.session_model.specs.Headline.{are_due, build_in, changes_due, changes_in, client_filed, client_left, fetch_in, files_after, files_made, files_told, files_turned, is_changed, jobs_started, left_or, may_start_at, or_before, SetsTimer}
+use Rattle.session_model.specs.Headline.{are_due, build_in, changes_due, changes_in, client_filed, client_left, fetch_in, files_left, files_made, files_told, files_turned, is_changed, jobs_started, left_or, may_start_at, or_before, SetsTimer}
 use Rattle.session_model.specs.Headline.{sources_filed, sources_switched, status_after, statuses_at, switch_in, workspaces_after, workspaces_at, workspaces_fetched, workspaces_planned, workspaces_switched}
 use Rattle.session_model.specs.Inputs.{cancelled_by, request_in, turns_after}
 use Rattle.session_model.specs.Machine.{answer_taken, asked, asked_for_settings, at_client, at_desk, at_files, at_workspaces, batched, begin_part, begun_fetches, brought, build_part, build_started, changed_at, client_in, closed}
@@ -71,7 +71,7 @@ use Rattle.session_model.specs.Sources.{change_by, client_with, sources_after, s
 use Rattle.session_model.specs.Switching.{switch_made}
 use Rattle.session_model.specs.Timing.{bring_files, planned_by, renewed_if, timer_of}
 use Rattle.session_model.specs.Run.{Turn, Steps, begun, after_input, out_after}
-use Rattle.session_model.specs.State.{State, columns_in, discovers, excludes_in, goes_by_folders, macros_loaded_in, may_start, scene_of, snapshot_of}
+use Rattle.session_model.specs.State.{State, columns_in, discovers, excludes_in, goes_by_folders, macros_loaded_in, may_start, scene_of, snapshot_of, Sources}
 use Rattle.session_model.specs.Status.{client_after_status, status_now, statuses_due, statuses_in}
 use Rattle.session_model.specs.declared.facts.Facts.{Facts}
 use Rattle.session_model.specs.declared.input.Event.{Event}
@@ -144,7 +144,7 @@ pub record Made (meaning : Meaning) (s : State) (input : Input) (asked : Client)
   -- the settings are those that the input and its files leave
   pub settings : asked.settings ≡ (client_filed input (place_of s)).settings
   pub sources : u.state.sources ≡ sources_filed input (place_of s)
-  pub files : files_made s.client.settings input s.files ≡ Ok u.state.files
+  pub files : files_made s.client.settings (sources_switched input (place_of s)).roots input s.files ≡ Ok u.state.files
   pub unrevised : filter_map revision_of u.out.commands ≡ []
   pub told : statuses_in u.out.messages ≡ sent
   pub untimed : filter_map timer_of u.out.commands ≡ []
@@ -626,7 +626,7 @@ abbrev pub Left : Meaning → State → Input → Working State → Type 0
 Left meaning s input u = Made meaning s input (client_left input (place_of s)) (status_after input (place_of s)) (statuses_at input (place_of s)) u
 
 -- the files that a turn makes are those after it
-files-now : (s : State) (input : Input) (now : SessionFiles) → files_made s.client.settings input s.files ≡ Ok now → now ≡ files_after s.client.settings input s.files
+files-now : (s : State) (input : Input) (now : SessionFiles) → files_made s.client.settings (sources_switched input (place_of s)).roots input s.files ≡ Ok now → now ≡ files_left input (place_of s)
 files-now s input now made = sym (ap (or_before s.files) made)
 
 -- a revision doesn't fall
@@ -765,7 +765,7 @@ changed-now meaning s event u behind = sym (ap changes_due behind.files)
 
 -- the files are processed
 processed-serves : (meaning : Meaning) (s : State) (event : Event) (u : Working State) (v : Working SessionFiles) → Behind meaning s event u
-    → Processes (record { state = u.state.files; out = u.out }) v → Serves meaning s (Next event) (after_input (Next event) s.desk.jobs) (files_now u.state v)
+    → Processes u.state.sources.roots (record { state = u.state.files; out = u.out }) v → Serves meaning s (Next event) (after_input (Next event) s.desk.jobs) (files_now u.state v)
 processed-serves meaning s event u v behind p = record {
   does = ap (λ (o : Written). reaction_of (turn_of (Next event) (record { state = u.state; out = o }))) p.out ∙ behind.serves.does;
   numbered = subst (λ (o : Written). AreNumbered s.desk.handed (spawned o.commands)) (sym p.out) behind.serves.numbered;
@@ -774,14 +774,14 @@ processed-serves meaning s event u v behind p = record {
 
 -- and what follows from them is done
 made-now : (meaning : Meaning) (s : State) (event : Event) (u : Working State) (v : Working SessionFiles) (x : Working State) → Behind meaning s event u
-    → Processes (record { state = u.state.files; out = u.out }) v → FollowsFiles (due_changes u.state.files) (files_now u.state v) x
+    → Processes u.state.sources.roots (record { state = u.state.files; out = u.out }) v → FollowsFiles (due_changes u.state.files) (files_now u.state v) x
     → Made meaning s (Next event) (client_filed (Next event) (place_of s)) s.status [] x
 made-now meaning s event u v x behind p f =
     let told = behind.files in
     let w = files_now u.state v in
     let changed = changed-now meaning s event u behind in
     let due : is_changed s.client.settings (Next event) s.files ≡ are_due (Ok u.state.files) = ap are_due told in
-    let rises : v.state.host.revision ≡ revision_now (are_due (Ok u.state.files)) u.state.files = IfOk-at_ok (λ f. f.host.revision ≡ revision_now (are_due (Ok u.state.files)) u.state.files) p.is (turn-revises u.state.files) in
+    let rises : v.state.host.revision ≡ revision_now (are_due (Ok u.state.files)) u.state.files = IfOk-at_ok (λ f. f.host.revision ≡ revision_now (are_due (Ok u.state.files)) u.state.files) p.is (turn-revises u.state.sources.roots u.state.files) in
     let unrevised : filter_map revision_of v.out.commands ≡ [] = ap (λ (o : Written). filter_map revision_of o.commands) p.out ∙ behind.unrevised in
     let untold : statuses_in v.out.messages ≡ [] = ap (λ (o : Written). statuses_in o.messages) p.out ∙ behind.untold in
     let untimed : filter_map timer_of v.out.commands ≡ [] = ap (λ (o : Written). filter_map timer_of o.commands) p.out ∙ behind.untimed in
@@ -792,7 +792,8 @@ made-now meaning s event u v x behind p f =
       status = ap (λ (t : State). t.status) f.state ∙ behind.status;
       settings = refl;
       sources = ap (λ (t : State). t.sources) f.state ∙ (λ i. sources_after (changed i) (behind.sources i));
-      files = ap (λ r. and_then r (files_turned (Next event))) told ∙ p.is ∙ sym (ap (λ (t : State). Ok t.files) f.state);
+      files = ap (λ r. and_then r (files_turned (sources_switched (Next event) (place_of s)).roots (Next event))) told
+          ∙ ap (λ (x : Sources). after_turn x.roots u.state.files) (sym behind.sources) ∙ p.is ∙ sym (ap (λ (t : State). Ok t.files) f.state);
       unrevised = ap (filter_map revision_of) f.tells.ordered ∙ revisions-append v.out.commands f.tells.commands ∙ (λ i. unrevised i ++ f.tells.revises_none i);
       told = ap statuses_in f.tells.written ∙ statuses-append v.out.messages f.tells.messages ∙ (λ i. untold i ++ f.tells.tells i);
       untimed = ap (filter_map timer_of) f.tells.ordered ∙ timers-append v.out.commands f.tells.commands ∙ (λ i. untimed i ++ f.tells.times_none i);
@@ -874,9 +875,9 @@ files-made meaning s event t m =
     let changes = due_changes u.state.files in
     let Goal : Working State → Type 0 = λ v. ReadyBehind meaning s event (record { state = with_state v.state t.state; out = v.out }) in
     IfOk-within state_in with_state files_processed t (ReadyBehind meaning s event)
-    (IfOk-and_then (at_files processed u) (λ v. Ok (files_followed changes v)) (λ v. Goal (files_followed changes v)) Goal
-    (IfOk-within files_in with_files processed u (λ v. Goal (files_followed changes v))
-    (IfOk-weaker _ (Processes (record { state = t.state.state.files; out = t.out })) _ (processed-does _)
+    (IfOk-and_then (at_files (processed u.state.sources.roots) u) (λ v. Ok (files_followed changes v)) (λ v. Goal (files_followed changes v)) Goal
+    (IfOk-within files_in with_files (processed u.state.sources.roots) u (λ v. Goal (files_followed changes v))
+    (IfOk-weaker _ (Processes u.state.sources.roots (record { state = t.state.state.files; out = t.out })) _ (processed-does _ _)
     (λ v p. let w = files_now u.state v in
     let f : FollowsFiles changes w (files_followed changes w) = followed-does changes w in
     record {
@@ -929,7 +930,7 @@ started-now meaning s input asked last sent w v jobs workspaces made h = record 
   status = h.status ∙ made.status;
   settings = made.settings;
   sources = h.sources ∙ made.sources;
-  files = subst (λ (f : SessionFiles). files_made s.client.settings input s.files ≡ Ok f) (sym h.files) made.files;
+  files = subst (λ (f : SessionFiles). files_made s.client.settings (sources_switched input (place_of s)).roots input s.files ≡ Ok f) (sym h.files) made.files;
   unrevised = h.unrevised ∙ made.unrevised;
   told = ap statuses_in h.messages ∙ made.told;
   untimed = h.untimed ∙ made.untimed;

@@ -7,6 +7,7 @@ use Rattle.docs_vfs.specs.Files.{contents_at}
 use Rattle.docs_vfs.specs.FileUrls.{path_of}
 use Rattle.docs_vfs.specs.Paths.{path_cmp}
 use Rattle.docs_vfs.specs.declared.file_url.UrlFault.{UrlFault}
+use Rattle.docs_vfs.specs.declared.source_roots.Root.{Root}
 use Rattle.ra_config.specs.Config.{ConfigData}
 use Rattle.turn_parts.specs.declared.fault.Counter.{Counter}
 use Rattle.notify.specs.declared.notice.DidChange.{DidChange}
@@ -19,7 +20,7 @@ use Rattle.session_files.specs.SessionFiles.{SessionFiles, no_files}
 use Rattle.session_files.specs.Texts.{entry_of}
 use Rattle.session_files.proofs.SoundLemmas.{closing_keeps, editing_keeps, messages_keep, none_sound, opening_keeps, turned}
 use Rattle.session_model.specs.Headline.{Place, SeesFiles, beginning, changed_at, closed_at, documents_told, files_after, files_made, files_told, files_turned, opened_at, or_before}
-use Rattle.session_model.specs.Headline.{place_after, place_after_all}
+use Rattle.session_model.specs.Headline.{place_after, place_after_all, sources_switched}
 use Rattle.session_model.specs.Inputs.{notice_in}
 use Rattle.session_model.specs.Run.{Turn}
 use Rattle.session_laws.proofs.Filing.{ok-from}
@@ -69,22 +70,22 @@ told-sound settings (Vfs messages) files sound = ok-from _ IsSound (λ now is. (
 told-sound settings (Deferred tasks) files sound = sound
 told-sound settings (Timer ticket) files sound = sound
 
-made-seen : (settings : ConfigData) (input : Input) (files : SessionFiles) → AreSeen files → IfOk (files_made settings input files) AreSeen
-made-seen settings Start files seen = seen
-made-seen settings (Next event) files seen =
-    IfOk-and_then (files_told settings (Next event) files) (files_turned (Next event)) IsSound AreSeen (told-sound settings event files seen.sound)
-    (λ now sound. ok-from _ AreSeen (λ last is. let t = turned now last is in record { sound = t.sound sound; current = λ ready. t.current ready sound }))
+made-seen : (settings : ConfigData) (roots : List Root) (input : Input) (files : SessionFiles) → AreSeen files → IfOk (files_made settings roots input files) AreSeen
+made-seen settings roots Start files seen = seen
+made-seen settings roots (Next event) files seen =
+    IfOk-and_then (files_told settings (Next event) files) (files_turned roots (Next event)) IsSound AreSeen (told-sound settings event files seen.sound)
+    (λ now sound. ok-from _ AreSeen (λ last is. let t = turned roots now last is in record { sound = t.sound sound; current = λ ready. t.current ready sound }))
 
 or-seen : (files : SessionFiles) (r : Result SessionFiles Counter) → AreSeen files → IfOk r AreSeen → AreSeen (or_before files r)
 or-seen files (Ok now) seen made = made
 or-seen files (Err counter) seen made = seen
 
-after-seen : (settings : ConfigData) (input : Input) (files : SessionFiles) → AreSeen files → AreSeen (files_after settings input files)
-after-seen settings input files seen = or-seen files (files_made settings input files) seen (made-seen settings input files seen)
+after-seen : (settings : ConfigData) (roots : List Root) (input : Input) (files : SessionFiles) → AreSeen files → AreSeen (files_after settings roots input files)
+after-seen settings roots input files seen = or-seen files (files_made settings roots input files) seen (made-seen settings roots input files seen)
 
 all-seen : (turns : List Turn) (place : Place) → AreSeen place.files → AreSeen (place_after_all turns place).files
 all-seen [] place seen = seen
-all-seen (turn ∷ turns) place seen = all-seen turns (place_after turn place) (after-seen place.client.settings turn.input place.files seen)
+all-seen (turn ∷ turns) place seen = all-seen turns (place_after turn place) (after-seen place.client.settings (sources_switched turn.input place).roots turn.input place.files seen)
 
 -- nothing has changed since the files were last processed
 never-changed : IsSound no_files → IsCurrent no_files

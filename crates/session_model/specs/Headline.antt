@@ -7,6 +7,7 @@ use Rattle.serde_json.specs.Data.{Data}
 use Rattle.docs_vfs.specs.FileUrls.{path_of}
 use Rattle.docs_vfs.specs.declared.file_url.UrlFault.{UrlFault}
 use Rattle.docs_vfs.specs.declared.file_kinds.ChangedFile.{ChangedFile}
+use Rattle.docs_vfs.specs.declared.source_roots.Root.{Root}
 use Rattle.lsp_frame.specs.Reader.{Reader}
 use Rattle.lsp_frame.specs.declared.message.Message.TheVariants.{Request as RequestMessage, Notification as NotificationMessage, Response as ResponseMessage}
 use Rattle.lsp_frame.specs.declared.message.RequestId.{RequestId}
@@ -142,21 +143,22 @@ files_told settings (Next (Vfs messages)) files = after_messages messages files
 files_told settings (Next (Deferred tasks)) files = Ok files
 files_told settings (Next (Timer ticket)) files = Ok files
 
--- behind the event of a turn what has changed goes into the world, unless files are loading; the start has no event
-abbrev pub files_turned : Input → SessionFiles → Result SessionFiles Counter
-files_turned Start files = Ok files
-files_turned (Next event) files = after_turn files
+-- behind the event of a turn what has changed goes into the world, and with files that came or went these roots, unless files are loading; the start has no
+-- event
+abbrev pub files_turned : List Root → Input → SessionFiles → Result SessionFiles Counter
+files_turned roots Start files = Ok files
+files_turned roots (Next event) files = after_turn roots files
 
-abbrev pub files_made : ConfigData → Input → SessionFiles → Result SessionFiles Counter
-files_made settings input files = and_then (files_told settings input files) (files_turned input)
+abbrev pub files_made : ConfigData → List Root → Input → SessionFiles → Result SessionFiles Counter
+files_made settings roots input files = and_then (files_told settings input files) (files_turned roots input)
 
 -- a turn that needs one more of a counter than there are doesn't come to be
 abbrev pub or_before : SessionFiles → Result SessionFiles Counter → SessionFiles
 or_before files (Ok made) = made
 or_before files (Err counter) = files
 
-abbrev pub files_after : ConfigData → Input → SessionFiles → SessionFiles
-files_after settings input files = or_before files (files_made settings input files)
+abbrev pub files_after : ConfigData → List Root → Input → SessionFiles → SessionFiles
+files_after settings roots input files = or_before files (files_made settings roots input files)
 
 -- the client is asked for its settings, or tells which folders its workspaces have
 abbrev pub client_told : Option Notice → Client → Client
@@ -229,6 +231,10 @@ workspaces_planned input place =
 abbrev pub sources_switched : Input → Place → Sources
 sources_switched input place = sources_left (client_after input place.client).settings (switch_in input place) place.sources
 
+-- the files behind a turn
+abbrev pub files_left : Input → Place → SessionFiles
+files_left input place = files_after place.client.settings (sources_switched input place).roots input place.files
+
 -- the change of settings that a turn's files are: the settings files that changed, by the roots behind its switch, and the parents of new roots
 abbrev pub settings_changed : Input → Place → Option ConfigChange
 settings_changed input place = change_by (changes_in input place) (sources_switched input place) (workspaces_switched input place).present
@@ -266,13 +272,13 @@ workspaces_after (Next event) place = with_due_build (workspaces_fetched (Next e
 abbrev pub status_after : Input → Place → Status
 status_after Start place = status_now place.client.settings place.files place.workspaces
 status_after (Next event) place =
-    status_now (client_filed (Next event) place).settings (files_after place.client.settings (Next event) place.files) (workspaces_after (Next event) place)
+    status_now (client_filed (Next event) place).settings (files_left (Next event) place) (workspaces_after (Next event) place)
 
 -- the client behind all that a turn tells it: it may be asked whether the logs are to be opened
 abbrev pub client_left : Input → Place → Client
 client_left Start place = client_after_status place.status place.files place.workspaces place.client
 client_left (Next event) place =
-    client_after_status place.status (files_after place.client.settings (Next event) place.files) (workspaces_after (Next event) place) (client_filed (Next event) place)
+    client_after_status place.status (files_left (Next event) place) (workspaces_after (Next event) place) (client_filed (Next event) place)
 
 -- the last of numbers, else the one before
 abbrev pub last_of : List ℕ → ℕ → ℕ
@@ -295,7 +301,7 @@ desk_after turn desk = record {
 abbrev pub place_after : Turn → Place → Place
 place_after turn place = record {
   client = client_left turn.input place;
-  files = files_after place.client.settings turn.input place.files;
+  files = files_left turn.input place;
   revision = revision_after turn.commands place.revision;
   desk = desk_after turn place.desk;
   workspaces = workspaces_after turn.input place;

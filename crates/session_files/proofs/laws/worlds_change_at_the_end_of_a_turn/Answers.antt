@@ -7,7 +7,8 @@ returns c = record {
   editing = λ columns path version edits files now is. (editing_keeps columns path version edits files now is).host;
   closing = λ path files. (closing_keeps path files).host;
   messages = λ messages files now is. (messages_keep messages files now is).host;
-  rest = λ files now is. (turned files now is).rest;
-  revision = λ files now is. (turned files now is).revision;
-  same = λ files now is quiet. (turned files now is).same quiet;
+  rest = λ roots files now is. (turned roots files now is).rest;
+  revision = λ roots files now is. (turned roots files now is).revision;
+  same = λ roots files now is quiet. (turned roots files now is).same quiet;
+  roots = λ roots files now is. (turned roots files now is).roots;
 }
