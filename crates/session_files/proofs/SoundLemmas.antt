@@ -288,7 +288,7 @@ pub record Turned (roots : List Root) (files now : SessionFiles) : Type 0 where
   pub taken : now.loading ≡ false → changes now.table ≡ []
   pub revision : now.host.revision ≡ (if is_due files then files.host.revision + 1 else files.host.revision)
   pub same : is_due files ≡ false → now.host ≡ files.host
-  pub roots : now.host.world.roots ≡ (if have_come_or_gone (due_changes files) then roots else files.host.world.roots)
+  pub renewed : now.host.world.roots ≡ (if have_come_or_gone (due_changes files) then roots else files.host.world.roots)
 
 abbrev Before : Type 0
 Before = map.FinMap path_cmp FileWas
@@ -325,7 +325,7 @@ unchanged roots files ready none =
       taken = λ _. none_changed files.table;
       revision = sym (cond-false _ _ _ quiet);
       same = λ _. refl;
-      roots = no_new roots files.host.world.roots (due_changes files) (due_none files.loading (changes files.table) none);
+      renewed = no_new roots files.host.world.roots (due_changes files) (due_none files.loading (changes files.table) none);
     }
 
 -- the host once these files are changed
@@ -355,7 +355,7 @@ changed_turn roots files ready some =
       taken = λ _. none_changed files.table;
       revision = sym (cond-true _ _ _ new);
       same = λ quiet. absurd (true≢false (sym new ∙ quiet));
-      roots = given (have_come_or_gone (changes files.table)) roots files.host.world.roots
+      renewed = given (have_come_or_gone (changes files.table)) roots files.host.world.roots
           ∙ ap (λ (l : List ChangedFile). if have_come_or_gone l then roots else files.host.world.roots) (due_all files.loading (changes files.table) ready);
     }
 
@@ -387,7 +387,7 @@ loading_stays roots files loading =
       taken = λ ready. absurd (true≢false (sym loading ∙ ready));
       revision = sym (cond-false _ _ _ quiet);
       same = λ _. refl;
-      roots = no_new roots files.host.world.roots (due_changes files) (ap (λ b. if b then [] else changes files.table) loading);
+      renewed = no_new roots files.host.world.roots (due_changes files) (ap (λ b. if b then [] else changes files.table) loading);
     }
 
 by_loading : (b : Bool) (roots : List Root) (files now : SessionFiles) → files.loading ≡ b → (if b then Ok files else after_processing roots files) ≡ Ok now → Turned roots files now

@@ -10,5 +10,5 @@ returns c = record {
   rest = λ roots files now is. (turned roots files now is).rest;
   revision = λ roots files now is. (turned roots files now is).revision;
   same = λ roots files now is quiet. (turned roots files now is).same quiet;
-  roots = λ roots files now is. (turned roots files now is).roots;
+  roots = λ roots files now is. (turned roots files now is).renewed;
 }
