@@ -1,7 +1,7 @@
 -- The files stay sound, and what the end of a turn makes of the world.
 use Rattle.std.proofs.Common.{◌≡◌, ◌≢◌, ℕ, ℤ, ◌+◌, ◌-◌, ◌^◌, Bool, true, false, cond, ltb, List, [], ◌∷◌, map as each, refl, sym, ap, subst, ◌∙◌, ⊎_elim}
 use Rattle.std.specs.Prelude.{bytes_eq, is_some, not, ◌&&◌, ◌||◌, Option, None, Some, Result, Ok, Err, if◌then◌else◌}
-use Rattle.std.specs.Option.{option_and_then}
+use Rattle.std.specs.Option.{option_and_then, unwrap_or}
 use Rattle.std.specs.Ordering.{is_eq}
 use Rattle.std.specs.declared.cmp.Ordering.TheVariants.{Less}
 use Rattle.std.specs.List.{AllByRecursion, filter_map}
@@ -19,13 +19,14 @@ use Rattle.docs_vfs.specs.declared.file_kinds.ChangedFile.{ChangedFile}
 use Rattle.docs_vfs.specs.declared.file_kinds.FileId.{FileId}
 use Rattle.docs_vfs.specs.declared.file_kinds.FileWas.{FileWas}
 use Rattle.docs_vfs.specs.declared.file_kinds.TableFault.{TableFault}
+use Rattle.docs_vfs.specs.declared.source_roots.Root.{Root}
 use Rattle.docs_vfs.proofs.ChangeLaws.{is_difference, nothing_taken}
 use Rattle.docs_vfs.proofs.KeptLaws.{contents_same, same_contents_itself, set_changes, set_keeps_taken, mark_keeps_taken}
 use Rattle.docs_vfs.proofs.NumberLaws.{none_numbered, taken_numbered, set_numbers, mark_numbers}
 use Rattle.docs_vfs.proofs.PutLemmas.{one_path, same_path}
 use Rattle.text_core.specs.declared.change.ContentChange.{ContentChange}
 use Rattle.text_core.specs.declared.position.PositionEncoding.{PositionEncoding}
-use Rattle.analysis_host.specs.HostData.{HostData, changed, files_only, with_change, with_entry, with_files}
+use Rattle.analysis_host.specs.HostData.{HostData, changed, with_change, with_entry, with_files}
 use Rattle.analysis_host.specs.declared.host.WorldFault.{WorldFault}
 use Rattle.analysis_host.specs.declared.host.WorldFault.TheVariants.{Exhausted}
 use Rattle.analysis_host.specs.declared.text_entry.TextEntry.{TextEntry}
@@ -38,7 +39,7 @@ use Rattle.turn_parts.specs.declared.fault.Counter.{Counter}
 use Rattle.session_files.specs.Changing.{text_after}
 use Rattle.session_files.specs.Current.{IsSound, IsCurrent}
 use Rattle.session_files.specs.Folds.{with_table, table_put, made_of, contents_put, mark_put, is_open, version_put, text_put, is_excluded, after_opening, text_edited, after_editing, after_closing}
-use Rattle.session_files.specs.Folds.{after_changed, after_crates, after_loaded, crates_only, after_each_changed, after_each_loaded, after_message, after_messages, world_put, with_changes, taken_up, after_processing, after_turn, are_some, is_due}
+use Rattle.session_files.specs.Folds.{after_changed, after_crates, after_loaded, crates_only, after_each_changed, after_each_loaded, after_message, after_messages, world_put, with_changes, taken_up, after_processing, after_turn, are_some, due_changes, have_come_or_gone, is_due, world_change}
 use Rattle.session_files.specs.SessionFiles.{SessionFiles, no_files_at}
 use Rattle.session_files.specs.Texts.{entry_of, file_change, holds_text}
 use Rattle.session_files.proofs.NumberLemmas.{Moved, set_moves, mark_moves, numbers_after, none_numbers}
@@ -304,13 +305,14 @@ crates_keep crates files now is = crated_by (ltb files.host.revision (2 ^ 64 - 1
 
 -- ---- the end of a turn
 
-pub record Turned (files now : SessionFiles) : Type 0 where
+pub record Turned (roots : List Root) (files now : SessionFiles) : Type 0 where
   pub rest : now ≡ record files { table = now.table; host = now.host }
   pub sound : IsSound files → IsSound now
   pub current : now.loading ≡ false → IsSound files → IsCurrent now
   pub taken : now.loading ≡ false → changes now.table ≡ []
   pub revision : now.host.revision ≡ (if is_due files then files.host.revision + 1 else files.host.revision)
   pub same : is_due files ≡ false → now.host ≡ files.host
+  pub renewed : now.host.world.roots ≡ (if have_come_or_gone (due_changes files) then roots else files.host.world.roots)
 
 abbrev Before : Type 0
 Before = map.FinMap path_cmp FileWas
@@ -328,8 +330,16 @@ taken_with files host sound now = record {
   processed = λ q. now q ∙ ap entry_of (sym (nothing_taken files.table q));
 }
 
-unchanged : (files : SessionFiles) → files.loading ≡ false → changes files.table ≡ [] → Turned files (taken_up files)
-unchanged files ready none =
+-- where none were created or deleted, the roots stay
+no_new : (roots old : List Root) (list : List ChangedFile) → list ≡ [] → old ≡ (if have_come_or_gone list then roots else old)
+no_new roots old list none = sym (ap (λ (l : List ChangedFile). if have_come_or_gone l then roots else old) none)
+
+due_none : (b : Bool) (list : List ChangedFile) → list ≡ [] → (if b then [] else list) ≡ []
+due_none true list none = refl
+due_none false list none = none
+
+unchanged : (roots : List Root) (files : SessionFiles) → files.loading ≡ false → changes files.table ≡ [] → Turned roots files (taken_up files)
+unchanged roots files ready none =
     let now = λ (sound : IsSound files). subst (λ (list : List ChangedFile). (q : List ℕ) → map.get (with_files (each file_change list) files.host.world.texts) q ≡ entry_of (contents_at files.table q)) none (current files.table files.host.world.texts sound.numbered sound.processed) in
     let quiet : is_due files ≡ false = ap (λ list. not files.loading && are_some list) none ∙ ap (λ b. not b && false) ready in
     record {
@@ -339,47 +349,60 @@ unchanged files ready none =
       taken = λ _. none_changed files.table;
       revision = sym (cond-false _ _ _ quiet);
       same = λ _. refl;
+      renewed = no_new roots files.host.world.roots (due_changes files) (due_none files.loading (changes files.table) none);
     }
 
 -- the host once these files are changed
-abbrev host_after : List ChangedFile → HostData → HostData
-host_after list host = record { world = with_change (files_only (each file_change list)) host.world; revision = host.revision + 1 }
+abbrev host_after : List Root → List ChangedFile → HostData → HostData
+host_after roots list host = record { world = with_change (world_change roots list) host.world; revision = host.revision + 1 }
 
-abbrev host_with : SessionFiles → HostData
-host_with files = host_after (changes files.table) files.host
+abbrev host_with : List Root → SessionFiles → HostData
+host_with roots files = host_after roots (changes files.table) files.host
 
-changed_turn : (files : SessionFiles) → files.loading ≡ false → are_some (changes files.table) ≡ true → Turned files (record (taken_up files) { host = host_with files })
-changed_turn files ready some =
+-- the roots that are given are the world's
+given : (b : Bool) (roots old : List Root) → unwrap_or (if b then Some roots else None) old ≡ (if b then roots else old)
+given true roots old = refl
+given false roots old = refl
+
+due_all : (b : Bool) (list : List ChangedFile) → b ≡ false → list ≡ (if b then [] else list)
+due_all true list ready = absurd (true≢false ready)
+due_all false list ready = refl
+
+changed_turn : (roots : List Root) (files : SessionFiles) → files.loading ≡ false → are_some (changes files.table) ≡ true → Turned roots files (record (taken_up files) { host = host_with roots files })
+changed_turn roots files ready some =
     let now = λ (sound : IsSound files). current files.table files.host.world.texts sound.numbered sound.processed in
     let new : is_due files ≡ true = ap (λ b. not b && are_some (changes files.table)) ready ∙ some in
     record {
       rest = refl;
-      sound = λ sound. taken_with files (host_with files) sound (now sound);
+      sound = λ sound. taken_with files (host_with roots files) sound (now sound);
       current = λ _ sound. now sound;
       taken = λ _. none_changed files.table;
       revision = sym (cond-true _ _ _ new);
       same = λ quiet. absurd (true≢false (sym new ∙ quiet));
+      renewed = given (have_come_or_gone (changes files.table)) roots files.host.world.roots
+          ∙ ap (λ (l : List ChangedFile). if have_come_or_gone l then roots else files.host.world.roots) (due_all files.loading (changes files.table) ready);
     }
 
 by_room : (b : Bool) (host : HostData) (files now : SessionFiles) → (let r : Result HostData WorldFault = if b then Ok host else Err Exhausted in world_put r files) ≡ Ok now → record files { host = host } ≡ now
 by_room true host files now is = ok_same _ now is
 by_room false host files now is = err_not _ now is
 
-by_changes : (list : List ChangedFile) (files now : SessionFiles) → files.loading ≡ false → changes files.table ≡ list → with_changes list (taken_up files) ≡ Ok now → Turned files now
-by_changes [] files now ready list is = subst (Turned files) (ok_same (taken_up files) now is) (unchanged files ready list)
-by_changes (file ∷ later) files now ready list is =
-    let host = host_after (file ∷ later) files.host in
+by_changes : (roots : List Root) (list : List ChangedFile) (files now : SessionFiles) → files.loading ≡ false → changes files.table ≡ list → with_changes roots list (taken_up files) ≡ Ok now
+    → Turned roots files now
+by_changes roots [] files now ready list is = subst (Turned roots files) (ok_same (taken_up files) now is) (unchanged roots files ready list)
+by_changes roots (file ∷ later) files now ready list is =
+    let host = host_after roots (file ∷ later) files.host in
     let made : record (taken_up files) { host = host } ≡ now = by_room (ltb files.host.revision (2 ^ 64 - 1)) host (taken_up files) now is in
-    let same : record (taken_up files) { host = host_with files } ≡ record (taken_up files) { host = host } =
-    ap (λ (l : List ChangedFile). record (taken_up files) { host = host_after l files.host }) list in
-    subst (Turned files) (same ∙ made) (changed_turn files ready (ap are_some list))
+    let same : record (taken_up files) { host = host_with roots files } ≡ record (taken_up files) { host = host } =
+    ap (λ (l : List ChangedFile). record (taken_up files) { host = host_after roots l files.host }) list in
+    subst (Turned roots files) (same ∙ made) (changed_turn roots files ready (ap are_some list))
 
-by_processing : (files now : SessionFiles) → files.loading ≡ false → after_processing files ≡ Ok now → Turned files now
+by_processing : (roots : List Root) (files now : SessionFiles) → files.loading ≡ false → after_processing roots files ≡ Ok now → Turned roots files now
 unfolding after_processing
-by_processing files now ready is = by_changes (changes files.table) files now ready refl is
+by_processing roots files now ready is = by_changes roots (changes files.table) files now ready refl is
 
-loading_stays : (files : SessionFiles) → files.loading ≡ true → Turned files files
-loading_stays files loading =
+loading_stays : (roots : List Root) (files : SessionFiles) → files.loading ≡ true → Turned roots files files
+loading_stays roots files loading =
     let quiet : is_due files ≡ false = ap (λ b. not b && are_some (changes files.table)) loading in
     record {
       rest = refl;
@@ -388,15 +411,16 @@ loading_stays files loading =
       taken = λ ready. absurd (true≢false (sym loading ∙ ready));
       revision = sym (cond-false _ _ _ quiet);
       same = λ _. refl;
+      renewed = no_new roots files.host.world.roots (due_changes files) (ap (λ b. if b then [] else changes files.table) loading);
     }
 
-by_loading : (b : Bool) (files now : SessionFiles) → files.loading ≡ b → (if b then Ok files else after_processing files) ≡ Ok now → Turned files now
-by_loading true files now loading is = subst (Turned files) (ok_same files now is) (loading_stays files loading)
-by_loading false files now loading is = by_processing files now loading is
+by_loading : (b : Bool) (roots : List Root) (files now : SessionFiles) → files.loading ≡ b → (if b then Ok files else after_processing roots files) ≡ Ok now → Turned roots files now
+by_loading true roots files now loading is = subst (Turned roots files) (ok_same files now is) (loading_stays roots files loading)
+by_loading false roots files now loading is = by_processing roots files now loading is
 
-pub turned : (files now : SessionFiles) → after_turn files ≡ Ok now → Turned files now
+pub turned : (roots : List Root) (files now : SessionFiles) → after_turn roots files ≡ Ok now → Turned roots files now
 unfolding after_turn
-turned files now is = by_loading files.loading files now refl is
+turned roots files now is = by_loading files.loading roots files now refl is
 
 -- ---- no files
 

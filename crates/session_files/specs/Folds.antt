@@ -6,11 +6,14 @@ use Rattle.std.specs.FinMap as map
 use Rattle.shared_map.specs.AsMap.{set_in_map}
 use Rattle.docs_vfs.specs.Files.{Files, changes, file_id_of, mark_in, set_in}
 use Rattle.docs_vfs.specs.Paths.{is_within}
+use Rattle.docs_vfs.specs.declared.file_kinds.ChangeKind.{ChangeKind}
+use Rattle.docs_vfs.specs.declared.file_kinds.ChangeKind.TheVariants.{Create, Modify, Delete}
 use Rattle.docs_vfs.specs.declared.file_kinds.ChangedFile.{ChangedFile}
 use Rattle.docs_vfs.specs.declared.file_kinds.TableFault.{TableFault}
+use Rattle.docs_vfs.specs.declared.source_roots.Root.{Root}
 use Rattle.text_core.specs.declared.change.ContentChange.{ContentChange}
 use Rattle.text_core.specs.declared.position.PositionEncoding.{PositionEncoding}
-use Rattle.analysis_host.specs.HostData.{HostData, changed, files_only}
+use Rattle.analysis_host.specs.HostData.{HostData, changed}
 use Rattle.analysis_host.specs.declared.host.Change.{Change}
 use Rattle.analysis_host.specs.declared.host.WorldFault.{WorldFault}
 use Rattle.project_model.specs.declared.crates.CrateData.{CrateData}
@@ -127,10 +130,27 @@ abbrev pub world_put : Result HostData WorldFault → SessionFiles → Result Se
 world_put (Ok host) files = Ok (record files { host = host })
 world_put (Err fault) files = Err Revisions
 
+abbrev pub is_modification : ChangeKind → Bool
+is_modification Create = false
+is_modification Modify = true
+is_modification Delete = false
+
+-- files were created or deleted
+abbrev pub have_come_or_gone : List ChangedFile → Bool
+have_come_or_gone files = list_any (λ file. not (is_modification file.kind)) files
+
+-- the roots that the world gets with these files: those that are given, where some were created or deleted
+abbrev pub roots_with : List Root → List ChangedFile → Option (List Root)
+roots_with roots files = if have_come_or_gone files then Some roots else None
+
+-- the change of the world that these files are
+abbrev pub world_change : List Root → List ChangedFile → Change
+world_change roots files = record { files = each file_change files; roots = roots_with roots files; crates = None }
+
 -- the world with these files changed, where there are some: one revision more
-abbrev pub with_changes : List ChangedFile → SessionFiles → Result SessionFiles Counter
-with_changes [] files = Ok files
-with_changes (file ∷ later) files = world_put (changed (files_only (each file_change (file ∷ later))) files.host) files
+abbrev pub with_changes : List Root → List ChangedFile → SessionFiles → Result SessionFiles Counter
+with_changes roots [] files = Ok files
+with_changes roots (file ∷ later) files = world_put (changed (world_change roots (file ∷ later)) files.host) files
 
 -- a change of the crate graph alone
 abbrev pub crates_only : CrateData → Change
@@ -144,13 +164,13 @@ after_crates crates files = world_put (changed (crates_only crates) files.host) 
 abbrev pub taken_up : SessionFiles → SessionFiles
 taken_up files = record files { table = record files.table { before = map.empty } }
 
--- the files are processed: what has changed since the last time goes into the world
-unfoldable pub after_processing : SessionFiles → Result SessionFiles Counter
-after_processing files = with_changes (changes files.table) (taken_up files)
+-- the files are processed, by these roots: what has changed since the last time goes into the world
+unfoldable pub after_processing : List Root → SessionFiles → Result SessionFiles Counter
+after_processing roots files = with_changes roots (changes files.table) (taken_up files)
 
 -- at the end of a turn, unless files are loading
-unfoldable pub after_turn : SessionFiles → Result SessionFiles Counter
-after_turn files = if files.loading then Ok files else after_processing files
+unfoldable pub after_turn : List Root → SessionFiles → Result SessionFiles Counter
+after_turn roots files = if files.loading then Ok files else after_processing roots files
 
 -- the files whose contents aren't those of the last time, in the order of their paths, unless files are loading: the end of a turn puts them into the world
 abbrev pub due_changes : SessionFiles → List ChangedFile

@@ -3,6 +3,7 @@ use Rattle.std.specs.Prelude.{ℕ, ℤ, List, Bool, Result, Ok, Err, if◌then�
 use Rattle.std.specs.FinMap as map
 use Rattle.text_core.specs.declared.change.ContentChange.{ContentChange}
 use Rattle.text_core.specs.declared.position.PositionEncoding.{PositionEncoding}
+use Rattle.docs_vfs.specs.declared.source_roots.Root.{Root}
 use Rattle.project_model.specs.declared.crates.CrateData.{CrateData}
 use Rattle.session_port.specs.declared.command.Command.TheVariants.{Invalidate}
 use Rattle.session_port.specs.declared.command.LogCode.TheVariants.{DuplicateOpen, OrphanClose, SkippedChange, UnexpectedChange}
@@ -50,9 +51,9 @@ closed path w = ordered (Invalidate path) (record (close_noted path w) { state =
 unfoldable pub loaded : List LoaderMsg → Working SessionFiles → Result (Working SessionFiles) Counter
 loaded messages w = become (after_messages messages w.state) w
 
--- what a turn does behind its event
-unfoldable pub processed : Working SessionFiles → Result (Working SessionFiles) Counter
-processed w = become (after_turn w.state) w
+-- what a turn does behind its event, by these roots
+unfoldable pub processed : List Root → Working SessionFiles → Result (Working SessionFiles) Counter
+processed roots w = become (after_turn roots w.state) w
 
 -- the world gets another crate graph
 unfoldable pub crates_put : CrateData → Working SessionFiles → Result (Working SessionFiles) Counter

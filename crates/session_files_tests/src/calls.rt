@@ -1,6 +1,6 @@
 // The calls, without their clauses.
 use analysis_host::{TextEntry, World};
-use docs_vfs::{FileExcluded, FileId, VfsPath};
+use docs_vfs::{FileExcluded, FileId, SourceRoots, VfsPath};
 use file_ids::FileIds;
 use plain::{Items, Text};
 use session_files::SessionFiles;
@@ -54,9 +54,14 @@ pub fn load(
     files.load(messages, out)
 }
 
-/// Whether some files have changed.
-pub fn process(files: &mut SessionFiles, out: &mut TurnOut) -> Result<bool, TurnError> {
-    let changed = files.process(out)?;
+/// Whether some files have changed, where there are no roots.
+pub fn process(
+    alloc: Global,
+    files: &mut SessionFiles,
+    out: &mut TurnOut,
+) -> Result<bool, TurnError> {
+    let roots = SourceRoots::new(Items::new(alloc))?;
+    let changed = files.process(&roots, out)?;
     Ok(!changed.is_empty())
 }
 

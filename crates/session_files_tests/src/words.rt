@@ -201,7 +201,7 @@ fn done(alloc: Global, answer: Result<(), TurnError>, out: &TurnOut) -> Option<S
 fn told(alloc: Global, files: &mut SessionFiles, call: &str, out: &mut TurnOut) -> Option<String> {
     let (name, rest) = cut(call, " ");
     match name {
-        "process" => named(alloc, process_name(process(files, out))),
+        "process" => named(alloc, process_name(process(alloc, files, out))),
         "number" => numbered(alloc, files, rest),
         "show" => shown_escaped(alloc, files, rest),
         _ => {

@@ -285,9 +285,9 @@ files-part-errs : (meaning : Meaning) (s : State) (event : Event) (t : Working T
 unfolding files_part files_processed
 files-part-errs meaning s event t m =
     IfErr-within state_in with_state files_processed t (Needs meaning s (Next event))
-    (err-and_then (at_files processed (session_in t)) _ (Needs meaning s (Next event))
-    (IfErr-within files_in with_files processed (session_in t) (Needs meaning s (Next event))
-    (err-weaker _ (AtLast t.state.state.files.host.revision) (Needs meaning s (Next event)) (processed-errs _)
+    (err-and_then (at_files (processed t.state.state.sources.roots) (session_in t)) _ (Needs meaning s (Next event))
+    (IfErr-within files_in with_files (processed t.state.state.sources.roots) (session_in t) (Needs meaning s (Next event))
+    (err-weaker _ (AtLast t.state.state.files.host.revision) (Needs meaning s (Next event)) (processed-errs _ _)
     (λ c h. subst (Needs meaning s (Next event)) (sym h.0) (subst (λ (n : ℕ). 2 ^ 64 - 1 ≤ n) m.behind.revision h.1))))
     (λ v is. tt))
 

@@ -6,6 +6,7 @@ use Rattle.std.specs.FinMap as map
 use Rattle.docs_vfs.specs.Files.{Files, changes}
 use Rattle.docs_vfs.specs.declared.file_kinds.ChangedFile.{ChangedFile}
 use Rattle.docs_vfs.specs.declared.file_kinds.TableFault.{TableFault}
+use Rattle.docs_vfs.specs.declared.source_roots.Root.{Root}
 use Rattle.text_core.specs.declared.change.ContentChange.{ContentChange}
 use Rattle.text_core.specs.declared.position.PositionEncoding.{PositionEncoding}
 use Rattle.analysis_host.specs.HostData.{HostData}
@@ -126,24 +127,24 @@ revision_now due files = revision_by due files.host
 abbrev pub AtLast : ℕ → Counter → Type 0
 AtLast revision counter = (counter ≡ Revisions) × (2 ^ 64 - 1 ≤ revision)
 
-pub turn-revises : (files : SessionFiles) → IfOk (after_turn files) (λ now. now.host.revision ≡ revision_now (are_due (Ok files)) files)
-turn-revises files = ok-from _ _ (λ now is. (turned files now is).revision)
+pub turn-revises : (roots : List Root) (files : SessionFiles) → IfOk (after_turn roots files) (λ now. now.host.revision ≡ revision_now (are_due (Ok files)) files)
+turn-revises roots files = ok-from _ _ (λ now is. (turned roots files now is).revision)
 
 put-last : (b : Bool) (host : HostData) (old : SessionFiles) → ltb old.host.revision (2 ^ 64 - 1) ≡ b → IfErr (world_put (if b then Ok host else Err Exhausted) old) (AtLast old.host.revision)
 put-last true host old is = tt
 put-last false host old is = (refl, ltb-false _ _ is)
 
-list-last : (list : List ChangedFile) (old : SessionFiles) → IfErr (with_changes list old) (AtLast old.host.revision)
-list-last [] old = tt
-list-last (file ∷ later) old = put-last (ltb old.host.revision (2 ^ 64 - 1)) _ old refl
+list-last : (roots : List Root) (list : List ChangedFile) (old : SessionFiles) → IfErr (with_changes roots list old) (AtLast old.host.revision)
+list-last roots [] old = tt
+list-last roots (file ∷ later) old = put-last (ltb old.host.revision (2 ^ 64 - 1)) _ old refl
 
-processing-last : (files : SessionFiles) → IfErr (after_processing files) (AtLast files.host.revision)
+processing-last : (roots : List Root) (files : SessionFiles) → IfErr (after_processing roots files) (AtLast files.host.revision)
 unfolding after_processing
-processing-last files = list-last (changes files.table) _
+processing-last roots files = list-last roots (changes files.table) _
 
-pub turn-last : (files : SessionFiles) → IfErr (after_turn files) (AtLast files.host.revision)
+pub turn-last : (roots : List Root) (files : SessionFiles) → IfErr (after_turn roots files) (AtLast files.host.revision)
 unfolding after_turn
-turn-last files = err-if files.loading (Ok files) (after_processing files) _ tt (processing-last files)
+turn-last roots files = err-if files.loading (Ok files) (after_processing roots files) _ tt (processing-last roots files)
 
 -- ---- steps
 
@@ -228,25 +229,25 @@ unfolding loaded
 loaded-errs-by messages w = become-errs _ w IsFull (messages-errs messages w.state)
 
 -- what is processed writes and orders nothing
-pub record Processes (w v : Working SessionFiles) : Type 0 where
-  pub is : after_turn w.state ≡ Ok v.state
+pub record Processes (roots : List Root) (w v : Working SessionFiles) : Type 0 where
+  pub is : after_turn roots w.state ≡ Ok v.state
   pub out : v.out ≡ w.out
 
-become-processes : (r : Result SessionFiles Counter) (w : Working SessionFiles) → r ≡ after_turn w.state → IfOk (become r w) (Processes w)
-become-processes (Ok files) w is = record { is = sym is; out = refl }
-become-processes (Err counter) w is = tt
+become-processes : (roots : List Root) (r : Result SessionFiles Counter) (w : Working SessionFiles) → r ≡ after_turn roots w.state → IfOk (become r w) (Processes roots w)
+become-processes roots (Ok files) w is = record { is = sym is; out = refl }
+become-processes roots (Err counter) w is = tt
 
-pub processed-does : (w : Working SessionFiles) → IfOk (processed w) (Processes w)
+pub processed-does : (roots : List Root) (w : Working SessionFiles) → IfOk (processed roots w) (Processes roots w)
 unfolding processed
-processed-does w = become-processes (after_turn w.state) w refl
+processed-does roots w = become-processes roots (after_turn roots w.state) w refl
 
 become-last : (r : Result SessionFiles Counter) (w : Working SessionFiles) (revision : ℕ) → IfErr r (AtLast revision) → IfErr (become r w) (AtLast revision)
 become-last (Ok files) w revision h = tt
 become-last (Err counter) w revision h = h
 
-pub processed-errs : (w : Working SessionFiles) → IfErr (processed w) (AtLast w.state.host.revision)
+pub processed-errs : (roots : List Root) (w : Working SessionFiles) → IfErr (processed roots w) (AtLast w.state.host.revision)
 unfolding processed
-processed-errs w = become-last (after_turn w.state) w w.state.host.revision (turn-last w.state)
+processed-errs roots w = become-last (after_turn roots w.state) w w.state.host.revision (turn-last roots w.state)
 
 -- crate data goes into the world, and nothing is written and ordered for it
 pub record PutsCrates (crates : CrateData) (w v : Working SessionFiles) : Type 0 where

@@ -49,7 +49,7 @@ use Rattle.desk_laws.specs.Settled.{Settled}
 use Rattle.desk_laws.proofs.Appends.{spawned-append, revisions-append}
 use Rattle.desk_laws.proofs.Results.{IfOk-and_then, IfOk-next, IfOk-weaker, IfOk-within}
 use Rattle.desk_laws.proofs.Settling.{cancel-settles, message-settles, message-turns, nothing-settles, request-settles, request-turns, settled-on}
-use Rattle.session_files.specs.Folds.{after_closing, after_messages, after_opening, due_changes}
+use Rattle.session_files.specs.Folds.{after_closing, after_messages, after_opening, after_turn, due_changes}
 use Rattle.session_files.specs.SessionFiles.{SessionFiles}
 use Rattle.session_files.specs.Steps.{changed, closed as closed_document, loaded, opened, processed}
 use Rattle.status.specs.declared.status.Status.{Status}
@@ -76,7 +76,7 @@ use Rattle.session_model.specs.Sources.{change_by, client_with, sources_after, s
 use Rattle.session_model.specs.Switching.{switch_made}
 use Rattle.session_model.specs.Timing.{bring_files, planned_by, renewed_if, timer_of}
 use Rattle.session_model.specs.Run.{Turn, Steps, begun, after_input, out_after}
-use Rattle.session_model.specs.State.{State, columns_in, discovers, excludes_in, goes_by_folders, macros_loaded_in, may_start, scene_of, snapshot_of}
+use Rattle.session_model.specs.State.{State, columns_in, discovers, excludes_in, goes_by_folders, macros_loaded_in, may_start, scene_of, snapshot_of, Sources}
 use Rattle.session_model.specs.Status.{client_after_status, is_quiescent, status_now, statuses_due, statuses_in}
 use Rattle.session_model.specs.declared.facts.Facts.{Facts}
 use Rattle.session_model.specs.declared.input.Event.{Event}
@@ -786,7 +786,7 @@ changed-now meaning s event u behind = sym behind.changes
 
 -- the files are processed
 processed-serves : (meaning : Meaning) (s : State) (event : Event) (u : Working State) (v : Working SessionFiles) → Behind meaning s event u
-    → Processes (record { state = u.state.files; out = u.out }) v → Serves meaning s (Next event) (after_input (Next event) s.desk.jobs) (files_now u.state v)
+    → Processes u.state.sources.roots (record { state = u.state.files; out = u.out }) v → Serves meaning s (Next event) (after_input (Next event) s.desk.jobs) (files_now u.state v)
 processed-serves meaning s event u v behind p = record {
   does = ap (λ (o : Written). reaction_of (turn_of (Next event) (record { state = u.state; out = o }))) p.out ∙ behind.serves.does;
   numbered = subst (λ (o : Written). AreNumbered s.desk.handed (spawned o.commands)) (sym p.out) behind.serves.numbered;
@@ -795,14 +795,14 @@ processed-serves meaning s event u v behind p = record {
 
 -- and what follows from them is done
 made-now : (meaning : Meaning) (s : State) (event : Event) (u : Working State) (v : Working SessionFiles) (x : Working State) → Behind meaning s event u
-    → Processes (record { state = u.state.files; out = u.out }) v → FollowsFiles (due_changes u.state.files) (files_now u.state v) x
+    → Processes u.state.sources.roots (record { state = u.state.files; out = u.out }) v → FollowsFiles (due_changes u.state.files) (files_now u.state v) x
     → Made meaning s (Next event) (client_filed (Next event) (place_of s)) s.status [] x
 made-now meaning s event u v x behind p f =
     let told = behind.files in
     let w = files_now u.state v in
     let changed = changed-now meaning s event u behind in
     let built : ℕ = if builds_crates_in (Next event) (place_of s) then 1 else 0 in
-    let rises : v.state.host.revision ≡ revision_now (are_due (Ok u.state.files)) u.state.files = IfOk-at_ok (λ f. f.host.revision ≡ revision_now (are_due (Ok u.state.files)) u.state.files) p.is (turn-revises u.state.files) in
+    let rises : v.state.host.revision ≡ revision_now (are_due (Ok u.state.files)) u.state.files = IfOk-at_ok (λ f. f.host.revision ≡ revision_now (are_due (Ok u.state.files)) u.state.files) p.is (turn-revises u.state.sources.roots u.state.files) in
     let unrevised : filter_map revision_of v.out.commands ≡ [] = ap (λ (o : Written). filter_map revision_of o.commands) p.out ∙ behind.unrevised in
     let untold : statuses_in v.out.messages ≡ [] = ap (λ (o : Written). statuses_in o.messages) p.out ∙ behind.untold in
     let untimed : filter_map timer_of v.out.commands ≡ [] = ap (λ (o : Written). filter_map timer_of o.commands) p.out ∙ behind.untimed in
@@ -813,7 +813,8 @@ made-now meaning s event u v x behind p f =
       status = ap (λ (t : State). t.status) f.state ∙ behind.status;
       settings = refl;
       sources = ap (λ (t : State). t.sources) f.state ∙ (λ i. sources_after (changed i) (behind.sources i));
-      files = ap (λ r. and_then r (files_turned (Next event))) told ∙ p.is ∙ sym (ap (λ (t : State). Ok t.files) f.state);
+      files = ap (λ r. and_then r (files_turned (sources_switched (Next event) (place_of s)).roots (Next event))) told
+          ∙ ap (λ (x : Sources). after_turn x.roots u.state.files) (sym behind.sources) ∙ p.is ∙ sym (ap (λ (t : State). Ok t.files) f.state);
       unrevised = ap (filter_map revision_of) f.tells.ordered ∙ revisions-append v.out.commands f.tells.commands ∙ (λ i. unrevised i ++ f.tells.revises_none i);
       told = ap statuses_in f.tells.written ∙ statuses-append v.out.messages f.tells.messages ∙ (λ i. untold i ++ f.tells.tells i);
       untimed = ap (filter_map timer_of) f.tells.ordered ∙ timers-append v.out.commands f.tells.commands ∙ (λ i. untimed i ++ f.tells.times_none i);
@@ -902,9 +903,9 @@ files-made meaning s event t m =
     let changes = due_changes u.state.files in
     let Goal : Working State → Type 0 = λ v. ReadyBehind meaning s event (record { state = with_state v.state t.state; out = v.out }) in
     IfOk-within state_in with_state files_processed t (ReadyBehind meaning s event)
-    (IfOk-and_then (at_files processed u) (λ v. Ok (files_followed changes v)) (λ v. Goal (files_followed changes v)) Goal
-    (IfOk-within files_in with_files processed u (λ v. Goal (files_followed changes v))
-    (IfOk-weaker _ (Processes (record { state = t.state.state.files; out = t.out })) _ (processed-does _)
+    (IfOk-and_then (at_files (processed u.state.sources.roots) u) (λ v. Ok (files_followed changes v)) (λ v. Goal (files_followed changes v)) Goal
+    (IfOk-within files_in with_files (processed u.state.sources.roots) u (λ v. Goal (files_followed changes v))
+    (IfOk-weaker _ (Processes u.state.sources.roots (record { state = t.state.state.files; out = t.out })) _ (processed-does _ _)
     (λ v p. let w = files_now u.state v in
     let f : FollowsFiles changes w (files_followed changes w) = followed-does changes w in
     record {

@@ -23,7 +23,7 @@ use Rattle.session_files.specs.SessionFiles.{SessionFiles, no_files}
 use Rattle.session_files.specs.Texts.{entry_of}
 use Rattle.session_files.proofs.SoundLemmas.{closing_keeps, crates_keep, editing_keeps, messages_keep, none_sound, opening_keeps, turned}
 use Rattle.session_model.specs.Headline.{Place, SeesFiles, beginning, changed_at, client_after, closed_at, documents_told, files_after, files_made, files_switched, files_told, files_turned, opened_at, or_before}
-use Rattle.session_model.specs.Headline.{place_after, place_after_all, switch_in}
+use Rattle.session_model.specs.Headline.{place_after, place_after_all, sources_switched, switch_in}
 use Rattle.session_model.specs.Crates.{builds_crates, crate_data, crates_put_if, files_with_crates}
 use Rattle.session_model.specs.Inputs.{notice_in}
 use Rattle.session_model.specs.Run.{Turn}
@@ -93,8 +93,9 @@ switched-sound event place sound =
 made-seen : (input : Input) (place : Place) → AreSeen place.files → IfOk (files_made input place) AreSeen
 made-seen Start place seen = seen
 made-seen (Next event) place seen =
-    IfOk-and_then (files_switched (Next event) place) (files_turned (Next event)) IsSound AreSeen (switched-sound event place seen.sound)
-    (λ now sound. ok-from _ AreSeen (λ last is. let t = turned now last is in record { sound = t.sound sound; current = λ ready. t.current ready sound }))
+    let roots = (sources_switched (Next event) place).roots in
+    IfOk-and_then (files_switched (Next event) place) (files_turned roots (Next event)) IsSound AreSeen (switched-sound event place seen.sound)
+    (λ now sound. ok-from _ AreSeen (λ last is. let t = turned roots now last is in record { sound = t.sound sound; current = λ ready. t.current ready sound }))
 
 or-seen : (files : SessionFiles) (r : Result SessionFiles Counter) → AreSeen files → IfOk r AreSeen → AreSeen (or_before files r)
 or-seen files (Ok now) seen made = made

@@ -7,6 +7,7 @@ use Rattle.serde_json.specs.Data.{Data}
 use Rattle.docs_vfs.specs.FileUrls.{path_of}
 use Rattle.docs_vfs.specs.declared.file_url.UrlFault.{UrlFault}
 use Rattle.docs_vfs.specs.declared.file_kinds.ChangedFile.{ChangedFile}
+use Rattle.docs_vfs.specs.declared.source_roots.Root.{Root}
 use Rattle.lsp_frame.specs.Reader.{Reader}
 use Rattle.lsp_frame.specs.declared.message.Message.TheVariants.{Request as RequestMessage, Notification as NotificationMessage, Response as ResponseMessage}
 use Rattle.lsp_frame.specs.declared.message.RequestId.{RequestId}
@@ -145,10 +146,11 @@ files_told settings (Next (Vfs messages)) files = after_messages messages files
 files_told settings (Next (Deferred tasks)) files = Ok files
 files_told settings (Next (Timer ticket)) files = Ok files
 
--- behind the event of a turn what has changed goes into the world, unless files are loading; the start has no event
-abbrev pub files_turned : Input → SessionFiles → Result SessionFiles Counter
-files_turned Start files = Ok files
-files_turned (Next event) files = after_turn files
+-- behind the event of a turn what has changed goes into the world, and with files that came or went these roots, unless files are loading; the start has no
+-- event
+abbrev pub files_turned : List Root → Input → SessionFiles → Result SessionFiles Counter
+files_turned roots Start files = Ok files
+files_turned roots (Next event) files = after_turn roots files
 
 -- the contents of some path aren't those that the world was last made of, and no files are loading
 abbrev pub are_due : Result SessionFiles Counter → Bool
@@ -225,6 +227,10 @@ changes_world input place = builds_crates_in input place || is_changed place.cli
 abbrev pub workspaces_switched : Input → Place → Workspaces
 workspaces_switched input place = left_or (workspaces_at input place) (switch_in input place)
 
+-- the source roots behind the switch: new ones where the loader gets them, by the settings that the input leaves
+abbrev pub sources_switched : Input → Place → Sources
+sources_switched input place = sources_left (client_after input place.client).settings (switch_in input place) place.sources
+
 -- the files behind it: crate data that it builds goes into the world, by the settings that the input leaves
 abbrev pub files_switched : Input → Place → Result SessionFiles Counter
 files_switched Start place = Ok place.files
@@ -233,7 +239,7 @@ files_switched (Next event) place =
     (λ files. and_then (switch_in (Next event) place) (files_with_crates (client_after (Next event) place.client).settings files))
 
 abbrev pub files_made : Input → Place → Result SessionFiles Counter
-files_made input place = and_then (files_switched input place) (files_turned input)
+files_made input place = and_then (files_switched input place) (files_turned (sources_switched input place).roots input)
 
 -- a turn that needs one more of a counter than there are doesn't come to be
 abbrev pub or_before : SessionFiles → Result SessionFiles Counter → SessionFiles
@@ -256,10 +262,6 @@ changes_in (Next event) place = changes_due (files_told place.client.settings (N
 abbrev pub workspaces_planned : Input → Place → Workspaces
 workspaces_planned input place =
     planned_by (client_after input place.client).settings (next_turn place) (changes_in input place) (workspaces_switched input place)
-
--- the source roots behind the switch: new ones where the loader gets them, by the settings that the input leaves
-abbrev pub sources_switched : Input → Place → Sources
-sources_switched input place = sources_left (client_after input place.client).settings (switch_in input place) place.sources
 
 -- the change of settings that a turn's files are: the settings files that changed, by the roots behind its switch, and the parents of new roots
 abbrev pub settings_changed : Input → Place → Option ConfigChange

@@ -334,10 +334,10 @@ unfoldable pub files_followed : List ChangedFile → Working State → Working S
 files_followed [] w = w
 files_followed (change ∷ changes) w = effects_done (effects_for w.state.client.settings (change ∷ changes) w.state.workspaces) w
 
--- what has changed goes into the world, unless files are loading, and what follows from it is done
+-- what has changed goes into the world, and with files that came or went the source roots, unless files are loading; and what follows from it is done
 unfoldable pub files_processed : Working State → Result (Working State) Counter
 files_processed w =
-    and_then (at_files processed w)
+    and_then (at_files (processed w.state.sources.roots) w)
     (λ v. Ok (files_followed (due_changes w.state.files) v))
 
 unfoldable pub files_part : Working Turning → Result (Working Turning) Counter

@@ -1,6 +1,7 @@
 -- A call of the files, as a step of the session.
 use Rattle.std.proofs.Common.{◌≡◌, ℕ, List, sym, subst}
 use Rattle.std.specs.Prelude.{ℤ, Result}
+use Rattle.docs_vfs.specs.declared.source_roots.Root.{Root}
 use Rattle.text_core.specs.declared.change.ContentChange.{ContentChange}
 use Rattle.text_core.specs.declared.position.PositionEncoding.{PositionEncoding}
 use Rattle.turn_parts.proofs.Parts.{within_meets}
@@ -10,7 +11,7 @@ use Rattle.turn_parts.specs.Written.{Written}
 use Rattle.turn_parts.specs.declared.fault.Counter.{Counter}
 use Rattle.turn_parts.specs.declared.fault.TurnError.{TurnError}
 use Rattle.session_files.specs.SessionFiles.{SessionFiles}
-use Rattle.session_files.specs.Steps.{changed, opened}
+use Rattle.session_files.specs.Steps.{changed, opened, processed}
 use Rattle.session_model.specs.Machine.{at_files, files_in, with_files}
 use Rattle.session_model.specs.State.{State}
 
@@ -33,3 +34,8 @@ pub changed_as : {T : Type 0} (result : Result T TurnError) (columns asked : Pos
     → columns ≡ asked → version ≡ told → Meets result (changed columns path version changes w) files out → Meets result (changed asked path told changes w) files out
 changed_as result columns asked path version told changes w files out same is h =
     subst (λ (c : PositionEncoding). Meets result (changed c path told changes w) files out) same (subst (λ (v : ℤ). Meets result (changed columns path v changes w) files out) is h)
+
+-- files that are processed by these roots
+pub processed_as : {T : Type 0} (result : Result T TurnError) (roots asked : List Root) (w : Working SessionFiles) (files : SessionFiles) (out : Written)
+    → roots ≡ asked → Meets result (processed roots w) files out → Meets result (processed asked w) files out
+processed_as result roots asked w files out same h = subst (λ (xs : List Root). Meets result (processed xs w) files out) same h

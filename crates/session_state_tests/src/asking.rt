@@ -1,6 +1,8 @@
 // Sessions whose events are told in words, and what comes of the last of them. Each call answers none also where memory
 // runs out.
-use crate::words::{cut, event_of, fault, is_fault, root_text, settings_text, shown_text, words};
+use crate::words::{
+    cut, event_of, fault, is_fault, root_text, settings_text, shown_text, source_root_text, words,
+};
 use docs_vfs::VfsPath;
 use plain::Json;
 use ra_config::Config;
@@ -54,6 +56,10 @@ fn settings_at(alloc: Global, state: &GlobalState, root: u32) -> Option<String> 
     root_text(alloc, snapshot.config(), root)
 }
 
+fn source_root(alloc: Global, state: &GlobalState) -> Option<String> {
+    source_root_text(alloc, &state.snapshot().ok()?)
+}
+
 fn shown(alloc: Global, state: &GlobalState) -> Option<String> {
     shown_text(alloc, &state.snapshot().ok()?)
 }
@@ -67,13 +73,15 @@ fn start(alloc: Global, state: &mut GlobalState) -> Option<String> {
     }
 }
 
-/// What comes of an event. The words `settings`, `at first`, `at second`, `shown` and `start` are none: they ask for the
-/// settings, for those of the first and of the second root, for the workspaces that are shown, and for turn 0.
+/// What comes of an event. The words `settings`, `at first`, `at second`, `root`, `shown` and `start` are none: they ask for
+/// the settings, for those of the first and of the second root, for the root of a file, for the workspaces that are shown, and
+/// for turn 0.
 fn outcome(alloc: Global, state: &mut GlobalState, event: &str) -> Option<String> {
     match event {
         "settings" => settings_of(alloc, state),
         "at first" => settings_at(alloc, state, 0),
         "at second" => settings_at(alloc, state, 1),
+        "root" => source_root(alloc, state),
         "shown" => shown(alloc, state),
         "start" => start(alloc, state),
         _ => turn(alloc, state, event_of(alloc, event)?),

@@ -28,6 +28,23 @@ start then brought /w/Cargo.toml,/x/Cargo.toml then file /w/rust-analyzer.toml c
 tell workspace/didChangeConfiguration {} then answer [{"cargo":{"buildScripts":{"enable":false}}}] then brought /w/Cargo.toml then file /w/rust-analyzer.toml checkOnSave = false then ask rust-analyzer/reloadWorkspace null then brought second /w/Cargo.toml,/w/a/Cargo.toml then at second > checked, diagnosed
 tell workspace/didChangeConfiguration {} then answer [{"cargo":{"buildScripts":{"enable":false}}}] then brought /w/Cargo.toml then file /w/rust-analyzer.toml checkOnSave = false then ask rust-analyzer/reloadWorkspace null then brought second /w/Cargo.toml,/w/a/Cargo.toml then file /w/b.rs a then at second > unchecked, diagnosed"#;
 
+// The world gets the roots of the last switch where a file comes or goes.
+const WORLDS: &str = r#"start then root > no root
+start then brought /w/Cargo.toml then root > no root
+start then brought /w/Cargo.toml then file /x/b.rs a then root > first root
+start then file /x/b.rs a then brought /w/Cargo.toml then file /x/b.rs b then root > no root
+start then file /x/b.rs a then brought /w/Cargo.toml then file /x/b.rs then root > first root
+start then brought /w/Cargo.toml,/w/a/Cargo.toml then file /x/b.rs a then root > second root
+start then brought /w/Cargo.toml then loading then file /x/b.rs a then root > no root
+start then brought /w/Cargo.toml then loading then file /x/b.rs a then loaded then root > first root"#;
+
+#[test]
+fn worlds_get_their_roots(rt: HostRuntime) {
+    for line in WORLDS.lines() {
+        assert!(rt; agrees(rt.alloc(), line) == Some(true), "at {line}");
+    }
+}
+
 #[test]
 fn settings_files_change_settings(rt: HostRuntime) {
     for line in FILES.lines() {

@@ -364,6 +364,22 @@ pub fn root_text(alloc: Global, config: &Config, root: u32) -> Option<String> {
     String::from_str(alloc, name).ok()
 }
 
+fn source_root_name(is_local: bool, root: u32) -> &'static str {
+    match (is_local, root) {
+        (true, 0) => "first root",
+        (true, 1) => "second root",
+        _ => "no root",
+    }
+}
+
+/// The local root of a snapshot's world in which `/w/a/b.rs` is.
+pub fn source_root_text(alloc: Global, snapshot: &GlobalStateSnapshot) -> Option<String> {
+    let path = VfsPath::new(alloc, "/w/a/b.rs").ok()??;
+    let root = snapshot.roots().root_of(&path);
+    let name = source_root_name(snapshot.roots().is_local(root), root);
+    String::from_str(alloc, name).ok()
+}
+
 fn shown_name(workspaces: usize, version: u64) -> &'static str {
     match (workspaces, version) {
         (0, 0) => "none yet",

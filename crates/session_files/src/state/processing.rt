@@ -1,8 +1,8 @@
 // What has changed goes into the world.
-ghost use Rattle.std.specs.Prelude.{◌≡◌, map as each, Some, IfOk, IfSome};
+ghost use Rattle.std.specs.Prelude.{◌≡◌, not, map as each, Some, IfOk, IfSome};
 ghost use Rattle.docs_vfs.specs.Files.{changes};
 ghost use Rattle.turn_parts.specs.Meets.{Meets};
-ghost use Rattle.session_files.specs.Folds.{world_put, taken_up, after_crates, after_processing, after_turn, crates_only, due_changes};
+ghost use Rattle.session_files.specs.Folds.{world_put, taken_up, after_crates, after_processing, after_turn, crates_only, due_changes, have_come_or_gone, is_modification, roots_with, world_change};
 ghost use Rattle.session_files.specs.Meets.{Leaves};
 ghost use Rattle.session_files.specs.Steps.{crates_put, processed};
 ghost use Rattle.session_files.specs.Texts.{entry_of, file_change};
@@ -11,7 +11,7 @@ ghost use Rattle.analysis_host.specs.HostData.{changed};
 use crate::entries::{entry_of_bytes, entry_of_document};
 use crate::state::SessionFiles;
 use analysis_host::{Change, FileChange, SharedText, TextEntry, WorldFault};
-use docs_vfs::{ChangedFile, SharedBytes, VfsPath};
+use docs_vfs::{ChangeKind, ChangedFile, SharedBytes, SourceRoots, VfsPath};
 use plain::Items;
 use project_model::CrateData;
 use std::alloc::{AllocError, Global};
@@ -25,6 +25,33 @@ fn crates_only(alloc: Global, crates: CrateData) -> Change
         files: Items::new(alloc),
         roots: None,
         crates: Some(crates),
+    }
+}
+
+// Whether a file was created or deleted.
+fn came_or_went(file: &ChangedFile) -> bool
+    ensures { result ≡ not (is_modification file.now.kind) }
+{
+    match file.kind {
+        ChangeKind::Create | ChangeKind::Delete => true,
+        ChangeKind::Modify => false,
+    }
+}
+
+fn have_come_or_gone(files: &[ChangedFile]) -> bool
+    ensures { result ≡ have_come_or_gone files.now }
+{
+    files.iter().any(|file| came_or_went(file))
+}
+
+// The roots that the world gets with files.
+fn roots_with(roots: &SourceRoots, files: &[ChangedFile]) -> Result<Option<SourceRoots>, AllocError>
+    ensures { IfOk result (λ given. given ≡ roots_with roots.now files.now) }
+{
+    if have_come_or_gone(files) {
+        Ok(Some(roots.clone()?))
+    } else {
+        Ok(None)
     }
 }
 
@@ -74,6 +101,17 @@ impl SessionFiles {
         Ok(changes)
     }
 
+    // The change of the world that files are.
+    fn world_change(&self, roots: &SourceRoots, files: &[ChangedFile]) -> Result<Change, AllocError>
+        ensures { IfOk result (λ change. change ≡ world_change roots.now files.now) }
+    {
+        Ok(Change {
+            files: self.file_changes(files)?,
+            roots: roots_with(roots, files)?,
+            crates: None,
+        })
+    }
+
     // One change of the world, and so one revision more.
     fn change_world(&mut self, change: Change) -> Result<(), TurnError>
         ensures { Leaves result (world_put (changed change self.old.host) self.old) self.new }
@@ -97,29 +135,34 @@ impl SessionFiles {
     }
 
     #[tactic(auto, unfolding(crate::specs::Folds::after_processing))]
-    fn process_changes(&mut self) -> Result<Items<ChangedFile>, TurnError>
-        ensures leaves { Leaves result (after_processing self.old) self.new }
+    fn process_changes(&mut self, roots: &SourceRoots) -> Result<Items<ChangedFile>, TurnError>
+        ensures leaves { Leaves result (after_processing roots.now self.old) self.new }
         ensures changed { IfOk result (λ changed. changed ≡ changes self.old.table) }
     {
         let files = self.take_changes()?;
         if !files.is_empty() {
-            let changes = self.file_changes(files.as_slice())?;
-            self.change_world(Change::files_only(changes))?;
+            let change = self.world_change(roots, files.as_slice())?;
+            self.change_world(change)?;
         }
         Ok(files)
     }
 
-    /// What has changed since the last time goes into the world, unless files are loading. Answers the files that have, in
-    /// the order of their paths. After an `Err` the files are spent.
+    /// What has changed since the last time goes into the world, unless files are loading; where files were created or
+    /// deleted, it gets these roots too. Answers the files that have changed, in the order of their paths. After an `Err`
+    /// the files are spent.
     #[tactic(auto, using(crate::proofs::Steps::become_meets), unfolding(crate::specs::Steps::processed, crate::specs::Folds::after_turn))]
-    pub fn process(&mut self, out: &mut TurnOut) -> Result<Items<ChangedFile>, TurnError>
-        ensures meets { Meets result (processed (record { state = self.old; out = out.old })) self.new out.new }
+    pub fn process(
+        &mut self,
+        roots: &SourceRoots,
+        out: &mut TurnOut,
+    ) -> Result<Items<ChangedFile>, TurnError>
+        ensures meets { Meets result (processed roots.now (record { state = self.old; out = out.old })) self.new out.new }
         ensures changed { IfOk result (λ changed. changed ≡ due_changes self.old) }
     {
         if self.loading {
             return Ok(Items::new(self.alloc));
         }
-        self.process_changes()
+        self.process_changes(roots)
     }
 
     /// The world gets another crate graph, by one change. After an `Err` the files are spent.

@@ -135,12 +135,13 @@ impl GlobalState {
         self.renew_timer_if(brings, out)
     }
 
-    // What has changed goes into the world, unless files are loading. Answers the files that have.
+    // What has changed goes into the world, unless files are loading, and with files that came or went the source roots.
+    // Answers the files that have changed.
     fn take_up(&mut self, out: &mut TurnOut) -> Result<Items<ChangedFile>, TurnError>
-        ensures meets { Meets result (at_files processed (record { state = self.old; out = out.old })) self.new out.new }
+        ensures meets { Meets result (at_files (processed self.old.sources.roots) (record { state = self.old; out = out.old })) self.new out.new }
         ensures changed { IfOk result (λ changed. changed ≡ due_changes self.old.files) }
     {
-        self.files.process(out)
+        self.files.process(&self.roots, out)
     }
 
     // What follows from files that have changed is done; without any, nothing is.

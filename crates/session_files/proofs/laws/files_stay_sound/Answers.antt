@@ -9,7 +9,7 @@ returns c = record {
   closing = λ path files sound. (closing_keeps path files).sound sound;
   messages = λ messages files now sound is. (messages_keep messages files now is).sound sound;
   crates = λ crates files now sound is. (crates_keep crates files now is).sound sound;
-  turn = λ files now sound is. (turned files now is).sound sound;
-  current = λ files now sound is ready. (turned files now is).current ready sound;
-  taken = λ files now is ready. (turned files now is).taken ready;
+  turn = λ roots files now sound is. (turned roots files now is).sound sound;
+  current = λ roots files now sound is ready. (turned roots files now is).current ready sound;
+  taken = λ roots files now is ready. (turned roots files now is).taken ready;
 }

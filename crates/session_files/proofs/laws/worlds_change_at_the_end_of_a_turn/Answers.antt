@@ -8,7 +8,8 @@ returns c = record {
   closing = λ path files. (closing_keeps path files).host;
   messages = λ messages files now is. (messages_keep messages files now is).host;
   crates = λ crates files now is. let made = crates_keep crates files now is in (made.rest, made.revision);
-  rest = λ files now is. (turned files now is).rest;
-  revision = λ files now is. (turned files now is).revision;
-  same = λ files now is quiet. (turned files now is).same quiet;
+  rest = λ roots files now is. (turned roots files now is).rest;
+  revision = λ roots files now is. (turned roots files now is).revision;
+  same = λ roots files now is quiet. (turned roots files now is).same quiet;
+  roots = λ roots files now is. (turned roots files now is).renewed;
 }
