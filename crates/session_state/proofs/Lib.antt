@@ -1,3 +1,4 @@
+pub mod AskedSame
 pub mod AtClient
 pub mod AtDesk
 pub mod AtFiles
