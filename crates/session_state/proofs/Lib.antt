@@ -1,7 +1,7 @@
-pub mod AskedSame
 pub mod AtClient
 pub mod AtDesk
 pub mod AtFiles
+pub mod Crates
 pub mod Heard
 pub mod Projects
 pub mod Settled
