@@ -37,10 +37,10 @@ hints > start then fetched > Content-Length: 63\r\n\r\n{"id":0,"jsonrpc":"2.0","
 hints > start then deferred
 hints > start then loading then fetched > Content-Length: 106\r\n\r\n{"jsonrpc":"2.0","method":"window/showMessage","params":{"message":"Failed to load workspaces.","type":1}}
 hints > start then loading then fetched then loaded > Content-Length: 63\r\n\r\n{"id":0,"jsonrpc":"2.0","method":"workspace/inlayHint/refresh"}Content-Length: 106\r\n\r\n{"jsonrpc":"2.0","method":"window/showMessage","params":{"message":"Failed to load workspaces.","type":1}}
-hints > open > revisetimer 1
+hints > open > deferrevisetimer 1
 hints > open then timer 1 > Content-Length: 63\r\n\r\n{"id":0,"jsonrpc":"2.0","method":"workspace/inlayHint/refresh"}Worker
 hints > open then timer 1 then fetched > Content-Length: 63\r\n\r\n{"id":1,"jsonrpc":"2.0","method":"workspace/inlayHint/refresh"}Content-Length: 106\r\n\r\n{"jsonrpc":"2.0","method":"window/showMessage","params":{"message":"Failed to load workspaces.","type":1}}
-hints > open then timer 1 then fetched then tell textDocument/didChange {"textDocument":{"uri":"file:///w/a.rs","version":2},"contentChanges":[{"text":"b"}]} > Content-Length: 63\r\n\r\n{"id":2,"jsonrpc":"2.0","method":"workspace/inlayHint/refresh"}revise
+hints > open then timer 1 then fetched then tell textDocument/didChange {"textDocument":{"uri":"file:///w/a.rs","version":2},"contentChanges":[{"text":"b"}]} > Content-Length: 63\r\n\r\n{"id":2,"jsonrpc":"2.0","method":"workspace/inlayHint/refresh"}deferrevise
 hints > open then timer 1 then fetched then tell textDocument/didClose {"textDocument":{"uri":"file:///w/a.rs"}} > invalidate"#;
 
 #[test]
