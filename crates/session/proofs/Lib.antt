@@ -1,3 +1,4 @@
 pub mod Advancing
+pub mod Behind
 pub mod Endings
 pub mod Feeding

@@ -1,6 +1,7 @@
 //! A session: messages and results in, one turn for each, responses and jobs out.
 #![tactic(auto)]
 
+mod bringing;
 mod reading;
 mod run;
 

@@ -11,13 +11,14 @@ ghost use Rattle.turn_parts.specs.Meets.{Meets};
 ghost use Rattle.session_model.specs.Run.{IsRun, empty_reader, told_of, turn_error_of, fed_bytes};
 ghost use Rattle.session.specs.Looping.{Advances, AdvancesByEvent, TurnDone, IsFeedError};
 
+use crate::bringing::{Brought, brought_by};
 use crate::reading::{Coming, next_message};
 use analysis_host::Analysis;
 use lsp_frame::FrameReader;
 use plain::{Bytes, Items};
 use ra_config::Config;
 use session_model::{Counter, Event, Input, SessionError, TurnError};
-use session_port::{Command, Host, HostError, HostEvent, Sink};
+use session_port::{Command, Host, HostError, Sink};
 use session_state::{GlobalState, TurnOut};
 use std::alloc::Global;
 
@@ -149,32 +150,10 @@ fn take_event<H: Host<A>, S: Sink, A: Analysis>(
         Err(HostError::Failed) => return Err(SessionError::HostFault),
         Err(HostError::NoMemory) => return Err(SessionError::NoMemory),
     };
-    match event {
-        HostEvent::Ended => Err(SessionError::ClientExited),
-        HostEvent::Tasks(batch) => {
-            let input = Input::Next(Event::Task(batch));
-            run_turn(alloc, input, state, host, sink, analysis)
-        }
-        HostEvent::Vfs(messages) => {
-            let input = Input::Next(Event::Vfs(messages));
-            run_turn(alloc, input, state, host, sink, analysis)
-        }
-        HostEvent::DeferredTask(tasks) => {
-            let input = Input::Next(Event::Deferred(tasks));
-            run_turn(alloc, input, state, host, sink, analysis)
-        }
-        HostEvent::Timer(ticket) => {
-            let input = Input::Next(Event::Timer(ticket));
-            run_turn(alloc, input, state, host, sink, analysis)
-        }
-        HostEvent::Bytes(bytes) => {
-            if bytes.len() == 0 {
-                let batch = Items::new(alloc);
-                let input = Input::Next(Event::Task(batch));
-                return run_turn(alloc, input, state, host, sink, analysis);
-            }
-            feed(reader, &bytes)
-        }
+    match brought_by(alloc, event) {
+        Brought::Input(input) => run_turn(alloc, input, state, host, sink, analysis),
+        Brought::Fed(bytes) => feed(reader, &bytes),
+        Brought::Ended => Err(SessionError::ClientExited),
     }
 }
 

@@ -1,12 +1,15 @@
-use Rattle.std.proofs.Common.{rules, arith, refl, inl, [], ◌∷◌, ◌≡◌, ◌<◌, length}
+use Rattle.std.proofs.Common.{arith, refl, inl, [], ◌∷◌, ◌≡◌, ap, sym, subst, ◌∙◌}
 use Rattle.std.proofs.lemmas.Grind.{common_steps}
-use Rattle.session_port.specs.declared.event.HostEvent.TheVariants.{Bytes, Tasks, Vfs, DeferredTask, Timer, Ended}
-use Rattle.session_model.specs.declared.input.Event.TheVariants.{Task, Vfs as VfsEvent, Deferred, Timer as TimerEvent}
-use Rattle.session_model.specs.declared.input.Input.TheVariants.{Next}
-use Rattle.session_laws.proofs.Courses.{course-event, course-fed, course-empty, course-waits}
+use Rattle.session_port.specs.Honest.{AreHonest}
+use Rattle.session_port.specs.Jobs.{after_batch}
+use Rattle.session_port.specs.Record.{added, after_event, gave}
+use Rattle.session_port.specs.declared.event.HostEvent.TheVariants.{Ended}
+use Rattle.desk.specs.Meaning.{meaning_of}
+use Rattle.session_model.specs.Run.{told_of}
+use Rattle.session_laws.proofs.Courses.{course-event, course-fed, course-waits}
 use Rattle.session_laws.proofs.Stretches.{telling-calls}
-use Rattle.session.proofs.Endings.{breaks_at_once}
 use Rattle.session.proofs.Advancing.{advances-feed, advances-turn}
+use Rattle.session.proofs.Behind.{BringsBytes, BringsInput, IsBrought, is-brought}
 use Rattle.session.proofs.run.take_event.Goals as goal
 
 pub returns-in-Err-Failed-clause-turn : goal.returns-in-Err-Failed-clause-turn
@@ -14,56 +17,36 @@ returns-in-Err-Failed-clause-turn g c =
     let h = c.in-Err-Failed.ensures in
     inl (inl (record { course = course-waits _ _ c.requires.waits; told = grind (arith, common_steps, h) }))
 
-pub returns-in-Err-NoMemory-clause-turn : goal.returns-in-Err-NoMemory-clause-turn
-returns-in-Err-NoMemory-clause-turn g c =
-    let h = c.in-Err-NoMemory.ensures in
-    inl (breaks_at_once _ _ _ (grind (arith, common_steps, h)))
+pub returns-in-Input-clause-turn : goal.returns-in-Input-clause-turn
+returns-in-Input-clause-turn g c =
+    let h = c.in-Ok.ensures in
+    let brings : BringsInput c.in-Ok.event c.in-Input.input = subst (IsBrought c.in-Ok.event) (sym c.brought_by.ensures ∙ c.in-Input.is) (is-brought c.in-Ok.event) in
+    advances-turn (meaning_of g.A.Analysis.decodes g.A.Analysis.answer) c.in-Input.input (c.in-Ok.event ∷ []) c.args.state.now c.run_turn.new.state c.args.reader.now c.args.reader.now
+    (told_of (g.H.Host.calls c.args.host.now) (g.S.Sink.turns c.args.sink.now)) (told_of (g.H.Host.calls c.next.new.self) (g.S.Sink.turns c.args.sink.now))
+    (told_of (g.H.Host.calls c.run_turn.new.host) (g.S.Sink.turns c.run_turn.new.sink)) (g.H.Host.honest c.args.host.now)
+    (g.H.Host.out c.args.host.now) (g.H.Host.out c.next.new.self) (g.H.Host.out c.run_turn.new.host) c.run_turn.result
+    (course-waits c.args.reader.now.place c.args.reader.now.held c.requires.waits) (brings.course c.args.reader.now.place c.args.reader.now.held c.requires.waits) brings.none
+    (telling-calls _ _ _ h.calls refl) (h.out ∙ ap (λ batch. after_batch batch (g.H.Host.out c.args.host.now)) brings.batch)
+    (λ honest. subst (AreHonest g.A.Analysis.answer (g.H.Host.out c.args.host.now)) brings.batch (h.honest honest)) brings.later refl c.run_turn.ensures.turn
+
+pub returns-in-Fed-clause-turn : goal.returns-in-Fed-clause-turn
+returns-in-Fed-clause-turn g c =
+    let h = c.in-Ok.ensures in
+    let brings : BringsBytes c.in-Ok.event c.in-Fed.bytes = subst (IsBrought c.in-Ok.event) (sym c.brought_by.ensures ∙ c.in-Fed.is) (is-brought c.in-Ok.event) in
+    advances-feed (meaning_of g.A.Analysis.decodes g.A.Analysis.answer) c.in-Fed.bytes c.args.state.now c.args.reader.now c.feed.new.reader
+    (told_of (g.H.Host.calls c.args.host.now) (g.S.Sink.turns c.args.sink.now)) (told_of (g.H.Host.calls c.next.new.self) (g.S.Sink.turns c.args.sink.now))
+    (g.H.Host.honest c.args.host.now) (g.H.Host.out c.args.host.now) (g.H.Host.out c.next.new.self) c.feed.result
+    (course-waits c.args.reader.now.place c.args.reader.now.held c.requires.waits)
+    (λ more. course-fed c.args.reader.now.place c.args.reader.now.held c.in-Fed.bytes more c.requires.waits brings.some)
+    (telling-calls _ _ _ (h.calls ∙ ap (λ event. added (g.H.Host.calls c.args.host.now) (gave event)) brings.event_is) refl)
+    brings.some c.feed.ensures.fits c.feed.ensures.ok c.feed.ensures.err (h.out ∙ ap (λ event. after_event event (g.H.Host.out c.args.host.now)) brings.event_is)
 
 pub returns-in-Ended-clause-turn : goal.returns-in-Ended-clause-turn
 returns-in-Ended-clause-turn g c =
     let h = c.in-Ok.ensures in
-    (course-waits _ _ c.requires.waits, course-event _ _ Ended [] c.requires.waits, telling-calls _ _ _ (grind (arith, common_steps, h)) refl)
-
-pub returns-in-Tasks-clause-turn : goal.returns-in-Tasks-clause-turn
-returns-in-Tasks-clause-turn g c =
-    let h = c.in-Ok.ensures in
-    advances-turn _ (Next (Task c.in-Tasks.batch)) (Tasks c.in-Tasks.batch ∷ []) _ _ _ _ _ _ _ _ _ _ _ _
-    (course-waits _ _ c.requires.waits) (λ more. course-event _ _ (Tasks c.in-Tasks.batch) more c.requires.waits) refl
-    (telling-calls _ _ _ (grind (arith, common_steps, h)) refl) (grind (arith, common_steps, h)) (grind (arith, common_steps, h)) tt refl c.run_turn.ensures.turn
-
-pub returns-in-Vfs-clause-turn : goal.returns-in-Vfs-clause-turn
-returns-in-Vfs-clause-turn g c =
-    let h = c.in-Ok.ensures in
-    advances-turn _ (Next (VfsEvent c.in-Vfs.messages)) (Vfs c.in-Vfs.messages ∷ []) _ _ _ _ _ _ _ _ _ _ _ _
-    (course-waits _ _ c.requires.waits) (λ more. course-event _ _ (Vfs c.in-Vfs.messages) more c.requires.waits) refl
-    (telling-calls _ _ _ (grind (arith, common_steps, h)) refl) (grind (arith, common_steps, h)) (λ _. tt) tt refl c.run_turn-in-Vfs.ensures.turn
-
-pub returns-in-DeferredTask-clause-turn : goal.returns-in-DeferredTask-clause-turn
-returns-in-DeferredTask-clause-turn g c =
-    let h = c.in-Ok.ensures in
-    advances-turn _ (Next (Deferred c.in-DeferredTask.tasks)) (DeferredTask c.in-DeferredTask.tasks ∷ []) _ _ _ _ _ _ _ _ _ _ _ _
-    (course-waits _ _ c.requires.waits) (λ more. course-event _ _ (DeferredTask c.in-DeferredTask.tasks) more c.requires.waits) refl
-    (telling-calls _ _ _ (grind (arith, common_steps, h)) refl) (grind (arith, common_steps, h)) (λ _. tt) tt refl c.run_turn-in-DeferredTask.ensures.turn
-
-pub returns-in-Timer-clause-turn : goal.returns-in-Timer-clause-turn
-returns-in-Timer-clause-turn g c =
-    let h = c.in-Ok.ensures in
-    advances-turn _ (Next (TimerEvent c.in-Timer.ticket)) (Timer c.in-Timer.ticket ∷ []) _ _ _ _ _ _ _ _ _ _ _ _
-    (course-waits _ _ c.requires.waits) (λ more. course-event _ _ (Timer c.in-Timer.ticket) more c.requires.waits) refl
-    (telling-calls _ _ _ (grind (arith, common_steps, h)) refl) (grind (arith, common_steps, h)) (λ _. tt) tt refl c.run_turn-in-Timer.ensures.turn
-
-pub returns-then-len-eq0-clause-turn : goal.returns-then-len-eq0-clause-turn
-returns-then-len-eq0-clause-turn g c =
-    let h = c.in-Ok.ensures in
-    let none : length c.in-Bytes.bytes ≡ 0 = search rules in
-    advances-turn _ (Next (Task [])) (Bytes c.in-Bytes.bytes ∷ []) _ _ _ _ _ _ _ _ _ _ _ _
-    (course-waits _ _ c.requires.waits) (λ more. course-empty _ _ c.in-Bytes.bytes more c.requires.waits none) (omega (arith, none))
-    (telling-calls _ _ _ (grind (arith, common_steps, h)) refl) (grind (arith, common_steps, h)) (λ _. tt) tt refl (rw c.new-batch.ensures at c.run_turn-then-len-eq0.ensures.turn)
-
-pub returns-else-len-eq0-clause-turn : goal.returns-else-len-eq0-clause-turn
-returns-else-len-eq0-clause-turn g c =
-    let h = c.in-Ok.ensures in
-    let some : 0 < length c.in-Bytes.bytes = search rules in
-    advances-feed _ c.in-Bytes.bytes _ c.args.reader.now c.feed.new.reader _ _ _ _ _ _
-    (course-waits _ _ c.requires.waits) (λ more. course-fed _ _ c.in-Bytes.bytes more c.requires.waits some)
-    (telling-calls _ _ _ (grind (arith, common_steps, h)) refl) some c.feed.ensures.fits c.feed.ensures.ok c.feed.ensures.err (grind (arith, common_steps, h))
+    let is : c.in-Ok.event ≡ Ended = subst (IsBrought c.in-Ok.event) (sym c.brought_by.ensures ∙ c.in-Ended.is) (is-brought c.in-Ok.event) in (
+      course-waits c.args.reader.now.place c.args.reader.now.held c.requires.waits,
+      course-event c.args.reader.now.place c.args.reader.now.held Ended [] c.requires.waits,
+      telling-calls (gave Ended ∷ []) (told_of (g.H.Host.calls c.args.host.now) (g.S.Sink.turns c.args.sink.now)) (told_of (g.H.Host.calls c.next.new.self) (g.S.Sink.turns c.args.sink.now))
+          (h.calls ∙ ap (λ event. added (g.H.Host.calls c.args.host.now) (gave event)) is) refl,
+    )

@@ -1,0 +1,18 @@
+-- What an event of the host brings to a session.
+use Rattle.std.specs.Prelude.{[], ◌∷◌}
+use Rattle.session_port.specs.declared.event.HostEvent.{HostEvent}
+use Rattle.session_port.specs.declared.event.HostEvent.TheVariants.{Bytes, Tasks, Vfs, DeferredTask, Timer, Ended as HostEnded}
+use Rattle.session_model.specs.declared.input.Event.TheVariants.{Task, Vfs as VfsEvent, Deferred, Timer as TimerEvent}
+use Rattle.session_model.specs.declared.input.Input.TheVariants.{Next}
+use Rattle.session.specs.declared.bringing.Brought.{Brought}
+use Rattle.session.specs.declared.bringing.Brought.TheVariants.{Input, Fed, Ended}
+
+-- the input of a turn, bytes that are to be fed, or the end; no bytes are an empty batch
+abbrev pub brought_by : HostEvent → Brought
+brought_by (Bytes []) = Input (Next (Task []))
+brought_by (Bytes (byte ∷ bytes)) = Fed (byte ∷ bytes)
+brought_by (Tasks batch) = Input (Next (Task batch))
+brought_by (Vfs messages) = Input (Next (VfsEvent messages))
+brought_by (DeferredTask tasks) = Input (Next (Deferred tasks))
+brought_by (Timer ticket) = Input (Next (TimerEvent ticket))
+brought_by HostEnded = Ended
