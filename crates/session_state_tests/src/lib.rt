@@ -20,6 +20,8 @@ mod refreshing;
 #[cfg(test)]
 mod registering;
 #[cfg(test)]
+mod reloading;
+#[cfg(test)]
 mod results;
 #[cfg(test)]
 mod roots;

@@ -66,7 +66,8 @@ fn is_told(alloc: Global, client: &str, wanted: &str) -> Option<bool> {
     Some(done.as_str() == wanted)
 }
 
-const HINTS: &str = r#"Content-Length: 72\r\n\r\n{"id":2147483647,"jsonrpc":"2.0","method":"workspace/inlayHint/refresh"}Content-Length: 106\r\n\r\n{"jsonrpc":"2.0","method":"window/showMessage","params":{"message":"Failed to load workspaces.","type":1}}"#;
+const HINTS: &str =
+    r#"Content-Length: 72\r\n\r\n{"id":2147483647,"jsonrpc":"2.0","method":"workspace/inlayHint/refresh"}Content-Length: 106\r\n\r\n{"jsonrpc":"2.0","method":"window/showMessage","params":{"message":"Failed to load workspaces.","type":1}}"#;
 
 #[test]
 fn each_needs_a_number(rt: HostRuntime) {

@@ -4,7 +4,7 @@ use docs_vfs::VfsPath;
 use lsp_frame::{Message, Notification, Request, RequestId, Response};
 use method_table::PoolClass;
 use plain::{Bytes, Items, Json, Text};
-use project_model::{CrateEntry, ProjectWorkspace};
+use project_model::{CrateEntry, ProjectWorkspace, WorkspaceKind};
 use ra_config::Config;
 use ra_settings::LinkedProject;
 use session_model::{Counter, Event, TurnError};
@@ -13,7 +13,7 @@ use session_port::{
     TaskMsg,
 };
 use session_state::TurnOut;
-use small_project::workspaces_of;
+use small_project::{scripts_of, workspaces_of};
 use std::alloc::Global;
 
 /// What stands before the first mark in a text, and what stands behind it.
@@ -77,15 +77,15 @@ fn loader(alloc: Global, message: LoaderMsg) -> Option<Event> {
     Some(Event::Vfs(messages))
 }
 
-/// How far the loader is.
-fn progress(alloc: Global, n_done: LoadingProgress) -> Option<Event> {
+/// How far the loader is with the settings of this version.
+fn progress(alloc: Global, n_done: LoadingProgress, config_version: u32) -> Option<Event> {
     loader(
         alloc,
         LoaderMsg::Progress {
             n_total: 1,
             n_done,
             dir: None,
-            config_version: 1,
+            config_version,
         },
     )
 }
@@ -115,6 +115,15 @@ fn changed(alloc: Global, words: &str) -> Option<Event> {
 fn loaded(alloc: Global, words: &str) -> Option<Event> {
     let files = files(alloc, words)?;
     loader(alloc, LoaderMsg::Loaded { files })
+}
+
+/// Two files that the loader has read first.
+fn both(alloc: Global) -> Option<Event> {
+    let mut list = files(alloc, "/w/a.rs fn a() {")?;
+    for file in files(alloc, "/w/b.rs )")?.into_vec() {
+        list.push(file).ok()?;
+    }
+    loader(alloc, LoaderMsg::Loaded { files: list })
 }
 
 /// The final result of a job.
@@ -172,6 +181,26 @@ fn brought(alloc: Global, job: u64, words: &str) -> Option<Event> {
     ended(alloc, job, JobResult::Value(JobValue::Workspaces(found)))
 }
 
+/// The workspace `/w`, which is described as JSON.
+fn described(alloc: Global, job: u64) -> Option<Event> {
+    let mut fetched = Items::new(alloc);
+    for mut workspace in workspaces_at(alloc, "/w/Cargo.toml")?.into_vec() {
+        workspace.kind = WorkspaceKind::Json;
+        workspace.manifest = None;
+        fetched.push(Ok(workspace)).ok()?;
+    }
+    ended(alloc, job, JobResult::Value(JobValue::Workspaces(fetched)))
+}
+
+/// What the build scripts of one workspace made: nothing, without an error.
+fn scripts(alloc: Global, job: u64) -> Option<Event> {
+    let mut made = Items::new(alloc);
+    for scripts in scripts_of(alloc, 1).ok()?.into_vec() {
+        made.push(Ok(scripts)).ok()?;
+    }
+    ended(alloc, job, JobResult::Value(JobValue::BuildData(made)))
+}
+
 /// The crate whose root file this is.
 fn crate_at(alloc: Global, root: &str) -> Option<CrateEntry> {
     Some(CrateEntry {
@@ -194,10 +223,10 @@ fn with_crate(alloc: Global, job: u64, words: &str) -> Option<Event> {
 }
 
 /// `ask` and `tell` with a method and its params, `answer` with the result in the response to the session's request 0,
-/// `loading` and `loaded` where files begin to load and are loaded, `file` and `read` with a path, and perhaps a text, where the
+/// `loading` and `loaded` where files begin to load and are loaded, `reloaded` where they are by the loader's second settings, `both` where two files are read at once, `file` and `read` with a path, and perhaps a text, where the
 /// loader tells that a file has changed and where it has read it first, `open` where `/w/a.rs` is opened, `null` and `stopped` as results of the first
 /// job, or of the `second` or the `third`, `fetched` and `builds` as results that are no request's, `brought` where such a job brings the workspaces
-/// of some manifests, perhaps with the version of their compiler, `crate` where it brings one with the crate of a root file, `deferred`, `timer` with its ticket,
+/// of some manifests, perhaps with the version of their compiler, `crate` where it brings one with the crate of a root file, `described` where it brings the workspace `/w` that is described as JSON, `scripts` where build scripts made nothing, `deferred`, `timer` with its ticket,
 /// and `shutdown` as a request.
 pub fn event_of(alloc: Global, words: &str) -> Option<Event> {
     let (kind, rest) = cut(words, " ");
@@ -206,8 +235,10 @@ pub fn event_of(alloc: Global, words: &str) -> Option<Event> {
         "ask" => asked(alloc, rest),
         "tell" => told(alloc, rest),
         "answer" => response(alloc, rest),
-        "loading" => progress(alloc, LoadingProgress::Started),
-        "loaded" => progress(alloc, LoadingProgress::Finished),
+        "loading" => progress(alloc, LoadingProgress::Started, 1),
+        "loaded" => progress(alloc, LoadingProgress::Finished, 1),
+        "reloaded" => progress(alloc, LoadingProgress::Finished, 2),
+        "both" => both(alloc),
         "file" => changed(alloc, rest),
         "read" => loaded(alloc, rest),
         "open" => notification(
@@ -229,6 +260,8 @@ pub fn event_of(alloc: Global, words: &str) -> Option<Event> {
         ),
         "brought" => brought(alloc, job, found),
         "crate" => with_crate(alloc, job, found),
+        "described" => described(alloc, job),
+        "scripts" => scripts(alloc, job),
         "deferred" => Some(Event::Deferred(Items::new(alloc))),
         "timer" => Some(Event::Timer(rest.parse::<u64>().unwrap_or(1))),
         "shutdown" => request(alloc, 1, "shutdown", "null"),

@@ -1,0 +1,20 @@
+// A session from its start to the workspaces of its files: what each of its first turns does.
+use crate::asking::agrees;
+
+// The first fetch is out while the loader brings two files, which ask for another one. They are opened as they are. The fetch brings a workspace: the
+// host is to load its files, and to run its build scripts. Once the files are loaded, the timer starts the other fetch.
+const TURNS: &str = r#"start > Worker
+start then both > deferrevisetimer 1
+start then both then tell textDocument/didOpen {"textDocument":{"uri":"file:///w/a.rs","version":1,"text":"fn a() {"}}
+start then both then tell textDocument/didOpen {"textDocument":{"uri":"file:///w/a.rs","version":1,"text":"fn a() {"}} then tell textDocument/didOpen {"textDocument":{"uri":"file:///w/b.rs","version":1,"text":")"}}
+start then both then described > loadWorkerrevise
+start then both then described then loaded
+start then both then described then loaded then timer 1 > Worker
+start then both then described then loaded then timer 1 then scripts second > load anewrevise"#;
+
+#[test]
+fn a_session_reloads(rt: HostRuntime) {
+    for line in TURNS.lines() {
+        assert!(rt; agrees(rt.alloc(), line) == Some(true), "at {line}");
+    }
+}
