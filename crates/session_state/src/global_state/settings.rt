@@ -2,7 +2,7 @@
 ghost use Rattle.std.specs.Prelude.{◌≡◌, Some, IfOk, OnOk};
 ghost use Rattle.turn_parts.specs.Meets.{Gives};
 ghost use Rattle.session_model.specs.Machine.{settings_filed, with_client};
-ghost use Rattle.session_model.specs.Sources.{change_for, client_with, is_settled, parents_told};
+ghost use Rattle.session_model.specs.Sources.{client_with, is_settled, parents_told};
 ghost use Rattle.settings_files.specs.Filing.{change_of};
 
 use crate::global_state::GlobalState;
