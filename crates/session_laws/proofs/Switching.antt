@@ -98,7 +98,7 @@ followed-does (GoOn msrv version initial) w =
     (λ u told. record {
       tells = tells-on _ _ _ (warned-tells msrv w) (tells-on _ _ _ told.tells (loader-tells version u));
       state = ap (λ (s : State). with_sources (sources_now s.client.settings s.workspaces) s)
-              (loader-same version u ∙ told.state ∙ ap (λ (s : State). with_client (asked s) s) (warned-same msrv w))
+          (loader-same version u ∙ told.state ∙ ap (λ (s : State). with_client (asked s) s) (warned-same msrv w))
           ∙ ap (λ (settings : ConfigData). with_sources (sources_now settings w.state.workspaces) (with_client (asked w.state) w.state)) (watching-settings true w.state.client);
     })
 

@@ -15,12 +15,7 @@ use turn_parts::TurnOut;
 impl GlobalState {
     // The client is asked for this, where the flag is set. Nothing follows its answer.
     #[tactic(auto, unfolding(session_model::specs::Machine::asked_if))]
-    fn ask_if(
-        &mut self,
-        wanted: bool,
-        message: Outgo,
-        out: &mut TurnOut,
-    ) -> Result<(), TurnError>
+    fn ask_if(&mut self, wanted: bool, message: Outgo, out: &mut TurnOut) -> Result<(), TurnError>
         requires { HoldsPlain message }
         ensures { Meets result (asked_if wanted message (record { state = self.old; out = out.old })) self.new out.new }
     {
