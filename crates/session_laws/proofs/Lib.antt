@@ -7,6 +7,7 @@ pub mod Causes
 pub mod Changing
 pub mod Counted
 pub mod Courses
+pub mod Crates
 pub mod Each
 pub mod Exhausting
 pub mod Fetching
