@@ -454,9 +454,9 @@ abbrev pub at : Working State → Working Desk
 at w = record { state = w.state.desk; out = w.out }
 
 -- the desk has done this, the workspaces and the files have come to these, and nothing else has changed
-pub record DoesAtDesk (w u : Working State) (done : Reaction) (jobs : Jobs) (workspaces : Workspaces) (files : Result SessionFiles Counter) : Type 0 where
+pub record DoesAtDesk (w u : Working State) (done : Reaction) (jobs : Jobs) (workspaces : Workspaces) (made : Result SessionFiles Counter) : Type 0 where
   pub desk : Settled None (at w) (at u) done jobs
-  pub files : files ≡ Ok u.state.files
+  pub files : made ≡ Ok u.state.files
   pub rest : u.state ≡ record w.state { desk = u.state.desk; workspaces = workspaces; files = u.state.files }
 
 -- a message of a batch, at the desk
@@ -647,7 +647,7 @@ pub record Fits (meaning : Meaning) (s : State) (input : Input) (v : Working Sta
   pub does : reaction_of (turn_of input v) ≡ row meaning input (place_of s)
   pub numbered : AreNumbered s.desk.handed (spawned v.out.commands)
   pub place : place_of v.state ≡ place_after (turn_of input v) (place_of s)
-  pub later : s.files.host.revision ≤ v.state.files.host.revision
+  pub later : s.files.host.revision + crates_told_by input (place_of s) ≤ v.state.files.host.revision
   pub revised : v.state.files.host.revision ≡ s.files.host.revision + revisions_in input (place_of s)
   pub hands : Hands meaning s input v
   pub told : statuses_in v.out.messages ≡ statuses_at input (place_of s)
@@ -677,8 +677,8 @@ files-now : (s : State) (input : Input) (now : SessionFiles) → files_made inpu
 files-now s input now made = sym (ap (or_before s.files) made)
 
 -- a revision doesn't fall
-no-less : (more before revision : ℕ) → revision ≡ before + more → before ≤ revision
-no-less more before revision is = omega (arith, is)
+no-less : (told built changed before revision : ℕ) → revision ≡ before + (told + built + changed) → before + told ≤ revision
+no-less told built changed before revision is = omega (arith, is)
 
 close-cases : (meaning : Meaning) (s : State) (input : Input) (u : Working State) (b : Bool) → (u.state.files.host.revision == s.files.host.revision) ≡ b → Left meaning s input u
     → u.state.workspaces ≡ workspaces_after input (place_of s) → Hands meaning s input u
@@ -691,7 +691,8 @@ close-cases meaning s input u true h made workspaces hands =
       does = serves.does;
       numbered = serves.numbered;
       place = same_place _ _ made.client (files-now s input u.state.files made.files) same serves.desk workspaces made.status;
-      later = no-less (revisions_in input (place_of s)) s.files.host.revision u.state.files.host.revision made.revised;
+      later = no-less (crates_told_by input (place_of s)) (if builds_crates_in input (place_of s) then 1 else 0) (if is_changed input (place_of s) then 1 else 0) s.files.host.revision
+          u.state.files.host.revision made.revised;
       revised = made.revised;
       hands = hands;
       told = made.told;
@@ -709,7 +710,8 @@ close-cases meaning s input u false h made workspaces hands =
       numbered = serves.numbered;
       place = same_place _ _ made.client (files-now s input u.state.files made.files) (sym (ap (λ ns. last_of ns s.files.host.revision) numbers))
           (serves.desk ∙ ap (λ js. record (desk_after (turn_of input v) s.desk) { jobs = js }) jobs) workspaces made.status;
-      later = no-less (revisions_in input (place_of s)) s.files.host.revision u.state.files.host.revision made.revised;
+      later = no-less (crates_told_by input (place_of s)) (if builds_crates_in input (place_of s) then 1 else 0) (if is_changed input (place_of s) then 1 else 0) s.files.host.revision
+          u.state.files.host.revision made.revised;
       revised = made.revised;
       hands = spawns ∙ hands;
       told = made.told;
