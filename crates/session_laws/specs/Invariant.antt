@@ -1,5 +1,5 @@
 -- The turn invariant: what holds of the lists between turns, and carries what is said of requests and answers.
-use Rattle.std.specs.Prelude.{◌≡◌, ◌≤◌, ℕ, Bool, true, false, List, Option, None, Some}
+use Rattle.std.specs.Prelude.{◌+◌, ◌≡◌, ◌≤◌, ℕ, Bool, true, false, List, Option, None, Some}
 use Rattle.std.specs.FinMap as map
 use Rattle.ra_config.specs.Config.{ConfigData}
 use Rattle.session_port.specs.Jobs.{Jobs}

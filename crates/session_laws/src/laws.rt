@@ -1,5 +1,5 @@
 // Laws of the definitions: of what a session reads and writes, and of the machine and the reply table.
-ghost use Rattle.std.specs.Prelude.{◌≡◌, ◌≤◌, ◌++◌, ◌∷◌, ℕ, List, length, map, Err, Some};
+ghost use Rattle.std.specs.Prelude.{◌+◌, ◌≡◌, ◌≤◌, ◌++◌, ◌∷◌, ℕ, List, length, map, Err, Some};
 ghost use Rattle.lsp_frame.specs.Pending.{Pending};
 ghost use Rattle.lsp_frame.specs.declared.message.Message.{Message};
 ghost use Rattle.lsp_frame.specs.declared.message.Response.{Response};
