@@ -1,5 +1,6 @@
 pub mod AtClient
 pub mod AtDesk
 pub mod AtFiles
+pub mod Crates
 pub mod Heard
 pub mod Projects
