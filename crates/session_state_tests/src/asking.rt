@@ -1,6 +1,6 @@
 // Sessions whose events are told in words, and what comes of the last of them. Each call answers none also where memory
 // runs out.
-use crate::words::{cut, event_of, fault, is_fault, settings_text, shown_text, words};
+use crate::words::{cut, event_of, fault, graph_text, is_fault, settings_text, shown_text, words};
 use docs_vfs::VfsPath;
 use plain::Json;
 use ra_config::Config;
@@ -53,6 +53,10 @@ fn shown(alloc: Global, state: &GlobalState) -> Option<String> {
     shown_text(alloc, &state.snapshot().ok()?)
 }
 
+fn graph(alloc: Global, state: &GlobalState) -> Option<String> {
+    graph_text(alloc, &state.snapshot().ok()?)
+}
+
 /// Turn 0, in words.
 fn start(alloc: Global, state: &mut GlobalState) -> Option<String> {
     let mut out = TurnOut::new(alloc);
@@ -62,12 +66,13 @@ fn start(alloc: Global, state: &mut GlobalState) -> Option<String> {
     }
 }
 
-/// What comes of an event. The words `settings`, `shown` and `start` are none: they ask for the settings, for the
-/// workspaces that are shown, and for turn 0.
+/// What comes of an event. The words `settings`, `shown`, `graph` and `start` are none: they ask for the settings, for the
+/// workspaces and the crate graph that are shown, and for turn 0.
 fn outcome(alloc: Global, state: &mut GlobalState, event: &str) -> Option<String> {
     match event {
         "settings" => settings_of(alloc, state),
         "shown" => shown(alloc, state),
+        "graph" => graph(alloc, state),
         "start" => start(alloc, state),
         _ => turn(alloc, state, event_of(alloc, event)?),
     }

@@ -70,7 +70,7 @@ jobs > ask rust-analyzer/rebuildProcMacros null > Content-Length: 38\r\n\r\n{"id
 revisions > open > revisetimer 1 > revisetimer 1
 outgoing > tell workspace/didChangeConfiguration null > Content-Length: 108\r\n\r\n{"id":0,"jsonrpc":"2.0","method":"workspace/configuration","params":{"items":[{"section":"rust-analyzer"}]}} > Content-Length: 117\r\n\r\n{"id":2147483647,"jsonrpc":"2.0","method":"workspace/configuration","params":{"items":[{"section":"rust-analyzer"}]}}
 files > open > revisetimer 1 > revisetimer 1
-loader settings > start then brought /w/Cargo.toml > loadWorker > load anewWorker"#;
+loader settings > start then brought /w/Cargo.toml > loadWorkerrevise > load anewWorkerrevise"#;
 
 fn does(alloc: Global, used: Counters, event: &str, wanted: &str) -> Option<bool> {
     Some(done_at(alloc, used, event)?.as_str() == wanted)

@@ -21,7 +21,7 @@ const TIMERS: &str = r#"open then timer 1 > Worker
 open then timer 2
 open then timer 1 then timer 1
 start then open then timer 1
-start then open then timer 1 then brought /w/Cargo.toml > loadWorker
+start then open then timer 1 then brought /w/Cargo.toml > loadWorkerrevise
 open then file /w/b.rs a > revisetimer 2
 open then file /w/b.rs a then timer 1
 open then file /w/b.rs a then timer 2 > Worker
