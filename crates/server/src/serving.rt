@@ -7,7 +7,7 @@ ghost use Rattle.session_model.specs.Run.{empty_reader, told_of};
 ghost use Rattle.server.specs.Serving.{asked_by, session_config, EndsWith, Serves, RanSession, Welcomed};
 ghost use Rattle.server.specs.Status.{status_of, bad_words};
 
-use crate::status::{BAD_WORDS, status_of};
+use crate::exit_status::{BAD_WORDS, status_of};
 use crate::words::{Asked, asked_by};
 use analysis_host::Analysis;
 use docs_vfs::VfsPath;
