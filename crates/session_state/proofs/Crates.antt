@@ -1,19 +1,21 @@
 -- What a closure answers for each root, and how many crates a graph has.
 use Rattle.std.proofs.Common.{◌≡◌, ◌<◌, ◌^◌, ℕ, List, [], ◌∷◌, length, map, refl, sym, ap, ◌∙◌, subst, arith}
 use Rattle.std.proofs.lemmas.List.{length-map, length-take}
-use Rattle.std.specs.Prelude.{Option, min, take}
+use Rattle.std.specs.Prelude.{IfOk, Option, min, Result, Ok, Err, take}
 use Rattle.std.specs.Borrow.{Bor}
 use Rattle.std.specs.Fn.{Mut, CalledAt}
 use Rattle.docs_vfs.specs.declared.file_kinds.FileId.{FileId}
+use Rattle.project_model.specs.declared.crates.CrateData.{CrateData}
 use Rattle.project_model.specs.declared.crates.CrateInfo.{CrateInfo}
 use Rattle.project_model.specs.declared.workspace.ProjectWorkspace.{ProjectWorkspace}
 use Rattle.ra_config.specs.Config.{ConfigData}
 use Rattle.reload.specs.Asked.{Asked}
-use Rattle.reload.specs.Graph.{all_crates, crate_roots, most_crates, places_from}
+use Rattle.reload.specs.Graph.{all_crates, crate_roots, graph_of, most_crates, places_from}
 use Rattle.reload.specs.GraphLaws.{files_found}
 use Rattle.reload.proofs.GraphLaws.{kept_first}
 use Rattle.reload.proofs.PlaceLaws.{stand_at_numbers}
-use Rattle.session_model.specs.Crates.{Numbers, crate_graph, loaded_as}
+use Rattle.session_model.specs.Crates.{Numbers, crate_graph, extra_env, loaded_as}
+use Rattle.session_model.specs.Loading.{MacroPaths}
 
 -- a closure that changes nothing, and answers this for each of these
 pub asked_map : {F A R : Type 0} (g : Mut F (Bor A × Unit {0}) R) (f : F) (h : A → R) → ((x : A) (r : R) (next : F) → CalledAt g f x r next → (r ≡ h x) × (next ≡ f))
@@ -25,6 +27,17 @@ asked_map {F} g f h each (x ∷ xs) (r ∷ rs) last (next, called, later) =
     λ i. one.0 i ∷ rest i
 asked_map g f h each [] (r ∷ rs) last asked = absurd asked
 asked_map g f h each (x ∷ xs) [] last asked = absurd asked
+
+-- the graph that is made of such answers
+pub graph_met : {E F : Type 0} (result : Result (CrateData × MacroPaths) E) (g : Mut F (Bor (List ℕ) × Unit {0}) (Option FileId)) (load : F) (settings : ConfigData) (numbers : Numbers)
+    (shown present : List ProjectWorkspace) (env : List (List ℕ × Option (List ℕ))) → shown ≡ present → env ≡ extra_env settings
+    → ((x : List ℕ) (r : Option FileId) (next : F) → CalledAt g load x r next → (r ≡ loaded_as numbers x) × (next ≡ load))
+    → IfOk result (λ made. (files : List (Option FileId)) × (last : F) × Asked g load (crate_roots shown) files last × (made ≡ graph_of shown env files))
+    → IfOk result (λ made. made ≡ crate_graph settings numbers present)
+graph_met (Ok made) g load settings numbers shown present env is same each (files, last, asked, it) =
+    it ∙ ap (graph_of shown env) (asked_map g load (loaded_as numbers) each (crate_roots shown) files last asked)
+    ∙ (λ i. graph_of (is i) (same i) (map (loaded_as numbers) (crate_roots (is i))))
+graph_met (Err e) g load settings numbers shown present env is same each h = tt
 
 -- a graph has no more crates than there are numbers
 most-fits : most_crates < 2 ^ 32
@@ -38,7 +51,7 @@ pub crates_fit : (settings : ConfigData) (numbers : Numbers) (present : List Pro
 crates_fit settings numbers present =
     let files : List (Option FileId) = map (loaded_as numbers) (crate_roots present) in
     let crates : List CrateInfo = all_crates present (places_from 0 files) in
-    let same : length files ≡ length (crate_roots present) = length-map (loaded_as numbers) (crate_roots present) in
+    let same : length files ≡ length (crate_roots present) = length-map (crate_roots present) (loaded_as numbers) in
     taken-fits (length crates) (length (files_found files))
-    (sym (length-map (λ (info : CrateInfo). info.root) crates) ∙ ap (λ (list : List FileId). length list) (stand_at_numbers present files same ∙ kept_first files)
+    (sym (length-map crates (λ (info : CrateInfo). info.root)) ∙ ap (λ (list : List FileId). length list) (stand_at_numbers present files same ∙ kept_first files)
     ∙ length-take most_crates (files_found files))
