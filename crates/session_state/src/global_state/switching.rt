@@ -1,5 +1,5 @@
 // Switches to workspaces that were fetched.
-ghost use Rattle.std.specs.Prelude.{◌≡◌, ◌⊎◌, None, Some, Ok, Err, IfOk, IfErr};
+ghost use Rattle.std.specs.Prelude.{◌≡◌, ◌⊎◌, None, Some, Ok, Err, IfOk, IfErr, OnOk};
 ghost use Rattle.turn_parts.specs.Meets.{Meets, Gives};
 ghost use Rattle.turn_parts.specs.declared.fault.Counter.TheVariants.{LoaderSettings};
 ghost use Rattle.turn_parts.specs.declared.fault.TurnError.TheVariants.{Exhausted, NoMemory as OutOfMemory};
@@ -138,7 +138,7 @@ impl GlobalState {
     // The same where a switch is wanted and no files are loading, with the crate data that is built behind it; else nothing follows.
     fn make_switch_if_due(&mut self) -> Result<Follows, TurnError>
         ensures made { IfOk result (λ follows. switch_made self.old.client.settings self.old.files self.old.workspaces ≡ Ok (follows, self.new.workspaces)) }
-        ensures rest { self.new ≡ record self.old { workspaces = self.new.workspaces } }
+        ensures rest { OnOk result (self.new ≡ record self.old { workspaces = self.new.workspaces }) }
         ensures err { IfErr result (λ e. (e ≡ OutOfMemory)
             ⊎ ((e ≡ Exhausted LoaderSettings) × (switch_made self.old.client.settings self.old.files self.old.workspaces ≡ Err LoaderSettings))) }
     {

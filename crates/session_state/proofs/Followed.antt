@@ -1,0 +1,14 @@
+-- What follows from files that have changed, where some have.
+use Rattle.std.proofs.Common.{◌≡◌, ◌≤◌, ℕ, List, [], ◌∷◌, length, refl, arith, Bool, true, false}
+use Rattle.std.specs.Prelude.{◌==◌}
+use Rattle.docs_vfs.specs.declared.file_kinds.ChangedFile.{ChangedFile}
+use Rattle.turn_parts.specs.Working.{Working}
+use Rattle.session_model.specs.Machine.{effects_done, files_followed}
+use Rattle.session_model.specs.State.{State}
+use Rattle.session_model.specs.Timing.{effects_for}
+
+pub some_followed : (changed : List ChangedFile) (w : Working State) → ((changed ≡ []) → ⊥)
+    → files_followed changed w ≡ effects_done (effects_for w.state.client.settings changed w.state.workspaces) w
+unfolding files_followed
+some_followed [] w some = absurd (some refl)
+some_followed (change ∷ changes) w some = refl
