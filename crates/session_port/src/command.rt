@@ -23,6 +23,8 @@ pub enum LogCode {
     UnexpectedChange,
     /// A document that is closed and was not open. The text is its path.
     OrphanClose,
+    /// A document that was saved and is not open. The text is its path.
+    UnknownSave,
     /// A change of which some edit has no place in the text, or would leave too long a one. The text is the path.
     SkippedChange,
     /// A URL that names no file. The text is the URL.
@@ -32,6 +34,18 @@ pub enum LogCode {
     /// The client did not answer with its settings. The text is the message of its error; `empty` where it has neither an error nor a
     /// result; `not plain` for a value that isn't plain.
     SettingsError,
+    /// A project is to be discovered, and no settings say how. The text is empty.
+    DiscoverWithoutSettings,
+    /// Checks are to run for a file that is not in the table. The text is its path.
+    CheckUnknownFile,
+    /// A fetch of workspaces that failed. The text has a line for each error.
+    FetchError,
+    /// A run of build data of which some failed. The text has a line for each error.
+    BuildError,
+    /// A further changed settings file of a root and kind, of which another holds. The text is its path.
+    SecondSettingsFile,
+    /// A project that was not discovered. The text is the error, and on a second line its source where it has one.
+    DiscoverError,
 }
 
 /// What a session does once there is nothing else to do.

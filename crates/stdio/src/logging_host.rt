@@ -30,10 +30,17 @@ fn words_of(code: LogCode) -> &'static str {
         LogCode::DuplicateOpen => "document opened twice",
         LogCode::UnexpectedChange => "change of a document that is not open",
         LogCode::OrphanClose => "document closed that is not open",
+        LogCode::UnknownSave => "document saved that is not open",
         LogCode::SkippedChange => "edit that has no place in its document",
         LogCode::BadPath => "URL of no file",
         LogCode::StrangeResult => "result that fits no job",
         LogCode::SettingsError => "no settings from the client",
+        LogCode::DiscoverWithoutSettings => "no settings to discover projects with",
+        LogCode::CheckUnknownFile => "file to check that is not known",
+        LogCode::FetchError => "workspaces that failed to load",
+        LogCode::BuildError => "build scripts that failed to run",
+        LogCode::SecondSettingsFile => "settings file beside another that holds",
+        LogCode::DiscoverError => "project that was not discovered",
     }
 }
 
