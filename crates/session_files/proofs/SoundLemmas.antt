@@ -286,6 +286,7 @@ current t texts numbered processed q =
 pub record Crated (files now : SessionFiles) : Type 0 where
   pub rest : now ≡ record files { host = now.host }
   pub sound : IsSound files → IsSound now
+  pub texts : now.host.world.texts ≡ files.host.world.texts
   pub revision : now.host.revision ≡ files.host.revision + 1
 
 crated_by : (b : Bool) (crates : CrateData) (files now : SessionFiles)
@@ -295,6 +296,7 @@ crated_by true crates files now is =
     subst (Crated files) (ok_same _ _ is) (record {
       rest = refl;
       sound = λ sound. record { numbered = sound.numbered; numbers = sound.numbers; processed = sound.processed };
+      texts = refl;
       revision = refl;
     })
 crated_by false crates files now is = err_not _ now is

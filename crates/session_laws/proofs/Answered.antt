@@ -12,7 +12,7 @@ use Rattle.session_port.specs.declared.event.HostEvent.{HostEvent}
 use Rattle.session_port.specs.declared.event.HostEvent.TheVariants.{Bytes, Ended}
 use Rattle.desk_laws.specs.Numbers.{AreNumbered}
 use Rattle.session_model.specs.Course.{Course, takes, session_course, bytes_in}
-use Rattle.session_model.specs.Headline.{AllTaken, Answers, AreHandedOver, beginning, EndsAt, HandsOver, IsAnswered, IsUsedUp, LastUntaken, NeedsMore, Place, place_after, place_after_all, reaction_of, Revises, row, SetsTimer}
+use Rattle.session_model.specs.Headline.{AllTaken, Answers, AreHandedOver, beginning, crates_told_by, EndsAt, HandsOver, IsAnswered, IsUsedUp, LastUntaken, NeedsMore, Place, place_after, place_after_all, reaction_of, Revises, row, SetsTimer}
 use Rattle.session_model.specs.Headline.{TellsItsStatus}
 use Rattle.desk.specs.Meaning.{Meaning}
 use Rattle.session_model.specs.Run.{Turn, Told, Runs, Steps, AreHonest, AsksLast, BreaksOffWritten, Ends, EndsBy, IsRun, MayAsk, RunsOut, Stretch, TooManyBytes, commands_of, fed_bytes, giving, taking, telling}
@@ -65,7 +65,9 @@ turned meaning config s before turn mid stands steps =
     let does = subst (λ p. reaction_of turn ≡ row meaning turn.input p) stands.place fit.does in
     let numbered : AreNumbered here.desk.handed (spawned turn.commands) = subst (λ (p : Place). AreNumbered p.desk.handed (spawned turn.commands)) stands.place fit.numbered in
     let place : place_of mid ≡ place_after turn here = fit.place ∙ ap (place_after turn) stands.place in
-    let rises : here.revision ≤ (place_after turn here).revision = subst (λ (p : Place). p.revision ≤ (place_after turn here).revision) stands.place (subst (λ (p : Place). s.files.host.revision ≤ p.revision) place fit.later) in
+    let rises : here.revision + crates_told_by turn.input here ≤ (place_after turn here).revision =
+    subst (λ (p : Place). p.revision + crates_told_by turn.input p ≤ (place_after turn here).revision) stands.place
+    (subst (λ (p : Place). s.files.host.revision + crates_told_by turn.input (place_of s) ≤ p.revision) place fit.later) in
     let hands : HandsOver meaning turn here = subst (HandsOver meaning turn) stands.place fit.hands_over in
     let fetching : FetchIsOut (place_after turn here) = turn-keeps-fetching meaning turn here does numbered hands stands.sound stands.fetching in
     let building : BuildIsOut (place_after turn here) = turn-keeps-building meaning turn here does numbered hands stands.sound stands.building in

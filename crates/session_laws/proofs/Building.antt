@@ -1,7 +1,7 @@
 -- What a run of build data or a load of macros does within a turn: it hands over at most one job, which is for no request, and none behind a fetch that starts.
-use Rattle.std.proofs.Common.{Bool, true, false, ◌≡◌, ◌+◌, ◌^◌, ◌≤◌, ℕ, List, [], ◌∷◌, length, refl, sym, subst, arith}
+use Rattle.std.proofs.Common.{Bool, true, false, ◌≡◌, ◌+◌, ◌^◌, ◌≤◌, ℕ, List, [], ◌∷◌, length, refl, sym, ◌∙◌, subst, arith}
 use Rattle.std.proofs.lemmas.Bool.{true≢false}
-use Rattle.std.specs.Prelude.{IfOk, IfErr, Option, None, Some, is_some, cond, if◌then◌else◌}
+use Rattle.std.specs.Prelude.{not, ◌||◌, IfOk, IfErr, Option, None, Some, is_some, cond, if◌then◌else◌}
 use Rattle.analysis_host.specs.SnapshotData.{SnapshotData}
 use Rattle.op_board.specs.Queue.{Queue}
 use Rattle.session_port.specs.declared.job.Job.{Job}
@@ -12,15 +12,17 @@ use Rattle.turn_parts.specs.declared.fault.Counter.TheVariants.{Jobs as JobsCoun
 use Rattle.desk_laws.proofs.Refusing.{err-and_then, err-weaker}
 use Rattle.desk_laws.proofs.Results.{IfOk-and_then, IfOk-weaker}
 use Rattle.workspaces.specs.Fetches.{fetch_to_start, start_fetch}
-use Rattle.workspaces.specs.Workspaces.{Fetches, Workspaces}
+use Rattle.workspaces.specs.Loads.{start_load, was_loaded}
+use Rattle.workspaces.specs.Workspaces.{Fetches, Loads, Workspaces}
 use Rattle.workspaces.specs.declared.outputs.FetchOutput.{FetchOutput}
 use Rattle.workspaces.specs.declared.requests.FetchRequest.{FetchRequest}
+use Rattle.workspaces.specs.declared.requests.LoadRequest.{LoadRequest}
 use Rattle.session_model.specs.Building.{build_due, with_due_build}
 use Rattle.session_model.specs.Fetching.{fetch_job, fetch_jobs, with_fetches}
 use Rattle.session_model.specs.Headline.{run_jobs}
-use Rattle.session_model.specs.Loading.{MacroPaths, load_due, load_jobs, load_kind, with_due_load}
+use Rattle.session_model.specs.Loading.{MacroPaths, load_due, load_jobs, load_kind, loads_due, with_due_load}
 use Rattle.session_model.specs.Machine.{at_workspaces, build_handed_over, build_started, load_handed_over, load_started, runs_started}
-use Rattle.session_model.specs.State.{State, snapshot_of}
+use Rattle.session_model.specs.State.{State, loads_macros, snapshot_of}
 use Rattle.session_laws.proofs.Starting.{StartsJobs, TooManyStarts, one-errs, one-starts, starts-behind, starts-none}
 
 -- ---- a load of macros
@@ -133,10 +135,25 @@ pub no-load : (may : Bool) (build : Option ℕ) (workspaces : Workspaces) → is
     → load_due build (with_due_build (with_fetches (start_fetch may) workspaces)) ≡ None
 no-load may build workspaces some = no-load-while build (with_due_build (with_fetches (start_fetch may) workspaces)) (fetching-now may workspaces.fetches some)
 
+-- a load that starts leaves the result of the last one
+started-last : (b : Bool) (queue : Queue LoadRequest Bool) → (cond b queue (record { waiting = None; in_progress = is_some queue.waiting; last = queue.last })).last ≡ queue.last
+started-last true queue = refl
+started-last false queue = refl
+
+start-last : (busy : Bool) (l : Loads) → (start_load busy l).queue.last ≡ l.queue.last
+start-last true l = refl
+start-last false l = started-last l.queue.in_progress l.queue
+
+last-same : (build : Option ℕ) (workspaces : Workspaces) → (loads_due build workspaces).queue.last ≡ workspaces.loads.queue.last
+last-same None workspaces = start-last workspaces.fetches.queue.in_progress workspaces.loads
+last-same (Some version) workspaces = refl
+
 -- what snapshots show is the same
 runs-show : (jobs : ℕ → SnapshotData → List Job) (build : Option ℕ) (w v : Working State) → StartsJobs jobs (with_due_load build (with_due_build w.state.workspaces)) w v
     → snapshot_of v.state ≡ snapshot_of w.state
-runs-show jobs build w v h = λ i. snapshot_of (record w.state { client = h.client i; files = h.files i; workspaces = h.now i })
+runs-show jobs build w v h =
+    (λ i. snapshot_of (record w.state { client = h.client i; files = h.files i; workspaces = h.now i }))
+    ∙ (λ i. record (snapshot_of w.state) { proc_macros_loaded = not (loads_macros w.state.client.settings) || was_loaded (last-same build (with_due_build w.state.workspaces) i) })
 
 -- so the job of a fetch that starts has the number and the snapshot that are left behind them too
 pub same-fetch : (fetch : Option (List ℕ × FetchRequest)) (build : Option ℕ) (load : Option MacroPaths) (w v : Working State) → (is_some fetch ≡ true → build ≡ None)

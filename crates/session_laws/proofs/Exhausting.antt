@@ -1,8 +1,8 @@
 -- A turn that the machine can't take needs one more of a counter than there are.
-use Rattle.std.proofs.Common.{◌≡◌, ℕ, ◌+◌, ◌-◌, ◌^◌, ◌≤◌, ◌<◌, List, [], ◌∷◌, ◌++◌, length, refl, sym, ap, ◌∙◌, subst, inl, inr, arith}
+use Rattle.std.proofs.Common.{◌≡◌, ℕ, ◌+◌, ◌-◌, ◌^◌, ◌≤◌, ◌<◌, List, [], ◌∷◌, ◌++◌, length, refl, sym, ap, ◌∙◌, subst, inl, inr, arith, ⊎_elim}
 use Rattle.std.proofs.lemmas.List.{length-append}
 use Rattle.std.proofs.lemmas.Result.{IfErr-at_err, IfOk-at_ok}
-use Rattle.std.specs.Prelude.{Err, IfErr, if◌then◌else◌, is_some, None, Ok, Option, Result, Some}
+use Rattle.std.specs.Prelude.{◌⊎◌, Err, IfErr, if◌then◌else◌, is_some, None, Ok, Option, Result, Some}
 use Rattle.serde_json.specs.Data.{Data}
 use Rattle.docs_vfs.specs.FileUrls.{path_of}
 use Rattle.docs_vfs.specs.declared.file_url.UrlFault.{UrlFault}
@@ -10,7 +10,6 @@ use Rattle.lsp_frame.specs.declared.message.Notification.{Notification}
 use Rattle.lsp_frame.specs.declared.message.Request.{Request}
 use Rattle.lsp_frame.specs.declared.message.Message.TheVariants.{Request as RequestMessage, Notification as NotificationMessage, Response as ResponseMessage}
 use Rattle.lsp_frame.specs.declared.message.Response.{Response}
-use Rattle.analysis_host.specs.HostData.{HostData}
 use Rattle.analysis_host.specs.SnapshotData.{SnapshotData}
 use Rattle.session_port.specs.Jobs.{after_message}
 use Rattle.session_port.specs.declared.event.TaskMsg.{TaskMsg}
@@ -30,6 +29,7 @@ use Rattle.notify.specs.declared.notice.DidOpen.{DidOpen}
 use Rattle.notify.specs.declared.notice.Notice.{Notice}
 use Rattle.notify.specs.declared.notice.Notice.TheVariants as notices
 use Rattle.desk.specs.Desk.{Desk}
+use Rattle.desk.specs.Loading.{LoadEnd, load_ended}
 use Rattle.desk.specs.Meaning.{Meaning}
 use Rattle.desk.specs.Reactions.{Reaction, message_row, request_row}
 use Rattle.desk.specs.Steps.{cancelled, requested, counted as counted_at_desk, taken as taken_at_desk}
@@ -42,18 +42,19 @@ use Rattle.session_files.specs.Steps.{changed, closed as closed_document, loaded
 use Rattle.status.specs.declared.status.Status.{Status}
 use Rattle.workspaces.specs.Fetches.{fetch_to_start}
 use Rattle.workspaces.specs.declared.requests.FetchRequest.{FetchRequest}
-use Rattle.session_model.specs.Building.{build_due, with_due_build}
+use Rattle.session_model.specs.Building.{build_due, run_kept, with_due_build}
+use Rattle.session_model.specs.Crates.{crates_in, times_told}
 use Rattle.session_model.specs.Fetching.{fetch_jobs}
-use Rattle.session_model.specs.Headline.{batch_row, builds_crates_in, builds_in, client_after, client_asked, client_left, client_switched, fetch_in, fetches_in, files_told, loads_in, NeedsMore, place_past, row, scene_at, status_after, statuses_at}
-use Rattle.session_model.specs.Machine.{answer_taken, asked, asked_for_settings, at_client, at_desk, at_files, batched, begin_part, begun_fetches, build_part, changed_at, client_in, closed, closed_at}
-use Rattle.session_model.specs.Machine.{closing_part, counted, desk_in, event_part, fetch_part, fetch_started, files_in, files_part, files_processed, folders_taken, happened, kept, later_parts, noticed, opened_at, received}
+use Rattle.session_model.specs.Headline.{batch_row, builds_crates_in, builds_in, client_after, client_asked, client_left, client_switched, crates_told_by, fetch_in, fetches_in, files_told, loads_in, NeedsMore, Place, place_past, row, scene_at, status_after, statuses_at}
+use Rattle.session_model.specs.Machine.{answer_taken, asked, asked_for_settings, at_client, at_desk, at_files, at_workspaces, batched, begin_part, begun_fetches, build_part, changed_at, client_in, closed, closed_at}
+use Rattle.session_model.specs.Machine.{closing_part, counted, desk_in, event_part, fetch_part, fetch_started, files_in, files_part, files_processed, folders_taken, happened, kept, later_parts, load_taken, noticed, opened_at, received}
 use Rattle.session_model.specs.Machine.{quiet_done, quiet_part, register_part, runs_started, saves_registered, start_parts, state_in, status_done, status_part, step, switch_done, switch_part, switched_to, taken, taken_in, told, turned, Turning, turning, with_client, with_desk, with_files}
 use Rattle.session_model.specs.Machine.{with_state}
 use Rattle.session_model.specs.State.{columns_in, excludes_in, may_start, scene_of, snapshot_of, State}
 use Rattle.session_model.specs.Asking.{client_refreshed_if, client_registered, client_watching}
 use Rattle.session_model.specs.Status.{client_after_status}
 use Rattle.session_model.specs.Hearing.{heard_of}
-use Rattle.session_model.specs.Loading.{MacroPaths, load_due}
+use Rattle.session_model.specs.Loading.{MacroPaths, crates_loaded, load_due, load_kept}
 use Rattle.session_model.specs.Run.{begun}
 use Rattle.session_model.specs.declared.facts.Facts.{Facts}
 use Rattle.session_model.specs.declared.input.Event.{Event}
@@ -65,11 +66,12 @@ use Rattle.session_model.specs.declared.heard.Heard.TheVariants.{Told, Malformed
 use Rattle.session_laws.specs.Invariant.{place_of}
 use Rattle.session_laws.proofs.Building.{TooManyRuns, runs-errs}
 use Rattle.session_laws.proofs.Clients.{begun_client, left-more, registered-more, told-more, watched-more}
+use Rattle.session_laws.proofs.Crates.{arrived-errs}
 use Rattle.session_laws.proofs.Filing.{AtLast, IsFull, change_of, changed-step-errs, full-err, loaded-errs-by, opened-errs, processed-errs}
 use Rattle.session_laws.proofs.Fetching.{started-errs}
-use Rattle.session_laws.proofs.Rows.{at, begin_and_close, begins, BegunTurn, BehindTurn, build-made, build_and_on, client-behind, counted-is, counted_turn, DoesAtDesk, event-fits, fetch-made, fetch_and_close, fetch_and_on}
-use Rattle.session_laws.proofs.Rows.{fetched-build, fetched-load, FetchedBehind, files-made, files_and_on, kept_past, MadeBehind, Mid, mid-switch, MidTurn, notification_input, place_at, ready-fetch, ReadyBehind, ReadyStart, ReadyTurn}
-use Rattle.session_laws.proofs.Rows.{quiet-made, QuietTurn, quiet_and_on, ready-client, register_and_on, RegisteredTurn, registers, session_in, settled-place, status-begins, status_and_close, switch-made, taken-settles}
+use Rattle.session_laws.proofs.Rows.{at, begin_and_close, begins, BegunTurn, BehindTurn, build-made, build_and_on, client-behind, counted-is, counted_turn, desk-settles, DoesAtDesk, event-fits, fetch-made, fetch_and_close, fetch_and_on}
+use Rattle.session_laws.proofs.Rows.{fetched-build, fetched-load, FetchedBehind, files-made, files_and_on, files_past, kept_past, MadeBehind, Mid, mid-switch, MidTurn, notification_input, ok-same, place_at, ready-fetch, ReadyBehind, ReadyStart, ReadyTurn}
+use Rattle.session_laws.proofs.Rows.{quiet-made, QuietTurn, quiet_and_on, ready-client, register_and_on, RegisteredTurn, registers, session_in, settled-place, status-begins, status_and_close, switch-made, taken-settles, told-now-rises}
 use Rattle.session_laws.proofs.Requests.{asked-errs, due_in, IsPast, quiet-errs, registered-errs}
 use Rattle.session_laws.proofs.Statuses.{status-errs}
 use Rattle.session_laws.proofs.Starting.{TooManyStarts}
@@ -78,17 +80,43 @@ use Rattle.session_model.specs.Switching.{switch_made}
 
 -- ---- jobs
 
+-- a job too many, or crate data that comes at the last revision
+abbrev Refuses : ℕ → Reaction → ℕ → Counter → Type 0
+Refuses handed done revision counter = TooMany handed done counter ⊎ AtLast revision counter
+
+load-errs : (end : Option LoadEnd) (w : Working State) → IfErr (load_taken end w) (AtLast w.state.files.host.revision)
+unfolding load_taken
+load-errs end w = arrived-errs (crates_loaded end w.state.workspaces) (at_workspaces (load_kept end) w)
+
 taken-errs : (meaning : Meaning) (turns : ℕ) (message : TaskMsg) (w : Working State)
-    → IfErr (taken meaning message w) (TooMany w.state.desk.handed (message_row meaning (scene_of w.state) (record w.state.desk { turns = turns }) message))
+    → IfErr (taken meaning message w)
+    (Refuses w.state.desk.handed (message_row meaning (scene_of w.state) (record w.state.desk { turns = turns }) message) w.state.files.host.revision)
 taken-errs meaning turns message w =
-    let many : Counter → Type 0 = TooMany w.state.desk.handed (message_row meaning (scene_of w.state) (record w.state.desk { turns = turns }) message) in
-    err-and_then (at_desk (taken_at_desk meaning (scene_of w.state) message) w) _ many
-    (IfErr-within desk_in with_desk (taken_at_desk meaning (scene_of w.state) message) w many
+    let done = message_row meaning (scene_of w.state) (record w.state.desk { turns = turns }) message in
+    let revision = w.state.files.host.revision in
+    err-and_then (at_desk (taken_at_desk meaning (scene_of w.state) message) w) _ (Refuses w.state.desk.handed done revision)
+    (IfErr-within desk_in with_desk (taken_at_desk meaning (scene_of w.state) message) w (Refuses w.state.desk.handed done revision)
+    (err-weaker (taken_at_desk meaning (scene_of w.state) message (at w)) (TooMany w.state.desk.handed done) (Refuses w.state.desk.handed done revision)
     (subst (λ d. IfErr (taken_at_desk meaning (scene_of w.state) message (at w)) (TooMany w.state.desk.handed d)) (sym (message-turns meaning (scene_of w.state) w.state.desk turns message))
-    (message-errs meaning (scene_of w.state) message (at w)))) (λ v is. tt)
+    (message-errs meaning (scene_of w.state) message (at w))) (λ c many. inl many)))
+    (λ v is. let a = IfOk-at_ok (λ v. DoesAtDesk w v done (after_message message w.state.desk.jobs) w.state.workspaces (Ok w.state.files)) is (desk-settles meaning turns message w) in
+    err-weaker (load_taken (load_ended message w.state.desk.jobs) (at_workspaces (run_kept message w.state.desk.jobs) v)) (AtLast v.state.files.host.revision) _
+    (load-errs (load_ended message w.state.desk.jobs) (at_workspaces (run_kept message w.state.desk.jobs) v))
+    (λ c last. inr (subst (λ (f : SessionFiles). AtLast f.host.revision c) (sym (ok-same w.state.files v.state.files a.files)) last)))
 
 -- a batch: its first message that needs a job too many, behind those that the ones before have handed over
-batch-errs : (meaning : Meaning) (turns : ℕ) (batch : List TaskMsg) (w : Working State) → IfErr (batched meaning batch w) (TooMany w.state.desk.handed (batch_row meaning batch (place_at turns w.state)))
+-- the same of a batch at a place: a job too many, or crate data that comes at the last revision
+abbrev RefusesAt : Meaning → List TaskMsg → ℕ → Place → Counter → Type 0
+RefusesAt meaning batch handed place counter =
+    TooMany handed (batch_row meaning batch place) counter ⊎ AtLast (place.revision + times_told batch place.desk.jobs place.workspaces) counter
+
+more-at : (before more : ℕ) (counter : Counter) → AtLast before counter → AtLast (before + more) counter
+more-at before more counter h = (h.0, omega (arith, h.1))
+
+later-at : (before one later : ℕ) (counter : Counter) → AtLast (before + one + later) counter → AtLast (before + (one + later)) counter
+later-at before one later counter h = (h.0, omega (arith, h.1))
+
+batch-errs : (meaning : Meaning) (turns : ℕ) (batch : List TaskMsg) (w : Working State) → IfErr (batched meaning batch w) (RefusesAt meaning batch w.state.desk.handed (place_at turns w.state))
 batch-errs meaning turns [] w = tt
 batch-errs meaning turns (m ∷ ms) w =
     let place = place_at turns w.state in
@@ -97,13 +125,16 @@ batch-errs meaning turns (m ∷ ms) w =
     let rest = batch_row meaning ms past in
     let jobs = after_message m w.state.desk.jobs in
     let both : length (done.jobs ++ rest.jobs) ≡ length done.jobs + length rest.jobs = length-append done.jobs rest.jobs in
-    err-and_then (taken meaning m w) (batched meaning ms) (TooMany w.state.desk.handed (batch_row meaning (m ∷ ms) place))
-    (err-weaker (taken meaning m w) (TooMany w.state.desk.handed done) _ (taken-errs meaning turns m w) (λ c h. (h.0, omega (arith, h.1, both))))
-    (λ v is. let a : DoesAtDesk w v done jobs (kept_past m w.state) = IfOk-at_ok (λ v. DoesAtDesk w v done jobs (kept_past m w.state)) is (taken-settles meaning turns m w) in
+    let one : ℕ = if is_some (crates_in m w.state.desk.jobs w.state.workspaces) then 1 else 0 in
+    let later : ℕ = times_told ms jobs (kept_past m w.state) in
+    err-and_then (taken meaning m w) (batched meaning ms) (RefusesAt meaning (m ∷ ms) w.state.desk.handed place)
+    (err-weaker (taken meaning m w) (Refuses w.state.desk.handed done place.revision) _ (taken-errs meaning turns m w)
+    (λ c h. ⊎_elim (λ many. inl (many.0, omega (arith, many.1, both))) (λ last. inr (more-at place.revision (one + later) c last)) h))
+    (λ v is. let a = IfOk-at_ok (λ v. DoesAtDesk w v done jobs (kept_past m w.state) (files_past m w.state)) is (taken-settles meaning turns m w) in
     let given : v.state.desk.handed ≡ w.state.desk.handed + length done.jobs = a.desk.handed in
-    err-weaker (batched meaning ms v) (TooMany v.state.desk.handed rest) _
-    (subst (λ p. IfErr (batched meaning ms v) (TooMany v.state.desk.handed (batch_row meaning ms p))) (settled-place turns m w v done a) (batch-errs meaning turns ms v))
-    (λ c h. (h.0, omega (arith, h.1, given, both))))
+    err-weaker (batched meaning ms v) (RefusesAt meaning ms v.state.desk.handed past) _
+    (subst (λ p. IfErr (batched meaning ms v) (RefusesAt meaning ms v.state.desk.handed p)) (settled-place turns m w v done a) (batch-errs meaning turns ms v))
+    (λ c h. ⊎_elim (λ many. inl (many.0, omega (arith, many.1, given, both))) (λ last. inr (later-at place.revision one later c last)) h))
 
 abbrev Needs : Meaning → State → Input → Counter → Type 0
 Needs meaning s input counter = NeedsMore meaning (place_of s) input counter
@@ -133,7 +164,7 @@ read-errs meaning s r =
 -- ---- notifications
 
 -- a file needs a number where all were given
-files-errs : (meaning : Meaning) (s : State) (input : Input) (work : Working SessionFiles → Result (Working SessionFiles) Counter) (r : Result SessionFiles Counter) → files_told s.client.settings input s.files ≡ r
+files-errs : (meaning : Meaning) (s : State) (input : Input) (work : Working SessionFiles → Result (Working SessionFiles) Counter) (r : Result SessionFiles Counter) → files_told input (place_of s) ≡ r
     → IfErr (work (record { state = s.files; out = nothing_done })) (λ c. IsFull c × (r ≡ Err c)) → IfErr (at_files work (counted_turn s)) (Needs meaning s input)
 files-errs meaning s input work r told errs =
     IfErr-within files_in with_files work (counted_turn s) (Needs meaning s input)
@@ -209,6 +240,9 @@ heard-errs meaning s n Silent is = tt
 
 -- ---- whole turns
 
+told-last : (before told built now : ℕ) → now ≡ before + told → 2 ^ 64 - 1 ≤ now → 2 ^ 64 - 1 ≤ before + (told + built)
+told-last before told built now is h = omega (arith, is, h)
+
 event-errs : (meaning : Meaning) (s : State) (event : Event) → IfErr (happened meaning event (counted_turn s)) (Needs meaning s (Next event))
 unfolding happened received
 event-errs meaning s (Lsp (RequestMessage r)) = read-errs meaning s r
@@ -216,7 +250,11 @@ event-errs meaning s (Lsp (NotificationMessage n)) = heard-errs meaning s n (hea
 event-errs meaning s (Lsp (ResponseMessage r)) = answer-errs meaning s (Next (Lsp (ResponseMessage r))) r
 event-errs meaning s (Task batch) =
     let done = batch_row meaning batch (place_of s) in
-    err-weaker _ (TooMany s.desk.handed done) _ (batch-errs meaning s.desk.turns batch (counted_turn s)) (λ c h. needs-jobs meaning s (Next (Task batch)) done c refl h)
+    let input : Input = Next (Task batch) in
+    err-weaker _ (RefusesAt meaning batch s.desk.handed (place_of s)) _ (batch-errs meaning s.desk.turns batch (counted_turn s))
+    (λ c h. ⊎_elim (λ many. needs-jobs meaning s input done c refl many)
+    (λ last. subst (Needs meaning s input) (sym last.0)
+    (told-last s.files.host.revision (crates_told_by input (place_of s)) (if builds_crates_in input (place_of s) then 1 else 0) (s.files.host.revision + crates_told_by input (place_of s)) refl last.1)) h)
 event-errs meaning s (Vfs messages) =
     err-and_then (at_files (loaded messages) (counted_turn s)) _ (Needs meaning s (Next (Vfs messages)))
     (files-errs meaning s (Next (Vfs messages)) (loaded messages) (after_messages messages s.files) refl (loaded-errs-by messages (record { state = s.files; out = nothing_done })))
@@ -249,9 +287,6 @@ closing-errs : (t : Working Turning) (P : Counter → Type 0) → IfErr (closing
 unfolding closing_part
 closing-errs t P = IfErr-within state_in with_state (closed t.state.facts) t P (closed-errs t.state.facts _ P)
 
-more-last : (revision more : ℕ) → 2 ^ 64 - 1 ≤ revision → 2 ^ 64 - 1 ≤ revision + more
-more-last revision more h = omega (arith, h)
-
 -- a request that is one too many is so of the turn
 past-needs : (meaning : Meaning) (s : State) (input : Input) (client : Client) (counter : Counter) → client.asked.given ≤ (client_left input (place_of s)).asked.given
     → IsPast client counter → Needs meaning s input counter
@@ -269,7 +304,8 @@ switch-needs meaning s event u counter mid (inr (inl past)) =
     past-needs meaning s (Next event) (client_switched (Next event) (place_of s)) counter (watched-more event (place_of s)) (subst (λ (k : Client). IsPast k counter) client past)
 switch-needs meaning s event u counter mid (inr (inr last)) =
     subst (Needs meaning s (Next event)) (sym last.0)
-    (more-last s.files.host.revision (if builds_crates_in (Next event) (place_of s) then 1 else 0) (subst (λ (host : HostData). 2 ^ 64 - 1 ≤ host.revision) mid.host last.1))
+    (told-last s.files.host.revision (crates_told_by (Next event) (place_of s)) (if builds_crates_in (Next event) (place_of s) then 1 else 0) u.state.files.host.revision
+    (told-now-rises meaning s event u mid) last.1)
 
 switch-part-errs : (meaning : Meaning) (s : State) (event : Event) (t : Working Turning) → MidTurn meaning s (Next event) t → IfErr (switch_part t) (Needs meaning s (Next event))
 unfolding switch_part switch_done

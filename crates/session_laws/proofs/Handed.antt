@@ -1,6 +1,6 @@
 -- Each job out for a request was handed over by the turn that read it, or a later one, on the documents of all inputs before that turn.
-use Rattle.std.proofs.Common.{◌≡◌, ℕ, ◌≤◌, List, [], ◌∷◌, ◌++◌, Bool, true, false, refl, sym, ap, ◌∙◌, subst, arith, append_assoc, inl, inr}
-use Rattle.std.specs.Prelude.{Option, None, Some, Contains, ◌⊎◌, if◌then◌else◌}
+use Rattle.std.proofs.Common.{◌≡◌, ℕ, ◌+◌, ◌≤◌, List, [], ◌∷◌, ◌++◌, Bool, true, false, refl, sym, ap, ◌∙◌, subst, arith, append_assoc, inl, inr}
+use Rattle.std.specs.Prelude.{IfOk, Option, None, Some, Result, Ok, Err, Contains, ◌⊎◌, if◌then◌else◌}
 use Rattle.std.specs.FinMap as map
 use Rattle.std.proofs.lemmas.List.Elements.{Contains-append_left, Contains-append_right, Contains-push}
 use Rattle.lsp_frame.specs.Pending.{is_pending}
@@ -22,14 +22,20 @@ use Rattle.desk_laws.proofs.Held.{has-ticket, still-out}
 use Rattle.desk_laws.proofs.Keyed.{by_key, get-insert_same, get-insert_other}
 use Rattle.desk_laws.proofs.Orders.{by_number_total, by_number_same}
 use Rattle.desk_laws.proofs.Reacting.{new-reacts, result-reacts}
+use Rattle.analysis_host.specs.SnapshotData.{SnapshotData}
+use Rattle.project_model.specs.declared.crates.CrateData.{CrateData}
+use Rattle.session_files.specs.SessionFiles.{SessionFiles}
+use Rattle.turn_parts.specs.declared.fault.Counter.{Counter}
+use Rattle.session_model.specs.Crates.{crates_in, crates_let_in}
 use Rattle.session_model.specs.Hearing.{heard_of, told_by}
-use Rattle.session_model.specs.Headline.{Place, reaction_of, row, notice_row, batch_row, place_past, next_turn, scene_at, snapshot_at, beginning, place_after, place_after_all, WasHandedOver, AreHandedOver}
+use Rattle.session_model.specs.Headline.{Place, ShowsDocuments, or_before, reaction_of, row, notice_row, batch_row, place_past, next_turn, scene_at, snapshot_at, beginning, place_after, place_after_all, WasHandedOver, AreHandedOver}
 use Rattle.session_model.specs.Inputs.{batch_of, cancelled_by}
 use Rattle.session_model.specs.Run.{Turn, after_input}
 use Rattle.session_model.specs.declared.input.Event.TheVariants.{Lsp, Task, Vfs, Deferred, Timer}
 use Rattle.session_model.specs.declared.input.Input.{Input}
 use Rattle.session_model.specs.declared.input.Input.TheVariants.{Start, Next}
 use Rattle.session_laws.specs.Invariant.{SoundAt}
+use Rattle.session_laws.proofs.Crates.{LetsIn, lets-in, one_if}
 use Rattle.session_laws.proofs.Each.{Each, each-append, each-asked, each-one, each-weaker, no-ticket}
 use Rattle.session_laws.proofs.Versions.{kept-shows}
 
@@ -98,21 +104,82 @@ past-below : (place : Place) (message : TaskMsg) (done : Reaction) → IsBelow p
 unfolding IsBelow
 past-below place message done below = λ n job ticket there its. below n job ticket (message-out message place.desk.jobs n job there) its
 
--- what a message leaves is shown as before
-past-snapshot : (place : Place) (message : TaskMsg) (done : Reaction) → snapshot_at (place_past message done place) ≡ snapshot_at place
-past-snapshot place message done =
-    let same = kept-shows message place.desk.jobs place.workspaces in
-    λ i. record (snapshot_at place) { workspaces = same.present i; workspaces_version = same.version i }
+-- ---- in a batch
 
-batch-due : (meaning : Meaning) (batch : List TaskMsg) (place : Place) → IsBelow place → AreDue place (batch_row meaning batch place).jobs
+-- the documents are those of all earlier inputs; where there is no batch, so is all else
+record IsShown (batch : List TaskMsg) (place : Place) (job : Job) (ticket : ℕ) : Type 0 where
+  not_before : ticket ≤ next_turn place
+  documents : ShowsDocuments place job.snapshot
+  snapshot : batch ≡ [] → job.snapshot ≡ snapshot_at place
+
+abbrev IsShownIfAsked : List TaskMsg → Place → Job → Type 0
+IsShownIfAsked batch place job = (ticket : ℕ) → ticket_of job.kind ≡ Some ticket → IsShown batch place job ticket
+
+abbrev AreShown : List TaskMsg → Place → List Job → Type 0
+AreShown batch place jobs = Each (IsShownIfAsked batch place) jobs
+
+no-less : (n : ℕ) → n ≤ n
+no-less n = omega arith
+
+shows-all : (place : Place) → ShowsDocuments place (snapshot_at place)
+shows-all place = record {
+  texts = refl;
+  file_ids = refl;
+  versions = refl;
+  config = refl;
+  workspaces = refl;
+  workspaces_version = refl;
+  later = no-less place.revision;
+}
+
+due-shown : (batch : List TaskMsg) (place : Place) (jobs : List Job) → AreDue place jobs → AreShown batch place jobs
+due-shown batch place jobs due = each-weaker (IsDueIfAsked place) (IsShownIfAsked batch place) jobs
+    (λ job is_due ticket its. let d = is_due ticket its in
+    record { not_before = d.not_before; documents = subst (ShowsDocuments place) (sym d.snapshot) (shows-all place); snapshot = λ none. d.snapshot }) due
+
+-- crate data that comes leaves the documents
+record ShowsFiles (files now : SessionFiles) : Type 0 where
+  texts : now.host.world.texts ≡ files.host.world.texts
+  ids : now.ids ≡ files.ids
+  versions : now.versions ≡ files.versions
+
+or-shows : (crates : Option CrateData) (files : SessionFiles) (r : Result SessionFiles Counter) → IfOk r (LetsIn crates files) → ShowsFiles files (or_before files r)
+or-shows crates files (Ok now) h = record { texts = h.texts; ids = ap (λ (f : SessionFiles). f.ids) h.rest; versions = ap (λ (f : SessionFiles). f.versions) h.rest }
+or-shows crates files (Err counter) h = record { texts = refl; ids = refl; versions = refl }
+
+more : (before one now : ℕ) → before + one ≤ now → before ≤ now
+more before one now h = omega (arith, h)
+
+-- what shows the documents behind a message shows those before it
+past-shows : (place : Place) (message : TaskMsg) (done : Reaction) (snapshot : SnapshotData) → ShowsDocuments (place_past message done place) snapshot → ShowsDocuments place snapshot
+past-shows place message done snapshot h =
+    let crates = crates_in message place.desk.jobs place.workspaces in
+    let same = kept-shows message place.desk.jobs place.workspaces in
+    let files = or-shows crates place.files (crates_let_in crates place.files) (lets-in crates place.files) in
+    record {
+      texts = h.texts ∙ files.texts;
+      file_ids = h.file_ids ∙ files.ids;
+      versions = h.versions ∙ files.versions;
+      config = h.config;
+      workspaces = h.workspaces ∙ same.present;
+      workspaces_version = h.workspaces_version ∙ same.version;
+      later = more place.revision (one_if crates) snapshot.revision h.later;
+    }
+
+some-none : {X P : Type 0} (x : X) (xs : List X) → x ∷ xs ≡ [] → P
+some-none x xs e = absurd cc
+
+batch-due : (meaning : Meaning) (batch : List TaskMsg) (place : Place) → IsBelow place → AreShown batch place (batch_row meaning batch place).jobs
 batch-due meaning [] place below = tt
 batch-due meaning (m ∷ ms) place below =
     let done = message_row meaning (scene_at place) place.desk m in
     let past = place_past m done place in
     let later = (batch_row meaning ms past).jobs in
-    each-append (IsDueIfAsked place) done.jobs later
-    (fitting-due meaning place (fitting_job m place.desk.jobs) m refl below)
-    (each-weaker (IsDueIfAsked past) (IsDueIfAsked place) later (λ job due ticket its. let d = due ticket its in record { not_before = d.not_before; snapshot = d.snapshot ∙ past-snapshot place m done })
+    each-append (IsShownIfAsked (m ∷ ms) place) done.jobs later
+    (due-shown (m ∷ ms) place done.jobs (fitting-due meaning place (fitting_job m place.desk.jobs) m refl below))
+    (each-weaker (IsShownIfAsked ms past) (IsShownIfAsked (m ∷ ms) place) later
+    (λ job shown ticket its. let s = shown ticket its in
+    record { not_before = s.not_before; documents = past-shows place m done job.snapshot s.documents; snapshot = λ none. some-none m ms none })
     (batch-due meaning ms past (past-below place m done below)))
 
 either-due : (place : Place) (b : Bool) (x y : Reaction) → AreDue place x.jobs → AreDue place y.jobs → AreDue place (if b then x else y).jobs
@@ -123,13 +190,15 @@ notice-due : (cancelled : Option RequestId) (place : Place) → AreDue place (no
 notice-due (Some id) place = either-due place (is_pending id place.desk.pending) (says (canceled_by_client id)) silent tt tt
 notice-due None place = tt
 
-row-due : (meaning : Meaning) (input : Input) (place : Place) → SoundAt place → AreDue place (row meaning input place).jobs
+row-due : (meaning : Meaning) (input : Input) (place : Place) → SoundAt place → AreShown (batch_of input) place (row meaning input place).jobs
 unfolding IsBelow
 row-due meaning Start place s = tt
 row-due meaning (Next (Lsp (RequestMessage r))) place s =
-    either-due place (is_pending r.id place.desk.pending) (says (already_pending r.id)) (new_row meaning (scene_at place) place.desk (next_turn place) r) tt
-    (reacts-due place (next_turn place) r.id _ (omega arith) (new-reacts meaning (scene_at place) place.desk (next_turn place) r))
-row-due meaning (Next (Lsp (NotificationMessage n))) place s = notice-due (cancelled_by (told_by (heard_of n))) place
+    due-shown [] place (row meaning (Next (Lsp (RequestMessage r))) place).jobs
+    (either-due place (is_pending r.id place.desk.pending) (says (already_pending r.id)) (new_row meaning (scene_at place) place.desk (next_turn place) r) tt
+    (reacts-due place (next_turn place) r.id _ (omega arith) (new-reacts meaning (scene_at place) place.desk (next_turn place) r)))
+row-due meaning (Next (Lsp (NotificationMessage n))) place s =
+    due-shown [] place (notice_row (cancelled_by (told_by (heard_of n))) place.desk).jobs (notice-due (cancelled_by (told_by (heard_of n))) place)
 row-due meaning (Next (Lsp (ResponseMessage r))) place s = tt
 row-due meaning (Next (Vfs messages)) place s = tt
 row-due meaning (Next (Deferred tasks)) place s = tt
@@ -159,6 +228,7 @@ handed-more settings turns more ticket job h = record {
   later = h.later ++ more;
   split = ap (λ (ts : List Turn). ts ++ more) h.split ∙ append_assoc h.before (h.turn ∷ h.later) more;
   not_before = h.not_before;
+  documents = h.documents;
   snapshot = h.snapshot;
   handed = h.handed;
 }
@@ -172,15 +242,24 @@ turn-handed meaning settings before turn does sound all = λ n job ticket there 
     here : Place
     here = place_after_all before (beginning settings)
 
-    due : AreDue here (spawned turn.commands)
-    due = each-asked (IsDueIfAsked here) (λ job none ticket its. no-ticket (ticket_of job.kind) ticket none its) (spawned turn.commands)
-        (subst (λ (r : Reaction). AreDue here r.jobs) (sym does) (row-due meaning turn.input here sound))
+    due : AreShown (batch_of turn.input) here (spawned turn.commands)
+    due = each-asked (IsShownIfAsked (batch_of turn.input) here) (λ job none ticket its. no-ticket (ticket_of job.kind) ticket none its) (spawned turn.commands)
+        (subst (λ (r : Reaction). AreShown (batch_of turn.input) here r.jobs) (sym does) (row-due meaning turn.input here sound))
 
     by_case : (job : Job) (n ticket : ℕ) → ticket_of job.kind ≡ Some ticket → (map.get (after_input turn.input here.desk.jobs) n ≡ Some job) ⊎ Contains (spawned turn.commands) job → WasHandedOver settings (before ++ turn ∷ []) ticket job
     by_case job n ticket its (inl was) = handed-more settings before (turn ∷ []) ticket job (all n job ticket (input-out turn.input here.desk.jobs n job was) its)
     by_case job n ticket its (inr new) =
-        let is_due = each-one (IsDueIfAsked here) (spawned turn.commands) job due new ticket its in
-        record { before = before; turn = turn; later = []; split = refl; not_before = is_due.not_before; snapshot = is_due.snapshot; handed = new }
+        let shown = each-one (IsShownIfAsked (batch_of turn.input) here) (spawned turn.commands) job due new ticket its in
+        record {
+          before = before;
+          turn = turn;
+          later = [];
+          split = refl;
+          not_before = shown.not_before;
+          documents = shown.documents;
+          snapshot = shown.snapshot;
+          handed = new;
+        }
 
 pub handed-beginning : (settings : ConfigData) → AreHandedOver settings [] (beginning settings).desk.jobs
 handed-beginning settings = λ n job ticket there its. none-some job (sym (map.get-empty _ n) ∙ there)

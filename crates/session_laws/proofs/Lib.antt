@@ -8,6 +8,7 @@ pub mod Clients
 pub mod Changing
 pub mod Counted
 pub mod Courses
+pub mod Crates
 pub mod Each
 pub mod Exhausting
 pub mod Fetching

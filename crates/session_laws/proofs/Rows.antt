@@ -1,7 +1,7 @@
 -- The machine's turns are the rows of the reply table.
 use Rattle.std.proofs.Common.{◌≡◌, ℕ, ◌+◌, ◌≤◌, List, [], ◌∷◌, ◌++◌, length, Bool, true, false, refl, sym, ap, ◌∙◌, subst, arith, eq-eqb, eqb-true, append-nil, append_assoc}
 use Rattle.plain.specs.Texts.{text_cmp}
-use Rattle.std.specs.Prelude.{Result, Ok, Err, IfOk, Option, None, Some, ◌==◌, is_some, not, ◌||◌, map as list_map, if◌then◌else◌}
+use Rattle.std.specs.Prelude.{Result, Ok, Err, IfOk, Option, None, Some, ◌==◌, is_some, not, map as list_map, if◌then◌else◌}
 use Rattle.std.specs.FinMap as map
 use Rattle.std.specs.List.{filter_map}
 use Rattle.std.proofs.lemmas.Result.{IfOk-at_ok}
@@ -17,6 +17,7 @@ use Rattle.lsp_frame.specs.declared.message.Message.TheVariants.{Request as Requ
 use Rattle.ra_config.specs.Config.{ConfigData}
 use Rattle.analysis_host.specs.HostData.{HostData}
 use Rattle.analysis_host.specs.SnapshotData.{SnapshotData}
+use Rattle.project_model.specs.declared.crates.CrateData.{CrateData}
 use Rattle.session_port.specs.Events.{revision_of}
 use Rattle.session_port.specs.Jobs.{Jobs, after_message, after_batch}
 use Rattle.session_port.specs.Record.{spawned, with_jobs}
@@ -41,6 +42,7 @@ use Rattle.notify.specs.declared.notice.Notice.{Notice}
 use Rattle.notify.specs.declared.notice.Notice.TheVariants as notices
 use Rattle.desk.specs.Desk.{Desk}
 use Rattle.desk.specs.Folds.{asked_among, pending_after, shutdown_after}
+use Rattle.desk.specs.Loading.{load_ended}
 use Rattle.desk.specs.Meaning.{Meaning}
 use Rattle.desk.specs.Reactions.{Reaction, silent, joined, cancel_row, message_row, request_row}
 use Rattle.desk.specs.Steps.{cancelled, requested, counted as counted_at_desk, kept as kept_at_desk, taken as taken_at_desk}
@@ -57,19 +59,19 @@ use Rattle.workspaces.specs.Fetches.{fetch_to_start, fires, start_fetch, start_u
 use Rattle.workspaces.specs.Workspaces.{Workspaces}
 use Rattle.workspaces.specs.declared.requests.FetchRequest.{FetchRequest}
 use Rattle.session_model.specs.Asking.{client_refreshed_if, client_registered, client_watching, is_refresh_due}
-use Rattle.session_model.specs.Building.{build_due, end_kept, ends_kept, request_told, with_due_build}
-use Rattle.session_model.specs.Crates.{files_with_crates, is_built_by}
+use Rattle.session_model.specs.Building.{build_due, end_kept, ends_kept, request_told, run_kept, with_due_build}
+use Rattle.session_model.specs.Crates.{crates_in, crates_let_in, crates_told, files_with_crates, is_built_by}
 use Rattle.session_model.specs.Fetching.{fetch_jobs, folders_told_if, settings_told, with_fetches}
 use Rattle.session_model.specs.Headline.{Place, reaction_of, row, notice_row, batch_row, desk_after, place_after, place_past, client_after, last_of, revision_after, scene_at, snapshot_at}
-use Rattle.session_model.specs.Headline.{are_due, build_in, builds_crates_in, changes_due, changes_in, changes_world, client_asked, client_filed, client_left, client_switched, fetch_in, files_after, files_made, files_switched, files_told, files_turned}
+use Rattle.session_model.specs.Headline.{are_due, build_in, builds_crates_in, changes_due, changes_in, changes_world, client_asked, client_filed, client_left, client_switched, crates_in_turn, crates_told_by, fetch_in, files_after, files_made, files_switched, files_told, files_turned}
 use Rattle.session_model.specs.Headline.{is_changed, jobs_started, left_or, load_in, may_start_at, or_before, refreshes_at, revisions_in, run_jobs, SetsTimer}
 use Rattle.session_model.specs.Headline.{sources_filed, sources_switched, status_after, statuses_at, switch_in, workspaces_after, workspaces_at, workspaces_fetched, workspaces_planned, workspaces_switched}
 use Rattle.session_model.specs.Inputs.{cancelled_by, request_in, turns_after}
 use Rattle.session_model.specs.Machine.{answer_taken, asked, asked_for_settings, at_client, at_desk, at_files, at_workspaces, batched, begin_part, begun_fetches, brought, build_part, changed_at, client_in, closed}
-use Rattle.session_model.specs.Machine.{closed_at, closing_part, counted, desk_in, event_part, facts_of, fetch_part, fetch_started, file_changed, files_changed, files_followed, files_in, files_part, files_processed, folders_taken}
-use Rattle.session_model.specs.Machine.{happened, has_new_world, kept, later_parts, noticed, opened_at, quiet_done, quiet_part, received, register_part, revised, runs_started, saves_registered, start_parts, state_in}
+use Rattle.session_model.specs.Machine.{closed_at, closing_part, counted, crates_arrived, desk_in, event_part, facts_of, fetch_part, fetch_started, file_changed, files_changed, files_followed, files_in, files_part, files_processed, folders_taken}
+use Rattle.session_model.specs.Machine.{happened, has_new_world, kept, later_parts, load_taken, noticed, opened_at, quiet_done, quiet_part, received, register_part, revised, runs_started, saves_registered, start_parts, state_in}
 use Rattle.session_model.specs.Machine.{status_done, status_part, step, switch_done, switch_part, taken, taken_in, timed, timer_set, told}
-use Rattle.session_model.specs.Machine.{turned, Turning, turning, with_client, with_desk, with_files, with_state, with_workspaces}
+use Rattle.session_model.specs.Machine.{turned, Turning, turning, with_client, with_desk, with_files, with_state}
 use Rattle.session_model.specs.Hearing.{heard_of, told_by}
 use Rattle.session_model.specs.Loading.{MacroPaths, load_due, with_due_load}
 use Rattle.session_model.specs.Sources.{change_by, client_with, sources_after, sources_left}
@@ -88,11 +90,11 @@ use Rattle.session_model.specs.declared.heard.Heard.TheVariants.{Told, Malformed
 use Rattle.session_laws.specs.Beside.{Serves, Tells, TellsOnly, turn_of}
 use Rattle.session_laws.specs.Invariant.{StepFits, place_of}
 use Rattle.session_laws.proofs.Beside.{beside-fits, beside-revised}
+use Rattle.session_laws.proofs.Crates.{Arrives, LetsIn, arrived-does, lets-in}
 use Rattle.session_laws.proofs.Building.{jobs_of_runs, no-build, no-load, runs-hand, same-fetch}
 use Rattle.session_laws.proofs.Clients.{begun_client, left-settings, quiet-settings, switched-settings}
 use Rattle.session_laws.proofs.Fetching.{jobs_of_fetch, started-hands}
-use Rattle.session_laws.proofs.Filing.{DoesForFiles, KeepsHost, Processes, change-host, change_of, changed-does, closed-does, loaded-does, messages-host, opened-does, opening-host}
-use Rattle.session_laws.proofs.Filing.{processed-does, revision_by, revision_now, turn-revises}
+use Rattle.session_laws.proofs.Filing.{DoesForFiles, Processes, change_of, changed-does, closed-does, loaded-does, opened-does, processed-does, revision_by, revision_now, turn-revises}
 use Rattle.session_laws.proofs.Following.{FollowsFiles, followed-does}
 use Rattle.session_laws.proofs.Numbered.{row-numbered}
 use Rattle.session_laws.proofs.Requests.{due_in, quiet-does, registered-does, TellsClient}
@@ -100,6 +102,7 @@ use Rattle.session_laws.proofs.Same.{none-handed, same_desk, same_place}
 use Rattle.session_laws.proofs.Statuses.{status-does, TellsStatus, told-settings}
 use Rattle.session_laws.proofs.Starting.{StartsJobs}
 use Rattle.session_laws.proofs.Switching.{Switches, made-follows, switched-does}
+use Rattle.session_laws.proofs.Seeing.{told-rises}
 use Rattle.session_laws.proofs.Telling.{answered-does, asked-does, beside-told, DoesForClient, folders-do, statuses-append, tells-invalidated, tells-logged, tells-more, tells-none, tells-on, timers-append}
 
 -- the turn is counted, and nothing else was done
@@ -118,11 +121,10 @@ pub record Mid (meaning : Meaning) (s : State) (input : Input) (u : Working Stat
   pub serves : Serves meaning s input (after_input input s.desk.jobs) u
   pub client : u.state.client ≡ client_after input s.client
   pub status : u.state.status ≡ s.status
-  pub files : files_told s.client.settings input s.files ≡ Ok u.state.files
+  pub files : files_told input (place_of s) ≡ Ok u.state.files
   pub unrevised : filter_map revision_of u.out.commands ≡ []
   pub untold : statuses_in u.out.messages ≡ []
   pub untimed : filter_map timer_of u.out.commands ≡ []
-  pub host : KeepsHost s.files u.state.files
   pub workspaces : u.state.workspaces ≡ workspaces_at input (place_of s)
   pub sources : u.state.sources ≡ s.sources
   -- all jobs so far are for requests
@@ -137,9 +139,9 @@ pub record Behind (meaning : Meaning) (s : State) (event : Event) (u : Working S
   pub unrevised : filter_map revision_of u.out.commands ≡ []
   pub untold : statuses_in u.out.messages ≡ []
   pub untimed : filter_map timer_of u.out.commands ≡ []
-  -- crate data that was built has made a revision, and nothing has changed of what is due
-  pub revision : u.state.files.host.revision ≡ s.files.host.revision + (if builds_crates_in (Next event) (place_of s) then 1 else 0)
-  pub due : is_changed s.client.settings (Next event) s.files ≡ are_due (Ok u.state.files)
+  -- crate data that went into the world has made revisions, and nothing has changed of what is due
+  pub revision : u.state.files.host.revision ≡ s.files.host.revision + crates_in_turn (Next event) (place_of s)
+  pub due : is_changed (Next event) (place_of s) ≡ are_due (Ok u.state.files)
   pub changes : changes_in (Next event) (place_of s) ≡ due_changes u.state.files
   pub workspaces : u.state.workspaces ≡ workspaces_switched (Next event) (place_of s)
   pub sources : u.state.sources ≡ sources_switched (Next event) (place_of s)
@@ -180,12 +182,12 @@ serves-desk meaning s input done v number is a = record {
 -- the input says nothing of the client's settings and requests, and nothing of files
 pub record IsQuiet (s : State) (input : Input) : Type 0 where
   pub client : client_after input s.client ≡ s.client
-  pub files : files_told s.client.settings input s.files ≡ Ok s.files
+  pub files : files_told input (place_of s) ≡ Ok s.files
 
 -- and nothing of workspaces
 pub record IsStill (s : State) (input : Input) : Type 0 where
   pub client : client_after input s.client ≡ s.client
-  pub files : files_told s.client.settings input s.files ≡ Ok s.files
+  pub files : files_told input (place_of s) ≡ Ok s.files
   pub workspaces : workspaces_at input (place_of s) ≡ s.workspaces
 
 -- the session where the desk and the workspaces have come to this
@@ -211,7 +213,6 @@ both-mid meaning s input done v workspaces number is quiet told a =
       unrevised = a.others revision_of (record { jobs = λ job. refl; logs = λ code text. refl });
       untold = ap statuses_in a.written ∙ responses-untold done.responses;
       untimed = a.others timer_of (record { jobs = λ job. refl; logs = λ code text. refl });
-      host = refl;
       workspaces = sym told;
       sources = refl;
       spawns = a.spawns ∙ ap (λ (d : Reaction). d.jobs) (sym is);
@@ -225,9 +226,9 @@ desk-mid meaning s input done v number is still a =
 
 -- a turn that leaves the desk as it is, once it is counted
 told-mid : (meaning : Meaning) (s : State) (input : Input) (u : Working State) → Serves meaning s input (after_input input s.desk.jobs) (counted_turn s) → Tells nothing_done u.out
-    → u.state.desk ≡ (counted_turn s).state.desk → u.state.client ≡ client_after input s.client → u.state.status ≡ s.status → files_told s.client.settings input s.files ≡ Ok u.state.files
-    → KeepsHost s.files u.state.files → u.state.workspaces ≡ workspaces_at input (place_of s) → u.state.sources ≡ s.sources → Mid meaning s input u
-told-mid meaning s input u serves tells desk client status files host workspaces sources = record {
+    → u.state.desk ≡ (counted_turn s).state.desk → u.state.client ≡ client_after input s.client → u.state.status ≡ s.status → files_told input (place_of s) ≡ Ok u.state.files
+    → u.state.workspaces ≡ workspaces_at input (place_of s) → u.state.sources ≡ s.sources → Mid meaning s input u
+told-mid meaning s input u serves tells desk client status files workspaces sources = record {
   serves = beside-fits meaning s input (after_input input s.desk.jobs) (counted_turn s) u (beside-told (counted_turn s) u tells desk) serves;
   client = client;
   status = status;
@@ -235,7 +236,6 @@ told-mid meaning s input u serves tells desk client status files host workspaces
   unrevised = ap (filter_map revision_of) tells.ordered ∙ tells.revises_none;
   untold = ap statuses_in tells.written ∙ tells.tells;
   untimed = ap (filter_map timer_of) tells.ordered ∙ tells.times_none;
-  host = host;
   workspaces = workspaces;
   sources = sources;
   spawns = ap spawned tells.ordered ∙ tells.spawns_none ∙ ap (λ (d : Reaction). d.jobs) serves.does;
@@ -246,7 +246,7 @@ still-mid : (meaning : Meaning) (s : State) (input : Input) (u : Working State) 
     → u.state ≡ (counted_turn s).state → Mid meaning s input u
 still-mid meaning s input u serves still tells same =
     told-mid meaning s input u serves tells (ap (λ (t : State). t.desk) same) (ap (λ (t : State). t.client) same ∙ sym still.client) (ap (λ (t : State). t.status) same)
-    (subst (λ (t : State). files_told s.client.settings input s.files ≡ Ok t.files) (sym same) still.files) (ap (λ (t : State). t.files.host) same)
+    (subst (λ (t : State). files_told input (place_of s) ≡ Ok t.files) (sym same) still.files)
     (ap (λ (t : State). t.workspaces) same ∙ sym still.workspaces) (ap (λ (t : State). t.sources) same)
 
 -- with a log line
@@ -265,10 +265,10 @@ client_now s v workspaces = record { state = record (counted_turn s).state { cli
 
 -- a turn that changes nothing else
 client-mid : (meaning : Meaning) (s : State) (input : Input) (v : Working Client) (client : Client) (workspaces : Workspaces)
-    → Serves meaning s input (after_input input s.desk.jobs) (counted_turn s) → client ≡ client_after input s.client → files_told s.client.settings input s.files ≡ Ok s.files
+    → Serves meaning s input (after_input input s.desk.jobs) (counted_turn s) → client ≡ client_after input s.client → files_told input (place_of s) ≡ Ok s.files
     → workspaces ≡ workspaces_at input (place_of s) → DoesForClient (client_turn s) v client → Mid meaning s input (client_now s v workspaces)
 client-mid meaning s input v client workspaces serves is same told does =
-    told-mid meaning s input (client_now s v workspaces) serves does.tells refl (does.is ∙ is) refl same refl told refl
+    told-mid meaning s input (client_now s v workspaces) serves does.tells refl (does.is ∙ is) refl same told refl
 
 -- the files, at the beginning of a turn
 abbrev files_turn : State → Working SessionFiles
@@ -276,13 +276,13 @@ files_turn s = record { state = s.files; out = nothing_done }
 
 -- a turn that changes nothing but the files
 files-mid : (meaning : Meaning) (s : State) (input : Input) (work : Working SessionFiles → Result (Working SessionFiles) Counter) (r : Result SessionFiles Counter)
-    → Serves meaning s input (after_input input s.desk.jobs) (counted_turn s) → client_after input s.client ≡ s.client → files_told s.client.settings input s.files ≡ r → IfOk r (KeepsHost s.files)
+    → Serves meaning s input (after_input input s.desk.jobs) (counted_turn s) → client_after input s.client ≡ s.client → files_told input (place_of s) ≡ r
     → workspaces_at input (place_of s) ≡ s.workspaces
     → IfOk (work (files_turn s)) (λ v. DoesForFiles (files_turn s) v r) → IfOk (at_files work (counted_turn s)) (Mid meaning s input)
-files-mid meaning s input work r serves client told host untold does =
+files-mid meaning s input work r serves client told untold does =
     IfOk-within files_in with_files work (counted_turn s) (Mid meaning s input)
     (IfOk-weaker _ (λ v. DoesForFiles (files_turn s) v r) _ does
-    (λ v d. told-mid meaning s input _ serves d.tells refl (sym client) refl (told ∙ d.is) (IfOk-at_ok (KeepsHost s.files) d.is host) (sym untold) refl))
+    (λ v d. told-mid meaning s input _ serves d.tells refl (sym client) refl (told ∙ d.is) (sym untold) refl))
 
 -- ---- requests
 
@@ -319,7 +319,7 @@ opened-cases meaning s n document (Err fault) heard is =
 opened-cases meaning s n document (Ok path) heard is =
     let excludes = excludes_in s.client.settings in
     files-mid meaning s (notification_input n) (opened excludes path document.version document.text) (after_opening excludes path document.version document.text s.files)
-    (silent-serves meaning s n (rw heard refl)) (rw heard refl) (rw (heard, is) refl) (opening-host excludes path document.version document.text s.files) (rw heard refl)
+    (silent-serves meaning s n (rw heard refl)) (rw heard refl) (rw (heard, is) refl) (rw heard refl)
     (opened-does excludes path document.version document.text (files_turn s))
 
 changed-cases : (meaning : Meaning) (s : State) (n : Notification) (change : DidChange) (o : Result (List ℕ) UrlFault) → heard_of n ≡ Told (notices.DidChange change) → path_of change.uri ≡ o
@@ -330,7 +330,7 @@ changed-cases meaning s n change (Err fault) heard is =
 changed-cases meaning s n change (Ok path) heard is =
     let columns = columns_in s.client.settings in
     files-mid meaning s (notification_input n) (changed columns path change.version change.changes) (change_of columns path change.version change.changes s.files)
-    (silent-serves meaning s n (rw heard refl)) (rw heard refl) (rw (heard, is) refl) (change-host columns path change.version change.changes s.files) (rw heard refl)
+    (silent-serves meaning s n (rw heard refl)) (rw heard refl) (rw (heard, is) refl) (rw heard refl)
     (changed-does columns path change.version change.changes (files_turn s))
 
 closed-cases : (meaning : Meaning) (s : State) (n : Notification) (uri : List ℕ) (o : Result (List ℕ) UrlFault) → heard_of n ≡ Told (notices.DidClose uri) → path_of uri ≡ o
@@ -340,7 +340,7 @@ closed-cases meaning s n uri (Err fault) heard is =
     logged-mid meaning s (notification_input n) _ _ (silent-serves meaning s n (rw heard refl)) (record { client = rw heard refl; files = rw (heard, is) refl; workspaces = rw heard refl })
 closed-cases meaning s n uri (Ok path) heard is =
     files-mid meaning s (notification_input n) (λ f. Ok (closed_document path f)) (Ok (after_closing path s.files))
-    (silent-serves meaning s n (rw heard refl)) (rw heard refl) (rw (heard, is) refl) refl (rw heard refl) (closed-does path (files_turn s))
+    (silent-serves meaning s n (rw heard refl)) (rw heard refl) (rw (heard, is) refl) (rw heard refl) (closed-does path (files_turn s))
 
 -- the loader brings files, and a fetch that waits gets a new timer
 brought-mid : (meaning : Meaning) (s : State) (messages : List LoaderMsg) → IfOk (brought messages (counted_turn s)) (Mid meaning s (Next (Vfs messages)))
@@ -351,7 +351,7 @@ brought-mid meaning s messages =
     (IfOk-within files_in with_files (loaded messages) (counted_turn s) (λ v. Mid meaning s input (told v))
     (IfOk-weaker _ (λ v. DoesForFiles (files_turn s) v (after_messages messages s.files)) _ (loaded-does messages (files_turn s))
     (λ v d. told-mid meaning s input _ (serves-desk meaning s input silent (counted_desk s.desk) refl refl (nothing-settles (counted_desk s.desk)))
-    d.tells refl refl refl d.is (IfOk-at_ok (KeepsHost s.files) d.is (messages-host messages s.files)) refl refl)))
+    d.tells refl refl refl d.is refl refl)))
     (λ v mid. mid)
 
 cancel-mid : (meaning : Meaning) (s : State) (n : Notification) (id : RequestId) → heard_of n ≡ Told (notices.CancelRequest id)
@@ -453,6 +453,9 @@ heard-cases meaning s n Silent is = pass-mid meaning s n (rw is refl) (record { 
 
 -- ---- batches
 
+pub ok-same : (a b : SessionFiles) → (let made : Result SessionFiles Counter = Ok a in made) ≡ Ok b → a ≡ b
+ok-same a b is = cc
+
 -- where the machine stands, as the lists say it before its turn was counted
 abbrev pub place_at : ℕ → State → Place
 place_at turns s = record (place_of s) { desk = record s.desk { turns = turns } }
@@ -461,74 +464,111 @@ place_at turns s = record (place_of s) { desk = record s.desk { turns = turns } 
 abbrev pub at : Working State → Working Desk
 at w = record { state = w.state.desk; out = w.out }
 
--- the desk has done this, the workspaces have come to these, and nothing else has changed
-pub record DoesAtDesk (w u : Working State) (done : Reaction) (jobs : Jobs) (workspaces : Workspaces) : Type 0 where
+-- the desk has done this, the workspaces and the files have come to these, and nothing else has changed
+pub record DoesAtDesk (w u : Working State) (done : Reaction) (jobs : Jobs) (workspaces : Workspaces) (made : Result SessionFiles Counter) : Type 0 where
   pub desk : Settled None (at w) (at u) done jobs
-  pub rest : u.state ≡ record w.state { desk = u.state.desk; workspaces = workspaces }
+  pub files : made ≡ Ok u.state.files
+  pub rest : u.state ≡ record w.state { desk = u.state.desk; workspaces = workspaces; files = u.state.files }
 
 -- a message of a batch, at the desk
-desk-settles : (meaning : Meaning) (turns : ℕ) (message : TaskMsg) (w : Working State)
+pub desk-settles : (meaning : Meaning) (turns : ℕ) (message : TaskMsg) (w : Working State)
     → IfOk (at_desk (taken_at_desk meaning (scene_of w.state) message) w)
-    (λ u. DoesAtDesk w u (message_row meaning (scene_of w.state) (record w.state.desk { turns = turns }) message) (after_message message w.state.desk.jobs) w.state.workspaces)
+    (λ u. DoesAtDesk w u (message_row meaning (scene_of w.state) (record w.state.desk { turns = turns }) message) (after_message message w.state.desk.jobs) w.state.workspaces (Ok w.state.files))
 desk-settles meaning turns message w =
     let scene = scene_of w.state in
     let jobs = after_message message w.state.desk.jobs in
     IfOk-within desk_in with_desk (taken_at_desk meaning scene message) w _
     (IfOk-weaker _ (λ v. Settled None (at w) v (message_row meaning scene w.state.desk message) jobs) _ (message-settles meaning scene message (at w))
-    (λ v a. record { desk = subst (λ d. Settled None (at w) v d jobs) (sym (message-turns meaning scene w.state.desk turns message)) a; rest = refl }))
+    (λ v a. record { desk = subst (λ d. Settled None (at w) v d jobs) (sym (message-turns meaning scene w.state.desk turns message)) a; files = refl; rest = refl }))
 
 -- what the workspaces come to by a message
 abbrev pub kept_past : TaskMsg → State → Workspaces
 kept_past message s = end_kept message s.desk.jobs s.workspaces
 
--- and told to the workspaces
+-- and the files
+abbrev pub files_past : TaskMsg → State → Result SessionFiles Counter
+files_past message s = crates_let_in (crates_in message s.desk.jobs s.workspaces) s.files
+
+-- the end of a load of macros
+load-takes : (meaning : Meaning) (message : TaskMsg) (w v : Working State) (done : Reaction) (jobs : Jobs) → DoesAtDesk w v done jobs w.state.workspaces (Ok w.state.files)
+    → IfOk (load_taken (load_ended message w.state.desk.jobs) (at_workspaces (run_kept message w.state.desk.jobs) v))
+    (λ u. DoesAtDesk w u done jobs (kept_past message w.state) (files_past message w.state))
+unfolding load_taken
+load-takes meaning message w v done jobs a =
+    let out = w.state.desk.jobs in
+    let told : Working State = at_workspaces (end_kept message out) v in
+    let crates : Option CrateData = crates_in message out v.state.workspaces in
+    let was : v.state.workspaces ≡ w.state.workspaces = ap (λ (s : State). s.workspaces) a.rest in
+    let same : v.state.files ≡ w.state.files = sym (ok-same w.state.files v.state.files a.files) in
+    IfOk-weaker (crates_arrived crates told) (Arrives crates told) _ (arrived-does crates told)
+    (λ u arrives.
+    let desk : u.state.desk ≡ v.state.desk = ap (λ (s : State). s.desk) arrives.state in
+    record {
+      desk = subst (λ (x : Working Desk). Settled None (at w) x done jobs) (sym (λ i. record { state = desk i; out = arrives.out i })) a.desk;
+      files = sym (λ i. crates_let_in (crates_in message out (was i)) (same i)) ∙ arrives.files;
+      rest = arrives.state ∙ ap (λ (s : State). record s { workspaces = end_kept message out s.workspaces; files = u.state.files }) a.rest
+          ∙ ap (λ (d : Desk). record w.state { desk = d; workspaces = kept_past message w.state; files = u.state.files }) (sym desk);
+    })
+
+-- and told to the workspaces and the files
 pub taken-settles : (meaning : Meaning) (turns : ℕ) (message : TaskMsg) (w : Working State)
     → IfOk (taken meaning message w)
-    (λ u. DoesAtDesk w u (message_row meaning (scene_of w.state) (record w.state.desk { turns = turns }) message) (after_message message w.state.desk.jobs) (kept_past message w.state))
+    (λ u. DoesAtDesk w u (message_row meaning (scene_of w.state) (record w.state.desk { turns = turns }) message) (after_message message w.state.desk.jobs) (kept_past message w.state)
+    (files_past message w.state))
 taken-settles meaning turns message w =
     let done = message_row meaning (scene_of w.state) (record w.state.desk { turns = turns }) message in
     let jobs = after_message message w.state.desk.jobs in
-    let kept : Workspaces → Workspaces = end_kept message w.state.desk.jobs in
-    IfOk-and_then (at_desk (taken_at_desk meaning (scene_of w.state) message) w) (λ v. Ok (at_workspaces kept v))
-    (λ v. DoesAtDesk w v done jobs w.state.workspaces) (λ v. DoesAtDesk w v done jobs (kept w.state.workspaces))
+    IfOk-and_then (at_desk (taken_at_desk meaning (scene_of w.state) message) w)
+    (λ v. load_taken (load_ended message w.state.desk.jobs) (at_workspaces (run_kept message w.state.desk.jobs) v))
+    (λ v. DoesAtDesk w v done jobs w.state.workspaces (Ok w.state.files)) (λ v. DoesAtDesk w v done jobs (kept_past message w.state) (files_past message w.state))
     (desk-settles meaning turns message w)
-    (λ v a. record { desk = a.desk; rest = ap (λ (s : State). with_workspaces (kept s.workspaces) s) a.rest })
+    (λ v a. load-takes meaning message w v done jobs a)
 
 -- what a message leaves is the next one's place
 pub settled-place : (turns : ℕ) (message : TaskMsg) (w v : Working State) (done : Reaction)
-    → DoesAtDesk w v done (after_message message w.state.desk.jobs) (kept_past message w.state) → place_at turns v.state ≡ place_past message done (place_at turns w.state)
+    → DoesAtDesk w v done (after_message message w.state.desk.jobs) (kept_past message w.state) (files_past message w.state)
+    → place_at turns v.state ≡ place_past message done (place_at turns w.state)
 settled-place turns message w v done a = same_place _ _
-    (ap (λ (s : State). s.client) a.rest) (ap (λ (s : State). s.files) a.rest) (ap (λ (s : State). s.files.host.revision) a.rest)
+    (ap (λ (s : State). s.client) a.rest) (sym (ap (or_before w.state.files) a.files))
+    (IfOk-at_ok (LetsIn (crates_in message w.state.desk.jobs w.state.workspaces) w.state.files) a.files
+    (lets-in (crates_in message w.state.desk.jobs w.state.workspaces) w.state.files)).revision
     (same_desk _ _ refl a.desk.pending a.desk.out a.desk.handed a.desk.shutdown) (ap (λ (s : State). s.workspaces) a.rest) (ap (λ (s : State). s.sources) a.rest)
     (ap (λ (s : State). s.status) a.rest)
 
-does-on : (w v u : Working State) (a b : Reaction) (js ks : Jobs) (first last : Workspaces) → DoesAtDesk w v a js first → DoesAtDesk v u b ks last → DoesAtDesk w u (joined a b) ks last
-does-on w v u a b js ks first last p q = record {
+does-on : (w v u : Working State) (a b : Reaction) (js ks : Jobs) (first last : Workspaces) (made : Result SessionFiles Counter) (next : SessionFiles → Result SessionFiles Counter)
+    → DoesAtDesk w v a js first made → DoesAtDesk v u b ks last (next (or_before w.state.files made)) → DoesAtDesk w u (joined a b) ks last (and_then made next)
+does-on w v u a b js ks first last made next p q = record {
   desk = settled-on (at w) (at v) (at u) a b js ks p.desk q.desk;
-  rest = q.rest ∙ ap (λ (s : State). record s { desk = u.state.desk; workspaces = last }) p.rest;
+  files = ap (λ r. and_then r next) p.files ∙ sym (ap (λ r. next (or_before w.state.files r)) p.files) ∙ q.files;
+  rest = q.rest ∙ ap (λ (s : State). record s { desk = u.state.desk; workspaces = last; files = u.state.files }) p.rest;
 }
 
 -- the messages of a batch that come from this place on
 abbrev DoesPast : Meaning → List TaskMsg → Working State → Working State → Place → Type 0
-DoesPast meaning ms v u place = DoesAtDesk v u (batch_row meaning ms place) (after_batch ms place.desk.jobs) (ends_kept ms place.desk.jobs place.workspaces)
+DoesPast meaning ms v u place =
+    DoesAtDesk v u (batch_row meaning ms place) (after_batch ms place.desk.jobs) (ends_kept ms place.desk.jobs place.workspaces)
+    (crates_told ms place.desk.jobs place.workspaces place.files)
 
 -- a batch is its messages, one after another
 batch-settles : (meaning : Meaning) (turns : ℕ) (batch : List TaskMsg) (w : Working State)
     → IfOk (batched meaning batch w)
-    (λ u. DoesAtDesk w u (batch_row meaning batch (place_at turns w.state)) (after_batch batch w.state.desk.jobs) (ends_kept batch w.state.desk.jobs w.state.workspaces))
-batch-settles meaning turns [] w = record { desk = nothing-settles (at w); rest = refl }
+    (λ u. DoesAtDesk w u (batch_row meaning batch (place_at turns w.state)) (after_batch batch w.state.desk.jobs) (ends_kept batch w.state.desk.jobs w.state.workspaces)
+    (crates_told batch w.state.desk.jobs w.state.workspaces w.state.files))
+batch-settles meaning turns [] w = record { desk = nothing-settles (at w); files = refl; rest = refl }
 batch-settles meaning turns (m ∷ ms) w =
     let place = place_at turns w.state in
     let done = message_row meaning (scene_at place) place.desk m in
     let past = place_past m done place in
     let jobs = after_message m w.state.desk.jobs in
     let kept = kept_past m w.state in
-    IfOk-and_then (taken meaning m w) (batched meaning ms) (λ v. DoesAtDesk w v done jobs kept)
-    (λ u. DoesAtDesk w u (batch_row meaning (m ∷ ms) place) (after_batch ms jobs) (ends_kept ms jobs kept))
+    let files = files_past m w.state in
+    let next : SessionFiles → Result SessionFiles Counter = crates_told ms jobs kept in
+    IfOk-and_then (taken meaning m w) (batched meaning ms) (λ v. DoesAtDesk w v done jobs kept files)
+    (λ u. DoesAtDesk w u (batch_row meaning (m ∷ ms) place) (after_batch ms jobs) (ends_kept ms jobs kept) (and_then files next))
     (taken-settles meaning turns m w)
     (λ v a. IfOk-weaker (batched meaning ms v) (λ u. DoesPast meaning ms v u (place_at turns v.state)) _
     (batch-settles meaning turns ms v)
-    (λ u b. does-on w v u done (batch_row meaning ms past) jobs (after_batch ms jobs) kept (ends_kept ms jobs kept) a
+    (λ u b. does-on w v u done (batch_row meaning ms past) jobs (after_batch ms jobs) kept (ends_kept ms jobs kept) files next a
     (subst (DoesPast meaning ms v u) (settled-place turns m w v done a) b)))
 
 batch-mid : (meaning : Meaning) (s : State) (batch : List TaskMsg) → IfOk (batched meaning batch (counted_turn s)) (Mid meaning s (Next (Task batch)))
@@ -536,12 +576,20 @@ batch-mid meaning s batch =
     let input : Input = Next (Task batch) in
     let done = batch_row meaning batch (place_of s) in
     let kept = ends_kept batch s.desk.jobs s.workspaces in
-    IfOk-weaker _ (λ u. DoesAtDesk (counted_turn s) u done (after_batch batch s.desk.jobs) kept) (Mid meaning s input)
+    IfOk-weaker _ (λ u. DoesAtDesk (counted_turn s) u done (after_batch batch s.desk.jobs) kept (crates_told batch s.desk.jobs s.workspaces s.files)) (Mid meaning s input)
     (batch-settles meaning s.desk.turns batch (counted_turn s))
-    (λ u a. subst (Mid meaning s input) (is-now kept u a.rest) (both-mid meaning s input done (at u) kept refl refl (record { client = refl; files = refl }) refl a.desk))
-  where
-    is-now : (kept : Workspaces) (u : Working State) → u.state ≡ record s { desk = u.state.desk; workspaces = kept } → both_now s (at u) kept ≡ u
-    is-now kept u rest = λ i. record { state = sym rest i; out = u.out }
+    (λ u a. let serves = serves-desk meaning s input done (at u) refl refl a.desk in record {
+      serves = record { does = serves.does; numbered = serves.numbered; desk = serves.desk };
+      client = ap (λ (t : State). t.client) a.rest;
+      status = ap (λ (t : State). t.status) a.rest;
+      files = a.files;
+      unrevised = a.desk.others revision_of (record { jobs = λ job. refl; logs = λ code text. refl });
+      untold = ap statuses_in a.desk.written ∙ responses-untold done.responses;
+      untimed = a.desk.others timer_of (record { jobs = λ job. refl; logs = λ code text. refl });
+      workspaces = ap (λ (t : State). t.workspaces) a.rest;
+      sources = ap (λ (t : State). t.sources) a.rest;
+      spawns = a.desk.spawns;
+    })
 
 -- ---- whole turns
 
@@ -583,7 +631,7 @@ mid-fits meaning s event =
     IfOk-and_then (counted (begun s)) (happened meaning event) (λ v. v ≡ counted_turn s) (Mid meaning s (Next event)) (counted-is s)
     (λ v is. subst (λ w. IfOk (happened meaning event w) (Mid meaning s (Next event))) (sym is) (event-mid meaning s event))
 
-none-more : (n : ℕ) → n ≡ n + (0 + 0)
+none-more : (n : ℕ) → n ≡ n + (0 + 0 + 0)
 none-more n = omega arith
 
 -- the start, once its status was told
@@ -613,7 +661,7 @@ pub record Fits (meaning : Meaning) (s : State) (input : Input) (v : Working Sta
   pub does : reaction_of (turn_of input v) ≡ row meaning input (place_of s)
   pub numbered : AreNumbered s.desk.handed (spawned v.out.commands)
   pub place : place_of v.state ≡ place_after (turn_of input v) (place_of s)
-  pub later : s.files.host.revision ≤ v.state.files.host.revision
+  pub later : s.files.host.revision + crates_told_by input (place_of s) ≤ v.state.files.host.revision
   pub revised : v.state.files.host.revision ≡ s.files.host.revision + revisions_in input (place_of s)
   pub hands : Hands meaning s input v
   pub told : statuses_in v.out.messages ≡ statuses_at input (place_of s)
@@ -643,8 +691,8 @@ files-now : (s : State) (input : Input) (now : SessionFiles) → files_made inpu
 files-now s input now made = sym (ap (or_before s.files) made)
 
 -- a revision doesn't fall
-no-less : (more before revision : ℕ) → revision ≡ before + more → before ≤ revision
-no-less more before revision is = omega (arith, is)
+no-less : (told built changed before revision : ℕ) → revision ≡ before + (told + built + changed) → before + told ≤ revision
+no-less told built changed before revision is = omega (arith, is)
 
 close-cases : (meaning : Meaning) (s : State) (input : Input) (u : Working State) (b : Bool) → (u.state.files.host.revision == s.files.host.revision) ≡ b → Left meaning s input u
     → u.state.workspaces ≡ workspaces_after input (place_of s) → Hands meaning s input u
@@ -657,7 +705,8 @@ close-cases meaning s input u true h made workspaces hands =
       does = serves.does;
       numbered = serves.numbered;
       place = same_place _ _ made.client (files-now s input u.state.files made.files) same serves.desk workspaces made.sources made.status;
-      later = no-less (revisions_in input (place_of s)) s.files.host.revision u.state.files.host.revision made.revised;
+      later = no-less (crates_told_by input (place_of s)) (if builds_crates_in input (place_of s) then 1 else 0) (if is_changed input (place_of s) then 1 else 0) s.files.host.revision
+          u.state.files.host.revision made.revised;
       revised = made.revised;
       hands = hands;
       told = made.told;
@@ -675,7 +724,8 @@ close-cases meaning s input u false h made workspaces hands =
       numbered = serves.numbered;
       place = same_place _ _ made.client (files-now s input u.state.files made.files) (sym (ap (λ ns. last_of ns s.files.host.revision) numbers))
           (serves.desk ∙ ap (λ js. record (desk_after (turn_of input v) s.desk) { jobs = js }) jobs) workspaces made.sources made.status;
-      later = no-less (revisions_in input (place_of s)) s.files.host.revision u.state.files.host.revision made.revised;
+      later = no-less (crates_told_by input (place_of s)) (if builds_crates_in input (place_of s) then 1 else 0) (if is_changed input (place_of s) then 1 else 0) s.files.host.revision
+          u.state.files.host.revision made.revised;
       revised = made.revised;
       hands = spawns ∙ hands;
       told = made.told;
@@ -748,6 +798,15 @@ mid-switch meaning s event u mid =
     (λ i. switch_made (mid.client i).settings u.state.files (mid.workspaces i))
     ∙ sym (ap (λ r. and_then r (λ files. switch_made (client_after (Next event) s.client).settings files (workspaces_at (Next event) (place_of s)))) mid.files)
 
+-- what crate data of the input has made of the revision
+pub told-now-rises : (meaning : Meaning) (s : State) (event : Event) (u : Working State) → Mid meaning s (Next event) u
+    → u.state.files.host.revision ≡ s.files.host.revision + crates_told_by (Next event) (place_of s)
+told-now-rises meaning s event u mid =
+    IfOk-at_ok (λ (now : SessionFiles). now.host.revision ≡ s.files.host.revision + crates_told_by (Next event) (place_of s)) mid.files (told-rises event (place_of s))
+
+crates-rise : (before mid now told built : ℕ) → mid ≡ before + told → now ≡ mid + built → now ≡ before + (told + built)
+crates-rise before mid now told built p q = omega (arith, p, q)
+
 switched-behind : (meaning : Meaning) (s : State) (event : Event) (u : Working State) → Mid meaning s (Next event) u → IfOk (switch_done u) (Behind meaning s event)
 unfolding switch_done
 switched-behind meaning s event u mid =
@@ -764,7 +823,8 @@ switched-behind meaning s event u mid =
       unrevised = ap (filter_map revision_of) does.tells.ordered ∙ revisions-append u.out.commands does.tells.commands ∙ (λ i. mid.unrevised i ++ does.tells.revises_none i);
       untold = ap statuses_in does.tells.written ∙ statuses-append u.out.messages does.tells.messages ∙ (λ i. mid.untold i ++ does.tells.tells i);
       untimed = ap (filter_map timer_of) does.tells.ordered ∙ timers-append u.out.commands does.tells.commands ∙ (λ i. mid.untimed i ++ does.tells.times_none i);
-      revision = follows.revision ∙ (λ i. (mid.host i).revision + (if is_built_by (is i) then 1 else 0));
+      revision = crates-rise s.files.host.revision u.state.files.host.revision v.state.files.host.revision (crates_told_by input (place_of s)) (if builds_crates_in input (place_of s) then 1 else 0)
+          (told-now-rises meaning s event u mid) (follows.revision ∙ (λ i. u.state.files.host.revision + (if is_built_by (mid.client i).settings (is i) then 1 else 0)));
       due = ap are_due mid.files ∙ follows.due;
       changes = ap changes_due mid.files ∙ follows.changes;
       workspaces = ap (λ (t : State). t.workspaces) does.state ∙ (λ i. left_or (mid.workspaces i) (is i));
@@ -801,7 +861,7 @@ made-now meaning s event u v x behind p f =
     let told = behind.files in
     let w = files_now u.state v in
     let changed = changed-now meaning s event u behind in
-    let built : ℕ = if builds_crates_in (Next event) (place_of s) then 1 else 0 in
+    let built : ℕ = crates_in_turn (Next event) (place_of s) in
     let rises : v.state.host.revision ≡ revision_now (are_due (Ok u.state.files)) u.state.files = IfOk-at_ok (λ f. f.host.revision ≡ revision_now (are_due (Ok u.state.files)) u.state.files) p.is (turn-revises u.state.sources.roots u.state.files) in
     let unrevised : filter_map revision_of v.out.commands ≡ [] = ap (λ (o : Written). filter_map revision_of o.commands) p.out ∙ behind.unrevised in
     let untold : statuses_in v.out.messages ≡ [] = ap (λ (o : Written). statuses_in o.messages) p.out ∙ behind.untold in
@@ -935,27 +995,24 @@ told-made meaning s input asked client last sent w v made told same = record {
   revised = ap (λ (x : State). x.files.host.revision) told.state ∙ made.revised;
 }
 
--- a revision that rises is another
-risen : (n more : ℕ) (b : Bool) → (n + (1 + more) == n) ≡ b → b ≡ false
-risen n more true is = let same : n + (1 + more) ≡ n = eqb-true _ _ is in absurd (omega (arith, same))
-risen n more false is = refl
+-- a revision is another exactly where it rises
+risen : (n more : ℕ) (same none : Bool) → (n + more == n) ≡ same → (more == 0) ≡ none → same ≡ none
+risen n more true true is zero = refl
+risen n more false false is zero = refl
+risen n more true false is zero = let back : n + more ≡ n = eqb-true _ _ is in sym (eq-eqb more 0 (omega (arith, back))) ∙ zero
+risen n more false true is zero = let back : more ≡ 0 = eqb-true _ _ zero in sym is ∙ eq-eqb (n + more) n (omega (arith, back))
 
-is-risen : (built changed : Bool) (n : ℕ) → not (n + ((if built then 1 else 0) + (if changed then 1 else 0)) == n) ≡ (built || changed)
-is-risen true true n = ap not (risen n 1 (n + (1 + 1) == n) refl)
-is-risen true false n = ap not (risen n 0 (n + (1 + 0) == n) refl)
-is-risen false true n = ap not (risen n 0 (n + (0 + 1) == n) refl)
-is-risen false false n = ap not (eq-eqb (n + (0 + 0)) n (sym (none-more n)))
+is-risen : (n more : ℕ) → not (n + more == n) ≡ not (more == 0)
+is-risen n more = ap not (risen n more (n + more == n) (more == 0) refl refl)
 
 -- what the quiet part finds is what the lists say
 pub ready-due : (meaning : Meaning) (s : State) (event : Event) (t : Working Turning) → ReadyBehind meaning s event t
     → due_in t.state.facts t.state.state ≡ refreshes_at (Next event) (place_of s)
 ready-due meaning s event t ready =
     let revision : ℕ = t.state.state.files.host.revision in
-    let built : Bool = builds_crates_in (Next event) (place_of s) in
-    let changed : Bool = is_changed s.client.settings (Next event) s.files in
     let new : has_new_world t.state.facts t.state.state ≡ changes_world (Next event) (place_of s) =
     ap (λ (f : Facts). not (revision == f.revision)) ready.facts ∙ ap (λ (n : ℕ). not (n == s.files.host.revision)) ready.made.revised
-    ∙ is-risen built changed s.files.host.revision in
+    ∙ is-risen s.files.host.revision (revisions_in (Next event) (place_of s)) in
     λ i. is_refresh_due (ready.facts i).quiescent (is_quiescent (files-now s (Next event) t.state.state.files ready.made.files i) (ready.workspaces i)) (new i)
 
 -- the client that it leaves
@@ -1155,7 +1212,7 @@ snapshot-told w v told =
       file_ids = w.state.files.ids;
       versions = w.state.files.versions;
       config = settings;
-      proc_macros_loaded = macros_loaded_in settings;
+      proc_macros_loaded = macros_loaded_in settings w.state.workspaces;
       workspaces = w.state.workspaces.present;
       workspaces_version = w.state.workspaces.version;
       revision = w.state.files.host.revision;

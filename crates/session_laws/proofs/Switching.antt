@@ -27,7 +27,7 @@ use Rattle.workspaces.specs.Workspaces.{Workspaces}
 use Rattle.workspaces.specs.declared.follows.Follows.{Follows}
 use Rattle.workspaces.specs.declared.follows.Follows.TheVariants.{Nothing, CrateData, Wait, GoOn}
 use Rattle.session_model.specs.Asking.{after_asking_if, client_watching, goes_on}
-use Rattle.session_model.specs.Crates.{Numbers, builds_crates, crate_data, crates_put_if, files_with_crates, followed_by, is_built_by, with_crates}
+use Rattle.session_model.specs.Crates.{Numbers, builds_crates, crate_data, crates_put_if, crates_sought, files_with_crates, followed_by, is_built_by, waits, with_crates}
 use Rattle.session_model.specs.Headline.{Place, are_due, client_after, files_told, left_or, workspaces_at, workspaces_switched}
 use Rattle.session_model.specs.Machine.{at_workspaces, crates_built, files_in, followed, loader_set, roots_renewed, switched_to, warned, watchers_registered, with_client, with_files, with_sources, with_workspaces}
 use Rattle.session_model.specs.Sources.{sources_behind, sources_left, sources_now}
@@ -128,7 +128,7 @@ pub switched-does : (made : Result (Follows × Workspaces) Counter) (w : Working
 unfolding switched_to
 switched-does (Err counter) w = tt
 switched-does (Ok made) w =
-    let built : Bool = builds_crates made.0 in
+    let built : Bool = builds_crates w.state.client.settings made.0 in
     let now : Working State = at_workspaces (λ before. made.1) w in
     IfOk-and_then (followed made.0 now) (crates_built built) (FollowsSwitch made.0 now) (Switches (Ok made) w) (followed-does made.0 now)
     (λ told follows. IfOk-weaker (crates_built built told) (Builds built told) (Switches (Ok made) w) (built-does built told)
@@ -165,8 +165,8 @@ err-ok : {P : Type 0} (counter : Counter) (now : SessionFiles) → (let made : R
 err-ok counter now is = absurd cc
 
 pub made-follows : (made : Result (Follows × Workspaces) Counter) (settings : ConfigData) (files now : SessionFiles) → and_then made (files_with_crates settings files) ≡ Ok now
-    → KeepsDue (is_built_by made) files now
-made-follows (Ok made) settings files now is = put-follows (builds_crates made.0) settings made.1.present files now is
+    → KeepsDue (is_built_by settings made) files now
+made-follows (Ok made) settings files now is = put-follows (builds_crates settings made.0) settings made.1.present files now is
 made-follows (Err counter) settings files now is = err-ok counter now is
 
 -- ---- where it is refused
@@ -197,7 +197,7 @@ pub switched-errs : (made : Result (Follows × Workspaces) Counter) (w : Working
 unfolding switched_to
 switched-errs (Err counter) w = inl refl
 switched-errs (Ok made) w =
-    let built : Bool = builds_crates made.0 in
+    let built : Bool = builds_crates w.state.client.settings made.0 in
     let now : Working State = at_workspaces (λ before. made.1) w in
     err-and_then (followed made.0 now) (crates_built built) (IsRefused (Ok made) w.state)
     (err-weaker (followed made.0 now) (IsPast (watching_by (goes_on made.0) w.state.client)) (IsRefused (Ok made) w.state) (followed-errs made.0 now)
@@ -210,18 +210,18 @@ exhausted-errs : (made : Option (Follows × Workspaces)) → IfErr (unless_exhau
 exhausted-errs None = refl
 exhausted-errs (Some made) = tt
 
-sought-errs : (files : SessionFiles) (made : Result (Follows × Workspaces) Counter) → IfErr made (λ counter. counter ≡ LoaderSettings)
-    → IfErr (with_crates files made) (λ counter. counter ≡ LoaderSettings)
-sought-errs files (Ok made) h = tt
-sought-errs files (Err counter) h = h
+sought-errs : (settings : ConfigData) (files : SessionFiles) (made : Result (Follows × Workspaces) Counter) → IfErr made (λ counter. counter ≡ LoaderSettings)
+    → IfErr (with_crates settings files made) (λ counter. counter ≡ LoaderSettings)
+sought-errs settings files (Ok made) h = tt
+sought-errs settings files (Err counter) h = h
 
-due-errs : (files : SessionFiles) (due : Bool) (made : Option (Follows × Workspaces)) (workspaces : Workspaces)
-    → IfErr (if due then with_crates files (unless_exhausted made) else Ok (Nothing, workspaces)) (λ counter. counter ≡ LoaderSettings)
-due-errs files true made workspaces = sought-errs files (unless_exhausted made) (exhausted-errs made)
-due-errs files false made workspaces = tt
+due-errs : (settings : ConfigData) (files : SessionFiles) (due : Bool) (made : Option (Follows × Workspaces)) (workspaces : Workspaces)
+    → IfErr (if due then with_crates settings files (unless_exhausted made) else Ok (Nothing, workspaces)) (λ counter. counter ≡ LoaderSettings)
+due-errs settings files true made workspaces = sought-errs settings files (unless_exhausted made) (exhausted-errs made)
+due-errs settings files false made workspaces = tt
 
 pub made-errs : (settings : ConfigData) (files : SessionFiles) (workspaces : Workspaces) → IfErr (switch_made settings files workspaces) (λ counter. counter ≡ LoaderSettings)
-made-errs settings files workspaces = due-errs files (is_switch_due files workspaces) (switch_by settings workspaces) workspaces
+made-errs settings files workspaces = due-errs settings files (is_switch_due files workspaces) (switch_by settings workspaces) workspaces
 
 -- ---- what it leaves
 
@@ -270,25 +270,31 @@ by-moves true discover build_scripts workspaces = to-moves (decided discover bui
 by-moves false discover build_scripts workspaces = stays workspaces
 
 -- crate data is built behind it
-built-moves : (numbers : Numbers) (follows : Follows) (before workspaces : Workspaces) → Moves before workspaces → Moves before (followed_by numbers follows workspaces)
-built-moves numbers Nothing before workspaces m = m
-built-moves numbers CrateData before workspaces m = record { fetches = m.fetches; building = m.building; loading = m.loading; version = m.version }
-built-moves numbers (Wait msrv) before workspaces m = m
-built-moves numbers (GoOn msrv version initial) before workspaces m = record { fetches = m.fetches; building = m.building; loading = m.loading; version = m.version }
+sought-moves : (wait : Bool) (settings : ConfigData) (numbers : Numbers) (before workspaces : Workspaces) → Moves before workspaces
+    → Moves before (crates_sought wait settings numbers workspaces)
+sought-moves true settings numbers before workspaces m = record { fetches = m.fetches; building = m.building; loading = m.loading; version = m.version }
+sought-moves false settings numbers before workspaces m = record { fetches = m.fetches; building = m.building; loading = m.loading; version = m.version }
 
-crates-move : (files : SessionFiles) (made : Result (Follows × Workspaces) Counter) (workspaces : Workspaces) → Moves workspaces (left_or workspaces made)
-    → Moves workspaces (left_or workspaces (with_crates files made))
-crates-move files (Ok made) workspaces m = built-moves files.ids made.0 workspaces made.1 m
-crates-move files (Err counter) workspaces m = m
+built-moves : (settings : ConfigData) (numbers : Numbers) (follows : Follows) (before workspaces : Workspaces) → Moves before workspaces
+    → Moves before (followed_by settings numbers follows workspaces)
+built-moves settings numbers Nothing before workspaces m = m
+built-moves settings numbers CrateData before workspaces m = sought-moves (waits settings false) settings numbers before workspaces m
+built-moves settings numbers (Wait msrv) before workspaces m = m
+built-moves settings numbers (GoOn msrv version initial) before workspaces m = sought-moves (waits settings initial) settings numbers before workspaces m
 
-due-moves : (files : SessionFiles) (due : Bool) (made : Option (Follows × Workspaces)) (workspaces : Workspaces) → Moves workspaces (left_or workspaces (unless_exhausted made))
-    → Moves workspaces (left_or workspaces (if due then with_crates files (unless_exhausted made) else Ok (Nothing, workspaces)))
-due-moves files true made workspaces m = crates-move files (unless_exhausted made) workspaces m
-due-moves files false made workspaces m = stays workspaces
+crates-move : (settings : ConfigData) (files : SessionFiles) (made : Result (Follows × Workspaces) Counter) (workspaces : Workspaces) → Moves workspaces (left_or workspaces made)
+    → Moves workspaces (left_or workspaces (with_crates settings files made))
+crates-move settings files (Ok made) workspaces m = built-moves settings files.ids made.0 workspaces made.1 m
+crates-move settings files (Err counter) workspaces m = m
+
+due-moves : (settings : ConfigData) (files : SessionFiles) (due : Bool) (made : Option (Follows × Workspaces)) (workspaces : Workspaces) → Moves workspaces (left_or workspaces (unless_exhausted made))
+    → Moves workspaces (left_or workspaces (if due then with_crates settings files (unless_exhausted made) else Ok (Nothing, workspaces)))
+due-moves settings files true made workspaces m = crates-move settings files (unless_exhausted made) workspaces m
+due-moves settings files false made workspaces m = stays workspaces
 
 made-moves : (settings : ConfigData) (files : SessionFiles) (workspaces : Workspaces) → Moves workspaces (left_or workspaces (switch_made settings files workspaces))
 made-moves settings files workspaces =
-    due-moves files (is_switch_due files workspaces) (switch_by settings workspaces) workspaces
+    due-moves settings files (is_switch_due files workspaces) (switch_by settings workspaces) workspaces
     (by-moves (ltb workspaces.version (2 ^ 64 - 1)) (discovers settings) (builds_scripts settings) workspaces)
 
 told-moves : (settings : ConfigData) (told : Result SessionFiles Counter) (workspaces : Workspaces)
@@ -300,4 +306,4 @@ told-moves settings (Err counter) workspaces = stays workspaces
 pub switch-moves : (input : Input) (place : Place) → Moves (workspaces_at input place) (workspaces_switched input place)
 switch-moves Start place = stays (workspaces_at Start place)
 switch-moves (Next event) place =
-    told-moves (client_after (Next event) place.client).settings (files_told place.client.settings (Next event) place.files) (workspaces_at (Next event) place)
+    told-moves (client_after (Next event) place.client).settings (files_told (Next event) place) (workspaces_at (Next event) place)

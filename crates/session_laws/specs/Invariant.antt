@@ -1,5 +1,5 @@
 -- The turn invariant: what holds of the lists between turns, and carries what is said of requests and answers.
-use Rattle.std.specs.Prelude.{◌≡◌, ◌≤◌, ℕ, Bool, true, false, List, Option, None, Some}
+use Rattle.std.specs.Prelude.{◌+◌, ◌≡◌, ◌≤◌, ℕ, Bool, true, false, List, Option, None, Some}
 use Rattle.std.specs.FinMap as map
 use Rattle.ra_config.specs.Config.{ConfigData}
 use Rattle.session_port.specs.Jobs.{Jobs}
@@ -11,7 +11,7 @@ use Rattle.workspaces.specs.declared.requests.WaitingFetch.{WaitingFetch}
 use Rattle.desk.specs.Meaning.{Meaning}
 use Rattle.desk_laws.specs.Invariant.{Sound}
 use Rattle.desk_laws.specs.Numbers.{AreNumbered}
-use Rattle.session_model.specs.Headline.{AreHandedOver, beginning, HandsOver, Place, place_after, place_after_all, reaction_of, Revises, row, SetsTimer, TellsItsStatus}
+use Rattle.session_model.specs.Headline.{AreHandedOver, beginning, crates_told_by, HandsOver, Place, place_after, place_after_all, reaction_of, Revises, row, SetsTimer, TellsItsStatus}
 use Rattle.session_model.specs.Run.{Turn}
 use Rattle.session_model.specs.State.{State}
 use Rattle.session_laws.specs.Answering.{answered_by, AreAccountedFor}
@@ -95,7 +95,7 @@ pub record StepFits (meaning : Meaning) (s : State) (turn : Turn) (new : State) 
   pub does : reaction_of turn ≡ row meaning turn.input (place_of s)
   pub numbered : AreNumbered s.desk.handed (spawned turn.commands)
   pub place : place_of new ≡ place_after turn (place_of s)
-  pub later : s.files.host.revision ≤ new.files.host.revision
+  pub later : s.files.host.revision + crates_told_by turn.input (place_of s) ≤ new.files.host.revision
   pub revised : Revises turn (place_of s)
   pub hands_over : HandsOver meaning turn (place_of s)
   pub tells_status : TellsItsStatus turn (place_of s)

@@ -1,5 +1,5 @@
 // Laws of the definitions: of what a session reads and writes, and of the machine and the reply table.
-ghost use Rattle.std.specs.Prelude.{◌≡◌, ◌≤◌, ◌++◌, ◌∷◌, ℕ, List, length, map, Err, Some};
+ghost use Rattle.std.specs.Prelude.{◌+◌, ◌≡◌, ◌≤◌, ◌++◌, ◌∷◌, ℕ, List, length, map, Err, Some};
 ghost use Rattle.lsp_frame.specs.Pending.{Pending};
 ghost use Rattle.lsp_frame.specs.declared.message.Message.{Message};
 ghost use Rattle.lsp_frame.specs.declared.message.Response.{Response};
@@ -16,7 +16,7 @@ ghost use Rattle.desk.specs.Meaning.{Meaning};
 ghost use Rattle.desk_laws.specs.Answering.{AllDiffer, answered_in};
 ghost use Rattle.desk_laws.specs.Numbers.{AreNumbered};
 ghost use Rattle.session_model.specs.Course.{course_of};
-ghost use Rattle.session_model.specs.Headline.{NeedsMore, Place, beginning, place_after, place_after_all, reaction_of, row};
+ghost use Rattle.session_model.specs.Headline.{NeedsMore, Place, beginning, crates_told_by, place_after, place_after_all, reaction_of, row};
 ghost use Rattle.session_model.specs.Machine.{step};
 ghost use Rattle.session_model.specs.Run.{Turn, Runs, Steps, begun};
 ghost use Rattle.session_model.specs.State.{State, fresh};
@@ -54,12 +54,12 @@ pub fn parts_beside_keep_the_answers()
 {}
 
 /// The turn invariant holds at the beginning. Each turn that is its row, gives the jobs that it hands over the next numbers, and in
-/// which the revision doesn't fall, keeps it.
+/// which the revision rises at least as often as its input brings crate data, keeps it.
 pub fn rows_keep_the_invariant()
     ensures beginning { (settings : ConfigData) → SoundAt (beginning settings) }
     ensures kept { (meaning : Meaning) (turn : Turn) (place : Place)
         → reaction_of turn ≡ row meaning turn.input place → AreNumbered place.desk.handed (spawned turn.commands)
-        → place.revision ≤ (place_after turn place).revision
+        → place.revision + crates_told_by turn.input place ≤ (place_after turn place).revision
         → SoundAt place → SoundAt (place_after turn place) }
 {}
 

@@ -31,10 +31,13 @@ build_kept (Some made) workspaces =
     then record workspaces { builds = end_build made workspaces.present workspaces.builds; switch_wanted = true }
     else workspaces
 
--- what a message of a job says of a fetch, of a run of build data, or of a load of macros, is kept, where these jobs are out before it
+-- what a message of a job says of a fetch, or of a run of build data, is kept, where these jobs are out before it
+abbrev pub run_kept : TaskMsg → Jobs → Workspaces → Workspaces
+run_kept message out workspaces = build_kept (build_ended message out) (fetch_kept (fetch_ended message out) workspaces)
+
+-- and what it says of a load of macros
 abbrev pub end_kept : TaskMsg → Jobs → Workspaces → Workspaces
-end_kept message out workspaces =
-    load_kept (load_ended message out) (build_kept (build_ended message out) (fetch_kept (fetch_ended message out) workspaces))
+end_kept message out workspaces = load_kept (load_ended message out) (run_kept message out workspaces)
 
 -- the same for the messages of a batch, one after another
 abbrev pub ends_kept : List TaskMsg → Jobs → Workspaces → Workspaces

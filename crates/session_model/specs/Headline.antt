@@ -1,6 +1,6 @@
 -- What a session's record says of requests and answers: by the lists of inputs, messages and commands alone.
 use Rattle.std.specs.Prelude.{◌≡◌, ◌≤◌, ◌<◌, ℕ, ◌+◌, ◌-◌, ◌^◌, ◌⊎◌, List, [], ◌∷◌, ◌++◌, length, Contains, Bool, false}
-use Rattle.std.specs.Prelude.{◌||◌, IsTrue, Option, None, Some, is_some, Result, Ok, Err, if◌then◌else◌}
+use Rattle.std.specs.Prelude.{◌==◌, not, IsTrue, Option, None, Some, is_some, Result, Ok, Err, if◌then◌else◌}
 use Rattle.std.specs.FinMap as map
 use Rattle.std.specs.List.{filter_map}
 use Rattle.serde_json.specs.Data.{Data}
@@ -41,7 +41,7 @@ use Rattle.desk.specs.Reactions.{Reaction, silent, joined, cancel_row, message_r
 use Rattle.desk.specs.declared.scene.Scene.{Scene}
 use Rattle.session_model.specs.Course.{Course, Stop as CourseStop, takes, stops, waits, exit, client_gone, bad_frame, bad_message, end_of}
 use Rattle.session_model.specs.Course.{session_course, bytes_in}
-use Rattle.session_model.specs.Inputs.{cancelled_by, notice_in, request_in, response_in, turns_after}
+use Rattle.session_model.specs.Inputs.{batch_of, cancelled_by, notice_in, request_in, response_in, turns_after}
 use Rattle.session_files.specs.Current.{AreNumbers, IsCurrent}
 use Rattle.session_files.specs.Folds.{after_closing, after_editing, after_messages, after_opening, after_turn, due_changes, is_due, is_open}
 use Rattle.session_files.specs.SessionFiles.{SessionFiles, no_files}
@@ -53,7 +53,7 @@ use Rattle.workspaces.specs.declared.follows.Follows.TheVariants.{Nothing}
 use Rattle.workspaces.specs.declared.requests.FetchRequest.{FetchRequest}
 use Rattle.session_model.specs.Asking.{client_refreshed_if, client_registered, client_watching, is_refresh_due}
 use Rattle.session_model.specs.Building.{build_due, build_jobs, end_kept, ends_kept, request_told, with_due_build}
-use Rattle.session_model.specs.Crates.{files_with_crates, is_built_by}
+use Rattle.session_model.specs.Crates.{crates_in, crates_let_in, crates_told, files_with_crates, is_built_by, times_told}
 use Rattle.session_model.specs.Fetching.{fetch_jobs, folders_told_if, settings_told, with_fetches}
 use Rattle.session_model.specs.Hearing.{heard_of, told_by}
 use Rattle.session_model.specs.Loading.{MacroPaths, load_due, load_jobs, with_due_load}
@@ -102,7 +102,7 @@ snapshot_at place = record {
   file_ids = place.files.ids;
   versions = place.files.versions;
   config = place.client.settings;
-  proc_macros_loaded = macros_loaded_in place.client.settings;
+  proc_macros_loaded = macros_loaded_in place.client.settings place.workspaces;
   workspaces = place.workspaces.present;
   workspaces_version = place.workspaces.version;
   revision = place.revision;
@@ -113,6 +113,11 @@ abbrev pub scene_at : Place → Scene
 scene_at place = record { snapshot = snapshot_at place; loading = place.files.loading; incomplete = place.workspaces.incomplete }
 
 -- ---- what a turn changes of it
+
+-- a turn that needs one more of a counter than there are doesn't come to be
+abbrev pub or_before : SessionFiles → Result SessionFiles Counter → SessionFiles
+or_before files (Ok made) = made
+or_before files (Err counter) = files
 
 -- a document is opened at the path of its URL
 abbrev pub opened_at : ConfigData → Result (List ℕ) UrlFault → DidOpen → SessionFiles → Result SessionFiles Counter
@@ -137,14 +142,24 @@ documents_told settings (Some (notices.DidChange change)) files = changed_at set
 documents_told settings (Some (notices.DidClose uri)) files = Ok (closed_at (path_of uri) files)
 documents_told settings (Some other) files = Ok files
 
--- what an input tells of documents and files: by the excluded prefixes and by what a column counts
-abbrev pub files_told : ConfigData → Input → SessionFiles → Result SessionFiles Counter
-files_told settings Start files = Ok files
-files_told settings (Next (Lsp message)) files = documents_told settings (notice_in (Next (Lsp message))) files
-files_told settings (Next (Task batch)) files = Ok files
-files_told settings (Next (Vfs messages)) files = after_messages messages files
-files_told settings (Next (Deferred tasks)) files = Ok files
-files_told settings (Next (Timer ticket)) files = Ok files
+-- what an input tells of documents and files: by the excluded prefixes and by what a column counts; and the end of a load of macros lets the crate data that
+-- waited for it into the world
+abbrev pub files_told : Input → Place → Result SessionFiles Counter
+files_told Start place = Ok place.files
+files_told (Next (Lsp message)) place = documents_told place.client.settings (notice_in (Next (Lsp message))) place.files
+files_told (Next (Task batch)) place = crates_told batch place.desk.jobs place.workspaces place.files
+files_told (Next (Vfs messages)) place = after_messages messages place.files
+files_told (Next (Deferred tasks)) place = Ok place.files
+files_told (Next (Timer ticket)) place = Ok place.files
+
+-- how often it does
+abbrev pub crates_told_by : Input → Place → ℕ
+crates_told_by Start place = 0
+crates_told_by (Next (Lsp message)) place = 0
+crates_told_by (Next (Task batch)) place = times_told batch place.desk.jobs place.workspaces
+crates_told_by (Next (Vfs messages)) place = 0
+crates_told_by (Next (Deferred tasks)) place = 0
+crates_told_by (Next (Timer ticket)) place = 0
 
 -- behind the event of a turn what has changed goes into the world, and with files that came or went these roots, unless files are loading; the start has no
 -- event
@@ -158,9 +173,9 @@ are_due (Ok files) = is_due files
 are_due (Err counter) = false
 
 -- a turn changes the texts of the world
-abbrev pub is_changed : ConfigData → Input → SessionFiles → Bool
-is_changed settings Start files = false
-is_changed settings (Next event) files = are_due (files_told settings (Next event) files)
+abbrev pub is_changed : Input → Place → Bool
+is_changed Start place = false
+is_changed (Next event) place = are_due (files_told (Next event) place)
 
 -- the client is asked for its settings, or tells which folders its workspaces have
 abbrev pub client_told : Option Notice → Client → Client
@@ -203,7 +218,7 @@ workspaces_at input place = workspaces_told place.client input place.desk place.
 abbrev pub switch_in : Input → Place → Result (Follows × Workspaces) Counter
 switch_in Start place = Ok (Nothing, workspaces_at Start place)
 switch_in (Next event) place =
-    and_then (files_told place.client.settings (Next event) place.files)
+    and_then (files_told (Next event) place)
     (λ files. switch_made (client_after (Next event) place.client).settings files (workspaces_at (Next event) place))
 
 -- a turn that needs one more of a counter than there are doesn't come to be
@@ -215,13 +230,21 @@ left_or workspaces (Err counter) = workspaces
 abbrev pub client_switched : Input → Place → Client
 client_switched input place = client_watching (switch_in input place) (client_after input place.client)
 
--- a turn builds crate data, behind its switch
+-- a turn builds crate data behind its switch, and it goes into the world at once
 abbrev pub builds_crates_in : Input → Place → Bool
-builds_crates_in input place = is_built_by (switch_in input place)
+builds_crates_in input place = is_built_by (client_after input place.client).settings (switch_in input place)
 
--- a turn changes the world: its crate data or its texts
+-- the revisions that crate data makes: one each time that a load of macros lets some into the world, and one where the turn builds some
+abbrev pub crates_in_turn : Input → Place → ℕ
+crates_in_turn input place = crates_told_by input place + (if builds_crates_in input place then 1 else 0)
+
+-- those that a turn makes: these, and one where it changes the texts of the world
+abbrev pub revisions_in : Input → Place → ℕ
+revisions_in input place = crates_in_turn input place + (if is_changed input place then 1 else 0)
+
+-- a turn changes the world, by crate data or by texts: it makes a revision
 abbrev pub changes_world : Input → Place → Bool
-changes_world input place = builds_crates_in input place || is_changed place.client.settings input place.files
+changes_world input place = not (revisions_in input place == 0)
 
 -- the workspaces behind the switch
 abbrev pub workspaces_switched : Input → Place → Workspaces
@@ -235,16 +258,11 @@ sources_switched input place = sources_left (client_after input place.client).se
 abbrev pub files_switched : Input → Place → Result SessionFiles Counter
 files_switched Start place = Ok place.files
 files_switched (Next event) place =
-    and_then (files_told place.client.settings (Next event) place.files)
+    and_then (files_told (Next event) place)
     (λ files. and_then (switch_in (Next event) place) (files_with_crates (client_after (Next event) place.client).settings files))
 
 abbrev pub files_made : Input → Place → Result SessionFiles Counter
 files_made input place = and_then (files_switched input place) (files_turned (sources_switched input place).roots input)
-
--- a turn that needs one more of a counter than there are doesn't come to be
-abbrev pub or_before : SessionFiles → Result SessionFiles Counter → SessionFiles
-or_before files (Ok made) = made
-or_before files (Err counter) = files
 
 abbrev pub files_after : Input → Place → SessionFiles
 files_after input place = or_before place.files (files_made input place)
@@ -256,7 +274,7 @@ changes_due (Err counter) = []
 
 abbrev pub changes_in : Input → Place → List ChangedFile
 changes_in Start place = []
-changes_in (Next event) place = changes_due (files_told place.client.settings (Next event) place.files)
+changes_in (Next event) place = changes_due (files_told (Next event) place)
 
 -- the workspaces behind these files: the fetch that they ask for, by the settings that the input leaves, waits for a timer
 abbrev pub workspaces_planned : Input → Place → Workspaces
@@ -376,8 +394,12 @@ notice_row (Some id) desk = cancel_row id desk
 
 -- what a message of a batch leaves for the next one
 abbrev pub place_past : TaskMsg → Reaction → Place → Place
-place_past message done place =
-    record place { desk = desk_past message done place.desk; workspaces = end_kept message place.desk.jobs place.workspaces }
+place_past message done place = record place {
+  desk = desk_past message done place.desk;
+  workspaces = end_kept message place.desk.jobs place.workspaces;
+  files = or_before place.files (crates_let_in (crates_in message place.desk.jobs place.workspaces) place.files);
+  revision = place.revision + (if is_some (crates_in message place.desk.jobs place.workspaces) then 1 else 0);
+}
 
 -- a batch: each message on what the ones before it leave
 abbrev pub batch_row : Meaning → List TaskMsg → Place → Reaction
@@ -428,25 +450,31 @@ pub record SetsTimer (turn : Turn) (place : Place) : Type 0 where
 
 -- ---- what holds between turns
 
+-- a snapshot shows the documents, the files, the settings and the workspaces of this place; its crate graph and its revision may be later ones
+pub record ShowsDocuments (place : Place) (snapshot : SnapshotData) : Type 0 where
+  pub texts : snapshot.world.texts ≡ place.files.host.world.texts
+  pub file_ids : snapshot.file_ids ≡ place.files.ids
+  pub versions : snapshot.versions ≡ place.files.versions
+  pub config : snapshot.config ≡ place.client.settings
+  pub workspaces : snapshot.workspaces ≡ place.workspaces.present
+  pub workspaces_version : snapshot.workspaces_version ≡ place.workspaces.version
+  pub later : place.revision ≤ snapshot.revision
+
 -- a job for the request with this ticket was handed over by an earlier turn, the one that read the request or a later one, on the documents of all
--- inputs before that turn
+-- inputs before that turn; and on all else that there was before it, unless the turn took in a batch, which may bring crate data
 pub record WasHandedOver (settings : ConfigData) (turns : List Turn) (ticket : ℕ) (job : Job) : Type 0 where
   pub before : List Turn
   pub turn : Turn
   pub later : List Turn
   pub split : turns ≡ before ++ turn ∷ later
   pub not_before : ticket ≤ next_turn (place_after_all before (beginning settings))
-  pub snapshot : job.snapshot ≡ snapshot_at (place_after_all before (beginning settings))
+  pub documents : ShowsDocuments (place_after_all before (beginning settings)) job.snapshot
+  pub snapshot : batch_of turn.input ≡ [] → job.snapshot ≡ snapshot_at (place_after_all before (beginning settings))
   pub handed : Contains (spawned turn.commands) job
 
 abbrev pub AreHandedOver : ConfigData → List Turn → Jobs → Type 0
 AreHandedOver settings turns jobs =
     (number : ℕ) (job : Job) (ticket : ℕ) → map.get jobs number ≡ Some job → ticket_of job.kind ≡ Some ticket → WasHandedOver settings turns ticket job
-
--- the revisions that a turn makes: one where it builds crate data, and one where it changes the texts of the world
-abbrev pub revisions_in : Input → Place → ℕ
-revisions_in input place =
-    (if builds_crates_in input place then 1 else 0) + (if is_changed place.client.settings input place.files then 1 else 0)
 
 abbrev pub Revises : Turn → Place → Type 0
 Revises turn place = (place_after turn place).revision ≡ place.revision + revisions_in turn.input place
@@ -475,7 +503,8 @@ pub record Answers (meaning : Meaning) (settings : ConfigData) (honest : Bool) (
   pub held : AreHeld (place_after_all (before ++ turn ∷ []) (beginning settings)).desk
   -- each job out for a request was handed over by the turn that read it, or a later one, on the documents of all inputs before that turn
   pub handed_over : AreHandedOver settings before (place_after_all before (beginning settings)).desk.jobs
-  -- the revision rises by one where crate data is built, and by one where the contents of some path are others than those that the world was last made of
+  -- the revision rises by one each time that crate data goes into the world, and by one where the contents of some path are others than those that the world
+  -- was last made of
   pub revised : Revises turn (place_after_all before (beginning settings))
   -- what queries see of the files: the snapshots that this turn hands over are made of it
   pub sees : SeesFiles (place_after_all before (beginning settings)).files
@@ -520,9 +549,9 @@ NeedsMore meaning place input Turns = 2 ^ 64 ≤ next_turn place
 NeedsMore meaning place input Bytes = ⊥
 NeedsMore meaning place input JobsCounter =
     2 ^ 64 ≤ place.desk.handed + length (row meaning input place).jobs + fetches_in input place + (builds_in input place + loads_in input place)
-NeedsMore meaning place input Revisions = 2 ^ 64 - 1 ≤ place.revision + (if builds_crates_in input place then 1 else 0)
+NeedsMore meaning place input Revisions = 2 ^ 64 - 1 ≤ place.revision + crates_in_turn input place
 NeedsMore meaning place input Outgoing = number_limit < (client_left input place).asked.given
-NeedsMore meaning place input Files = files_told place.client.settings input place.files ≡ Err Files
+NeedsMore meaning place input Files = files_told input place ≡ Err Files
 NeedsMore meaning place input LoaderSettings = switch_in input place ≡ Err LoaderSettings
 
 -- one more of a counter was needed than there are, by the turn of the next input, or for the bytes that were given

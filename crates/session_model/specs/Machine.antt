@@ -10,6 +10,7 @@ use Rattle.docs_vfs.specs.FileUrls.{path_of}
 use Rattle.docs_vfs.specs.declared.file_kinds.ChangedFile.{ChangedFile}
 use Rattle.docs_vfs.specs.declared.file_kinds.FileId.{FileId}
 use Rattle.docs_vfs.specs.declared.file_url.UrlFault.{UrlFault}
+use Rattle.project_model.specs.declared.crates.CrateData.{CrateData as CrateGraph}
 use Rattle.session_port.specs.declared.command.Command.TheVariants.{Defer, Revise, Invalidate, SetLoader, Timer as SetTimer}
 use Rattle.session_port.specs.declared.command.DeferredTask.TheVariants.{CheckProcMacroSources}
 use Rattle.session_port.specs.declared.command.LogCode.TheVariants.{MalformedNotification, UnhandledNotification}
@@ -33,6 +34,7 @@ use Rattle.notify.specs.declared.notice.DidOpen.{DidOpen}
 use Rattle.notify.specs.declared.notice.Notice.{Notice}
 use Rattle.notify.specs.declared.notice.Notice.TheVariants as notices
 use Rattle.desk.specs.Desk.{Desk}
+use Rattle.desk.specs.Loading.{LoadEnd, load_ended}
 use Rattle.desk.specs.Meaning.{Meaning}
 use Rattle.desk.specs.Steps.{requested, cancelled, counted as counted_at_desk, handed_over, taken as taken_at_desk, kept as kept_at_desk}
 use Rattle.ra_config.specs.declared.capabilities.Capabilities.{Capabilities}
@@ -50,11 +52,11 @@ use Rattle.workspaces.specs.declared.requests.FetchRequest.{FetchRequest}
 use Rattle.change_effects.specs.declared.effects.ChangeEffects.{ChangeEffects}
 use Rattle.change_effects.specs.declared.effects.SettingsFile.{SettingsFile}
 use Rattle.session_model.specs.Asking.{is_refresh_due, registers_saves, watchers_asked}
-use Rattle.session_model.specs.Building.{build_due, end_kept, request_told, with_due_build}
+use Rattle.session_model.specs.Building.{build_due, request_told, run_kept, with_due_build}
 use Rattle.session_model.specs.Crates.{builds_crates, crate_data}
 use Rattle.session_model.specs.Fetching.{folders_told_if, settings_told, with_fetches}
 use Rattle.session_model.specs.Hearing.{heard_of}
-use Rattle.session_model.specs.Loading.{MacroPaths, load_due, load_kind, with_due_load}
+use Rattle.session_model.specs.Loading.{MacroPaths, crates_loaded, load_due, load_kept, load_kind, with_due_load}
 use Rattle.session_model.specs.Sources.{change_for, client_with, parents_told, sources_now}
 use Rattle.session_model.specs.State.{client_watches, columns_in, discovers, excludes_in, fetch_kind, goes_by_folders, may_start, scene_of, snapshot_of, Sources, State, watched_names}
 use Rattle.session_model.specs.Status.{is_quiescent, opens_logs, shown_of, status_message, status_now, takes_status}
@@ -200,11 +202,20 @@ received meaning (ResponseMessage r) w = answer_taken r w
 
 -- ---- results
 
+-- crate data that comes goes into the world
+unfoldable pub crates_arrived : Option CrateGraph → Working State → Result (Working State) Counter
+crates_arrived None w = Ok w
+crates_arrived (Some crates) w = at_files (crates_put crates) w
+
+-- the end of a load of macros is told to the workspaces, and crate data that waited for it goes into the world
+unfoldable pub load_taken : Option LoadEnd → Working State → Result (Working State) Counter
+load_taken end w = crates_arrived (crates_loaded end w.state.workspaces) (at_workspaces (load_kept end) w)
+
 -- a message of a job, on the present snapshot; one that ends a fetch, a run of build data or a load of macros is told to the workspaces
 abbrev pub taken : Meaning → TaskMsg → Working State → Result (Working State) Counter
 taken meaning message w =
     and_then (at_desk (taken_at_desk meaning (scene_of w.state) message) w)
-    (λ v. Ok (at_workspaces (end_kept message w.state.desk.jobs) v))
+    (λ v. load_taken (load_ended message w.state.desk.jobs) (at_workspaces (run_kept message w.state.desk.jobs) v))
 
 -- a batch of messages, one after another
 abbrev pub batched : Meaning → List TaskMsg → Working State → Result (Working State) Counter
@@ -293,7 +304,7 @@ followed CrateData w = Ok w
 followed (Wait msrv) w = Ok (warned msrv w)
 followed (GoOn msrv version initial) w = and_then (watchers_registered (warned msrv w)) (λ v. Ok (roots_renewed (loader_set version v)))
 
--- where this flag is set, crate data of the workspaces that are present goes into the world. Its macros are not loaded yet
+-- where this flag is set, crate data of the workspaces that are present goes into the world, without its macros
 unfoldable pub crates_built : Bool → Working State → Result (Working State) Counter
 crates_built false w = Ok w
 crates_built true w = at_files (crates_put (crate_data w.state.client.settings w.state.files.ids w.state.workspaces.present)) w
@@ -301,7 +312,7 @@ crates_built true w = at_files (crates_put (crate_data w.state.client.settings w
 -- a switch leaves these workspaces, and what follows it is done
 unfoldable pub switched_to : Result (Follows × Workspaces) Counter → Working State → Result (Working State) Counter
 switched_to (Err counter) w = Err counter
-switched_to (Ok made) w = and_then (followed made.0 (at_workspaces (λ before. made.1) w)) (crates_built (builds_crates made.0))
+switched_to (Ok made) w = and_then (followed made.0 (at_workspaces (λ before. made.1) w)) (crates_built (builds_crates w.state.client.settings made.0))
 
 -- the switch that is wanted is made, unless files are loading
 unfoldable pub switch_done : Working State → Result (Working State) Counter

@@ -15,6 +15,7 @@ use Rattle.session_port.specs.declared.job.JobKind.{JobKind}
 use Rattle.session_port.specs.declared.job.JobKind.TheVariants.{FetchWorkspaces}
 use Rattle.client.specs.Client.{Client, new_client, new_client_at}
 use Rattle.session_files.specs.SessionFiles.{SessionFiles, no_files, no_files_at}
+use Rattle.workspaces.specs.Loads.{was_loaded}
 use Rattle.workspaces.specs.Workspaces.{Workspaces, no_workspaces, no_workspaces_at}
 use Rattle.workspaces.specs.declared.requests.FetchRequest.{FetchRequest}
 use Rattle.status.specs.declared.health.Health.TheVariants as health
@@ -65,9 +66,13 @@ abbrev pub truth_in : SettingValue → Bool
 truth_in (Truth truth) = truth
 truth_in other = false
 
--- whether no proc macros are wanted: the setting `procMacro.enable`. None are loaded yet
-abbrev pub macros_loaded_in : ConfigData → Bool
-macros_loaded_in settings = not (truth_in (setting ProcMacroEnable None settings.settings))
+-- macros are loaded: the setting `procMacro.enable`
+abbrev pub loads_macros : ConfigData → Bool
+loads_macros settings = truth_in (setting ProcMacroEnable None settings.settings)
+
+-- whether all macros are there that are wanted: none are, or the last load succeeded
+abbrev pub macros_loaded_in : ConfigData → Workspaces → Bool
+macros_loaded_in settings workspaces = not (loads_macros settings) || was_loaded workspaces.loads.queue.last
 
 abbrev pub lists_in : SettingValue → List (List ℕ × List (List ℕ))
 lists_in (Lists lists) = lists
@@ -144,7 +149,7 @@ snapshot_of state = record {
   file_ids = state.files.ids;
   versions = state.files.versions;
   config = state.client.settings;
-  proc_macros_loaded = macros_loaded_in state.client.settings;
+  proc_macros_loaded = macros_loaded_in state.client.settings state.workspaces;
   workspaces = state.workspaces.present;
   workspaces_version = state.workspaces.version;
   revision = state.files.host.revision;

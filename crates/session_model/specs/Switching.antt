@@ -28,4 +28,4 @@ unless_exhausted (Some made) = Ok made
 -- the same where a switch is due, with the crate data that is built behind it; else nothing follows, and all stays
 abbrev pub switch_made : ConfigData → SessionFiles → Workspaces → Result (Follows × Workspaces) Counter
 switch_made settings files workspaces =
-    if is_switch_due files workspaces then with_crates files (unless_exhausted (switch_by settings workspaces)) else Ok (Nothing, workspaces)
+    if is_switch_due files workspaces then with_crates settings files (unless_exhausted (switch_by settings workspaces)) else Ok (Nothing, workspaces)

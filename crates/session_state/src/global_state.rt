@@ -129,11 +129,11 @@ impl GlobalState {
         })
     }
 
-    // Whether no proc macros are wanted.
+    // Whether all macros are there that are wanted: none are, or the last load succeeded.
     fn macros_loaded(&self) -> bool
-        ensures { result ≡ macros_loaded_in self.now.client.settings }
+        ensures { result ≡ macros_loaded_in self.now.client.settings self.now.workspaces }
     {
-        !self.client.settings().proc_macro_enable()
+        !self.loads_macros() || self.workspaces.are_macros_loaded()
     }
 
     /// The snapshot of the present.

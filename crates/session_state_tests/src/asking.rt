@@ -1,7 +1,8 @@
 // Sessions whose events are told in words, and what comes of the last of them. Each call answers none also where memory
 // runs out.
 use crate::words::{
-    cut, event_of, fault, is_fault, root_text, settings_text, shown_text, source_root_text, words,
+    cut, event_of, fault, graph_text, is_fault, root_text, settings_text, shown_text,
+    source_root_text, words,
 };
 use docs_vfs::VfsPath;
 use plain::Json;
@@ -64,6 +65,10 @@ fn shown(alloc: Global, state: &GlobalState) -> Option<String> {
     shown_text(alloc, &state.snapshot().ok()?)
 }
 
+fn graph(alloc: Global, state: &GlobalState) -> Option<String> {
+    graph_text(alloc, &state.snapshot().ok()?)
+}
+
 /// Turn 0, in words.
 fn start(alloc: Global, state: &mut GlobalState) -> Option<String> {
     let mut out = TurnOut::new(alloc);
@@ -73,9 +78,9 @@ fn start(alloc: Global, state: &mut GlobalState) -> Option<String> {
     }
 }
 
-/// What comes of an event. The words `settings`, `at first`, `at second`, `root`, `shown` and `start` are none: they ask for
-/// the settings, for those of the first and of the second root, for the root of a file, for the workspaces that are shown, and
-/// for turn 0.
+/// What comes of an event. The words `settings`, `at first`, `at second`, `root`, `shown`, `graph` and `start` are none: they ask
+/// for the settings, for those of the first and of the second root, for the root of a file, for the workspaces and the crate graph
+/// that are shown, and for turn 0.
 fn outcome(alloc: Global, state: &mut GlobalState, event: &str) -> Option<String> {
     match event {
         "settings" => settings_of(alloc, state),
@@ -83,6 +88,7 @@ fn outcome(alloc: Global, state: &mut GlobalState, event: &str) -> Option<String
         "at second" => settings_at(alloc, state, 1),
         "root" => source_root(alloc, state),
         "shown" => shown(alloc, state),
+        "graph" => graph(alloc, state),
         "start" => start(alloc, state),
         _ => turn(alloc, state, event_of(alloc, event)?),
     }

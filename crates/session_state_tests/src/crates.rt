@@ -1,4 +1,4 @@
-// Crate data: it asks for the root files of the crates, also behind a switch.
+// Crate data behind a switch: it asks for the root files of the crates, and goes into the world, at once or with its macros.
 use crate::asking::agrees;
 
 // Where one of them isn't known the diagnostics of a document are those of the default, until crate data is built anew; that of the
@@ -16,6 +16,40 @@ const FORCED: &str =
 start then crate /w/Cargo.toml /w/src/lib.rs then file /w/src/main.rs a then timer 2 > Worker
 read /w/src/lib.rs a then start then crate /w/Cargo.toml /w/src/lib.rs then file /w/src/lib.rs then timer 3 > forced
 start then brought /w/Cargo.toml then file /w/src/lib.rs a then timer 2 > Worker"#;
+
+// Where there were no workspaces before, or no macros are wanted, crate data goes into the world at once; else it waits for its macros,
+// however their load ends. A crate whose root isn't known is left out.
+const GRAPHS: &str = r#"start then graph > no crates
+start then crate /w/Cargo.toml /w/src/lib.rs then graph > no crates
+read /w/src/lib.rs a then start then crate /w/Cargo.toml /w/src/lib.rs then graph > one, not yet built
+read /w/src/lib.rs a then start then crate /w/Cargo.toml /w/src/lib.rs then builds second then graph > one, not yet built
+read /w/src/lib.rs a then start then crate /w/Cargo.toml /w/src/lib.rs then builds second then macros third then graph > one, failed
+read /w/src/lib.rs a then start then crate /w/Cargo.toml /w/src/lib.rs then builds second then stopped third then graph > one, failed
+read /w/src/lib.rs a then start then tell workspace/didChangeConfiguration {} then answer [{"procMacro":{"enable":false}}] then crate /w/Cargo.toml /w/src/lib.rs then builds second then graph > one, disabled"#;
+
+// A load is started where neither a fetch is in progress nor build data starts, and its end makes a revision.
+const LOADS: &str =
+    r#"start then brought /w/Cargo.toml then builds second then macros third > revise
+start then brought /w/Cargo.toml then builds second then stopped third > revise
+start then brought /w/Cargo.toml then builds second then null third > log
+start then brought /w/Cargo.toml then builds second then macros third then macros third > log
+start then brought /w/Cargo.toml then builds second then ask rust-analyzer/rebuildProcMacros null > Content-Length: 38\r\n\r\n{"id":5,"jsonrpc":"2.0","result":null}Worker
+start then brought /w/Cargo.toml then ask rust-analyzer/reloadWorkspace null then builds second then brought third /w/Cargo.toml > Worker
+start then tell workspace/didChangeConfiguration {} then answer [{"procMacro":{"enable":false}}] then brought /w/Cargo.toml then builds second > Content-Length: 201\r\n\r\n{"jsonrpc":"2.0","method":"window/showMessage","params":{"message":"Failed to run build scripts of some packages.\n\nPlease refer to the language server logs for more details on the errors.","type":2}}load anewrevise"#;
+
+#[test]
+fn crate_data_goes_into_the_world(rt: HostRuntime) {
+    for line in GRAPHS.lines() {
+        assert!(rt; agrees(rt.alloc(), line) == Some(true), "at {line}");
+    }
+}
+
+#[test]
+fn crate_data_waits_for_its_macros(rt: HostRuntime) {
+    for line in LOADS.lines() {
+        assert!(rt; agrees(rt.alloc(), line) == Some(true), "at {line}");
+    }
+}
 
 #[test]
 fn crate_graphs_may_be_incomplete(rt: HostRuntime) {

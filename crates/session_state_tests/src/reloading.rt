@@ -2,7 +2,9 @@
 use crate::asking::agrees;
 
 // The first fetch is out while the loader brings two files, which ask for another one. They are opened as they are. The fetch brings a workspace: the
-// host is to load its files, and to run its build scripts. Once the files are loaded, the timer starts the other fetch.
+// host is to load its files, and to run its build scripts. Once the files are loaded, the timer starts the other fetch. While it is out the build scripts
+// end, and crate data waits for its macros; they are loaded once that fetch has brought the same workspace. The loader comes to its second settings, and
+// crate data goes into the world with the end of the load.
 const TURNS: &str = r#"start > Worker
 start then both > deferrevisetimer 1
 start then both then tell textDocument/didOpen {"textDocument":{"uri":"file:///w/a.rs","version":1,"text":"fn a() {"}}
@@ -10,7 +12,10 @@ start then both then tell textDocument/didOpen {"textDocument":{"uri":"file:///w
 start then both then described > loadWorkerrevise
 start then both then described then loaded
 start then both then described then loaded then timer 1 > Worker
-start then both then described then loaded then timer 1 then scripts second > load anewrevise"#;
+start then both then described then loaded then timer 1 then scripts second > load anew
+start then both then described then loaded then timer 1 then scripts second then described third > Worker
+start then both then described then loaded then timer 1 then scripts second then described third then reloaded
+start then both then described then loaded then timer 1 then scripts second then described third then reloaded then macros fourth > revise"#;
 
 #[test]
 fn a_session_reloads(rt: HostRuntime) {

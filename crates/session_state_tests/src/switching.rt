@@ -10,7 +10,7 @@ start then brought /w/Cargo.toml then ask rust-analyzer/reloadWorkspace null the
 start then brought /w/Cargo.toml then ask rust-analyzer/reloadWorkspace null then brought third /w/Cargo.toml then shown > one, first version
 start then brought /w/Cargo.toml then ask rust-analyzer/reloadWorkspace null then brought third /x/Cargo.toml
 start then brought /w/Cargo.toml then ask rust-analyzer/reloadWorkspace null then brought third /x/Cargo.toml then shown > one, second version
-tell workspace/didChangeConfiguration {} then answer [{"cargo":{"buildScripts":{"enable":false}}}] then brought /w/Cargo.toml then ask rust-analyzer/reloadWorkspace null then brought second /x/Cargo.toml > load anewrevise
+tell workspace/didChangeConfiguration {} then answer [{"cargo":{"buildScripts":{"enable":false}}}] then brought /w/Cargo.toml then ask rust-analyzer/reloadWorkspace null then brought second /x/Cargo.toml > load anewWorker
 start then loading then brought /w/Cargo.toml
 start then loading then brought /w/Cargo.toml then shown > none yet
 start then loading then brought /w/Cargo.toml then loaded > loadWorkerrevise

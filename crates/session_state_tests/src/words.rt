@@ -4,7 +4,7 @@ use docs_vfs::VfsPath;
 use lsp_frame::{Message, Notification, Request, RequestId, Response};
 use method_table::PoolClass;
 use plain::{Bytes, Items, Json, Text};
-use project_model::{CrateEntry, ProjectWorkspace, WorkspaceKind};
+use project_model::{CrateData, CrateEntry, MacroState, ProjectWorkspace, WorkspaceKind};
 use ra_config::Config;
 use ra_settings::LinkedProject;
 use session_model::{Counter, Event, TurnError};
@@ -138,12 +138,13 @@ fn ended(alloc: Global, job: u64, outcome: JobResult) -> Option<Event> {
     Some(Event::Task(batch))
 }
 
-/// The job that words name first, the second or the third, else the first; and what stands behind its name.
+/// The job that words name first, the second, the third or the fourth, else the first; and what stands behind its name.
 fn job_in(words: &str) -> (u64, &str) {
     let (name, rest) = cut(words, " ");
     match name {
         "second" => (2, rest),
         "third" => (3, rest),
+        "fourth" => (4, rest),
         _ => (1, words),
     }
 }
@@ -201,13 +202,13 @@ fn scripts(alloc: Global, job: u64) -> Option<Event> {
     ended(alloc, job, JobResult::Value(JobValue::BuildData(made)))
 }
 
-/// The crate whose root file this is.
+/// The proc macro crate whose root file this is.
 fn crate_at(alloc: Global, root: &str) -> Option<CrateEntry> {
     Some(CrateEntry {
         root: VfsPath::new(alloc, root).ok()??,
         name: None,
         deps: Items::new(alloc),
-        is_proc_macro: false,
+        is_proc_macro: true,
     })
 }
 
@@ -225,7 +226,7 @@ fn with_crate(alloc: Global, job: u64, words: &str) -> Option<Event> {
 /// `ask` and `tell` with a method and its params, `answer` with the result in the response to the session's request 0,
 /// `loading` and `loaded` where files begin to load and are loaded, `reloaded` where they are by the loader's second settings, `both` where two files are read at once, `file` and `read` with a path, and perhaps a text, where the
 /// loader tells that a file has changed and where it has read it first, `open` where `/w/a.rs` is opened, `null` and `stopped` as results of the first
-/// job, or of the `second` or the `third`, `fetched` and `builds` as results that are no request's, `brought` where such a job brings the workspaces
+/// job, or of the `second`, the `third` or the `fourth`, `fetched`, `builds` and `macros` as results that are no request's, `brought` where such a job brings the workspaces
 /// of some manifests, perhaps with the version of their compiler, `crate` where it brings one with the crate of a root file, `described` where it brings the workspace `/w` that is described as JSON, `scripts` where build scripts made nothing, `deferred`, `timer` with its ticket,
 /// and `shutdown` as a request.
 pub fn event_of(alloc: Global, words: &str) -> Option<Event> {
@@ -257,6 +258,11 @@ pub fn event_of(alloc: Global, words: &str) -> Option<Event> {
             alloc,
             job,
             JobResult::Value(JobValue::BuildData(Items::new(alloc))),
+        ),
+        "macros" => ended(
+            alloc,
+            job,
+            JobResult::Value(JobValue::ProcMacros(Items::new(alloc))),
         ),
         "brought" => brought(alloc, job, found),
         "crate" => with_crate(alloc, job, found),
@@ -426,4 +432,28 @@ fn shown_name(workspaces: usize, version: u64) -> &'static str {
 pub fn shown_text(alloc: Global, snapshot: &GlobalStateSnapshot) -> Option<String> {
     let name = shown_name(snapshot.workspaces().len(), snapshot.workspaces_version());
     String::from_str(alloc, name).ok()
+}
+
+// What became of the macros of the first crate of which it is told.
+fn macros_name(data: &CrateData) -> &'static str {
+    match data.macros.get(0) {
+        None => "one, no macros",
+        Some((_, MacroState::NotYetBuilt)) => "one, not yet built",
+        Some((_, MacroState::Disabled)) => "one, disabled",
+        Some((_, MacroState::Loaded(_))) => "one, loaded",
+        Some((_, MacroState::Failed(_))) => "one, failed",
+    }
+}
+
+fn graph_name(data: &CrateData) -> &'static str {
+    match data.crates.len() {
+        0 => "no crates",
+        1 => macros_name(data),
+        _ => "more crates",
+    }
+}
+
+/// How many crates the graph of a snapshot has, and what became of their macros.
+pub fn graph_text(alloc: Global, snapshot: &GlobalStateSnapshot) -> Option<String> {
+    String::from_str(alloc, graph_name(snapshot.crate_data())).ok()
 }

@@ -1,13 +1,13 @@
 // Loads of the macros of workspaces.
-ghost use Rattle.std.specs.Prelude.{◌≡◌, IfOk};
-ghost use Rattle.turn_parts.specs.Meets.{Meets, Gives};
-ghost use Rattle.session_model.specs.Loading.{load_kept, load_kind};
-ghost use Rattle.session_model.specs.Machine.{at_workspaces, load_handed_over, load_started};
+ghost use Rattle.std.specs.Prelude.{◌≡◌, IfOk, OnOk};
+ghost use Rattle.turn_parts.specs.Meets.{Meets};
+ghost use Rattle.session_model.specs.Loading.{crates_loaded, load_kept, load_kind};
+ghost use Rattle.session_model.specs.Machine.{crates_arrived, load_handed_over, load_started, load_taken};
 
 use crate::global_state::GlobalState;
 use desk::LoadEnd;
-use plain::{Items, Text};
-use project_model::MacroPath;
+use plain::{Items, NoMemory, Text};
+use project_model::{CrateData, MacroPath};
 use session_model::TurnError;
 use session_port::JobKind;
 use std::alloc::{AllocError, Global};
@@ -28,21 +28,42 @@ fn copied(
 }
 
 impl GlobalState {
-    // A load of macros ends, where one is in progress.
+    // A load of macros ends, where one is in progress. Answers the crate data that waited for it.
+    fn end_load(&mut self, end: Option<LoadEnd>) -> Result<Option<CrateData>, NoMemory>
+        ensures value { IfOk result (λ crates. crates ≡ crates_loaded end self.old.workspaces) }
+        ensures after { OnOk result (self.new ≡ record self.old { workspaces = load_kept end self.old.workspaces }) }
+    {
+        let Some(told) = end else {
+            return Ok(None);
+        };
+        if !self.workspaces.is_loading() {
+            return Ok(None);
+        }
+        self.workspaces.end_load(told)
+    }
+
+    // Crate data that comes goes into the world.
+    #[tactic(auto, unfolding(session_model::specs::Machine::crates_arrived))]
+    fn let_in(&mut self, crates: Option<CrateData>, out: &mut TurnOut) -> Result<(), TurnError>
+        ensures { Meets result (crates_arrived crates (record { state = self.old; out = out.old })) self.new out.new }
+    {
+        match crates {
+            None => Ok(()),
+            Some(crates) => self.put_crates(crates, out),
+        }
+    }
+
+    // The end of a load of macros is told to the workspaces, and crate data that waited for it goes into the world.
+    #[tactic(auto, unfolding(session_model::specs::Machine::load_taken))]
     pub(super) fn keep_load(
         &mut self,
         end: Option<LoadEnd>,
         out: &mut TurnOut,
     ) -> Result<(), TurnError>
-        ensures { Gives result (at_workspaces (load_kept end) (record { state = self.old; out = out.old })) self.new out.new }
+        ensures { Meets result (load_taken end (record { state = self.old; out = out.old })) self.new out.new }
     {
-        let Some(told) = end else {
-            return Ok(());
-        };
-        if self.workspaces.is_loading() {
-            self.workspaces.end_load(told)?;
-        }
-        Ok(())
+        let crates = self.end_load(end)?;
+        self.let_in(crates, out)
     }
 
     // What the job of a load of these libraries is to find.

@@ -9,7 +9,6 @@ ghost use Rattle.session_model.specs.State.{builds_scripts, client_watches, excl
 ghost use Rattle.session_model.specs.Switching.{switch_by, switch_made};
 
 use crate::global_state::GlobalState;
-use crate::global_state::crates::builds_crates;
 use docs_vfs::{SourceRoots, VfsPath};
 use notify::{MessageKind, Outgo};
 use plain::{Items, Text};
@@ -158,7 +157,7 @@ impl GlobalState {
         ensures { Meets result (switch_done (record { state = self.old; out = out.old })) self.new out.new }
     {
         let follows = self.make_switch_if_due()?;
-        let built = builds_crates(&follows);
+        let built = self.builds_crates(&follows);
         self.follow(follows, out)?;
         self.build_crates(built, out)
     }
