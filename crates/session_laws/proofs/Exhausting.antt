@@ -97,6 +97,7 @@ ends-errs fetched built loaded w =
 taken-errs : (meaning : Meaning) (turns : ℕ) (message : TaskMsg) (w : Working State)
     → IfErr (taken meaning message w)
     (Refuses w.state.desk.handed (message_row meaning (scene_of w.state) (record w.state.desk { turns = turns }) message) w.state.files.host.revision)
+unfolding taken
 taken-errs meaning turns message w =
     let done = message_row meaning (scene_of w.state) (record w.state.desk { turns = turns }) message in
     let revision = w.state.files.host.revision in

@@ -585,6 +585,7 @@ pub taken-settles : (meaning : Meaning) (turns : ℕ) (message : TaskMsg) (w : W
     → IfOk (taken meaning message w)
     (λ u. DoesAtDesk w u (message_row meaning (scene_of w.state) (record w.state.desk { turns = turns }) message) (after_message message w.state.desk.jobs) (kept_past message w.state)
     (files_past message w.state))
+unfolding taken
 taken-settles meaning turns message w =
     let done = message_row meaning (scene_of w.state) (record w.state.desk { turns = turns }) message in
     let jobs = after_message message w.state.desk.jobs in

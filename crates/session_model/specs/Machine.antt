@@ -232,7 +232,7 @@ unfoldable pub ends_taken : Option FetchEnd → Option BuildEnd → Option LoadE
 ends_taken fetched built loaded w = load_taken loaded (build_taken built (fetch_taken fetched w))
 
 -- a message of a job, on the present snapshot; what it ends is told to the workspaces
-abbrev pub taken : Meaning → TaskMsg → Working State → Result (Working State) Counter
+unfoldable pub taken : Meaning → TaskMsg → Working State → Result (Working State) Counter
 taken meaning message w =
     and_then (at_desk (taken_at_desk meaning (scene_of w.state) message) w)
     (ends_taken (fetch_ended message w.state.desk.jobs) (build_ended message w.state.desk.jobs) (load_ended message w.state.desk.jobs))

@@ -137,6 +137,7 @@ impl GlobalState {
     }
 
     // A message of a job. What it ends is told to the workspaces.
+    #[tactic(auto, unfolding(session_model::specs::Machine::taken))]
     fn on_task<A: Analysis>(
         &mut self,
         message: TaskMsg,
