@@ -28,7 +28,9 @@ use Rattle.notify.specs.declared.notice.DidChange.{DidChange}
 use Rattle.notify.specs.declared.notice.DidOpen.{DidOpen}
 use Rattle.notify.specs.declared.notice.Notice.{Notice}
 use Rattle.notify.specs.declared.notice.Notice.TheVariants as notices
+use Rattle.desk.specs.Building.{BuildEnd, build_ended}
 use Rattle.desk.specs.Desk.{Desk}
+use Rattle.desk.specs.Fetching.{FetchEnd, fetch_ended}
 use Rattle.desk.specs.Loading.{LoadEnd, load_ended}
 use Rattle.desk.specs.Meaning.{Meaning}
 use Rattle.desk.specs.Reactions.{Reaction, message_row, request_row}
@@ -42,12 +44,12 @@ use Rattle.session_files.specs.Steps.{changed, closed as closed_document, loaded
 use Rattle.status.specs.declared.status.Status.{Status}
 use Rattle.workspaces.specs.Fetches.{fetch_to_start}
 use Rattle.workspaces.specs.declared.requests.FetchRequest.{FetchRequest}
-use Rattle.session_model.specs.Building.{build_due, run_kept, with_due_build}
+use Rattle.session_model.specs.Building.{build_due, with_due_build}
 use Rattle.session_model.specs.Crates.{crates_in, times_told}
 use Rattle.session_model.specs.Fetching.{fetch_jobs}
 use Rattle.session_model.specs.Headline.{batch_row, builds_crates_in, builds_in, client_after, client_asked, client_left, client_switched, crates_told_by, fetch_in, fetches_in, files_told, loads_in, NeedsMore, Place, place_past, row, scene_at, status_after, statuses_at}
-use Rattle.session_model.specs.Machine.{answer_taken, asked, asked_for_settings, at_client, at_desk, at_files, at_workspaces, batched, begin_part, begun_fetches, build_part, changed_at, client_in, closed, closed_at}
-use Rattle.session_model.specs.Machine.{closing_part, counted, desk_in, event_part, fetch_part, fetch_started, files_in, files_part, files_processed, folders_taken, happened, kept, later_parts, load_taken, noticed, opened_at, received}
+use Rattle.session_model.specs.Machine.{answer_taken, asked, asked_for_settings, at_client, at_desk, at_files, at_workspaces, batched, begin_part, begun_fetches, build_part, build_taken, changed_at, client_in, closed, closed_at}
+use Rattle.session_model.specs.Machine.{closing_part, counted, desk_in, ends_taken, event_part, fetch_part, fetch_started, fetch_taken, files_in, files_part, files_processed, folders_taken, happened, kept, later_parts, load_taken, noticed, opened_at, received}
 use Rattle.session_model.specs.Machine.{quiet_done, quiet_part, register_part, runs_started, saves_registered, start_parts, state_in, status_done, status_part, step, switch_done, switch_part, switched_to, taken, taken_in, told, turned, Turning, turning, with_client, with_desk, with_files}
 use Rattle.session_model.specs.Machine.{with_state}
 use Rattle.session_model.specs.State.{columns_in, excludes_in, may_start, scene_of, snapshot_of, State}
@@ -69,7 +71,7 @@ use Rattle.session_laws.proofs.Clients.{begun_client, left-more, registered-more
 use Rattle.session_laws.proofs.Crates.{arrived-errs}
 use Rattle.session_laws.proofs.Filing.{AtLast, IsFull, change_of, changed-step-errs, full-err, loaded-errs-by, opened-errs, processed-errs}
 use Rattle.session_laws.proofs.Fetching.{started-errs}
-use Rattle.session_laws.proofs.Rows.{at, begin_and_close, begins, BegunTurn, BehindTurn, build-made, build_and_on, client-behind, counted-is, counted_turn, desk-settles, DoesAtDesk, event-fits, fetch-made, fetch_and_close, fetch_and_on}
+use Rattle.session_laws.proofs.Rows.{at, begin_and_close, begins, BegunTurn, BehindTurn, both-note, build-made, build_and_on, client-behind, counted-is, counted_turn, desk-settles, DoesAtDesk, event-fits, fetch-made, fetch_and_close, fetch_and_on}
 use Rattle.session_laws.proofs.Rows.{fetched-build, fetched-load, FetchedBehind, files-made, files_and_on, files_past, kept_past, MadeBehind, Mid, mid-switch, MidTurn, notification_input, ok-same, place_at, ready-fetch, ReadyBehind, ReadyStart, ReadyTurn}
 use Rattle.session_laws.proofs.Rows.{quiet-made, QuietTurn, quiet_and_on, ready-client, register_and_on, RegisteredTurn, registers, session_in, settled-place, status-begins, status_and_close, switch-made, taken-settles, told-now-rises}
 use Rattle.session_laws.proofs.Requests.{asked-errs, due_in, IsPast, quiet-errs, registered-errs}
@@ -84,24 +86,31 @@ use Rattle.session_model.specs.Switching.{switch_made}
 abbrev Refuses : ℕ → Reaction → ℕ → Counter → Type 0
 Refuses handed done revision counter = TooMany handed done counter ⊎ AtLast revision counter
 
-load-errs : (end : Option LoadEnd) (w : Working State) → IfErr (load_taken end w) (AtLast w.state.files.host.revision)
-unfolding load_taken
-load-errs end w = arrived-errs (crates_loaded end w.state.workspaces) (at_workspaces (load_kept end) w)
+ends-errs : (fetched : Option FetchEnd) (built : Option BuildEnd) (loaded : Option LoadEnd) (w : Working State)
+    → IfErr (ends_taken fetched built loaded w) (AtLast w.state.files.host.revision)
+unfolding ends_taken load_taken
+ends-errs fetched built loaded w =
+    let v : Working State = build_taken built (fetch_taken fetched w) in
+    subst (λ (revision : ℕ). IfErr (load_taken loaded v) (AtLast revision)) (ap (λ (s : State). s.files.host.revision) (both-note fetched built w).state)
+    (arrived-errs (crates_loaded loaded v.state.workspaces) (at_workspaces (load_kept loaded) v))
 
 taken-errs : (meaning : Meaning) (turns : ℕ) (message : TaskMsg) (w : Working State)
     → IfErr (taken meaning message w)
     (Refuses w.state.desk.handed (message_row meaning (scene_of w.state) (record w.state.desk { turns = turns }) message) w.state.files.host.revision)
+unfolding taken
 taken-errs meaning turns message w =
     let done = message_row meaning (scene_of w.state) (record w.state.desk { turns = turns }) message in
     let revision = w.state.files.host.revision in
-    err-and_then (at_desk (taken_at_desk meaning (scene_of w.state) message) w) _ (Refuses w.state.desk.handed done revision)
+    let fetched : Option FetchEnd = fetch_ended message w.state.desk.jobs in
+    let built : Option BuildEnd = build_ended message w.state.desk.jobs in
+    let ended : Option LoadEnd = load_ended message w.state.desk.jobs in
+    err-and_then (at_desk (taken_at_desk meaning (scene_of w.state) message) w) (ends_taken fetched built ended) (Refuses w.state.desk.handed done revision)
     (IfErr-within desk_in with_desk (taken_at_desk meaning (scene_of w.state) message) w (Refuses w.state.desk.handed done revision)
     (err-weaker (taken_at_desk meaning (scene_of w.state) message (at w)) (TooMany w.state.desk.handed done) (Refuses w.state.desk.handed done revision)
     (subst (λ d. IfErr (taken_at_desk meaning (scene_of w.state) message (at w)) (TooMany w.state.desk.handed d)) (sym (message-turns meaning (scene_of w.state) w.state.desk turns message))
     (message-errs meaning (scene_of w.state) message (at w))) (λ c many. inl many)))
     (λ v is. let a = IfOk-at_ok (λ v. DoesAtDesk w v done (after_message message w.state.desk.jobs) w.state.workspaces (Ok w.state.files)) is (desk-settles meaning turns message w) in
-    err-weaker (load_taken (load_ended message w.state.desk.jobs) (at_workspaces (run_kept message w.state.desk.jobs) v)) (AtLast v.state.files.host.revision) _
-    (load-errs (load_ended message w.state.desk.jobs) (at_workspaces (run_kept message w.state.desk.jobs) v))
+    err-weaker (ends_taken fetched built ended v) (AtLast v.state.files.host.revision) _ (ends-errs fetched built ended v)
     (λ c last. inr (subst (λ (f : SessionFiles). AtLast f.host.revision c) (sym (ok-same w.state.files v.state.files a.files)) last)))
 
 -- a batch: its first message that needs a job too many, behind those that the ones before have handed over

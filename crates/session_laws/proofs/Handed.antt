@@ -1,4 +1,4 @@
--- Each job out for a request was handed over by the turn that read it, or a later one, on the documents of all inputs before that turn.
+-- Each job out for a request was handed over by the turn that read it, or a later one, on what all inputs before that turn leave; so on their documents.
 use Rattle.std.proofs.Common.{◌≡◌, ℕ, ◌+◌, ◌≤◌, List, [], ◌∷◌, ◌++◌, Bool, true, false, refl, sym, ap, ◌∙◌, subst, arith, append_assoc, inl, inr}
 use Rattle.std.specs.Prelude.{IfOk, Option, None, Some, Result, Ok, Err, Contains, ◌⊎◌, if◌then◌else◌}
 use Rattle.std.specs.FinMap as map
@@ -12,7 +12,8 @@ use Rattle.session_port.specs.Record.{spawned, with_jobs}
 use Rattle.session_port.specs.declared.event.TaskMsg.{TaskMsg}
 use Rattle.session_port.specs.declared.job.Job.{Job}
 use Rattle.session_port.specs.declared.job.JobResult.{JobResult}
-use Rattle.desk.specs.Desk.{waiting_for}
+use Rattle.desk.specs.Desk.{Desk, waiting_for}
+use Rattle.desk.specs.Folds.{desk_past}
 use Rattle.desk.specs.Meaning.{Meaning}
 use Rattle.desk.specs.Reactions.{Reaction, says, silent, new_row, ticket_row, final_row, fitting_row, message_row}
 use Rattle.desk.specs.Replies.{already_pending, canceled_by_client, finished_reply}
@@ -28,7 +29,8 @@ use Rattle.session_files.specs.SessionFiles.{SessionFiles}
 use Rattle.turn_parts.specs.declared.fault.Counter.{Counter}
 use Rattle.session_model.specs.Crates.{crates_in, crates_let_in}
 use Rattle.session_model.specs.Hearing.{heard_of, told_by}
-use Rattle.session_model.specs.Headline.{Place, ShowsDocuments, or_before, reaction_of, row, notice_row, batch_row, place_past, next_turn, scene_at, snapshot_at, beginning, place_after, place_after_all, WasHandedOver, AreHandedOver}
+use Rattle.session_model.specs.Headline.{AreEarlier, AreHandedOver, ComesBehind, Place, ShowsDocuments, WasHandedOver, or_before, reaction_of, row, notice_row, batch_row, place_past, place_told, place_within, next_turn, scene_at, snapshot_at, beginning}
+use Rattle.session_model.specs.Headline.{place_after, place_after_all}
 use Rattle.session_model.specs.Inputs.{batch_of, cancelled_by}
 use Rattle.session_model.specs.Run.{Turn, after_input}
 use Rattle.session_model.specs.declared.input.Event.TheVariants.{Lsp, Task, Vfs, Deferred, Timer}
@@ -45,7 +47,7 @@ some-same x y e = cc
 none-some : {X P : Type 0} (x : X) → None ≡ Some x → P
 none-some x e = absurd cc
 
--- a job that is handed over at this place for a request: for one that was read by then, on the documents of all earlier inputs
+-- a job that is handed over at this place for a request: for one that was read by then, on what there is
 record IsDue (place : Place) (job : Job) (ticket : ℕ) : Type 0 where
   not_before : ticket ≤ next_turn place
   snapshot : job.snapshot ≡ snapshot_at place
@@ -106,17 +108,77 @@ past-below place message done below = λ n job ticket there its. below n job tic
 
 -- ---- in a batch
 
--- the documents are those of all earlier inputs; where there is no batch, so is all else
+-- a job that a batch hands over: on what the messages before one of them leave
+record IsWithin (batch : List TaskMsg) (place : Place) (job : Job) (ticket : ℕ) : Type 0 where
+  not_before : ticket ≤ next_turn place
+  earlier : List TaskMsg
+  behind : ComesBehind earlier batch
+  snapshot : job.snapshot ≡ snapshot_at (place_within earlier place)
+
+abbrev IsWithinIfAsked : List TaskMsg → Place → Job → Type 0
+IsWithinIfAsked batch place job = (ticket : ℕ) → ticket_of job.kind ≡ Some ticket → IsWithin batch place job ticket
+
+abbrev AreWithin : List TaskMsg → Place → List Job → Type 0
+AreWithin batch place jobs = Each (IsWithinIfAsked batch place) jobs
+
+-- a snapshot shows nothing of the desk, and the messages go by its jobs alone
+within-desk : (messages : List TaskMsg) (place : Place) (desk : Desk)
+    → snapshot_at (place_within messages (record place { desk = record desk { jobs = place.desk.jobs } })) ≡ snapshot_at (place_within messages place)
+within-desk [] place desk = refl
+within-desk (m ∷ ms) place desk = within-desk ms (place_told m place) desk
+
+first-within : (m : TaskMsg) (ms : List TaskMsg) (place : Place) (jobs : List Job) → AreDue place jobs → AreWithin (m ∷ ms) place jobs
+first-within m ms place jobs due = each-weaker (IsDueIfAsked place) (IsWithinIfAsked (m ∷ ms) place) jobs
+    (λ job is_due ticket its. let d = is_due ticket its in
+    record { not_before = d.not_before; earlier = []; behind = record { message = m; rest = ms; is = refl }; snapshot = d.snapshot }) due
+
+-- what is behind some of the others is behind the first one and these
+later-within : (m : TaskMsg) (ms : List TaskMsg) (done : Reaction) (place : Place) (jobs : List Job) → AreWithin ms (place_past m done place) jobs → AreWithin (m ∷ ms) place jobs
+later-within m ms done place jobs within = each-weaker (IsWithinIfAsked ms (place_past m done place)) (IsWithinIfAsked (m ∷ ms) place) jobs
+    (λ job is_within ticket its. let w = is_within ticket its in
+    record {
+      not_before = w.not_before;
+      earlier = m ∷ w.earlier;
+      behind = record { message = w.behind.message; rest = w.behind.rest; is = ap (λ (messages : List TaskMsg). m ∷ messages) w.behind.is };
+      snapshot = w.snapshot ∙ within-desk w.earlier (place_told m place) (desk_past m done place.desk);
+    }) within
+
+batch-due : (meaning : Meaning) (batch : List TaskMsg) (place : Place) → IsBelow place → AreWithin batch place (batch_row meaning batch place).jobs
+batch-due meaning [] place below = tt
+batch-due meaning (m ∷ ms) place below =
+    let done = message_row meaning (scene_at place) place.desk m in
+    let past = place_past m done place in
+    let later = (batch_row meaning ms past).jobs in
+    each-append (IsWithinIfAsked (m ∷ ms) place) done.jobs later
+    (first-within m ms place done.jobs (fitting-due meaning place (fitting_job m place.desk.jobs) m refl below))
+    (later-within m ms done place later (batch-due meaning ms past (past-below place m done below)))
+
+-- ---- in a turn
+
+-- a job that a turn with this batch hands over, if it takes one in
 record IsShown (batch : List TaskMsg) (place : Place) (job : Job) (ticket : ℕ) : Type 0 where
   not_before : ticket ≤ next_turn place
-  documents : ShowsDocuments place job.snapshot
-  snapshot : batch ≡ [] → job.snapshot ≡ snapshot_at place
+  earlier : List TaskMsg
+  within : AreEarlier earlier batch
+  snapshot : job.snapshot ≡ snapshot_at (place_within earlier place)
 
 abbrev IsShownIfAsked : List TaskMsg → Place → Job → Type 0
 IsShownIfAsked batch place job = (ticket : ℕ) → ticket_of job.kind ≡ Some ticket → IsShown batch place job ticket
 
 abbrev AreShown : List TaskMsg → Place → List Job → Type 0
 AreShown batch place jobs = Each (IsShownIfAsked batch place) jobs
+
+due-shown : (place : Place) (jobs : List Job) → AreDue place jobs → AreShown [] place jobs
+due-shown place jobs due = each-weaker (IsDueIfAsked place) (IsShownIfAsked [] place) jobs
+    (λ job is_due ticket its. let d = is_due ticket its in
+    record { not_before = d.not_before; earlier = []; within = inl (refl, refl); snapshot = d.snapshot }) due
+
+within-shown : (batch : List TaskMsg) (place : Place) (jobs : List Job) → AreWithin batch place jobs → AreShown batch place jobs
+within-shown batch place jobs within = each-weaker (IsWithinIfAsked batch place) (IsShownIfAsked batch place) jobs
+    (λ job is_within ticket its. let w = is_within ticket its in
+    record { not_before = w.not_before; earlier = w.earlier; within = inr w.behind; snapshot = w.snapshot }) within
+
+-- ---- what it shows
 
 no-less : (n : ℕ) → n ≤ n
 no-less n = omega arith
@@ -132,11 +194,6 @@ shows-all place = record {
   later = no-less place.revision;
 }
 
-due-shown : (batch : List TaskMsg) (place : Place) (jobs : List Job) → AreDue place jobs → AreShown batch place jobs
-due-shown batch place jobs due = each-weaker (IsDueIfAsked place) (IsShownIfAsked batch place) jobs
-    (λ job is_due ticket its. let d = is_due ticket its in
-    record { not_before = d.not_before; documents = subst (ShowsDocuments place) (sym d.snapshot) (shows-all place); snapshot = λ none. d.snapshot }) due
-
 -- crate data that comes leaves the documents
 record ShowsFiles (files now : SessionFiles) : Type 0 where
   texts : now.host.world.texts ≡ files.host.world.texts
@@ -151,8 +208,8 @@ more : (before one now : ℕ) → before + one ≤ now → before ≤ now
 more before one now h = omega (arith, h)
 
 -- what shows the documents behind a message shows those before it
-past-shows : (place : Place) (message : TaskMsg) (done : Reaction) (snapshot : SnapshotData) → ShowsDocuments (place_past message done place) snapshot → ShowsDocuments place snapshot
-past-shows place message done snapshot h =
+told-shows : (place : Place) (message : TaskMsg) (snapshot : SnapshotData) → ShowsDocuments (place_told message place) snapshot → ShowsDocuments place snapshot
+told-shows place message snapshot h =
     let crates = crates_in message place.desk.jobs place.workspaces in
     let same = kept-shows message place.desk.jobs place.workspaces in
     let files = or-shows crates place.files (crates_let_in crates place.files) (lets-in crates place.files) in
@@ -166,21 +223,11 @@ past-shows place message done snapshot h =
       later = more place.revision (one_if crates) snapshot.revision h.later;
     }
 
-some-none : {X P : Type 0} (x : X) (xs : List X) → x ∷ xs ≡ [] → P
-some-none x xs e = absurd cc
+within-shows : (messages : List TaskMsg) (place : Place) → ShowsDocuments place (snapshot_at (place_within messages place))
+within-shows [] place = shows-all place
+within-shows (m ∷ ms) place = told-shows place m (snapshot_at (place_within ms (place_told m place))) (within-shows ms (place_told m place))
 
-batch-due : (meaning : Meaning) (batch : List TaskMsg) (place : Place) → IsBelow place → AreShown batch place (batch_row meaning batch place).jobs
-batch-due meaning [] place below = tt
-batch-due meaning (m ∷ ms) place below =
-    let done = message_row meaning (scene_at place) place.desk m in
-    let past = place_past m done place in
-    let later = (batch_row meaning ms past).jobs in
-    each-append (IsShownIfAsked (m ∷ ms) place) done.jobs later
-    (due-shown (m ∷ ms) place done.jobs (fitting-due meaning place (fitting_job m place.desk.jobs) m refl below))
-    (each-weaker (IsShownIfAsked ms past) (IsShownIfAsked (m ∷ ms) place) later
-    (λ job shown ticket its. let s = shown ticket its in
-    record { not_before = s.not_before; documents = past-shows place m done job.snapshot s.documents; snapshot = λ none. some-none m ms none })
-    (batch-due meaning ms past (past-below place m done below)))
+-- ---- rows
 
 either-due : (place : Place) (b : Bool) (x y : Reaction) → AreDue place x.jobs → AreDue place y.jobs → AreDue place (if b then x else y).jobs
 either-due place true x y p q = p
@@ -194,16 +241,16 @@ row-due : (meaning : Meaning) (input : Input) (place : Place) → SoundAt place 
 unfolding IsBelow
 row-due meaning Start place s = tt
 row-due meaning (Next (Lsp (RequestMessage r))) place s =
-    due-shown [] place (row meaning (Next (Lsp (RequestMessage r))) place).jobs
+    due-shown place (row meaning (Next (Lsp (RequestMessage r))) place).jobs
     (either-due place (is_pending r.id place.desk.pending) (says (already_pending r.id)) (new_row meaning (scene_at place) place.desk (next_turn place) r) tt
     (reacts-due place (next_turn place) r.id _ (omega arith) (new-reacts meaning (scene_at place) place.desk (next_turn place) r)))
 row-due meaning (Next (Lsp (NotificationMessage n))) place s =
-    due-shown [] place (notice_row (cancelled_by (told_by (heard_of n))) place.desk).jobs (notice-due (cancelled_by (told_by (heard_of n))) place)
+    due-shown place (notice_row (cancelled_by (told_by (heard_of n))) place.desk).jobs (notice-due (cancelled_by (told_by (heard_of n))) place)
 row-due meaning (Next (Lsp (ResponseMessage r))) place s = tt
 row-due meaning (Next (Vfs messages)) place s = tt
 row-due meaning (Next (Deferred tasks)) place s = tt
 row-due meaning (Next (Timer ticket)) place s = tt
-row-due meaning (Next (Task batch)) place s = batch-due meaning batch place s.below
+row-due meaning (Next (Task batch)) place s = within-shown batch place (batch_row meaning batch place).jobs (batch-due meaning batch place s.below)
 
 -- a job out after jobs were handed over was out before, or is one of these
 pub jobs-out : (jobs : List Job) (out : Jobs) (n : ℕ) (job : Job) → map.get (with_jobs jobs out) n ≡ Some job → (map.get out n ≡ Some job) ⊎ Contains jobs job
@@ -228,8 +275,10 @@ handed-more settings turns more ticket job h = record {
   later = h.later ++ more;
   split = ap (λ (ts : List Turn). ts ++ more) h.split ∙ append_assoc h.before (h.turn ∷ h.later) more;
   not_before = h.not_before;
-  documents = h.documents;
+  earlier = h.earlier;
+  within = h.within;
   snapshot = h.snapshot;
+  documents = h.documents;
   handed = h.handed;
 }
 
@@ -256,8 +305,10 @@ turn-handed meaning settings before turn does sound all = λ n job ticket there 
           later = [];
           split = refl;
           not_before = shown.not_before;
-          documents = shown.documents;
+          earlier = shown.earlier;
+          within = shown.within;
           snapshot = shown.snapshot;
+          documents = subst (ShowsDocuments here) (sym shown.snapshot) (within-shows shown.earlier here);
           handed = new;
         }
 

@@ -24,7 +24,7 @@ use Rattle.session_port.specs.Record.{spawned, with_jobs}
 use Rattle.session_port.specs.declared.command.Command.{Command}
 use Rattle.session_port.specs.declared.command.Command.TheVariants.{Revise, Timer as SetTimer}
 use Rattle.session_port.specs.declared.command.LogCode.{LogCode}
-use Rattle.session_port.specs.declared.command.LogCode.TheVariants.{BadPath}
+use Rattle.session_port.specs.declared.command.LogCode.TheVariants.{BadPath, BuildError, FetchError}
 use Rattle.session_port.specs.declared.event.LoaderMsg.{LoaderMsg}
 use Rattle.session_port.specs.declared.event.TaskMsg.{TaskMsg}
 use Rattle.session_port.specs.declared.job.Job.{Job}
@@ -33,16 +33,18 @@ use Rattle.turn_parts.specs.Written.{Written, nothing_done}
 use Rattle.turn_parts.specs.declared.fault.Counter.{Counter}
 use Rattle.client.specs.Client.{Client}
 use Rattle.client.specs.Folds.{after_answer, after_asking, after_folders}
-use Rattle.client.specs.Steps.{answered, folders_changed}
+use Rattle.client.specs.Steps.{answered, folders_changed, logged_if}
 use Rattle.client.specs.declared.handler.ReqHandler.TheVariants.{Settings}
 use Rattle.notify.specs.declared.outgo.Outgo.TheVariants.{Configuration}
 use Rattle.notify.specs.declared.notice.DidChange.{DidChange}
 use Rattle.notify.specs.declared.notice.DidOpen.{DidOpen}
 use Rattle.notify.specs.declared.notice.Notice.{Notice}
 use Rattle.notify.specs.declared.notice.Notice.TheVariants as notices
+use Rattle.desk.specs.Building.{BuildEnd, build_ended}
 use Rattle.desk.specs.Desk.{Desk}
+use Rattle.desk.specs.Fetching.{FetchEnd, fetch_ended}
 use Rattle.desk.specs.Folds.{asked_among, pending_after, shutdown_after}
-use Rattle.desk.specs.Loading.{load_ended}
+use Rattle.desk.specs.Loading.{LoadEnd, load_ended}
 use Rattle.desk.specs.Meaning.{Meaning}
 use Rattle.desk.specs.Reactions.{Reaction, silent, joined, cancel_row, message_row, request_row}
 use Rattle.desk.specs.Steps.{cancelled, requested, counted as counted_at_desk, kept as kept_at_desk, taken as taken_at_desk}
@@ -50,7 +52,7 @@ use Rattle.desk_laws.specs.Numbers.{AreNumbered}
 use Rattle.desk_laws.specs.Settled.{Settled}
 use Rattle.desk_laws.proofs.Appends.{spawned-append, revisions-append}
 use Rattle.desk_laws.proofs.Results.{IfOk-and_then, IfOk-next, IfOk-weaker, IfOk-within}
-use Rattle.desk_laws.proofs.Settling.{cancel-settles, message-settles, message-turns, nothing-settles, request-settles, request-turns, settled-on}
+use Rattle.desk_laws.proofs.Settling.{cancel-settles, log-settles, message-settles, message-turns, nothing-settles, request-settles, request-turns, settled-on}
 use Rattle.session_files.specs.Folds.{after_closing, after_messages, after_opening, after_turn, due_changes}
 use Rattle.session_files.specs.SessionFiles.{SessionFiles}
 use Rattle.session_files.specs.Steps.{changed, closed as closed_document, loaded, opened, processed}
@@ -59,27 +61,27 @@ use Rattle.workspaces.specs.Fetches.{fetch_to_start, fires, start_fetch, start_u
 use Rattle.workspaces.specs.Workspaces.{Workspaces}
 use Rattle.workspaces.specs.declared.requests.FetchRequest.{FetchRequest}
 use Rattle.session_model.specs.Asking.{client_refreshed_if, client_registered, client_watching, is_refresh_due}
-use Rattle.session_model.specs.Building.{build_due, end_kept, ends_kept, request_told, run_kept, with_due_build}
+use Rattle.session_model.specs.Building.{build_due, build_kept, end_kept, ends_kept, request_told, with_due_build}
 use Rattle.session_model.specs.Crates.{crates_in, crates_let_in, crates_told, files_with_crates, is_built_by}
-use Rattle.session_model.specs.Fetching.{fetch_jobs, folders_told_if, settings_told, with_fetches}
+use Rattle.session_model.specs.Fetching.{fetch_jobs, fetch_kept, folders_told_if, settings_told, with_fetches}
 use Rattle.session_model.specs.Headline.{Place, reaction_of, row, notice_row, batch_row, desk_after, place_after, place_past, client_after, last_of, revision_after, scene_at, snapshot_at}
 use Rattle.session_model.specs.Headline.{are_due, build_in, builds_crates_in, changes_due, changes_in, changes_world, client_asked, client_filed, client_left, client_switched, crates_in_turn, crates_told_by, fetch_in, files_after, files_made, files_switched, files_told, files_turned}
 use Rattle.session_model.specs.Headline.{is_changed, jobs_started, left_or, load_in, may_start_at, or_before, refreshes_at, revisions_in, run_jobs, SetsTimer}
 use Rattle.session_model.specs.Headline.{sources_filed, sources_switched, status_after, statuses_at, switch_in, workspaces_after, workspaces_at, workspaces_fetched, workspaces_planned, workspaces_switched}
 use Rattle.session_model.specs.Inputs.{cancelled_by, request_in, turns_after}
-use Rattle.session_model.specs.Machine.{answer_taken, asked, asked_for_settings, at_client, at_desk, at_files, at_workspaces, batched, begin_part, begun_fetches, brought, build_part, changed_at, client_in, closed}
-use Rattle.session_model.specs.Machine.{closed_at, closing_part, counted, crates_arrived, desk_in, event_part, facts_of, fetch_part, fetch_started, file_changed, files_changed, files_followed, files_in, files_part, files_processed, folders_taken}
+use Rattle.session_model.specs.Machine.{answer_taken, asked, asked_for_settings, at_client, at_desk, at_files, at_workspaces, batched, begin_part, begun_fetches, brought, build_part, build_taken, changed_at, client_in, closed}
+use Rattle.session_model.specs.Machine.{closed_at, closing_part, counted, crates_arrived, desk_in, ends_taken, event_part, facts_of, fetch_part, fetch_started, fetch_taken, file_changed, files_changed, files_followed, files_in, files_part, files_processed, folders_taken}
 use Rattle.session_model.specs.Machine.{happened, has_new_world, kept, later_parts, load_taken, noticed, opened_at, quiet_done, quiet_part, received, register_part, revised, runs_started, saves_registered, start_parts, state_in}
 use Rattle.session_model.specs.Machine.{status_done, status_part, step, switch_done, switch_part, taken, taken_in, timed, timer_set, told}
-use Rattle.session_model.specs.Machine.{turned, Turning, turning, with_client, with_desk, with_files, with_state}
+use Rattle.session_model.specs.Machine.{turned, Turning, turning, with_client, with_desk, with_files, with_state, with_workspaces}
 use Rattle.session_model.specs.Hearing.{heard_of, told_by}
-use Rattle.session_model.specs.Loading.{MacroPaths, load_due, with_due_load}
+use Rattle.session_model.specs.Loading.{MacroPaths, crates_loaded, load_due, load_kept, with_due_load}
 use Rattle.session_model.specs.Sources.{change_by, client_with, sources_after, sources_left}
 use Rattle.session_model.specs.Switching.{switch_made}
 use Rattle.session_model.specs.Timing.{bring_files, planned_by, renewed_if, timer_of}
 use Rattle.session_model.specs.Run.{Turn, Steps, begun, after_input, out_after}
 use Rattle.session_model.specs.State.{State, columns_in, discovers, excludes_in, goes_by_folders, macros_loaded_in, may_start, scene_of, snapshot_of, Sources}
-use Rattle.session_model.specs.Status.{client_after_status, is_quiescent, status_now, statuses_due, statuses_in}
+use Rattle.session_model.specs.Status.{build_fault, client_after_status, fetch_fault, is_quiescent, status_now, statuses_due, statuses_in}
 use Rattle.session_model.specs.declared.facts.Facts.{Facts}
 use Rattle.session_model.specs.declared.input.Event.{Event}
 use Rattle.session_model.specs.declared.input.Event.TheVariants.{Lsp, Task, Vfs, Deferred, Timer}
@@ -481,6 +483,51 @@ desk-settles meaning turns message w =
     (IfOk-weaker _ (λ v. Settled None (at w) v (message_row meaning scene w.state.desk message) jobs) _ (message-settles meaning scene message (at w))
     (λ v a. record { desk = subst (λ d. Settled None (at w) v d jobs) (sym (message-turns meaning scene w.state.desk turns message)) a; files = refl; rest = refl }))
 
+-- what is told of a failure is logged
+logged_if-settles : (code : LogCode) (text : Option (List ℕ)) (w : Working State) → Settled None (at w) (at (logged_if code text w)) silent w.state.desk.jobs
+unfolding logged ordered
+logged_if-settles code None w = nothing-settles (at w)
+logged_if-settles code (Some text) w = log-settles code text (at w)
+
+logged_if-same : (code : LogCode) (text : Option (List ℕ)) (w : Working State) → (logged_if code text w).state ≡ w.state
+unfolding logged ordered
+logged_if-same code None w = refl
+logged_if-same code (Some text) w = refl
+
+-- the workspaces have come to these, and nothing else has changed or was done but log lines
+pub record Notes (workspaces : Workspaces) (w v : Working State) : Type 0 where
+  pub desk : Settled None (at w) (at v) silent w.state.desk.jobs
+  pub state : v.state ≡ with_workspaces workspaces w.state
+
+fetch-notes : (end : Option FetchEnd) (w : Working State) → Notes (fetch_kept end w.state.workspaces) w (fetch_taken end w)
+unfolding fetch_taken
+fetch-notes None w = record { desk = nothing-settles (at w); state = refl }
+fetch-notes (Some found) w =
+    let v : Working State = at_workspaces (fetch_kept (Some found)) w in
+    let text : Option (List ℕ) = fetch_fault v.state.client.settings v.state.workspaces in
+    record { desk = logged_if-settles FetchError text v; state = logged_if-same FetchError text v }
+
+build-notes : (end : Option BuildEnd) (w : Working State) → Notes (build_kept end w.state.workspaces) w (build_taken end w)
+unfolding build_taken
+build-notes None w = record { desk = nothing-settles (at w); state = refl }
+build-notes (Some made) w =
+    let v : Working State = at_workspaces (build_kept (Some made)) w in
+    let text : Option (List ℕ) = build_fault v.state.workspaces in
+    record { desk = logged_if-settles BuildError text v; state = logged_if-same BuildError text v }
+
+pub both-note : (fetched : Option FetchEnd) (built : Option BuildEnd) (w : Working State)
+    → Notes (build_kept built (fetch_kept fetched w.state.workspaces)) w (build_taken built (fetch_taken fetched w))
+both-note fetched built w =
+    let v : Working State = fetch_taken fetched w in
+    let u : Working State = build_taken built v in
+    let first = fetch-notes fetched w in
+    let second = build-notes built v in
+    let jobs : v.state.desk.jobs ≡ w.state.desk.jobs = ap (λ (s : State). s.desk.jobs) first.state in
+    record {
+      desk = subst (λ (js : Jobs). Settled None (at w) (at u) silent js) jobs (settled-on (at w) (at v) (at u) silent silent w.state.desk.jobs v.state.desk.jobs first.desk second.desk);
+      state = second.state ∙ ap (λ (s : State). with_workspaces (build_kept built s.workspaces) s) first.state;
+    }
+
 -- what the workspaces come to by a message
 abbrev pub kept_past : TaskMsg → State → Workspaces
 kept_past message s = end_kept message s.desk.jobs s.workspaces
@@ -489,40 +536,66 @@ kept_past message s = end_kept message s.desk.jobs s.workspaces
 abbrev pub files_past : TaskMsg → State → Result SessionFiles Counter
 files_past message s = crates_let_in (crates_in message s.desk.jobs s.workspaces) s.files
 
--- the end of a load of macros
-load-takes : (meaning : Meaning) (message : TaskMsg) (w v : Working State) (done : Reaction) (jobs : Jobs) → DoesAtDesk w v done jobs w.state.workspaces (Ok w.state.files)
-    → IfOk (load_taken (load_ended message w.state.desk.jobs) (at_workspaces (run_kept message w.state.desk.jobs) v))
-    (λ u. DoesAtDesk w u done jobs (kept_past message w.state) (files_past message w.state))
+-- the desk has done this, and then the workspaces have come to what the end of a fetch and that of a run of build data leave of them
+noted-does : (fetched : Option FetchEnd) (built : Option BuildEnd) (w v : Working State) (done : Reaction) (jobs : Jobs)
+    → DoesAtDesk w v done jobs w.state.workspaces (Ok w.state.files)
+    → DoesAtDesk w (build_taken built (fetch_taken fetched v)) done jobs (build_kept built (fetch_kept fetched w.state.workspaces)) (Ok w.state.files)
+noted-does fetched built w v done jobs a =
+    let u : Working State = build_taken built (fetch_taken fetched v) in
+    let kept : Workspaces → Workspaces = λ workspaces. build_kept built (fetch_kept fetched workspaces) in
+    let notes = both-note fetched built v in
+    let quiet : Settled None (at v) (at u) silent jobs = subst (λ (js : Jobs). Settled None (at v) (at u) silent js) a.desk.out notes.desk in
+    let said : joined done silent ≡ done = λ i. record { responses = append-nil done.responses i; jobs = append-nil done.jobs i } in
+    record {
+      desk = subst (λ (d : Reaction). Settled None (at w) (at u) d jobs) said (settled-on (at w) (at v) (at u) done silent jobs jobs a.desk quiet);
+      files = a.files ∙ ap (λ (s : State). Ok s.files) (sym notes.state);
+      rest = notes.state ∙ ap (λ (s : State). with_workspaces (kept s.workspaces) s) a.rest
+          ∙ ap (λ (s : State). record w.state { desk = s.desk; workspaces = kept w.state.workspaces; files = s.files }) (sym notes.state);
+    }
+
+-- and then that of a load of macros is told
+load-takes : (loaded : Option LoadEnd) (w v : Working State) (done : Reaction) (jobs : Jobs) (kept : Workspaces) → DoesAtDesk w v done jobs kept (Ok w.state.files)
+    → IfOk (load_taken loaded v) (λ u. DoesAtDesk w u done jobs (load_kept loaded kept) (crates_let_in (crates_loaded loaded kept) w.state.files))
 unfolding load_taken
-load-takes meaning message w v done jobs a =
-    let out = w.state.desk.jobs in
-    let told : Working State = at_workspaces (end_kept message out) v in
-    let crates : Option CrateData = crates_in message out v.state.workspaces in
-    let was : v.state.workspaces ≡ w.state.workspaces = ap (λ (s : State). s.workspaces) a.rest in
+load-takes loaded w v done jobs kept a =
+    let told : Working State = at_workspaces (load_kept loaded) v in
+    let crates : Option CrateData = crates_loaded loaded v.state.workspaces in
+    let was : v.state.workspaces ≡ kept = ap (λ (s : State). s.workspaces) a.rest in
     let same : v.state.files ≡ w.state.files = sym (ok-same w.state.files v.state.files a.files) in
     IfOk-weaker (crates_arrived crates told) (Arrives crates told) _ (arrived-does crates told)
     (λ u arrives.
     let desk : u.state.desk ≡ v.state.desk = ap (λ (s : State). s.desk) arrives.state in
     record {
       desk = subst (λ (x : Working Desk). Settled None (at w) x done jobs) (sym (λ i. record { state = desk i; out = arrives.out i })) a.desk;
-      files = sym (λ i. crates_let_in (crates_in message out (was i)) (same i)) ∙ arrives.files;
-      rest = arrives.state ∙ ap (λ (s : State). record s { workspaces = end_kept message out s.workspaces; files = u.state.files }) a.rest
-          ∙ ap (λ (d : Desk). record w.state { desk = d; workspaces = kept_past message w.state; files = u.state.files }) (sym desk);
+      files = sym (λ i. crates_let_in (crates_loaded loaded (was i)) (same i)) ∙ arrives.files;
+      rest = arrives.state ∙ ap (λ (s : State). record s { workspaces = load_kept loaded s.workspaces; files = u.state.files }) a.rest
+          ∙ ap (λ (d : Desk). record w.state { desk = d; workspaces = load_kept loaded kept; files = u.state.files }) (sym desk);
     })
 
--- and told to the workspaces and the files
+ends-take : (fetched : Option FetchEnd) (built : Option BuildEnd) (loaded : Option LoadEnd) (w v : Working State) (done : Reaction) (jobs : Jobs)
+    → DoesAtDesk w v done jobs w.state.workspaces (Ok w.state.files)
+    → let kept : Workspaces = build_kept built (fetch_kept fetched w.state.workspaces) in
+    IfOk (ends_taken fetched built loaded v) (λ u. DoesAtDesk w u done jobs (load_kept loaded kept) (crates_let_in (crates_loaded loaded kept) w.state.files))
+unfolding ends_taken
+ends-take fetched built loaded w v done jobs a =
+    load-takes loaded w (build_taken built (fetch_taken fetched v)) done jobs (build_kept built (fetch_kept fetched w.state.workspaces)) (noted-does fetched built w v done jobs a)
+
+-- what a message ends is told to the workspaces and the files
 pub taken-settles : (meaning : Meaning) (turns : ℕ) (message : TaskMsg) (w : Working State)
     → IfOk (taken meaning message w)
     (λ u. DoesAtDesk w u (message_row meaning (scene_of w.state) (record w.state.desk { turns = turns }) message) (after_message message w.state.desk.jobs) (kept_past message w.state)
     (files_past message w.state))
+unfolding taken
 taken-settles meaning turns message w =
     let done = message_row meaning (scene_of w.state) (record w.state.desk { turns = turns }) message in
     let jobs = after_message message w.state.desk.jobs in
-    IfOk-and_then (at_desk (taken_at_desk meaning (scene_of w.state) message) w)
-    (λ v. load_taken (load_ended message w.state.desk.jobs) (at_workspaces (run_kept message w.state.desk.jobs) v))
+    let fetched : Option FetchEnd = fetch_ended message w.state.desk.jobs in
+    let built : Option BuildEnd = build_ended message w.state.desk.jobs in
+    let loaded : Option LoadEnd = load_ended message w.state.desk.jobs in
+    IfOk-and_then (at_desk (taken_at_desk meaning (scene_of w.state) message) w) (ends_taken fetched built loaded)
     (λ v. DoesAtDesk w v done jobs w.state.workspaces (Ok w.state.files)) (λ v. DoesAtDesk w v done jobs (kept_past message w.state) (files_past message w.state))
     (desk-settles meaning turns message w)
-    (λ v a. load-takes meaning message w v done jobs a)
+    (λ v a. ends-take fetched built loaded w v done jobs a)
 
 -- what a message leaves is the next one's place
 pub settled-place : (turns : ℕ) (message : TaskMsg) (w v : Working State) (done : Reaction)

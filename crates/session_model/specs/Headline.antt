@@ -16,7 +16,7 @@ use Rattle.layered_settings.specs.declared.change.ConfigChange.{ConfigChange}
 use Rattle.ra_config.specs.Config.{ConfigData}
 use Rattle.analysis_host.specs.SnapshotData.{SnapshotData}
 use Rattle.session_port.specs.Events.{revision_of}
-use Rattle.session_port.specs.Jobs.{Jobs, ticket_of}
+use Rattle.session_port.specs.Jobs.{Jobs, after_message, ticket_of}
 use Rattle.session_port.specs.Record.{HostCall, given_in, taken_in, spawned}
 use Rattle.session_port.specs.declared.command.Command.{Command}
 use Rattle.session_port.specs.declared.command.Command.TheVariants.{Stop}
@@ -392,14 +392,23 @@ abbrev pub notice_row : Option RequestId → Desk → Reaction
 notice_row None desk = silent
 notice_row (Some id) desk = cancel_row id desk
 
--- what a message of a batch leaves for the next one
-abbrev pub place_past : TaskMsg → Reaction → Place → Place
-place_past message done place = record place {
-  desk = desk_past message done place.desk;
+-- what a message of a job leaves of the jobs that are out, of the workspaces, of the files and of the revision
+abbrev pub place_told : TaskMsg → Place → Place
+place_told message place = record place {
+  desk = record place.desk { jobs = after_message message place.desk.jobs };
   workspaces = end_kept message place.desk.jobs place.workspaces;
   files = or_before place.files (crates_let_in (crates_in message place.desk.jobs place.workspaces) place.files);
   revision = place.revision + (if is_some (crates_in message place.desk.jobs place.workspaces) then 1 else 0);
 }
+
+-- the same of messages, one after another: this is the place within a batch, behind these of its messages
+abbrev pub place_within : List TaskMsg → Place → Place
+place_within [] place = place
+place_within (message ∷ messages) place = place_within messages (place_told message place)
+
+-- what a message of a batch leaves for the next one
+abbrev pub place_past : TaskMsg → Reaction → Place → Place
+place_past message done place = record (place_told message place) { desk = desk_past message done place.desk }
 
 -- a batch: each message on what the ones before it leave
 abbrev pub batch_row : Meaning → List TaskMsg → Place → Reaction
@@ -450,6 +459,16 @@ pub record SetsTimer (turn : Turn) (place : Place) : Type 0 where
 
 -- ---- what holds between turns
 
+-- a message of a batch comes behind these
+pub record ComesBehind (earlier batch : List TaskMsg) : Type 0 where
+  pub message : TaskMsg
+  pub rest : List TaskMsg
+  pub is : batch ≡ earlier ++ message ∷ rest
+
+-- these are the messages of a turn's batch before one of them; where the turn takes in no batch, they are none
+abbrev pub AreEarlier : List TaskMsg → List TaskMsg → Type 0
+AreEarlier earlier batch = ((batch ≡ []) × (earlier ≡ [])) ⊎ ComesBehind earlier batch
+
 -- a snapshot shows the documents, the files, the settings and the workspaces of this place; its crate graph and its revision may be later ones
 pub record ShowsDocuments (place : Place) (snapshot : SnapshotData) : Type 0 where
   pub texts : snapshot.world.texts ≡ place.files.host.world.texts
@@ -460,16 +479,19 @@ pub record ShowsDocuments (place : Place) (snapshot : SnapshotData) : Type 0 whe
   pub workspaces_version : snapshot.workspaces_version ≡ place.workspaces.version
   pub later : place.revision ≤ snapshot.revision
 
--- a job for the request with this ticket was handed over by an earlier turn, the one that read the request or a later one, on the documents of all
--- inputs before that turn; and on all else that there was before it, unless the turn took in a batch, which may bring crate data
+-- a job for the request with this ticket was handed over by an earlier turn, the one that read the request or a later one, on what all inputs before that
+-- turn leave, and, within a batch, the messages of it before the one that hands the job over. These may bring crate data, but change no documents: it shows
+-- those of all inputs before that turn
 pub record WasHandedOver (settings : ConfigData) (turns : List Turn) (ticket : ℕ) (job : Job) : Type 0 where
   pub before : List Turn
   pub turn : Turn
   pub later : List Turn
   pub split : turns ≡ before ++ turn ∷ later
   pub not_before : ticket ≤ next_turn (place_after_all before (beginning settings))
+  pub earlier : List TaskMsg
+  pub within : AreEarlier earlier (batch_of turn.input)
+  pub snapshot : job.snapshot ≡ snapshot_at (place_within earlier (place_after_all before (beginning settings)))
   pub documents : ShowsDocuments (place_after_all before (beginning settings)) job.snapshot
-  pub snapshot : batch_of turn.input ≡ [] → job.snapshot ≡ snapshot_at (place_after_all before (beginning settings))
   pub handed : Contains (spawned turn.commands) job
 
 abbrev pub AreHandedOver : ConfigData → List Turn → Jobs → Type 0
@@ -501,7 +523,7 @@ pub record Answers (meaning : Meaning) (settings : ConfigData) (honest : Bool) (
       AnswersOnce (next_turn place) (request_in turn.input) (responses_in turn.messages) place.desk.pending
   -- after it each pending request is held by exactly one job out
   pub held : AreHeld (place_after_all (before ++ turn ∷ []) (beginning settings)).desk
-  -- each job out for a request was handed over by the turn that read it, or a later one, on the documents of all inputs before that turn
+  -- each job out for a request was handed over by the turn that read it, or a later one, on what all inputs before that turn leave
   pub handed_over : AreHandedOver settings before (place_after_all before (beginning settings)).desk.jobs
   -- the revision rises by one each time that crate data goes into the world, and by one where the contents of some path are others than those that the world
   -- was last made of

@@ -14,7 +14,7 @@ use Rattle.project_model.specs.declared.crates.CrateData.{CrateData as CrateGrap
 use Rattle.session_port.specs.declared.command.Command.TheVariants.{Defer, Revise, Invalidate, SetLoader, Timer as SetTimer}
 use Rattle.session_port.specs.declared.command.DeferredTask.TheVariants.{CheckProcMacroSources}
 use Rattle.session_port.specs.declared.command.LogCode.TheVariants.{MalformedNotification, UnhandledNotification}
-use Rattle.session_port.specs.declared.command.LogCode.TheVariants.{BadPath}
+use Rattle.session_port.specs.declared.command.LogCode.TheVariants.{BadPath, BuildError, FetchError}
 use Rattle.session_port.specs.declared.event.LoaderMsg.{LoaderMsg}
 use Rattle.session_port.specs.declared.event.TaskMsg.{TaskMsg}
 use Rattle.session_port.specs.declared.job.JobKind.TheVariants.{FetchBuildData}
@@ -22,7 +22,7 @@ use Rattle.method_table.specs.declared.class.PoolClass.TheVariants.{Worker}
 use Rattle.turn_parts.specs.Working.{Working, and_then, ordered, logged, within, written}
 use Rattle.turn_parts.specs.declared.fault.Counter.{Counter}
 use Rattle.client.specs.Client.{Client}
-use Rattle.client.specs.Steps.{asked_for, answered, folders_changed, notification_of}
+use Rattle.client.specs.Steps.{asked_for, answered, folders_changed, logged_if, notification_of}
 use Rattle.client.specs.declared.handler.ReqHandler.TheVariants.{Ignore, OpenLogs, Settings}
 use Rattle.notify.specs.declared.outgo.MessageKind.{MessageKind}
 use Rattle.notify.specs.declared.outgo.MessageKind.TheVariants.{Warning}
@@ -33,7 +33,9 @@ use Rattle.notify.specs.declared.notice.DidChange.{DidChange}
 use Rattle.notify.specs.declared.notice.DidOpen.{DidOpen}
 use Rattle.notify.specs.declared.notice.Notice.{Notice}
 use Rattle.notify.specs.declared.notice.Notice.TheVariants as notices
+use Rattle.desk.specs.Building.{BuildEnd, build_ended}
 use Rattle.desk.specs.Desk.{Desk}
+use Rattle.desk.specs.Fetching.{FetchEnd, fetch_ended}
 use Rattle.desk.specs.Loading.{LoadEnd, load_ended}
 use Rattle.desk.specs.Meaning.{Meaning}
 use Rattle.desk.specs.Steps.{requested, cancelled, counted as counted_at_desk, handed_over, taken as taken_at_desk, kept as kept_at_desk}
@@ -52,14 +54,14 @@ use Rattle.workspaces.specs.declared.requests.FetchRequest.{FetchRequest}
 use Rattle.change_effects.specs.declared.effects.ChangeEffects.{ChangeEffects}
 use Rattle.change_effects.specs.declared.effects.SettingsFile.{SettingsFile}
 use Rattle.session_model.specs.Asking.{is_refresh_due, registers_saves, watchers_asked}
-use Rattle.session_model.specs.Building.{build_due, request_told, run_kept, with_due_build}
+use Rattle.session_model.specs.Building.{build_due, build_kept, request_told, with_due_build}
 use Rattle.session_model.specs.Crates.{builds_crates, crate_data}
-use Rattle.session_model.specs.Fetching.{folders_told_if, settings_told, with_fetches}
+use Rattle.session_model.specs.Fetching.{fetch_kept, folders_told_if, settings_told, with_fetches}
 use Rattle.session_model.specs.Hearing.{heard_of}
 use Rattle.session_model.specs.Loading.{MacroPaths, crates_loaded, load_due, load_kept, load_kind, with_due_load}
 use Rattle.session_model.specs.Sources.{change_for, client_with, parents_told, sources_now}
 use Rattle.session_model.specs.State.{client_watches, columns_in, discovers, excludes_in, fetch_kind, goes_by_folders, may_start, scene_of, snapshot_of, Sources, State, watched_names}
-use Rattle.session_model.specs.Status.{is_quiescent, opens_logs, shown_of, status_message, status_now, takes_status}
+use Rattle.session_model.specs.Status.{build_fault, fetch_fault, is_quiescent, opens_logs, shown_of, status_message, status_now, takes_status}
 use Rattle.session_model.specs.Switching.{switch_made}
 use Rattle.session_model.specs.Timing.{bring_files, effects_for, fetch_planned, renewed_if}
 use Rattle.session_model.specs.declared.facts.Facts.{Facts}
@@ -202,6 +204,20 @@ received meaning (ResponseMessage r) w = answer_taken r w
 
 -- ---- results
 
+-- what a fetch came to is kept, where one is in progress, and its errors are logged
+unfoldable pub fetch_taken : Option FetchEnd → Working State → Working State
+fetch_taken None w = w
+fetch_taken (Some found) w =
+    let v = at_workspaces (fetch_kept (Some found)) w in
+    logged_if FetchError (fetch_fault v.state.client.settings v.state.workspaces) v
+
+-- the same of a run of build data
+unfoldable pub build_taken : Option BuildEnd → Working State → Working State
+build_taken None w = w
+build_taken (Some made) w =
+    let v = at_workspaces (build_kept (Some made)) w in
+    logged_if BuildError (build_fault v.state.workspaces) v
+
 -- crate data that comes goes into the world
 unfoldable pub crates_arrived : Option CrateGraph → Working State → Result (Working State) Counter
 crates_arrived None w = Ok w
@@ -211,11 +227,15 @@ crates_arrived (Some crates) w = at_files (crates_put crates) w
 unfoldable pub load_taken : Option LoadEnd → Working State → Result (Working State) Counter
 load_taken end w = crates_arrived (crates_loaded end w.state.workspaces) (at_workspaces (load_kept end) w)
 
--- a message of a job, on the present snapshot; one that ends a fetch, a run of build data or a load of macros is told to the workspaces
-abbrev pub taken : Meaning → TaskMsg → Working State → Result (Working State) Counter
+-- what a message of a job ends: a fetch, a run of build data or a load of macros
+unfoldable pub ends_taken : Option FetchEnd → Option BuildEnd → Option LoadEnd → Working State → Result (Working State) Counter
+ends_taken fetched built loaded w = load_taken loaded (build_taken built (fetch_taken fetched w))
+
+-- a message of a job, on the present snapshot; what it ends is told to the workspaces
+unfoldable pub taken : Meaning → TaskMsg → Working State → Result (Working State) Counter
 taken meaning message w =
     and_then (at_desk (taken_at_desk meaning (scene_of w.state) message) w)
-    (λ v. load_taken (load_ended message w.state.desk.jobs) (at_workspaces (run_kept message w.state.desk.jobs) v))
+    (ends_taken (fetch_ended message w.state.desk.jobs) (build_ended message w.state.desk.jobs) (load_ended message w.state.desk.jobs))
 
 -- a batch of messages, one after another
 abbrev pub batched : Meaning → List TaskMsg → Working State → Result (Working State) Counter

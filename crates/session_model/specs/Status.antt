@@ -45,12 +45,19 @@ lacks_projects settings = length (projects_of settings) == 0 && length (detached
 abbrev pub needs_reload : ConfigData → SessionFiles → Workspaces → Bool
 needs_reload settings files workspaces = not (may_fetch settings) && is_quiescent files workspaces && is_some workspaces.fetches.queue.waiting
 
+-- what is told of the last fetch, where it failed, and of the last builds, where some did
+abbrev pub fetch_fault : ConfigData → Workspaces → Option (List ℕ)
+fetch_fault settings workspaces = fetch_error (list_fetched workspaces.fetches.queue.last) (discovers settings)
+
+abbrev pub build_fault : Workspaces → Option (List ℕ)
+build_fault workspaces = build_error (runs_built workspaces.builds.queue.last)
+
 -- the last fetch failed, or some builds did
 abbrev pub has_fetch_error : ConfigData → Workspaces → Bool
-has_fetch_error settings workspaces = is_some (fetch_error (list_fetched workspaces.fetches.queue.last) (discovers settings))
+has_fetch_error settings workspaces = is_some (fetch_fault settings workspaces)
 
 abbrev pub has_build_error : Workspaces → Bool
-has_build_error workspaces = is_some (build_error (runs_built workspaces.builds.queue.last))
+has_build_error workspaces = is_some (build_fault workspaces)
 
 -- the facts of a status. The errors of settings are not kept yet and no checks are run, so that none are told; nothing is primed, so that the session is
 -- fully ready where it is quiescent

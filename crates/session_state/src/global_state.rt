@@ -6,6 +6,7 @@ ghost use Rattle.lsp_frame.specs.declared.message.Message.TheVariants.{Response 
 ghost use Rattle.outgoing.specs.Outgoing.{number_limit};
 ghost use Rattle.turn_parts.specs.Meets.{Meets, Gives};
 ghost use Rattle.turn_parts.specs.Working.{ordered, logged};
+ghost use Rattle.client.specs.Steps.{logged_if};
 ghost use Rattle.desk.specs.Meaning.{Meaning, meaning_of};
 ghost use Rattle.desk.specs.Steps.{responded, cancelled};
 ghost use Rattle.session_model.specs.Machine.{at_desk, closed, counted, facts_of, happened, kept, revised, step, taken_in};
@@ -216,6 +217,22 @@ impl GlobalState {
         ensures same { self.new ≡ self.old }
     {
         self.order(Command::Log(code, text), out)
+    }
+
+    // A log line, if there is a text.
+    fn log_if(
+        &mut self,
+        code: LogCode,
+        text: Option<Text>,
+        out: &mut TurnOut,
+    ) -> Result<(), TurnError>
+        ensures gives { Gives result (logged_if code text (record { state = self.old; out = out.old })) self.new out.new }
+        ensures same { self.new ≡ self.old }
+    {
+        match text {
+            None => Ok(()),
+            Some(text) => self.log(code, text, out),
+        }
     }
 }
 

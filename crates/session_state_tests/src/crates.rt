@@ -35,7 +35,7 @@ start then brought /w/Cargo.toml then builds second then null third > log
 start then brought /w/Cargo.toml then builds second then macros third then macros third > log
 start then brought /w/Cargo.toml then builds second then ask rust-analyzer/rebuildProcMacros null > Content-Length: 38\r\n\r\n{"id":5,"jsonrpc":"2.0","result":null}Worker
 start then brought /w/Cargo.toml then ask rust-analyzer/reloadWorkspace null then builds second then brought third /w/Cargo.toml > Worker
-start then tell workspace/didChangeConfiguration {} then answer [{"procMacro":{"enable":false}}] then brought /w/Cargo.toml then builds second > Content-Length: 201\r\n\r\n{"jsonrpc":"2.0","method":"window/showMessage","params":{"message":"Failed to run build scripts of some packages.\n\nPlease refer to the language server logs for more details on the errors.","type":2}}load anewrevise"#;
+start then tell workspace/didChangeConfiguration {} then answer [{"procMacro":{"enable":false}}] then brought /w/Cargo.toml then builds second > Content-Length: 201\r\n\r\n{"jsonrpc":"2.0","method":"window/showMessage","params":{"message":"Failed to run build scripts of some packages.\n\nPlease refer to the language server logs for more details on the errors.","type":2}}build errorload anewrevise"#;
 
 #[test]
 fn crate_data_goes_into_the_world(rt: HostRuntime) {

@@ -28,18 +28,18 @@ fn agrees(alloc: Global, line: &str) -> Option<bool> {
 // They are asked for where the session comes to be quiescent, and where the world of one that is changes. While a fetch or a
 // timer is waited for, or files are loading, none is. Nothing follows the answers.
 const REFRESHES: &str = r#"all > start > Worker
-all > start then fetched > Content-Length: 68\r\n\r\n{"id":0,"jsonrpc":"2.0","method":"workspace/semanticTokens/refresh"}Content-Length: 62\r\n\r\n{"id":1,"jsonrpc":"2.0","method":"workspace/codeLens/refresh"}Content-Length: 63\r\n\r\n{"id":2,"jsonrpc":"2.0","method":"workspace/inlayHint/refresh"}Content-Length: 64\r\n\r\n{"id":3,"jsonrpc":"2.0","method":"workspace/diagnostic/refresh"}Content-Length: 106\r\n\r\n{"jsonrpc":"2.0","method":"window/showMessage","params":{"message":"Failed to load workspaces.","type":1}}
+all > start then fetched > Content-Length: 68\r\n\r\n{"id":0,"jsonrpc":"2.0","method":"workspace/semanticTokens/refresh"}Content-Length: 62\r\n\r\n{"id":1,"jsonrpc":"2.0","method":"workspace/codeLens/refresh"}Content-Length: 63\r\n\r\n{"id":2,"jsonrpc":"2.0","method":"workspace/inlayHint/refresh"}Content-Length: 64\r\n\r\n{"id":3,"jsonrpc":"2.0","method":"workspace/diagnostic/refresh"}Content-Length: 106\r\n\r\n{"jsonrpc":"2.0","method":"window/showMessage","params":{"message":"Failed to load workspaces.","type":1}}fetch error
 all > start then fetched then deferred
 all > start then fetched then answer null
-none > start then fetched > Content-Length: 106\r\n\r\n{"jsonrpc":"2.0","method":"window/showMessage","params":{"message":"Failed to load workspaces.","type":1}}
+none > start then fetched > Content-Length: 106\r\n\r\n{"jsonrpc":"2.0","method":"window/showMessage","params":{"message":"Failed to load workspaces.","type":1}}fetch error
 hints > deferred
-hints > start then fetched > Content-Length: 63\r\n\r\n{"id":0,"jsonrpc":"2.0","method":"workspace/inlayHint/refresh"}Content-Length: 106\r\n\r\n{"jsonrpc":"2.0","method":"window/showMessage","params":{"message":"Failed to load workspaces.","type":1}}
+hints > start then fetched > Content-Length: 63\r\n\r\n{"id":0,"jsonrpc":"2.0","method":"workspace/inlayHint/refresh"}Content-Length: 106\r\n\r\n{"jsonrpc":"2.0","method":"window/showMessage","params":{"message":"Failed to load workspaces.","type":1}}fetch error
 hints > start then deferred
-hints > start then loading then fetched > Content-Length: 106\r\n\r\n{"jsonrpc":"2.0","method":"window/showMessage","params":{"message":"Failed to load workspaces.","type":1}}
+hints > start then loading then fetched > Content-Length: 106\r\n\r\n{"jsonrpc":"2.0","method":"window/showMessage","params":{"message":"Failed to load workspaces.","type":1}}fetch error
 hints > start then loading then fetched then loaded > Content-Length: 63\r\n\r\n{"id":0,"jsonrpc":"2.0","method":"workspace/inlayHint/refresh"}Content-Length: 106\r\n\r\n{"jsonrpc":"2.0","method":"window/showMessage","params":{"message":"Failed to load workspaces.","type":1}}
 hints > open > deferrevisetimer 1
 hints > open then timer 1 > Content-Length: 63\r\n\r\n{"id":0,"jsonrpc":"2.0","method":"workspace/inlayHint/refresh"}Worker
-hints > open then timer 1 then fetched > Content-Length: 63\r\n\r\n{"id":1,"jsonrpc":"2.0","method":"workspace/inlayHint/refresh"}Content-Length: 106\r\n\r\n{"jsonrpc":"2.0","method":"window/showMessage","params":{"message":"Failed to load workspaces.","type":1}}
+hints > open then timer 1 then fetched > Content-Length: 63\r\n\r\n{"id":1,"jsonrpc":"2.0","method":"workspace/inlayHint/refresh"}Content-Length: 106\r\n\r\n{"jsonrpc":"2.0","method":"window/showMessage","params":{"message":"Failed to load workspaces.","type":1}}fetch error
 hints > open then timer 1 then fetched then tell textDocument/didChange {"textDocument":{"uri":"file:///w/a.rs","version":2},"contentChanges":[{"text":"b"}]} > Content-Length: 63\r\n\r\n{"id":2,"jsonrpc":"2.0","method":"workspace/inlayHint/refresh"}deferrevise
 hints > open then timer 1 then fetched then tell textDocument/didClose {"textDocument":{"uri":"file:///w/a.rs"}} > invalidate"#;
 
@@ -67,7 +67,7 @@ fn is_told(alloc: Global, client: &str, wanted: &str) -> Option<bool> {
 }
 
 const HINTS: &str =
-    r#"Content-Length: 72\r\n\r\n{"id":2147483647,"jsonrpc":"2.0","method":"workspace/inlayHint/refresh"}Content-Length: 106\r\n\r\n{"jsonrpc":"2.0","method":"window/showMessage","params":{"message":"Failed to load workspaces.","type":1}}"#;
+    r#"Content-Length: 72\r\n\r\n{"id":2147483647,"jsonrpc":"2.0","method":"workspace/inlayHint/refresh"}Content-Length: 106\r\n\r\n{"jsonrpc":"2.0","method":"window/showMessage","params":{"message":"Failed to load workspaces.","type":1}}fetch error"#;
 
 #[test]
 fn each_needs_a_number(rt: HostRuntime) {

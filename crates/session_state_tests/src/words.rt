@@ -9,8 +9,8 @@ use ra_config::Config;
 use ra_settings::LinkedProject;
 use session_model::{Counter, Event, TurnError};
 use session_port::{
-    Command, Job, JobKind, JobResult, JobValue, LoadedFile, LoaderMsg, LoadingProgress, TaskBody,
-    TaskMsg,
+    Command, Job, JobKind, JobResult, JobValue, LoadedFile, LoaderMsg, LoadingProgress, LogCode,
+    TaskBody, TaskMsg,
 };
 use session_state::TurnOut;
 use small_project::{scripts_of, workspaces_of};
@@ -306,6 +306,8 @@ fn timer_name(ticket: u64) -> &'static str {
 fn command_name(command: &Command) -> &'static str {
     match command {
         Command::Spawn(job) => class_of(job),
+        Command::Log(LogCode::FetchError, _) => "fetch error",
+        Command::Log(LogCode::BuildError, _) => "build error",
         Command::Log(_, _) => "log",
         Command::Revise(_) => "revise",
         Command::Invalidate(_) => "invalidate",

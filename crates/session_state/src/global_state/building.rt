@@ -1,13 +1,17 @@
 // Build data of workspaces.
-ghost use Rattle.std.specs.Prelude.{◌≡◌, IfOk};
+ghost use Rattle.std.specs.Prelude.{◌≡◌, Some, IfOk, OnOk};
+ghost use Rattle.client.specs.Steps.{logged_if};
+ghost use Rattle.session_port.specs.declared.command.LogCode.TheVariants.{BuildError};
 ghost use Rattle.turn_parts.specs.Meets.{Meets, Gives};
 ghost use Rattle.session_model.specs.Building.{build_due, build_kept, rebuilt_if};
-ghost use Rattle.session_model.specs.Machine.{at_workspaces, build_handed_over, build_started, runs_started};
+ghost use Rattle.session_model.specs.Machine.{at_workspaces, build_handed_over, build_started, build_taken, runs_started};
+ghost use Rattle.session_model.specs.Status.{build_fault};
 
 use crate::global_state::GlobalState;
 use desk::BuildEnd;
+use plain::NoMemory;
 use session_model::TurnError;
-use session_port::JobKind;
+use session_port::{JobKind, LogCode};
 use turn_parts::TurnOut;
 
 impl GlobalState {
@@ -26,20 +30,37 @@ impl GlobalState {
     }
 
     // What a run of build data came to is kept, where one is in progress.
-    pub(super) fn keep_build(
-        &mut self,
-        end: Option<BuildEnd>,
-        out: &mut TurnOut,
-    ) -> Result<(), TurnError>
-        ensures { Gives result (at_workspaces (build_kept end) (record { state = self.old; out = out.old })) self.new out.new }
+    fn end_build(&mut self, made: BuildEnd) -> Result<(), NoMemory>
+        ensures { OnOk result (self.new ≡ record self.old { workspaces = build_kept (Some made) self.old.workspaces }) }
     {
-        let Some(made) = end else {
-            return Ok(());
-        };
         if self.workspaces.is_building() {
             self.workspaces.end_build(made)?;
         }
         Ok(())
+    }
+
+    // The errors of the last run are logged.
+    fn log_build(&mut self, out: &mut TurnOut) -> Result<(), TurnError>
+        ensures { Gives result (logged_if BuildError (build_fault self.old.workspaces) (record { state = self.old; out = out.old })) self.new out.new }
+    {
+        let errors = self.workspaces.build_error()?;
+        self.log_if(LogCode::BuildError, errors, out)
+    }
+
+    // What a run of build data came to is kept, where one is in progress, and its errors are logged.
+    #[tactic(auto, unfolding(session_model::specs::Machine::build_taken))]
+    pub(super) fn take_build(
+        &mut self,
+        end: Option<BuildEnd>,
+        out: &mut TurnOut,
+    ) -> Result<(), TurnError>
+        ensures { Gives result (build_taken end (record { state = self.old; out = out.old })) self.new out.new }
+    {
+        let Some(made) = end else {
+            return Ok(());
+        };
+        self.end_build(made)?;
+        self.log_build(out)
     }
 
     // Hands over the job of a run of build data that is to start on workspaces of this version.

@@ -1,21 +1,24 @@
 // Fetches of workspaces.
-ghost use Rattle.std.specs.Prelude.{◌≡◌, IfOk, OnOk};
+ghost use Rattle.std.specs.Prelude.{◌≡◌, Some, IfOk, OnOk};
+ghost use Rattle.client.specs.Steps.{logged_if};
+ghost use Rattle.session_port.specs.declared.command.LogCode.TheVariants.{FetchError};
 ghost use Rattle.turn_parts.specs.Meets.{Meets, Gives};
 ghost use Rattle.method_table.specs.declared.class.PoolClass.TheVariants.{Worker};
 ghost use Rattle.desk.specs.Steps.{handed_over};
 ghost use Rattle.session_model.specs.Fetching.{fetch_asked, fetch_caused, fetch_kept, folders_told_if, reloaded_if, settings_told};
-ghost use Rattle.session_model.specs.Machine.{at_desk, at_workspaces, begun_fetches, fetch_handed_over, fetch_started, timed};
+ghost use Rattle.session_model.specs.Machine.{at_desk, at_workspaces, begun_fetches, fetch_handed_over, fetch_started, fetch_taken, timed};
 ghost use Rattle.session_model.specs.State.{discovers, fetch_kind, goes_by_folders, may_fetch, snapshot_of};
+ghost use Rattle.session_model.specs.Status.{fetch_fault};
 
 use crate::global_state::GlobalState;
 use config_update::{FetchCause, update_of};
 use desk::FetchEnd;
 use docs_vfs::VfsPath;
 use method_table::PoolClass;
-use plain::{Items, Text};
+use plain::{Items, NoMemory, Text};
 use ra_config::Config;
 use session_model::TurnError;
-use session_port::JobKind;
+use session_port::{JobKind, LogCode};
 use std::alloc::{AllocError, Global};
 use turn_parts::TurnOut;
 use workspaces::FetchRequest;
@@ -128,20 +131,37 @@ impl GlobalState {
     }
 
     // What a fetch came to is kept, where one is in progress.
-    pub(super) fn keep_fetch(
-        &mut self,
-        end: Option<FetchEnd>,
-        out: &mut TurnOut,
-    ) -> Result<(), TurnError>
-        ensures { Gives result (at_workspaces (fetch_kept end) (record { state = self.old; out = out.old })) self.new out.new }
+    fn end_fetch(&mut self, found: FetchEnd) -> Result<(), NoMemory>
+        ensures { OnOk result (self.new ≡ record self.old { workspaces = fetch_kept (Some found) self.old.workspaces }) }
     {
-        let Some(found) = end else {
-            return Ok(());
-        };
         if self.workspaces.is_fetching() {
             self.workspaces.end_fetch(found)?;
         }
         Ok(())
+    }
+
+    // The errors of the last fetch are logged.
+    fn log_fetch(&mut self, out: &mut TurnOut) -> Result<(), TurnError>
+        ensures { Gives result (logged_if FetchError (fetch_fault self.old.client.settings self.old.workspaces) (record { state = self.old; out = out.old })) self.new out.new }
+    {
+        let errors = self.workspaces.fetch_error(self.discovers())?;
+        self.log_if(LogCode::FetchError, errors, out)
+    }
+
+    // What a fetch came to is kept, where one is in progress, and its errors are logged.
+    #[tactic(auto, unfolding(session_model::specs::Machine::fetch_taken))]
+    pub(super) fn take_fetch(
+        &mut self,
+        end: Option<FetchEnd>,
+        out: &mut TurnOut,
+    ) -> Result<(), TurnError>
+        ensures { Gives result (fetch_taken end (record { state = self.old; out = out.old })) self.new out.new }
+    {
+        let Some(found) = end else {
+            return Ok(());
+        };
+        self.end_fetch(found)?;
+        self.log_fetch(out)
     }
 
     // What the job of a fetch is to find.

@@ -55,7 +55,7 @@ impl GlobalState {
 
     // The end of a load of macros is told to the workspaces, and crate data that waited for it goes into the world.
     #[tactic(auto, unfolding(session_model::specs::Machine::load_taken))]
-    pub(super) fn keep_load(
+    pub(super) fn take_load(
         &mut self,
         end: Option<LoadEnd>,
         out: &mut TurnOut,

@@ -6,11 +6,12 @@ ghost use Rattle.desk.specs.Meaning.{meaning_of};
 ghost use Rattle.desk.specs.Steps.{requested, taken as taken_at_desk};
 ghost use Rattle.session_model.specs.Building.{is_rebuild, rebuilds};
 ghost use Rattle.session_model.specs.Fetching.{is_reload, reloads};
-ghost use Rattle.session_model.specs.Machine.{asked, at_desk, batched, received, taken};
+ghost use Rattle.session_model.specs.Machine.{asked, at_desk, batched, ends_taken, received, taken};
 ghost use Rattle.session_model.specs.State.{scene_of};
 
 use crate::global_state::GlobalState;
 use analysis_host::Analysis;
+use desk::{BuildEnd, FetchEnd, LoadEnd};
 use lsp_frame::{Message, Request};
 use method_table::{REBUILD_PROC_MACROS, RELOAD_WORKSPACE, RowId, row_of};
 use plain::Items;
@@ -119,7 +120,24 @@ impl GlobalState {
         self.desk.on_task(&scene, message, analysis, out)
     }
 
-    // A message of a job. One that ends a fetch, a run of build data or a load of macros is told to the workspaces.
+    // What a message of a job ends is told to the workspaces.
+    #[tactic(auto, unfolding(session_model::specs::Machine::ends_taken))]
+    fn take_ends(
+        &mut self,
+        fetched: Option<FetchEnd>,
+        built: Option<BuildEnd>,
+        loaded: Option<LoadEnd>,
+        out: &mut TurnOut,
+    ) -> Result<(), TurnError>
+        ensures { Meets result (ends_taken fetched built loaded (record { state = self.old; out = out.old })) self.new out.new }
+    {
+        self.take_fetch(fetched, out)?;
+        self.take_build(built, out)?;
+        self.take_load(loaded, out)
+    }
+
+    // A message of a job. What it ends is told to the workspaces.
+    #[tactic(auto, unfolding(session_model::specs::Machine::taken))]
     fn on_task<A: Analysis>(
         &mut self,
         message: TaskMsg,
@@ -132,9 +150,7 @@ impl GlobalState {
         let built = self.desk.build_end(&message)?;
         let loaded = self.desk.load_end(&message)?;
         self.bring(message, analysis, out)?;
-        self.keep_fetch(fetched, out)?;
-        self.keep_build(built, out)?;
-        self.keep_load(loaded, out)
+        self.take_ends(fetched, built, loaded, out)
     }
 
     // The messages of a batch, one after another.
