@@ -10,17 +10,19 @@ ghost use Rattle.turn_parts.specs.declared.fault.Counter.TheVariants.{Outgoing a
 ghost use Rattle.client.specs.Client.{new_client, new_client_at};
 ghost use Rattle.client.specs.Folds.{after_asking, after_change};
 ghost use Rattle.client.specs.Steps.{asked_for, notification_of};
+ghost use Rattle.client.specs.Texts.{errors_told};
 ghost use Rattle.turn_parts.specs.Working.{written};
 
 mod answering;
 mod folders;
 
+use crate::errors::errors_text;
 use crate::handler::ReqHandler;
 use docs_vfs::VfsPath;
 use lsp_frame::{Message, Notification, Request, RequestId};
 use notify::{Outgo, outgo_body};
 use outgoing::{Outgoing, OutgoingFault};
-use plain::{Items, NoMemory};
+use plain::{Items, NoMemory, Text};
 use ra_config::{Config, ConfigChange, ConfigErrors};
 use std::alloc::{AllocError, Global};
 use std::marker::Model;
@@ -78,11 +80,11 @@ impl Client {
         &self.settings
     }
 
-    /// The errors of the last change of the settings.
-    pub fn errors(&self) -> &ConfigErrors
-        ensures { result.now ≡ self.now.errors }
+    /// The errors of the last change of the settings in one text, where there are any.
+    pub fn errors_text(&self) -> Result<Option<Text>, AllocError>
+        ensures { IfOk result (λ text. text ≡ errors_told self.now.errors) }
     {
-        &self.errors
+        errors_text(self.alloc, &self.errors)
     }
 
     /// The settings change. Answers the changed files that don't hold.

@@ -1190,14 +1190,13 @@ client-behind meaning s event t m =
     λ i. client_after_status (m.made.status i) (files-now s (Next event) t.state.state.files m.made.files i) (m.workspaces i) (m.made.client i)
 
 status-behind : (meaning : Meaning) (s : State) (event : Event) (t : Working Turning) → MadeBehind meaning s event t
-    → status_now t.state.state.client.settings t.state.state.files t.state.state.workspaces ≡ status_after (Next event) (place_of s)
+    → status_now t.state.state.client t.state.state.files t.state.state.workspaces ≡ status_after (Next event) (place_of s)
 status-behind meaning s event t m =
-    let settings : t.state.state.client.settings ≡ (client_filed (Next event) (place_of s)).settings = ap (λ (c : Client). c.settings) m.made.client ∙ m.made.settings in
-    λ i. status_now (settings i) (files-now s (Next event) t.state.state.files m.made.files i) (m.workspaces i)
+    λ i. status_now (m.made.client i) (files-now s (Next event) t.state.state.files m.made.files i) (m.workspaces i)
 
 -- the status that is told
 due-behind : (meaning : Meaning) (s : State) (event : Event) (t : Working Turning) → MadeBehind meaning s event t
-    → statuses_due t.state.state.client.settings t.state.state.status (status_now t.state.state.client.settings t.state.state.files t.state.state.workspaces)
+    → statuses_due t.state.state.client.settings t.state.state.status (status_now t.state.state.client t.state.state.files t.state.state.workspaces)
     ≡ statuses_at (Next event) (place_of s)
 due-behind meaning s event t m =
     let settings : t.state.state.client.settings ≡ (client_left (Next event) (place_of s)).settings =

@@ -338,9 +338,9 @@ workspaces_after (Next event) place = with_due_load (build_in (Next event) place
 
 -- the status of a turn: the start tells it first, any other turn last
 abbrev pub status_after : Input → Place → Status
-status_after Start place = status_now place.client.settings place.files place.workspaces
+status_after Start place = status_now place.client place.files place.workspaces
 status_after (Next event) place =
-    status_now (client_filed (Next event) place).settings (files_after (Next event) place) (workspaces_after (Next event) place)
+    status_now (client_asked (Next event) place) (files_after (Next event) place) (workspaces_after (Next event) place)
 
 -- the client behind all that a turn tells it: the start may ask it to tell of saved documents, and each turn may ask whether the logs are to be opened
 abbrev pub client_left : Input → Place → Client

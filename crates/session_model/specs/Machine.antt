@@ -442,7 +442,7 @@ status_kept status w = and_then (status_changed status w) (λ v. Ok (record v { 
 
 -- the status of the present
 unfoldable pub status_done : Working State → Result (Working State) Counter
-status_done w = status_kept (status_now w.state.client.settings w.state.files w.state.workspaces) w
+status_done w = status_kept (status_now w.state.client w.state.files w.state.workspaces) w
 
 unfoldable pub status_part : Working Turning → Result (Working Turning) Counter
 status_part w = in_state status_done w

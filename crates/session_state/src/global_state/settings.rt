@@ -41,7 +41,8 @@ impl GlobalState {
     fn change_settings(&mut self, change: ConfigChange) -> Result<(), NoMemory>
         ensures { OnOk result (self.new ≡ with_client (client_with (Some change) self.old.client) self.old) }
     {
-        self.client.change_settings(change)
+        self.client.change_settings(change)?;
+        Ok(())
     }
 
     // Settings files that changed, and the parents of new roots, go into the settings.
