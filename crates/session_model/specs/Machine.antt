@@ -14,7 +14,7 @@ use Rattle.project_model.specs.declared.crates.CrateData.{CrateData as CrateGrap
 use Rattle.session_port.specs.declared.command.Command.TheVariants.{Defer, Revise, Invalidate, SetLoader, Timer as SetTimer}
 use Rattle.session_port.specs.declared.command.DeferredTask.TheVariants.{CheckProcMacroSources}
 use Rattle.session_port.specs.declared.command.LogCode.TheVariants.{MalformedNotification, UnhandledNotification}
-use Rattle.session_port.specs.declared.command.LogCode.TheVariants.{BadPath}
+use Rattle.session_port.specs.declared.command.LogCode.TheVariants.{BadPath, UnknownSave}
 use Rattle.session_port.specs.declared.event.LoaderMsg.{LoaderMsg}
 use Rattle.session_port.specs.declared.event.TaskMsg.{TaskMsg}
 use Rattle.session_port.specs.declared.job.JobKind.TheVariants.{FetchBuildData}
@@ -53,10 +53,11 @@ use Rattle.change_effects.specs.declared.effects.ChangeEffects.{ChangeEffects}
 use Rattle.change_effects.specs.declared.effects.SettingsFile.{SettingsFile}
 use Rattle.session_model.specs.Asking.{is_refresh_due, registers_saves, watchers_asked}
 use Rattle.session_model.specs.Building.{build_due, request_told, run_kept, with_due_build}
-use Rattle.session_model.specs.Crates.{builds_crates, crate_data}
+use Rattle.session_model.specs.Crates.{builds_crates, crate_data, is_unknown}
 use Rattle.session_model.specs.Fetching.{folders_told_if, settings_told, with_fetches}
 use Rattle.session_model.specs.Hearing.{heard_of}
 use Rattle.session_model.specs.Loading.{MacroPaths, crates_loaded, load_due, load_kept, load_kind, with_due_load}
+use Rattle.session_model.specs.Saving.{path_saved}
 use Rattle.session_model.specs.Sources.{change_for, client_with, parents_told, sources_now}
 use Rattle.session_model.specs.State.{client_watches, columns_in, discovers, excludes_in, fetch_kind, goes_by_folders, may_start, scene_of, snapshot_of, Sources, State, watched_names}
 use Rattle.session_model.specs.Status.{is_quiescent, opens_logs, shown_of, status_message, status_now, takes_status}
@@ -165,6 +166,19 @@ unfoldable pub closed_at : Result (List ℕ) UrlFault → List ℕ → Working S
 closed_at (Err fault) uri w = Ok (logged BadPath uri w)
 closed_at (Ok path) uri w = at_files (λ f. Ok (closed_document path f)) w
 
+-- a saved file that the table doesn't know is logged
+unfoldable pub save_noted : Bool → List ℕ → Working State → Working State
+save_noted unknown path w = if unknown then logged UnknownSave path w else w
+
+-- a file was saved: it may ask for build data and for a fetch
+abbrev pub saved_file : List ℕ → Working State → Working State
+saved_file path w =
+    at_workspaces (path_saved w.state.client.settings w.state.sources.roots w.state.files path) (save_noted (is_unknown w.state.files.ids path) path w)
+
+unfoldable pub saved_at : Result (List ℕ) UrlFault → List ℕ → Working State → Working State
+saved_at (Err fault) uri w = logged BadPath uri w
+saved_at (Ok path) uri w = saved_file path w
+
 -- the file of a URL is to be read anew
 unfoldable pub file_changed : List ℕ → Result (List ℕ) UrlFault → Working State → Working State
 file_changed url (Err fault) w = logged BadPath url w
@@ -183,6 +197,7 @@ told (notices.CancelRequest id) w = at_desk (λ d. Ok (cancelled id d)) w
 told (notices.DidOpen document) w = opened_at (path_of document.uri) document w
 told (notices.DidChange change) w = changed_at (path_of change.uri) change w
 told (notices.DidClose uri) w = closed_at (path_of uri) uri w
+told (notices.DidSave uri) w = Ok (saved_at (path_of uri) uri w)
 told notices.DidChangeConfiguration w = at_client asked_for_settings w
 told (notices.DidChangeWorkspaceFolders added removed) w = folders_taken added removed w
 told (notices.DidChangeWatchedFiles changes) w = Ok (files_changed map.empty changes w)
