@@ -14,7 +14,7 @@ use Rattle.project_model.specs.declared.crates.CrateData.{CrateData as CrateGrap
 use Rattle.session_port.specs.declared.command.Command.TheVariants.{Defer, Revise, Invalidate, SetLoader, Timer as SetTimer}
 use Rattle.session_port.specs.declared.command.DeferredTask.TheVariants.{CheckProcMacroSources}
 use Rattle.session_port.specs.declared.command.LogCode.TheVariants.{MalformedNotification, UnhandledNotification}
-use Rattle.session_port.specs.declared.command.LogCode.TheVariants.{BadPath, UnknownSave}
+use Rattle.session_port.specs.declared.command.LogCode.TheVariants.{BadPath, SecondSettingsFile, UnknownSave}
 use Rattle.session_port.specs.declared.event.LoaderMsg.{LoaderMsg}
 use Rattle.session_port.specs.declared.event.TaskMsg.{TaskMsg}
 use Rattle.session_port.specs.declared.job.JobKind.TheVariants.{FetchBuildData}
@@ -58,7 +58,7 @@ use Rattle.session_model.specs.Fetching.{folders_told_if, settings_told, with_fe
 use Rattle.session_model.specs.Hearing.{heard_of}
 use Rattle.session_model.specs.Loading.{MacroPaths, crates_loaded, load_due, load_kept, load_kind, with_due_load}
 use Rattle.session_model.specs.Saving.{path_saved}
-use Rattle.session_model.specs.Sources.{change_for, client_with, parents_told, sources_now}
+use Rattle.session_model.specs.Sources.{change_for, client_with, further_files, parents_told, sources_now}
 use Rattle.session_model.specs.State.{client_watches, columns_in, discovers, excludes_in, fetch_kind, goes_by_folders, may_start, scene_of, snapshot_of, Sources, State, watched_names}
 use Rattle.session_model.specs.Status.{is_quiescent, opens_logs, shown_of, status_message, status_now, takes_status}
 use Rattle.session_model.specs.Switching.{switch_made}
@@ -336,11 +336,17 @@ switch_done w = switched_to (switch_made w.state.client.settings w.state.files w
 unfoldable pub switch_part : Working Turning → Result (Working Turning) Counter
 switch_part w = in_state switch_done w
 
+-- further settings files of a root and kind, of which another holds, are logged
+unfoldable pub further_logged : List (List ℕ) → Working State → Working State
+further_logged [] w = w
+further_logged (path ∷ paths) w = further_logged paths (logged SecondSettingsFile path w)
+
 -- settings files that changed, and the parents of new roots, go into the settings: they are one change of them
 unfoldable pub settings_filed : List SettingsFile → Working State → Working State
 settings_filed files w =
-    let client = client_with (change_for files w.state.sources w.state.workspaces.present) w.state.client in
-    record w { state = with_sources (parents_told w.state.sources) (with_client client w.state) }
+    let change = change_for files w.state.sources w.state.workspaces.present in
+    further_logged (further_files change)
+    (record w { state = with_sources (parents_told w.state.sources) (with_client (client_with change w.state.client) w.state) })
 
 -- the host is to ask, once there is nothing else to do, for a check of these files as sources of macros
 unfoldable pub sources_deferred : Option (List FileId) → Working State → Working State
