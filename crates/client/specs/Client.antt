@@ -1,5 +1,6 @@
 -- What is agreed with the client, and what was asked of it.
-use Rattle.std.specs.Prelude.{ℕ}
+use Rattle.std.specs.Prelude.{ℕ, List, []}
+use Rattle.ra_settings.specs.declared.error.ConfigError.{ConfigError}
 use Rattle.ra_config.specs.Config.{ConfigData}
 use Rattle.outgoing.specs.Outgoing.{Outgoing, none_waiting}
 use Rattle.client.specs.declared.handler.ReqHandler.{ReqHandler}
@@ -8,10 +9,12 @@ pub record Client : Type 0 where
   pub settings : ConfigData
   -- the session's own requests that wait for an answer, each with what is to follow it
   pub asked : Outgoing ReqHandler
+  -- the errors of the last change of the settings
+  pub errors : List ConfigError
 
--- these settings, where so many numbers were given and nothing waits
+-- these settings, which were not changed, where so many numbers were given and nothing waits
 abbrev pub new_client_at : ℕ → ConfigData → Client
-new_client_at given settings = record { settings = settings; asked = none_waiting given }
+new_client_at given settings = record { settings = settings; asked = none_waiting given; errors = [] }
 
 abbrev pub new_client : ConfigData → Client
 new_client settings = new_client_at 0 settings

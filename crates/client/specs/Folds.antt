@@ -5,7 +5,8 @@ use Rattle.serde_json.specs.Data.{Data}
 use Rattle.docs_vfs.specs.FileUrls.{path_of}
 use Rattle.lsp_frame.specs.declared.message.RequestId.{RequestId}
 use Rattle.lsp_frame.specs.declared.message.Response.{Response}
-use Rattle.layered_settings.specs.Change.{after}
+use Rattle.ra_settings.specs.declared.error.ConfigError.{ConfigError}
+use Rattle.layered_settings.specs.Change.{after, errors_after}
 use Rattle.layered_settings.specs.declared.change.ConfigChange.{ConfigChange}
 use Rattle.ra_config.specs.Config.{ConfigData}
 use Rattle.ra_config.specs.Projects.{without}
@@ -45,6 +46,11 @@ abbrev pub with_client : Option Data → ConfigData → ConfigData
 with_client None settings = settings
 with_client (Some value) settings = with_change (client_change value) settings
 
+-- the errors of the last change, where the client sets this
+abbrev pub errors_with : Option Data → Client → List ConfigError
+errors_with None client = client.errors
+errors_with (Some value) client = errors_after client.settings.root_path (client_change value)
+
 -- an answer to a request for the settings brings those that it says
 abbrev pub settings_after : Option ReqHandler → Response → ConfigData → ConfigData
 settings_after None response settings = settings
@@ -52,18 +58,29 @@ settings_after (Some Ignore) response settings = settings
 settings_after (Some OpenLogs) response settings = settings
 settings_after (Some Settings) response settings = with_client (settings_in response) settings
 
+-- and the errors of those values
+abbrev pub errors_behind : Option ReqHandler → Response → Client → List ConfigError
+errors_behind None response client = client.errors
+errors_behind (Some Ignore) response client = client.errors
+errors_behind (Some OpenLogs) response client = client.errors
+errors_behind (Some Settings) response client = errors_with (settings_in response) client
+
 -- the request of the answer's id waits no more; where it asked for the settings, they are from now on what the answer says
 abbrev pub after_answer : Response → Client → Client
 after_answer response client = record {
   settings = settings_after (follows response.id client.asked) response client.settings;
   asked = asked_after response.id client.asked;
+  errors = errors_behind (follows response.id client.asked) response client;
 }
 
 -- ---- settings files
 
--- the settings change, and nothing else that is agreed
+-- the settings change, and the errors of the values that the change brings take the place of those before
 abbrev pub after_change : ConfigChange → Client → Client
-after_change change client = record client { settings = with_change change client.settings }
+after_change change client = record client {
+  settings = with_change change client.settings;
+  errors = errors_after client.settings.root_path change;
+}
 
 -- ---- the workspaces
 

@@ -2,6 +2,7 @@
 #![tactic(auto)]
 
 mod answers;
+mod errors;
 mod handler;
 mod ids;
 mod state;

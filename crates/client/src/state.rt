@@ -2,6 +2,7 @@
 ghost use Rattle.std.specs.Prelude.{◌≡◌, ◌≢◌, ◌≤◌, ◌⊎◌, pos, IfOk, IfErr, OnOk};
 ghost use Rattle.std.specs.Arc.{arc_value};
 ghost use Rattle.notify.specs.Writing.{HoldsPlain};
+ghost use Rattle.layered_settings.specs.Change.{passed_over};
 ghost use Rattle.outgoing.specs.Outgoing.{number_limit};
 ghost use Rattle.turn_parts.specs.Meets.{Meets};
 ghost use Rattle.turn_parts.specs.declared.fault.TurnError.TheVariants.{Exhausted, NoMemory as OutOfMemory};
@@ -9,17 +10,20 @@ ghost use Rattle.turn_parts.specs.declared.fault.Counter.TheVariants.{Outgoing a
 ghost use Rattle.client.specs.Client.{new_client, new_client_at};
 ghost use Rattle.client.specs.Folds.{after_asking, after_change};
 ghost use Rattle.client.specs.Steps.{asked_for, notification_of};
+ghost use Rattle.client.specs.Texts.{errors_told};
 ghost use Rattle.turn_parts.specs.Working.{written};
 
 mod answering;
 mod folders;
 
+use crate::errors::errors_text;
 use crate::handler::ReqHandler;
+use docs_vfs::VfsPath;
 use lsp_frame::{Message, Notification, Request, RequestId};
 use notify::{Outgo, outgo_body};
 use outgoing::{Outgoing, OutgoingFault};
-use plain::NoMemory;
-use ra_config::{Config, ConfigChange};
+use plain::{Items, NoMemory, Text};
+use ra_config::{Config, ConfigChange, ConfigErrors};
 use std::alloc::{AllocError, Global};
 use std::marker::Model;
 use std::sync::Arc;
@@ -31,6 +35,8 @@ pub struct Client {
     alloc: Global,
     settings: Arc<Config, Global>,
     asked: Outgoing<ReqHandler>,
+    /// The errors of the last change of the settings.
+    errors: ConfigErrors,
 }
 
 impl Model for Client {
@@ -43,7 +49,7 @@ impl Model for Client {
 
     ghost coded = { client_code handler.the_row.coded };
 
-    ghost view = { λ c. record { settings = arc_value c.settings; asked = c.asked } };
+    ghost view = { λ c. record { settings = arc_value c.settings; asked = c.asked; errors = c.errors } };
 }
 
 impl Client {
@@ -63,6 +69,7 @@ impl Client {
             alloc,
             settings: Arc::new(alloc, settings)?,
             asked: Outgoing::new_at(alloc, given),
+            errors: ConfigErrors::new(alloc, Items::new(alloc))?,
         })
     }
 
@@ -73,13 +80,22 @@ impl Client {
         &self.settings
     }
 
-    /// The settings change.
-    pub fn change_settings(&mut self, change: ConfigChange) -> Result<(), AllocError>
-        ensures { OnOk result (self.new ≡ after_change change self.old) }
+    /// The errors of the last change of the settings in one text, where there are any.
+    pub fn errors_text(&self) -> Result<Option<Text>, AllocError>
+        ensures { IfOk result (λ text. text ≡ errors_told self.now.errors) }
+    {
+        errors_text(self.alloc, &self.errors)
+    }
+
+    /// The settings change. Answers the changed files that don't hold.
+    pub fn change_settings(&mut self, change: ConfigChange) -> Result<Items<VfsPath>, AllocError>
+        ensures after { OnOk result (self.new ≡ after_change change self.old) }
+        ensures passed { IfOk result (λ paths. paths ≡ passed_over change) }
     {
         let applied = self.settings.apply_change(self.alloc, change)?;
         self.settings = Arc::new(self.alloc, applied.config)?;
-        Ok(())
+        self.errors = applied.errors;
+        Ok(applied.passed_over)
     }
 
     // Gives the next number to a request that is to wait.

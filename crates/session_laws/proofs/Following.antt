@@ -1,18 +1,30 @@
 -- What follows within a turn from files that changed: settings may change, a check may be put off, a fetch may wait for a timer, and nobody is answered.
-use Rattle.std.proofs.Common.{◌≡◌, List, [], ◌∷◌, refl, sym, ap, append-nil}
+use Rattle.std.proofs.Common.{◌≡◌, ◌∙◌, ℕ, List, [], ◌∷◌, refl, sym, ap, append-nil}
 use Rattle.std.specs.Prelude.{Option, None, Some}
 use Rattle.docs_vfs.specs.declared.file_kinds.ChangedFile.{ChangedFile}
 use Rattle.docs_vfs.specs.declared.file_kinds.FileId.{FileId}
 use Rattle.session_port.specs.declared.command.Command.TheVariants.{Defer}
 use Rattle.session_port.specs.declared.command.DeferredTask.TheVariants.{CheckProcMacroSources}
-use Rattle.turn_parts.specs.Working.{Working, ordered}
+use Rattle.session_port.specs.declared.command.LogCode.TheVariants.{SecondSettingsFile}
+use Rattle.turn_parts.specs.Working.{Working, logged, ordered}
 use Rattle.change_effects.specs.declared.effects.ChangeEffects.{ChangeEffects}
-use Rattle.session_model.specs.Machine.{effects_done, fetch_waits, files_followed, settings_filed, sources_deferred, with_workspaces}
-use Rattle.session_model.specs.Sources.{change_by, client_with, sources_after}
+use Rattle.session_model.specs.Machine.{effects_done, fetch_waits, files_followed, further_logged, settings_filed, sources_deferred, with_client, with_sources, with_workspaces}
+use Rattle.session_model.specs.Sources.{change_by, change_for, client_with, further_files, parents_told, sources_after}
 use Rattle.session_model.specs.State.{State}
 use Rattle.session_model.specs.Timing.{effects_for, fetch_planned, planned_by}
 use Rattle.session_laws.specs.Beside.{Tells}
-use Rattle.session_laws.proofs.Telling.{tells-none}
+use Rattle.session_laws.proofs.Telling.{tells-logged, tells-none, tells-on}
+
+further-tells : (paths : List (List ℕ)) (w : Working State) → Tells w.out (further_logged paths w).out
+unfolding further_logged
+further-tells [] w = tells-none w.out
+further-tells (path ∷ paths) w =
+    tells-on _ _ _ (tells-logged SecondSettingsFile path w) (further-tells paths (logged SecondSettingsFile path w))
+
+further-same : (paths : List (List ℕ)) (w : Working State) → (further_logged paths w).state ≡ w.state
+unfolding further_logged logged ordered
+further-same [] w = refl
+further-same (path ∷ paths) w = further-same paths (logged SecondSettingsFile path w)
 
 deferred-tells : (sources : Option (List FileId)) (w : Working State) → Tells w.out (sources_deferred sources w).out
 unfolding sources_deferred ordered
@@ -49,7 +61,11 @@ followed-does [] w = record { tells = tells-none w.out; state = refl }
 followed-does (change ∷ changes) w =
     let effects : ChangeEffects = effects_for w.state.client.settings (change ∷ changes) w.state.workspaces in
     let filed = settings_filed effects.settings w in
+    let settings = change_for effects.settings w.state.sources w.state.workspaces.present in
+    let put : Working State = record w { state = with_sources (parents_told w.state.sources) (with_client (client_with settings w.state.client) w.state) } in
+    let further = further_files settings in
     record {
-      tells = deferred-tells effects.macro_sources filed;
-      state = ap (λ (s : State). with_workspaces (fetch_planned s.desk.turns effects.fetch s.workspaces) s) (deferred-same effects.macro_sources filed);
+      tells = tells-on _ _ _ (further-tells further put) (deferred-tells effects.macro_sources filed);
+      state = ap (λ (s : State). with_workspaces (fetch_planned s.desk.turns effects.fetch s.workspaces) s)
+          (deferred-same effects.macro_sources filed ∙ further-same further put);
     }

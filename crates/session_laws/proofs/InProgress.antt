@@ -49,7 +49,7 @@ use Rattle.session_model.specs.declared.input.Event.TheVariants.{Lsp, Task, Vfs,
 use Rattle.session_model.specs.declared.input.Input.{Input}
 use Rattle.session_model.specs.declared.input.Input.TheVariants.{Start, Next}
 use Rattle.session_laws.specs.Invariant.{BuildIsOut, FetchIsOut, IsOutIf, LoadIsOut, SoundAt, is_build, is_fetch, is_load, place_of}
-use Rattle.session_laws.proofs.Changing.{folders-asks, settings-asks}
+use Rattle.session_laws.proofs.Changing.{folders-asks, input-saves, settings-asks}
 use Rattle.session_laws.proofs.Numbered.{row-numbered}
 use Rattle.session_laws.proofs.OneOut.{AreNone, IsSo, asked-none, fit-true, given-input, kept-off, none-some, numbered-behind, numbered-front, off-other, on-others, on-start, still-so, true-false}
 use Rattle.session_laws.proofs.Rows.{steps-fit}
@@ -499,7 +499,7 @@ turn-keeps-fetching meaning turn place does numbered hands sound h =
       low = given-input place.desk.handed input place.desk.jobs sound.numbers;
       out_if = subst (λ b. IsOutIf is_fetch b out) (sym (turn-waits input place).in_progress)
           (subst (λ (f : Fetches). IsOutIf is_fetch f.queue.in_progress out) (sym (switch-moves input place).fetches)
-          (fetch-told-out place.client input place.desk place.workspaces h));
+          (subst (λ b. IsOutIf is_fetch b out) (sym (input-saves input place).in_progress) (fetch-told-out place.client input place.desk place.workspaces h)));
     } in
     let rowed = on-others is_fetch (fetching workspaces) place.desk.handed jobs out (row-numbered meaning input place) none told in
     let started = fetch-out (may_start_at input place) workspaces.fetches after.desk.handed (snapshot_at after) (place.desk.handed + length jobs) (with_jobs jobs out) all.fetch_numbered rowed in
@@ -527,7 +527,7 @@ turn-keeps-building meaning turn place does numbered hands sound h =
       low = given-input place.desk.handed input place.desk.jobs sound.numbers;
       out_if = subst (λ (b : Builds). IsOutIf is_build b.queue.in_progress out) (sym (turn-waits input place).builds)
           (subst (λ b. IsOutIf is_build b out) (sym (switch-moves input place).building)
-          (build-told-out place.client input place.desk place.workspaces h));
+          (subst (λ b. IsOutIf is_build b out) (sym (input-saves input place).building) (build-told-out place.client input place.desk place.workspaces h)));
     } in
     let rowed = on-others is_build (building workspaces) place.desk.handed jobs out (row-numbered meaning input place) none told in
     let started = on-others is_build (building workspaces) (place.desk.handed + length jobs) fetch (with_jobs jobs out) all.fetch_numbered
@@ -554,7 +554,7 @@ turn-keeps-loading meaning turn place does numbered hands sound h =
       low = given-input place.desk.handed input place.desk.jobs sound.numbers;
       out_if = subst (λ (l : Loads). IsOutIf is_load l.queue.in_progress out) (sym (turn-waits input place).loads)
           (subst (λ b. IsOutIf is_load b out) (sym (switch-moves input place).loading)
-          (load-told-out place.client input place.desk place.workspaces h));
+          (subst (λ (l : Loads). IsOutIf is_load l.queue.in_progress out) (sym (input-saves input place).loads) (load-told-out place.client input place.desk place.workspaces h)));
     } in
     let rowed = on-others is_load (loading workspaces) place.desk.handed jobs out (row-numbered meaning input place) none told in
     let started = on-others is_load (loading workspaces) (place.desk.handed + length jobs) fetch (with_jobs jobs out) all.fetch_numbered

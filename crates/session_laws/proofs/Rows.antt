@@ -24,7 +24,7 @@ use Rattle.session_port.specs.Record.{spawned, with_jobs}
 use Rattle.session_port.specs.declared.command.Command.{Command}
 use Rattle.session_port.specs.declared.command.Command.TheVariants.{Revise, Timer as SetTimer}
 use Rattle.session_port.specs.declared.command.LogCode.{LogCode}
-use Rattle.session_port.specs.declared.command.LogCode.TheVariants.{BadPath, BuildError, FetchError}
+use Rattle.session_port.specs.declared.command.LogCode.TheVariants.{BadPath, BuildError, FetchError, UnknownSave}
 use Rattle.session_port.specs.declared.event.LoaderMsg.{LoaderMsg}
 use Rattle.session_port.specs.declared.event.TaskMsg.{TaskMsg}
 use Rattle.session_port.specs.declared.job.Job.{Job}
@@ -62,20 +62,21 @@ use Rattle.workspaces.specs.Workspaces.{Workspaces}
 use Rattle.workspaces.specs.declared.requests.FetchRequest.{FetchRequest}
 use Rattle.session_model.specs.Asking.{client_refreshed_if, client_registered, client_watching, is_refresh_due}
 use Rattle.session_model.specs.Building.{build_due, build_kept, end_kept, ends_kept, request_told, with_due_build}
-use Rattle.session_model.specs.Crates.{crates_in, crates_let_in, crates_told, files_with_crates, is_built_by}
+use Rattle.session_model.specs.Crates.{crates_in, crates_let_in, crates_told, files_with_crates, is_built_by, is_unknown}
 use Rattle.session_model.specs.Fetching.{fetch_jobs, fetch_kept, folders_told_if, settings_told, with_fetches}
 use Rattle.session_model.specs.Headline.{Place, reaction_of, row, notice_row, batch_row, desk_after, place_after, place_past, client_after, last_of, revision_after, scene_at, snapshot_at}
 use Rattle.session_model.specs.Headline.{are_due, build_in, builds_crates_in, changes_due, changes_in, changes_world, client_asked, client_filed, client_left, client_switched, crates_in_turn, crates_told_by, fetch_in, files_after, files_made, files_switched, files_told, files_turned}
 use Rattle.session_model.specs.Headline.{is_changed, jobs_started, left_or, load_in, may_start_at, or_before, refreshes_at, revisions_in, run_jobs, SetsTimer}
 use Rattle.session_model.specs.Headline.{sources_filed, sources_switched, status_after, statuses_at, switch_in, workspaces_after, workspaces_at, workspaces_fetched, workspaces_planned, workspaces_switched}
 use Rattle.session_model.specs.Inputs.{cancelled_by, request_in, turns_after}
-use Rattle.session_model.specs.Machine.{answer_taken, asked, asked_for_settings, at_client, at_desk, at_files, at_workspaces, batched, begin_part, begun_fetches, brought, build_part, build_taken, changed_at, client_in, closed}
-use Rattle.session_model.specs.Machine.{closed_at, closing_part, counted, crates_arrived, desk_in, ends_taken, event_part, facts_of, fetch_part, fetch_started, fetch_taken, file_changed, files_changed, files_followed, files_in, files_part, files_processed, folders_taken}
-use Rattle.session_model.specs.Machine.{happened, has_new_world, kept, later_parts, load_taken, noticed, opened_at, quiet_done, quiet_part, received, register_part, revised, runs_started, saves_registered, start_parts, state_in}
+use Rattle.session_model.specs.Machine.{answer_taken, asked, asked_for_settings, at_client, at_desk, at_files, at_workspaces, batched, begin_part, begun_fetches, brought, build_part, build_taken, changed_at, client_in, closed, closed_at, closing_part, counted, crates_arrived, desk_in, ends_taken, event_part, facts_of, fetch_part}
+use Rattle.session_model.specs.Machine.{fetch_started, fetch_taken, file_changed, files_changed, files_followed, files_in, files_part, files_processed, folders_taken, happened, has_new_world, kept, later_parts, load_taken, noticed, opened_at, quiet_done, quiet_part, received, register_part, revised, runs_started, save_noted}
+use Rattle.session_model.specs.Machine.{saved_at, saves_registered, start_parts, state_in}
 use Rattle.session_model.specs.Machine.{status_done, status_part, step, switch_done, switch_part, taken, taken_in, timed, timer_set, told}
 use Rattle.session_model.specs.Machine.{turned, Turning, turning, with_client, with_desk, with_files, with_state, with_workspaces}
 use Rattle.session_model.specs.Hearing.{heard_of, told_by}
-use Rattle.session_model.specs.Loading.{MacroPaths, crates_loaded, load_due, load_kept, with_due_load}
+use Rattle.session_model.specs.Loading.{crates_loaded, load_due, load_kept, MacroPaths, with_due_load}
+use Rattle.session_model.specs.Saving.{path_saved}
 use Rattle.session_model.specs.Sources.{change_by, client_with, sources_after, sources_left}
 use Rattle.session_model.specs.Switching.{switch_made}
 use Rattle.session_model.specs.Timing.{bring_files, planned_by, renewed_if, timer_of}
@@ -344,6 +345,35 @@ closed-cases meaning s n uri (Ok path) heard is =
     files-mid meaning s (notification_input n) (λ f. Ok (closed_document path f)) (Ok (after_closing path s.files))
     (silent-serves meaning s n (rw heard refl)) (rw heard refl) (rw (heard, is) refl) (rw heard refl) (closed-does path (files_turn s))
 
+-- a saved file that the table doesn't know is logged
+noted-tells : (unknown : Bool) (path : List ℕ) (w : Working State) → Tells w.out (save_noted unknown path w).out
+unfolding save_noted
+noted-tells true path w = tells-logged UnknownSave path w
+noted-tells false path w = tells-none w.out
+
+noted-same : (unknown : Bool) (path : List ℕ) (w : Working State) → (save_noted unknown path w).state ≡ w.state
+unfolding save_noted logged ordered
+noted-same true path w = refl
+noted-same false path w = refl
+
+saved-cases : (meaning : Meaning) (s : State) (n : Notification) (uri : List ℕ) (o : Result (List ℕ) UrlFault) → heard_of n ≡ Told (notices.DidSave uri) → path_of uri ≡ o
+    → Mid meaning s (notification_input n) (saved_at o uri (counted_turn s))
+unfolding saved_at
+saved-cases meaning s n uri (Err fault) heard is =
+    logged-mid meaning s (notification_input n) _ _ (silent-serves meaning s n (rw heard refl)) (record { client = rw heard refl; files = rw heard refl; workspaces = rw (heard, is) refl })
+saved-cases meaning s n uri (Ok path) heard is =
+    let input = notification_input n in
+    let unknown = is_unknown s.files.ids path in
+    let asks : Workspaces → Workspaces = path_saved s.client.settings s.sources.roots s.files path in
+    let same = noted-same unknown path (counted_turn s) in
+    let client : client_after input s.client ≡ s.client = rw heard refl in
+    let files : files_told input (place_of s) ≡ Ok s.files = rw heard refl in
+    let workspaces : workspaces_at input (place_of s) ≡ asks s.workspaces = rw (heard, is) refl in
+    told-mid meaning s input _ (silent-serves meaning s n (rw heard refl)) (noted-tells unknown path (counted_turn s))
+    (ap (λ (t : State). t.desk) same) (ap (λ (t : State). t.client) same ∙ sym client) (ap (λ (t : State). t.status) same)
+    (subst (λ (t : State). files_told input (place_of s) ≡ Ok t.files) (sym same) files)
+    (ap (λ (t : State). asks t.workspaces) same ∙ sym workspaces) (ap (λ (t : State). t.sources) same)
+
 -- the loader brings files, and a fetch that waits gets a new timer
 brought-mid : (meaning : Meaning) (s : State) (messages : List LoaderMsg) → IfOk (brought messages (counted_turn s)) (Mid meaning s (Next (Vfs messages)))
 brought-mid meaning s messages =
@@ -437,7 +467,7 @@ told-cases meaning s n (notices.CancelProgress token) heard = pass-mid meaning s
 told-cases meaning s n (notices.DidOpen document) heard = opened-cases meaning s n document (path_of document.uri) heard refl
 told-cases meaning s n (notices.DidChange change) heard = changed-cases meaning s n change (path_of change.uri) heard refl
 told-cases meaning s n (notices.DidClose uri) heard = closed-cases meaning s n uri (path_of uri) heard refl
-told-cases meaning s n (notices.DidSave uri) heard = pass-mid meaning s n (rw heard refl) (record { client = rw heard refl; files = rw heard refl; workspaces = rw heard refl })
+told-cases meaning s n (notices.DidSave uri) heard = saved-cases meaning s n uri (path_of uri) heard refl
 told-cases meaning s n notices.DidChangeConfiguration heard = asking-mid meaning s n heard
 told-cases meaning s n (notices.DidChangeWorkspaceFolders added removed) heard = folders-mid meaning s n added removed heard
 told-cases meaning s n (notices.DidChangeWatchedFiles changes) heard = watched-mid meaning s n changes heard
@@ -1263,14 +1293,13 @@ client-behind meaning s event t m =
     λ i. client_after_status (m.made.status i) (files-now s (Next event) t.state.state.files m.made.files i) (m.workspaces i) (m.made.client i)
 
 status-behind : (meaning : Meaning) (s : State) (event : Event) (t : Working Turning) → MadeBehind meaning s event t
-    → status_now t.state.state.client.settings t.state.state.files t.state.state.workspaces ≡ status_after (Next event) (place_of s)
+    → status_now t.state.state.client t.state.state.files t.state.state.workspaces ≡ status_after (Next event) (place_of s)
 status-behind meaning s event t m =
-    let settings : t.state.state.client.settings ≡ (client_filed (Next event) (place_of s)).settings = ap (λ (c : Client). c.settings) m.made.client ∙ m.made.settings in
-    λ i. status_now (settings i) (files-now s (Next event) t.state.state.files m.made.files i) (m.workspaces i)
+    λ i. status_now (m.made.client i) (files-now s (Next event) t.state.state.files m.made.files i) (m.workspaces i)
 
 -- the status that is told
 due-behind : (meaning : Meaning) (s : State) (event : Event) (t : Working Turning) → MadeBehind meaning s event t
-    → statuses_due t.state.state.client.settings t.state.state.status (status_now t.state.state.client.settings t.state.state.files t.state.state.workspaces)
+    → statuses_due t.state.state.client.settings t.state.state.status (status_now t.state.state.client t.state.state.files t.state.state.workspaces)
     ≡ statuses_at (Next event) (place_of s)
 due-behind meaning s event t m =
     let settings : t.state.state.client.settings ≡ (client_left (Next event) (place_of s)).settings =

@@ -58,16 +58,16 @@ changed-cases false status w = told-does status w
 
 -- the status is kept, the client is told of it, nothing else changes, and nobody is answered
 pub record TellsStatus (w v : Working State) : Type 0 where
-  pub tells : TellsOnly (statuses_due w.state.client.settings w.state.status (status_now w.state.client.settings w.state.files w.state.workspaces)) w.out v.out
+  pub tells : TellsOnly (statuses_due w.state.client.settings w.state.status (status_now w.state.client w.state.files w.state.workspaces)) w.out v.out
   pub state : v.state ≡ record w.state {
     client = client_after_status w.state.status w.state.files w.state.workspaces w.state.client;
-    status = status_now w.state.client.settings w.state.files w.state.workspaces;
+    status = status_now w.state.client w.state.files w.state.workspaces;
   }
 
 pub status-does : (w : Working State) → IfOk (status_done w) (TellsStatus w)
 unfolding status_done status_kept status_changed
 status-does w =
-    let now : Status = status_now w.state.client.settings w.state.files w.state.workspaces in
+    let now : Status = status_now w.state.client w.state.files w.state.workspaces in
     let client : Client = client_after_status w.state.status w.state.files w.state.workspaces w.state.client in
     let kept : Working State → Working State = λ v. record v { state = with_status now v.state } in
     IfOk-and_then (status_changed now w) (λ v. Ok (kept v)) (TellsClient client (statuses_due w.state.client.settings w.state.status now) w) (TellsStatus w)
@@ -109,7 +109,7 @@ changed-errs false status w = told-errs status w
 pub status-errs : (w : Working State) → IfErr (status_done w) (IsPast (client_after_status w.state.status w.state.files w.state.workspaces w.state.client))
 unfolding status_done status_kept status_changed
 status-errs w =
-    let now : Status = status_now w.state.client.settings w.state.files w.state.workspaces in
+    let now : Status = status_now w.state.client w.state.files w.state.workspaces in
     err-and_then (status_changed now w) (λ v. Ok (record v { state = with_status now v.state }))
     (IsPast (client_after_status w.state.status w.state.files w.state.workspaces w.state.client))
     (changed-errs (is_same_status w.state.status now) now w) (λ v is. tt)

@@ -30,7 +30,7 @@ use Rattle.session_model.specs.declared.input.Event.TheVariants.{Lsp, Task, Vfs,
 use Rattle.session_model.specs.declared.input.Input.{Input}
 use Rattle.session_model.specs.declared.input.Input.TheVariants.{Start, Next}
 use Rattle.session_laws.specs.Invariant.{IsOfTurns}
-use Rattle.session_laws.proofs.Changing.{folders-asks, settings-asks}
+use Rattle.session_laws.proofs.Changing.{folders-asks, input-saves, settings-asks}
 use Rattle.session_laws.proofs.Switching.{switch-moves}
 
 later : (turns more : ℕ) (waiting : Option WaitingFetch) → turns ≤ more → IsOfTurns turns waiting → IsOfTurns more waiting
@@ -131,7 +131,7 @@ switched-tickets : (input : Input) (place : Place) → IsOfTurns place.desk.turn
     → IsOfTurns (turns_after input place.desk.turns) (workspaces_switched input place).fetches.waiting
 switched-tickets input place h =
     subst (λ (f : Fetches). IsOfTurns (turns_after input place.desk.turns) f.waiting) (sym (switch-moves input place).fetches)
-    (told-tickets place.client input place.desk place.workspaces h)
+    (subst (IsOfTurns (turns_after input place.desk.turns)) (sym (input-saves input place).waiting) (told-tickets place.client input place.desk place.workspaces h))
 
 -- the start plans none
 planned-tickets : (input : Input) (place : Place) → IsOfTurns place.desk.turns place.workspaces.fetches.waiting

@@ -26,7 +26,7 @@ use Rattle.session_model.specs.Timing.{bring_files}
 use Rattle.session_model.specs.declared.input.Event.TheVariants.{Lsp, Task, Vfs, Deferred, Timer}
 use Rattle.session_model.specs.declared.input.Input.{Input}
 use Rattle.session_model.specs.declared.input.Input.TheVariants.{Start, Next}
-use Rattle.session_laws.proofs.Changing.{folders-asks, settings-asks}
+use Rattle.session_laws.proofs.Changing.{folders-asks, input-saves, settings-asks}
 use Rattle.session_laws.proofs.Switching.{switch-moves}
 use Rattle.session_laws.proofs.Timing.{renewed-waits, turn-waits}
 
@@ -91,7 +91,8 @@ told-version client (Next (Timer ticket)) desk workspaces = refl
 switched-version : (input : Input) (place : Place) → place.workspaces.version ≤ place.desk.turns → (workspaces_switched input place).version ≤ turns_after input place.desk.turns
 switched-version Start place h = h
 switched-version (Next event) place h =
-    let same : (workspaces_at (Next event) place).version ≡ place.workspaces.version = told-version place.client (Next event) place.desk place.workspaces in
+    let same : (workspaces_at (Next event) place).version ≡ place.workspaces.version =
+    (input-saves (Next event) place).version ∙ told-version place.client (Next event) place.desk place.workspaces in
     let most = (switch-moves (Next event) place).version in
     omega (arith, same, most, h)
 

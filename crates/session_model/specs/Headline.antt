@@ -57,6 +57,7 @@ use Rattle.session_model.specs.Crates.{crates_in, crates_let_in, crates_told, fi
 use Rattle.session_model.specs.Fetching.{fetch_jobs, folders_told_if, settings_told, with_fetches}
 use Rattle.session_model.specs.Hearing.{heard_of, told_by}
 use Rattle.session_model.specs.Loading.{MacroPaths, load_due, load_jobs, with_due_load}
+use Rattle.session_model.specs.Saving.{save_told}
 use Rattle.session_model.specs.Sources.{change_by, client_with, sources_after, sources_left}
 use Rattle.session_model.specs.State.{columns_in, discovers, excludes_in, first_status, goes_by_folders, macros_loaded_in, may_start, no_sources, Sources}
 use Rattle.session_model.specs.Status.{client_after_status, is_quiescent, status_now, statuses_due, statuses_in}
@@ -211,8 +212,14 @@ workspaces_told client (Next (Vfs messages)) desk workspaces = renewed_if (bring
 workspaces_told client (Next (Deferred tasks)) desk workspaces = workspaces
 workspaces_told client (Next (Timer ticket)) desk workspaces = with_fetches (fire ticket) workspaces
 
+-- a document that the client saves may ask for build data and for a fetch, by the settings, the roots and the files of this place
+abbrev pub saves_told : Option Notice → Place → Workspaces → Workspaces
+saves_told None place workspaces = workspaces
+saves_told (Some (notices.DidSave uri)) place workspaces = save_told place.client.settings place.sources.roots place.files (path_of uri) workspaces
+saves_told (Some other) place workspaces = workspaces
+
 abbrev pub workspaces_at : Input → Place → Workspaces
-workspaces_at input place = workspaces_told place.client input place.desk place.workspaces
+workspaces_at input place = saves_told (notice_in input) place (workspaces_told place.client input place.desk place.workspaces)
 
 -- the switch that a turn makes, if it makes one, by the settings and the files that its input leaves; the start makes none
 abbrev pub switch_in : Input → Place → Result (Follows × Workspaces) Counter
@@ -338,9 +345,9 @@ workspaces_after (Next event) place = with_due_load (build_in (Next event) place
 
 -- the status of a turn: the start tells it first, any other turn last
 abbrev pub status_after : Input → Place → Status
-status_after Start place = status_now place.client.settings place.files place.workspaces
+status_after Start place = status_now place.client place.files place.workspaces
 status_after (Next event) place =
-    status_now (client_filed (Next event) place).settings (files_after (Next event) place) (workspaces_after (Next event) place)
+    status_now (client_asked (Next event) place) (files_after (Next event) place) (workspaces_after (Next event) place)
 
 -- the client behind all that a turn tells it: the start may ask it to tell of saved documents, and each turn may ask whether the logs are to be opened
 abbrev pub client_left : Input → Place → Client

@@ -10,6 +10,7 @@ pub mod Inputs
 pub mod Loading
 pub mod Machine
 pub mod Run
+pub mod Saving
 pub mod Sources
 pub mod State
 pub mod Status

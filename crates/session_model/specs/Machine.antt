@@ -14,7 +14,7 @@ use Rattle.project_model.specs.declared.crates.CrateData.{CrateData as CrateGrap
 use Rattle.session_port.specs.declared.command.Command.TheVariants.{Defer, Revise, Invalidate, SetLoader, Timer as SetTimer}
 use Rattle.session_port.specs.declared.command.DeferredTask.TheVariants.{CheckProcMacroSources}
 use Rattle.session_port.specs.declared.command.LogCode.TheVariants.{MalformedNotification, UnhandledNotification}
-use Rattle.session_port.specs.declared.command.LogCode.TheVariants.{BadPath, BuildError, FetchError}
+use Rattle.session_port.specs.declared.command.LogCode.TheVariants.{BadPath, BuildError, FetchError, SecondSettingsFile, UnknownSave}
 use Rattle.session_port.specs.declared.event.LoaderMsg.{LoaderMsg}
 use Rattle.session_port.specs.declared.event.TaskMsg.{TaskMsg}
 use Rattle.session_port.specs.declared.job.JobKind.TheVariants.{FetchBuildData}
@@ -55,11 +55,12 @@ use Rattle.change_effects.specs.declared.effects.ChangeEffects.{ChangeEffects}
 use Rattle.change_effects.specs.declared.effects.SettingsFile.{SettingsFile}
 use Rattle.session_model.specs.Asking.{is_refresh_due, registers_saves, watchers_asked}
 use Rattle.session_model.specs.Building.{build_due, build_kept, request_told, with_due_build}
-use Rattle.session_model.specs.Crates.{builds_crates, crate_data}
+use Rattle.session_model.specs.Crates.{builds_crates, crate_data, is_unknown}
 use Rattle.session_model.specs.Fetching.{fetch_kept, folders_told_if, settings_told, with_fetches}
 use Rattle.session_model.specs.Hearing.{heard_of}
 use Rattle.session_model.specs.Loading.{MacroPaths, crates_loaded, load_due, load_kept, load_kind, with_due_load}
-use Rattle.session_model.specs.Sources.{change_for, client_with, parents_told, sources_now}
+use Rattle.session_model.specs.Saving.{path_saved}
+use Rattle.session_model.specs.Sources.{change_for, client_with, further_files, parents_told, sources_now}
 use Rattle.session_model.specs.State.{client_watches, columns_in, discovers, excludes_in, fetch_kind, goes_by_folders, may_start, scene_of, snapshot_of, Sources, State, watched_names}
 use Rattle.session_model.specs.Status.{build_fault, fetch_fault, is_quiescent, opens_logs, shown_of, status_message, status_now, takes_status}
 use Rattle.session_model.specs.Switching.{switch_made}
@@ -167,6 +168,19 @@ unfoldable pub closed_at : Result (List ℕ) UrlFault → List ℕ → Working S
 closed_at (Err fault) uri w = Ok (logged BadPath uri w)
 closed_at (Ok path) uri w = at_files (λ f. Ok (closed_document path f)) w
 
+-- a saved file that the table doesn't know is logged
+unfoldable pub save_noted : Bool → List ℕ → Working State → Working State
+save_noted unknown path w = if unknown then logged UnknownSave path w else w
+
+-- a file was saved: it may ask for build data and for a fetch
+abbrev pub saved_file : List ℕ → Working State → Working State
+saved_file path w =
+    at_workspaces (path_saved w.state.client.settings w.state.sources.roots w.state.files path) (save_noted (is_unknown w.state.files.ids path) path w)
+
+unfoldable pub saved_at : Result (List ℕ) UrlFault → List ℕ → Working State → Working State
+saved_at (Err fault) uri w = logged BadPath uri w
+saved_at (Ok path) uri w = saved_file path w
+
 -- the file of a URL is to be read anew
 unfoldable pub file_changed : List ℕ → Result (List ℕ) UrlFault → Working State → Working State
 file_changed url (Err fault) w = logged BadPath url w
@@ -185,6 +199,7 @@ told (notices.CancelRequest id) w = at_desk (λ d. Ok (cancelled id d)) w
 told (notices.DidOpen document) w = opened_at (path_of document.uri) document w
 told (notices.DidChange change) w = changed_at (path_of change.uri) change w
 told (notices.DidClose uri) w = closed_at (path_of uri) uri w
+told (notices.DidSave uri) w = Ok (saved_at (path_of uri) uri w)
 told notices.DidChangeConfiguration w = at_client asked_for_settings w
 told (notices.DidChangeWorkspaceFolders added removed) w = folders_taken added removed w
 told (notices.DidChangeWatchedFiles changes) w = Ok (files_changed map.empty changes w)
@@ -341,11 +356,17 @@ switch_done w = switched_to (switch_made w.state.client.settings w.state.files w
 unfoldable pub switch_part : Working Turning → Result (Working Turning) Counter
 switch_part w = in_state switch_done w
 
+-- further settings files of a root and kind, of which another holds, are logged
+unfoldable pub further_logged : List (List ℕ) → Working State → Working State
+further_logged [] w = w
+further_logged (path ∷ paths) w = further_logged paths (logged SecondSettingsFile path w)
+
 -- settings files that changed, and the parents of new roots, go into the settings: they are one change of them
 unfoldable pub settings_filed : List SettingsFile → Working State → Working State
 settings_filed files w =
-    let client = client_with (change_for files w.state.sources w.state.workspaces.present) w.state.client in
-    record w { state = with_sources (parents_told w.state.sources) (with_client client w.state) }
+    let change = change_for files w.state.sources w.state.workspaces.present in
+    further_logged (further_files change)
+    (record w { state = with_sources (parents_told w.state.sources) (with_client (client_with change w.state.client) w.state) })
 
 -- the host is to ask, once there is nothing else to do, for a check of these files as sources of macros
 unfoldable pub sources_deferred : Option (List FileId) → Working State → Working State
@@ -462,7 +483,7 @@ status_kept status w = and_then (status_changed status w) (λ v. Ok (record v { 
 
 -- the status of the present
 unfoldable pub status_done : Working State → Result (Working State) Counter
-status_done w = status_kept (status_now w.state.client.settings w.state.files w.state.workspaces) w
+status_done w = status_kept (status_now w.state.client w.state.files w.state.workspaces) w
 
 unfoldable pub status_part : Working Turning → Result (Working Turning) Counter
 status_part w = in_state status_done w

@@ -1,8 +1,9 @@
 -- The source roots of a session, and what changed settings files do to its settings.
-use Rattle.std.specs.Prelude.{◌==◌, ◌&&◌, Bool, List, [], ◌∷◌, length, take, Option, None, Some, is_none, Result, Ok, Err, if◌then◌else◌}
+use Rattle.std.specs.Prelude.{ℕ, ◌==◌, ◌&&◌, Bool, List, [], ◌∷◌, length, take, Option, None, Some, is_none, Result, Ok, Err, if◌then◌else◌}
 use Rattle.docs_vfs.specs.Roots.{most_roots, parent_map}
 use Rattle.docs_vfs.specs.declared.file_kinds.ChangedFile.{ChangedFile}
 use Rattle.docs_vfs.specs.declared.source_roots.Root.{Root}
+use Rattle.layered_settings.specs.Change.{passed_over}
 use Rattle.layered_settings.specs.declared.change.ConfigChange.{ConfigChange}
 use Rattle.project_model.specs.declared.workspace.ProjectWorkspace.{ProjectWorkspace}
 use Rattle.ra_config.specs.Config.{ConfigData}
@@ -54,6 +55,11 @@ change_for files sources workspaces = if is_settled files sources then None else
 abbrev pub client_with : Option ConfigChange → Client → Client
 client_with None client = client
 client_with (Some change) client = after_change change client
+
+-- the changed files that don't hold, since of one root and kind another does
+abbrev pub further_files : Option ConfigChange → List (List ℕ)
+further_files None = []
+further_files (Some change) = passed_over change
 
 -- the settings have the parents of the roots
 abbrev pub parents_told : Sources → Sources

@@ -18,6 +18,7 @@ use Rattle.notify.specs.declared.outgo.MessageKind.TheVariants as kinds
 use Rattle.notify.specs.declared.outgo.Outgo.{Outgo}
 use Rattle.notify.specs.declared.outgo.Outgo.TheVariants.{ServerStatus}
 use Rattle.client.specs.Client.{Client}
+use Rattle.client.specs.Texts.{errors_told}
 use Rattle.client.specs.declared.handler.ReqHandler.TheVariants.{OpenLogs}
 use Rattle.session_files.specs.SessionFiles.{SessionFiles}
 use Rattle.workspaces.specs.Switching.{list_fetched, runs_built}
@@ -59,24 +60,23 @@ has_fetch_error settings workspaces = is_some (fetch_fault settings workspaces)
 abbrev pub has_build_error : Workspaces → Bool
 has_build_error workspaces = is_some (build_fault workspaces)
 
--- the facts of a status. The errors of settings are not kept yet and no checks are run, so that none are told; nothing is primed, so that the session is
--- fully ready where it is quiescent
-abbrev pub facts_known : ConfigData → SessionFiles → Workspaces → StatusInput
-facts_known settings files workspaces = record {
-  reload_needed = needs_reload settings files workspaces;
+-- the facts of a status. No checks are run, so that no error of one is told; nothing is primed, so that the session is fully ready where it is quiescent
+abbrev pub facts_known : Client → SessionFiles → Workspaces → StatusInput
+facts_known client files workspaces = record {
+  reload_needed = needs_reload client.settings files workspaces;
   build_deps_changed = workspaces.build_deps_changed;
   build_error = has_build_error workspaces;
-  config_errors = None;
+  config_errors = errors_told client.errors;
   check_error = None;
-  no_projects = lacks_projects settings;
-  workspace_error = has_fetch_error settings workspaces;
-  linked = linked_of settings;
+  no_projects = lacks_projects client.settings;
+  workspace_error = has_fetch_error client.settings workspaces;
+  linked = linked_of client.settings;
   workspaces = workspaces.present;
   fully_ready = is_quiescent files workspaces;
 }
 
-unfoldable pub status_now : ConfigData → SessionFiles → Workspaces → Status
-status_now settings files workspaces = status_of (facts_known settings files workspaces)
+unfoldable pub status_now : Client → SessionFiles → Workspaces → Status
+status_now client files workspaces = status_of (facts_known client files workspaces)
 
 -- ---- how it is told
 
@@ -116,7 +116,7 @@ asks_logs last status settings workspaces =
 -- the client behind the status, where the last one was this
 abbrev pub client_after_status : Status → SessionFiles → Workspaces → Client → Client
 client_after_status last files workspaces client =
-    after_asking_if OpenLogs (asks_logs last (status_now client.settings files workspaces) client.settings workspaces) client
+    after_asking_if OpenLogs (asks_logs last (status_now client files workspaces) client.settings workspaces) client
 
 -- ---- statuses among messages
 

@@ -23,6 +23,7 @@ mod messages;
 mod notifications;
 mod refreshing;
 mod registering;
+mod saving;
 mod settings;
 mod switching;
 mod telling;

@@ -22,7 +22,7 @@ use workspaces::{Follows, without_macros};
 type Graph = (CrateData, Items<Items<(u32, MacroPath)>>);
 
 // Whether a path has neither contents nor a mark.
-fn is_unknown(numbers: &FileIds, path: &VfsPath) -> bool
+pub(super) fn is_unknown(numbers: &FileIds, path: &VfsPath) -> bool
     ensures { result ≡ is_unknown numbers.now path.now }
 {
     numbers.get(path).is_none()
@@ -47,7 +47,7 @@ fn paths_of(alloc: Global, list: Items<VfsPath>) -> Result<ByPath<()>, NoMemory>
 }
 
 // The file that a root is loaded as: none where it has neither contents nor a mark, or is excluded.
-fn file_of(entry: Option<(FileId, FileExcluded)>) -> Option<FileId>
+pub(super) fn file_of(entry: Option<(FileId, FileExcluded)>) -> Option<FileId>
     ensures { result ≡ file_of entry }
 {
     match entry {

@@ -35,13 +35,13 @@ impl GlobalState {
             Notice::DidOpen(document) => self.on_open(document, out),
             Notice::DidChange(change) => self.on_change(change, out),
             Notice::DidClose { uri } => self.on_close(uri, out),
+            Notice::DidSave { uri } => self.on_save(uri, out),
             Notice::DidChangeConfiguration => self.ask_for_settings(out),
             Notice::DidChangeWorkspaceFolders { added, removed } => {
                 self.on_folders(added, removed, out)
             }
             Notice::DidChangeWatchedFiles { changes } => self.change_files(changes, out),
             Notice::CancelProgress(_)
-            | Notice::DidSave { .. }
             | Notice::CancelFlycheck
             | Notice::ClearFlycheck
             | Notice::RunFlycheck { .. }

@@ -1,15 +1,18 @@
 // Settings files that changed.
 ghost use Rattle.std.specs.Prelude.{◌≡◌, Some, IfOk, OnOk};
 ghost use Rattle.turn_parts.specs.Meets.{Gives};
-ghost use Rattle.session_model.specs.Machine.{settings_filed, with_client};
+ghost use Rattle.layered_settings.specs.Change.{passed_over};
+ghost use Rattle.session_model.specs.Machine.{further_logged, settings_filed, with_client};
 ghost use Rattle.session_model.specs.Sources.{client_with, is_settled, parents_told};
 ghost use Rattle.settings_files.specs.Filing.{change_of};
 
 use crate::global_state::GlobalState;
 use change_effects::SettingsFile;
-use plain::{Items, NoMemory};
+use docs_vfs::VfsPath;
+use plain::{Items, NoMemory, Text};
 use ra_config::ConfigChange;
 use session_model::TurnError;
+use session_port::LogCode;
 use settings_files::settings_change;
 use turn_parts::TurnOut;
 
@@ -37,15 +40,28 @@ impl GlobalState {
         )
     }
 
-    // The settings change.
-    fn change_settings(&mut self, change: ConfigChange) -> Result<(), NoMemory>
-        ensures { OnOk result (self.new ≡ with_client (client_with (Some change) self.old.client) self.old) }
+    // The settings change. Answers the changed files that don't hold.
+    fn change_settings(&mut self, change: ConfigChange) -> Result<Items<VfsPath>, NoMemory>
+        ensures after { OnOk result (self.new ≡ with_client (client_with (Some change) self.old.client) self.old) }
+        ensures further { IfOk result (λ paths. paths ≡ passed_over change) }
     {
         self.client.change_settings(change)
     }
 
+    // Further settings files of a root and kind, of which another holds, are logged.
+    #[tactic(auto, unfolding(session_model::specs::Machine::further_logged))]
+    fn log_further(&mut self, paths: Items<VfsPath>, out: &mut TurnOut) -> Result<(), TurnError>
+        ensures { Gives result (further_logged paths (record { state = self.old; out = out.old })) self.new out.new }
+    {
+        for path in paths.into_vec() {
+            let text = Text::from_str(self.alloc, path.as_str())?;
+            self.log(LogCode::SecondSettingsFile, text, out)?;
+        }
+        Ok(())
+    }
+
     // Settings files that changed, and the parents of new roots, go into the settings.
-    #[tactic(auto, using(crate::proofs::Settled::settled_stays), unfolding(session_model::specs::Machine::settings_filed))]
+    #[tactic(auto, using(crate::proofs::Settled::settled_stays), unfolding(session_model::specs::Machine::settings_filed, session_model::specs::Machine::further_logged))]
     pub(super) fn file_settings(
         &mut self,
         files: Items<SettingsFile>,
@@ -57,7 +73,7 @@ impl GlobalState {
             return Ok(());
         }
         let change = self.take_change(files.as_slice())?;
-        self.change_settings(change)?;
-        Ok(())
+        let further = self.change_settings(change)?;
+        self.log_further(further, out)
     }
 }

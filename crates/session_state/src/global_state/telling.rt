@@ -135,16 +135,17 @@ impl GlobalState {
     // The facts of a status but for its lists.
     fn facts_known(&self) -> Result<StatusInput, NoMemory>
         ensures { IfOk result (λ facts. record facts { linked = linked_of self.now.client.settings; workspaces = self.now.workspaces.present }
-            ≡ facts_known self.now.client.settings self.now.files self.now.workspaces) }
+            ≡ facts_known self.now.client self.now.files self.now.workspaces) }
     {
         let build_error = self.has_build_error()?;
+        let config_errors = self.client.errors_text()?;
         let no_projects = self.lacks_projects()?;
         let workspace_error = self.has_fetch_error()?;
         Ok(StatusInput {
             reload_needed: self.needs_reload(),
             build_deps_changed: self.workspaces.have_build_deps_changed(),
             build_error,
-            config_errors: None,
+            config_errors,
             check_error: None,
             no_projects,
             workspace_error,
@@ -170,7 +171,7 @@ impl GlobalState {
 
     // The status of the present.
     fn status_now(&self) -> Result<Status, NoMemory>
-        ensures { IfOk result (λ status. status ≡ status_now self.now.client.settings self.now.files self.now.workspaces) }
+        ensures { IfOk result (λ status. status ≡ status_now self.now.client self.now.files self.now.workspaces) }
     {
         let facts = self.facts_known()?;
         status_with(

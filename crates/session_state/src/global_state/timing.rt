@@ -16,7 +16,7 @@ use workspaces::FetchRequest;
 
 impl GlobalState {
     // The names of the files that the command that discovers the projects watches.
-    fn watched_names(&self) -> &[Text]
+    pub(super) fn watched_names(&self) -> &[Text]
         ensures { result.now ≡ watched_names self.now.client.settings }
     {
         match self.client.settings().workspace_discover_config() {
