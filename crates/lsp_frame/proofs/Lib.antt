@@ -10,6 +10,7 @@ pub mod Turns
 pub mod Written
 pub mod Bodies
 pub mod Exact
+pub mod Integers
 pub mod Texts
 pub mod InStep
 pub mod Above

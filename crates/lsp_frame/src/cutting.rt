@@ -1,18 +1,15 @@
 // The first frame of a byte string.
 ghost use Rattle.std.specs.Prelude.{◌≡◌, ◌+◌, ◌≤◌, length, IfSome, None, Some};
-ghost use Rattle.memchr.specs.Find.{FindsNeedle};
+ghost use Rattle.std.specs.Bool.{MatchBool};
+ghost use Rattle.memchr.specs.Find.{FindsNeedle, OccursAt};
 ghost use Rattle.lsp_frame.specs.Find.{place_of};
 ghost use Rattle.lsp_frame.specs.Frames.{empty_line, header_limit, window, head_of, cut_at, cut_of, NoneBelow, LiesWithin};
 
 use crate::frame::{Cut, Head};
 use crate::header::read_body_size;
-use memchr::memmem;
 
 /// The bytes within which a frame's empty line ends.
 pub const HEADER_LIMIT: usize = 4096;
-
-/// What ends a header.
-const EMPTY_LINE: [u8; 4] = *b"\r\n\r\n";
 
 #[tactic(auto, using(std::proofs::lemmas::List::take_all), unfolding(crate::specs::Frames::window))]
 fn header_window(bytes: &[u8]) -> &[u8]
@@ -27,14 +24,26 @@ fn header_window(bytes: &[u8]) -> &[u8]
     }
 }
 
-/// The first empty line. No search is begun where there are too few bytes for one.
+/// Whether an empty line begins at a place.
+fn begins_empty_line(bytes: &[u8], at: usize) -> bool
+    requires { at + 4 ≤ length bytes.now }
+    ensures { MatchBool result (OccursAt bytes.now empty_line at) (OccursAt bytes.now empty_line at → ⊥) }
+{
+    bytes[at] == b'\r' && bytes[at + 1] == b'\n' && bytes[at + 2] == b'\r' && bytes[at + 3] == b'\n'
+}
+
+/// The first empty line.
 fn first_empty_line(bytes: &[u8]) -> Option<usize>
     ensures { FindsNeedle bytes.now empty_line 0 result }
 {
-    if bytes.len() < EMPTY_LINE.len() {
-        return None;
+    let mut at = 0;
+    'places: while bytes.len() - at >= 4 {
+        if begins_empty_line(bytes, at) {
+            return Some(at);
+        }
+        at += 1;
     }
-    memmem::find(bytes, &EMPTY_LINE)
+    None
 }
 
 /// The first empty line, where none begins below `from`.

@@ -1,12 +1,15 @@
 // The body that is written for a message: its own members as bytes, around the texts of its values.
 ghost use Rattle.std.specs.Prelude.{◌≡◌, ◌++◌, Some, option_map, IfOk, IfSome, OnOk};
-ghost use Rattle.serde_json.specs.Data.{string};
+ghost use Rattle.serde_json.specs.Data.{number, string};
+ghost use Rattle.serde_json.specs.Find.{of_integer};
 ghost use Rattle.serde_json.specs.Written.{compact_text};
+ghost use Rattle.plain.specs.Reading.{as_i32};
 ghost use Rattle.lsp_frame.specs.Exact.{IsExact, some_text, call_text, error_text};
 ghost use Rattle.lsp_frame.specs.Rules.{message_of, data_message, id_of, optional_id, optional_error, error_of};
 ghost use Rattle.lsp_frame.specs.Written.{data_of, body_of, error_data, id_data, optional_id_data, params_data, AreWritable, IsWritable, IsWritableIfSome, IsErrorWritable};
 
 use crate::message::{Message, Notification, Request, RequestId, Response, ResponseError};
+use itoa::Buffer;
 use plain::{Json, Text};
 use std::alloc::{AllocError, Global};
 
@@ -46,7 +49,7 @@ fn write_request(request: Request, into: &mut Vec<u8>) -> Result<(), AllocError>
         ≡ Some (Message.Request request)) }
 {
     let Request { id, method, params } = request;
-    write_value(b"{\"id\":", id_json(id), into)?;
+    write_id(b"{\"id\":", id, into)?;
     into.extend_from_slice(b",")?;
     write_call(method, params, into)?;
     Ok(())
@@ -93,7 +96,7 @@ fn write_response(response: Response, into: &mut Vec<u8>) -> Result<(), AllocErr
     let Response { id, result, error } = response;
     into.extend_from_slice(b"{")?;
     write_first_error(error, into)?;
-    write_value(b"\"id\":", optional_id_json(id), into)?;
+    write_optional_id(b"\"id\":", id, into)?;
     into.extend_from_slice(b",\"jsonrpc\":\"2.0\"")?;
     write_some(b",\"result\":", result, into)?;
     into.extend_from_slice(b"}")?;
@@ -159,34 +162,52 @@ fn write_some(before: &[u8], value: Option<Json>, into: &mut Vec<u8>) -> Result<
     }
 }
 
+/// Appends some bytes and an id.
+#[tactic(auto, using(crate::proofs::Bodies::id_IsWritable))]
+fn write_id(before: &[u8], id: RequestId, into: &mut Vec<u8>) -> Result<(), AllocError>
+    ensures text { OnOk result (into.new.items ≡ into.old.items ++ (before.now ++ compact_text (id_data id))) }
+    ensures exact { OnOk result (IsExact (id_data id)) }
+    ensures reads_back { id_of (id_data id) ≡ Some id }
+{
+    match id {
+        RequestId::Number(number) => write_integer(before, number, into),
+        RequestId::Text(text) => write_value(before, Json::from_text(text), into),
+    }
+}
+
+/// The same where there is an id, else with null.
+#[tactic(auto, using(crate::proofs::Bodies::optional_id_IsWritable))]
+fn write_optional_id(
+    before: &[u8],
+    id: Option<RequestId>,
+    into: &mut Vec<u8>,
+) -> Result<(), AllocError>
+    ensures text { OnOk result (into.new.items ≡ into.old.items ++ (before.now ++ compact_text (optional_id_data id))) }
+    ensures exact { OnOk result (IsExact (optional_id_data id)) }
+    ensures reads_back { optional_id (optional_id_data id) ≡ Some id }
+{
+    match id {
+        Some(id) => write_id(before, id, into),
+        None => write_value(before, Json::null(), into),
+    }
+}
+
+/// Appends some bytes and an integer, as it is.
+fn write_integer(before: &[u8], integer: i32, into: &mut Vec<u8>) -> Result<(), AllocError>
+    ensures text { OnOk result (into.new.items ≡ into.old.items ++ (before.now ++ compact_text (number (of_integer integer)))) }
+    ensures exact { OnOk result (IsExact (number (of_integer integer))) }
+    ensures fits { as_i32 (number (of_integer integer)) ≡ Some integer }
+{
+    let mut digits = Buffer::new();
+    into.extend_from_slice(before)?;
+    into.extend_from_slice(digits.format(integer).as_bytes())?;
+    Ok(())
+}
+
 /// Null params are left out.
 fn params_json(params: Json) -> Option<Json>
     ensures value { result ≡ params_data params }
     ensures writable { IsWritable params → IsWritableIfSome result }
 {
     if params.is_null() { None } else { Some(params) }
-}
-
-#[tactic(auto, using(crate::proofs::Bodies::optional_id_IsWritable))]
-fn optional_id_json(id: Option<RequestId>) -> Json
-    ensures value { result ≡ optional_id_data id }
-    ensures reads_back { optional_id (optional_id_data id) ≡ Some id }
-    ensures writable { IsWritable (optional_id_data id) }
-{
-    match id {
-        Some(id) => id_json(id),
-        None => Json::null(),
-    }
-}
-
-#[tactic(auto, using(crate::proofs::Bodies::id_IsWritable))]
-fn id_json(id: RequestId) -> Json
-    ensures value { result ≡ id_data id }
-    ensures reads_back { id_of (id_data id) ≡ Some id }
-    ensures writable { IsWritable (id_data id) }
-{
-    match id {
-        RequestId::Number(number) => Json::from_i32(number),
-        RequestId::Text(text) => Json::from_text(text),
-    }
 }

@@ -9,13 +9,17 @@ use itoa::Buffer;
 use plain::NoMemory;
 use std::alloc::{AllocError, Global};
 
+// The room for a header.
+const HEADER_ROOM: usize = 40;
+
 /// The header of a body of this many bytes.
 #[tactic(auto, unfolding(crate::specs::Written::header_for))]
 fn header(alloc: Global, size: usize) -> Result<Vec<u8>, AllocError>
     ensures { IfOk result (λ h. h.items ≡ header_for size) }
 {
     let mut digits = Buffer::new();
-    let mut header = Vec::from_slice(alloc, b"Content-Length: ")?;
+    let mut header = Vec::with_capacity(alloc, HEADER_ROOM)?;
+    header.extend_from_slice(b"Content-Length: ")?;
     header.extend_from_slice(digits.format(size).as_bytes())?;
     header.extend_from_slice(b"\r\n\r\n")?;
     Ok(header)
@@ -27,6 +31,7 @@ fn write_frame(alloc: Global, body: &[u8], into: &mut Vec<u8>) -> Result<(), All
     ensures err { OnErr result (into.new.items ≡ into.old.items) }
 {
     let header = header(alloc, body.len())?;
+    into.reserve(header.len().saturating_add(body.len()))?;
     let before = into.len();
     into.extend_from_slice(&header)?;
     match into.extend_from_slice(body) {

@@ -1,6 +1,3 @@
-use Rattle.std.proofs.Common.{◌++◌, codes, ap, subst, ◌∙◌}
-use Rattle.serde_json.specs.Written.{compact_text}
-use Rattle.lsp_frame.specs.Exact.{IsExact}
 use Rattle.lsp_frame.specs.Written.{data_of, id_data, params_data}
 use Rattle.lsp_frame.proofs.Texts.{asking_written, asking_exact, asking_reads}
 use Rattle.lsp_frame.proofs.encoding.write_request.Goals as goal
@@ -10,15 +7,14 @@ unfolding data_of
 returns-clause-text c =
     let r = c.args.request in
     asking_written c.args.into.now.items _ _ _ r.method (id_data r.id) (params_data r.params)
-    (c.in_ok-write_value.ensures.text ∙ ap (λ d. c.args.into.now.items ++ (codes "{\"id\":" ++ compact_text d)) c.id_json.ensures.value)
-    c.in_ok-extend_from_slice.ensures.items c.in_ok-write_call.ensures.text
+    c.in_ok-write_id.ensures.text c.in_ok-extend_from_slice.ensures.items c.in_ok-write_call.ensures.text
 
 pub returns-clause-exact : goal.returns-clause-exact
 unfolding data_of
 returns-clause-exact c =
     let r = c.args.request in
-    asking_exact (id_data r.id) r.method (params_data r.params) (subst IsExact c.id_json.ensures.value c.in_ok-write_value.ensures.exact) c.in_ok-write_call.ensures.method c.in_ok-write_call.ensures.params
+    asking_exact (id_data r.id) r.method (params_data r.params) c.in_ok-write_id.ensures.exact c.in_ok-write_call.ensures.method c.in_ok-write_call.ensures.params
 
 pub returns-clause-reads_back : goal.returns-clause-reads_back
 unfolding data_of
-returns-clause-reads_back c = let r = c.args.request in asking_reads r.id r.method r.params c.id_json.ensures.reads_back
+returns-clause-reads_back c = let r = c.args.request in asking_reads r.id r.method r.params c.in_ok-write_id.ensures.reads_back
