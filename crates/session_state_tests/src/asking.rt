@@ -1,16 +1,17 @@
 // Sessions whose events are told in words, and what comes of the last of them. Each call answers none also where memory
 // runs out.
 use crate::words::{
-    cut, event_of, fault, graph_text, is_fault, root_text, settings_text, shown_text,
+    cut, event_of, fault, fetch_text, graph_text, is_fault, root_text, settings_text, shown_text,
     source_root_text, words,
 };
 use docs_vfs::VfsPath;
-use plain::Json;
+use plain::{Json, Text};
 use ra_config::Config;
 use session_model::{Counters, Event, TurnError};
 use session_peers::NullAnalysis;
 use session_state::{GlobalState, TurnOut};
 use std::alloc::Global;
+use workspaces::FetchRequest;
 
 /// The settings with the one workspace `/w`.
 fn settings(alloc: Global) -> Option<Config> {
@@ -69,6 +70,15 @@ fn graph(alloc: Global, state: &GlobalState) -> Option<String> {
     graph_text(alloc, &state.snapshot().ok()?)
 }
 
+fn dequeue_fetch(state: &mut GlobalState) -> Option<(Text, FetchRequest)> {
+    state.dequeue_fetch(true)
+}
+
+/// The fetch that waits in the queue, in words.
+fn cause(alloc: Global, state: &mut GlobalState) -> Option<String> {
+    fetch_text(alloc, dequeue_fetch(state))
+}
+
 /// Turn 0, in words.
 fn start(alloc: Global, state: &mut GlobalState) -> Option<String> {
     let mut out = TurnOut::new(alloc);
@@ -78,9 +88,9 @@ fn start(alloc: Global, state: &mut GlobalState) -> Option<String> {
     }
 }
 
-/// What comes of an event. The words `settings`, `at first`, `at second`, `root`, `shown`, `graph` and `start` are none: they ask
+/// What comes of an event. The words `settings`, `at first`, `at second`, `root`, `shown`, `graph`, `cause` and `start` are none: they ask
 /// for the settings, for those of the first and of the second root, for the root of a file, for the workspaces and the crate graph
-/// that are shown, and for turn 0.
+/// that are shown, for the fetch that waits in the queue, and for turn 0.
 fn outcome(alloc: Global, state: &mut GlobalState, event: &str) -> Option<String> {
     match event {
         "settings" => settings_of(alloc, state),
@@ -89,6 +99,7 @@ fn outcome(alloc: Global, state: &mut GlobalState, event: &str) -> Option<String
         "root" => source_root(alloc, state),
         "shown" => shown(alloc, state),
         "graph" => graph(alloc, state),
+        "cause" => cause(alloc, state),
         "start" => start(alloc, state),
         _ => turn(alloc, state, event_of(alloc, event)?),
     }

@@ -8,6 +8,8 @@ mod asking;
 #[cfg(test)]
 mod building;
 #[cfg(test)]
+mod causes;
+#[cfg(test)]
 mod counters;
 #[cfg(test)]
 mod crates;
@@ -25,6 +27,8 @@ mod reloading;
 mod results;
 #[cfg(test)]
 mod roots;
+#[cfg(test)]
+mod saving;
 #[cfg(test)]
 mod statuses;
 #[cfg(test)]

@@ -15,6 +15,7 @@ use session_port::{
 use session_state::TurnOut;
 use small_project::{scripts_of, workspaces_of};
 use std::alloc::Global;
+use workspaces::FetchRequest;
 
 /// What stands before the first mark in a text, and what stands behind it.
 pub fn cut<'a>(text: &'a str, mark: &str) -> (&'a str, &'a str) {
@@ -193,6 +194,22 @@ fn described(alloc: Global, job: u64) -> Option<Event> {
     ended(alloc, job, JobResult::Value(JobValue::Workspaces(fetched)))
 }
 
+/// The file of this path, which is a workspace by itself.
+fn alone(alloc: Global, job: u64, path: &str) -> Option<Event> {
+    let mut fetched = Items::new(alloc);
+    for mut workspace in workspaces_at(alloc, path)?.into_vec() {
+        workspace.kind = WorkspaceKind::DetachedFile;
+        fetched.push(Ok(workspace)).ok()?;
+    }
+    ended(alloc, job, JobResult::Value(JobValue::Workspaces(fetched)))
+}
+
+/// The client saves the file of a path.
+fn saved(alloc: Global, path: &str) -> Option<Event> {
+    let params = format!(in alloc; "{{\"textDocument\":{{\"uri\":\"file://{path}\"}}}}").ok()?;
+    notification(alloc, "textDocument/didSave", params.as_str())
+}
+
 /// What the build scripts of one workspace made: nothing, without an error.
 fn scripts(alloc: Global, job: u64) -> Option<Event> {
     let mut made = Items::new(alloc);
@@ -227,7 +244,7 @@ fn with_crate(alloc: Global, job: u64, words: &str) -> Option<Event> {
 /// `loading` and `loaded` where files begin to load and are loaded, `reloaded` where they are by the loader's second settings, `both` where two files are read at once, `file` and `read` with a path, and perhaps a text, where the
 /// loader tells that a file has changed and where it has read it first, `open` where `/w/a.rs` is opened, `null` and `stopped` as results of the first
 /// job, or of the `second`, the `third` or the `fourth`, `fetched`, `builds` and `macros` as results that are no request's, `brought` where such a job brings the workspaces
-/// of some manifests, perhaps with the version of their compiler, `crate` where it brings one with the crate of a root file, `described` where it brings the workspace `/w` that is described as JSON, `scripts` where build scripts made nothing, `deferred`, `timer` with its ticket,
+/// of some manifests, perhaps with the version of their compiler, `crate` where it brings one with the crate of a root file, `described` where it brings the workspace `/w` that is described as JSON, `alone` where it brings the file of a path that is a workspace by itself, `save` where the client saves the file of a path, `scripts` where build scripts made nothing, `deferred`, `timer` with its ticket,
 /// and `shutdown` as a request.
 pub fn event_of(alloc: Global, words: &str) -> Option<Event> {
     let (kind, rest) = cut(words, " ");
@@ -267,6 +284,8 @@ pub fn event_of(alloc: Global, words: &str) -> Option<Event> {
         "brought" => brought(alloc, job, found),
         "crate" => with_crate(alloc, job, found),
         "described" => described(alloc, job),
+        "alone" => alone(alloc, job, found),
+        "save" => saved(alloc, rest),
         "scripts" => scripts(alloc, job),
         "deferred" => Some(Event::Deferred(Items::new(alloc))),
         "timer" => Some(Event::Timer(rest.parse::<u64>().unwrap_or(1))),
@@ -302,13 +321,30 @@ fn timer_name(ticket: u64) -> &'static str {
     }
 }
 
+// The name of a log line.
+fn log_name(code: LogCode) -> &'static str {
+    match code {
+        LogCode::UnknownSave => "unknown save ",
+        LogCode::SecondSettingsFile => "further settings ",
+        LogCode::FetchError => "fetch error",
+        LogCode::BuildError => "build error",
+        _ => "log",
+    }
+}
+
+// What such a line has behind its name: the path of a file.
+fn path_logged(command: &Command) -> &str {
+    match command {
+        Command::Log(LogCode::UnknownSave | LogCode::SecondSettingsFile, path) => path.as_str(),
+        _ => "",
+    }
+}
+
 // The name of the workers that a command asks for.
 fn command_name(command: &Command) -> &'static str {
     match command {
         Command::Spawn(job) => class_of(job),
-        Command::Log(LogCode::FetchError, _) => "fetch error",
-        Command::Log(LogCode::BuildError, _) => "build error",
-        Command::Log(_, _) => "log",
+        Command::Log(code, _) => log_name(*code),
         Command::Revise(_) => "revise",
         Command::Invalidate(_) => "invalidate",
         Command::SetLoader { version: 1, .. } => "load",
@@ -322,6 +358,7 @@ fn command_name(command: &Command) -> &'static str {
 fn push_names(text: &mut String, commands: &[Command]) -> Option<()> {
     for command in commands {
         text.push_str(command_name(command)).ok()?;
+        text.push_str(path_logged(command)).ok()?;
     }
     Some(())
 }
@@ -458,4 +495,27 @@ fn graph_name(data: &CrateData) -> &'static str {
 /// How many crates the graph of a snapshot has, and what became of their macros.
 pub fn graph_text(alloc: Global, snapshot: &GlobalStateSnapshot) -> Option<String> {
     String::from_str(alloc, graph_name(snapshot.crate_data())).ok()
+}
+
+fn force_name(request: &FetchRequest) -> &'static str {
+    if request.force { "forced " } else { "" }
+}
+
+fn path_name(request: &FetchRequest) -> &str {
+    match &request.path {
+        None => "no path",
+        Some(path) => path.as_str(),
+    }
+}
+
+/// Why a fetch is asked for that waits in the queue, and for which path.
+pub fn fetch_text(alloc: Global, fetch: Option<(Text, FetchRequest)>) -> Option<String> {
+    match fetch {
+        None => String::from_str(alloc, "no fetch").ok(),
+        Some((cause, request)) => {
+            let force = force_name(&request);
+            let path = path_name(&request);
+            format!(in alloc; "{force}{cause}, {path}").ok()
+        }
+    }
 }

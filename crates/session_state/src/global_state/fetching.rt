@@ -5,8 +5,9 @@ ghost use Rattle.session_port.specs.declared.command.LogCode.TheVariants.{FetchE
 ghost use Rattle.turn_parts.specs.Meets.{Meets, Gives};
 ghost use Rattle.method_table.specs.declared.class.PoolClass.TheVariants.{Worker};
 ghost use Rattle.desk.specs.Steps.{handed_over};
-ghost use Rattle.session_model.specs.Fetching.{fetch_asked, fetch_caused, fetch_kept, folders_told_if, reloaded_if, settings_told};
-ghost use Rattle.session_model.specs.Machine.{at_desk, at_workspaces, begun_fetches, fetch_handed_over, fetch_started, fetch_taken, timed};
+ghost use Rattle.session_model.specs.Fetching.{fetch_asked, fetch_caused, fetch_kept, folders_told_if, reloaded_if, settings_told, with_fetches};
+ghost use Rattle.session_model.specs.Machine.{at_desk, at_workspaces, begun_fetches, fetch_handed_over, fetch_started, fetch_taken, timed, with_workspaces};
+ghost use Rattle.workspaces.specs.Fetches.{fetch_to_start, start_fetch};
 ghost use Rattle.session_model.specs.State.{discovers, fetch_kind, goes_by_folders, may_fetch, snapshot_of};
 ghost use Rattle.session_model.specs.Status.{fetch_fault};
 
@@ -203,12 +204,21 @@ impl GlobalState {
         }
     }
 
+    /// Takes the fetch that waits out of the queue, with its cause, where fetches may start and none is in progress: it is in
+    /// progress from then on.
+    pub fn dequeue_fetch(&mut self, may: bool) -> Option<(Text, FetchRequest)>
+        ensures value { result ≡ fetch_to_start may self.old.workspaces.fetches }
+        ensures after { self.new ≡ with_workspaces (with_fetches (start_fetch may) self.old.workspaces) self.old }
+    {
+        self.workspaces.start_fetch(may)
+    }
+
     // Starts the fetch that waits in the queue, where fetches may start and none is in progress.
     #[tactic(auto, unfolding(session_model::specs::Machine::fetch_started))]
     pub(super) fn start_fetch(&mut self, may: bool, out: &mut TurnOut) -> Result<(), TurnError>
         ensures { Meets result (fetch_started may (record { state = self.old; out = out.old })) self.new out.new }
     {
-        let started = self.workspaces.start_fetch(may);
+        let started = self.dequeue_fetch(may);
         self.hand_over_fetch(started, out)
     }
 }
