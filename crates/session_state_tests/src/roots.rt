@@ -28,6 +28,14 @@ start then brought /w/Cargo.toml,/x/Cargo.toml then file /w/rust-analyzer.toml c
 tell workspace/didChangeConfiguration {} then answer [{"cargo":{"buildScripts":{"enable":false}}}] then brought /w/Cargo.toml then file /w/rust-analyzer.toml checkOnSave = false then ask rust-analyzer/reloadWorkspace null then brought second /w/Cargo.toml,/w/a/Cargo.toml then at second > checked, diagnosed
 tell workspace/didChangeConfiguration {} then answer [{"cargo":{"buildScripts":{"enable":false}}}] then brought /w/Cargo.toml then file /w/rust-analyzer.toml checkOnSave = false then ask rust-analyzer/reloadWorkspace null then brought second /w/Cargo.toml,/w/a/Cargo.toml then file /w/b.rs a then at second > unchecked, diagnosed"#;
 
+// Of two files of a root and kind that change at once the smaller path holds, and the other is logged. One of each kind holds.
+const FURTHER: &str =
+    r#"start then brought /w/Cargo.toml then loading then file /w/b/rust-analyzer.toml diagnostics.enable = true then file /w/a/rust-analyzer.toml diagnostics.enable = false then loaded > further settings /w/b/rust-analyzer.tomldeferrevisetimer 5
+start then brought /w/Cargo.toml then loading then file /w/b/rust-analyzer.toml diagnostics.enable = true then file /w/a/rust-analyzer.toml diagnostics.enable = false then loaded then at first > checked, undiagnosed
+start then brought /w/Cargo.toml then loading then file /w/rust-analyzer.toml checkOnSave = false then file /w/a/rust-analyzer.toml diagnostics.enable = false then loaded > deferrevisetimer 5
+start then brought /w/Cargo.toml then loading then file /w/rust-analyzer.toml checkOnSave = false then file /w/a/rust-analyzer.toml diagnostics.enable = false then loaded then at first > unchecked, undiagnosed
+start then brought /w/Cargo.toml,/w/a/Cargo.toml then loading then file /w/rust-analyzer.toml checkOnSave = false then file /w/a/rust-analyzer.toml checkOnSave = false then loaded > deferrevisetimer 5"#;
+
 // The world gets the roots of the last switch where a file comes or goes.
 const WORLDS: &str = r#"start then root > no root
 start then brought /w/Cargo.toml then root > no root
@@ -55,6 +63,13 @@ fn settings_files_change_settings(rt: HostRuntime) {
 #[test]
 fn roots_have_the_settings_of_those_above(rt: HostRuntime) {
     for line in ROOTS.lines() {
+        assert!(rt; agrees(rt.alloc(), line) == Some(true), "at {line}");
+    }
+}
+
+#[test]
+fn further_settings_files_are_logged(rt: HostRuntime) {
+    for line in FURTHER.lines() {
         assert!(rt; agrees(rt.alloc(), line) == Some(true), "at {line}");
     }
 }

@@ -73,6 +73,25 @@ fn other_clients_are_shown_its_text(rt: HostRuntime) {
     }
 }
 
+// The values of the last change of settings that are refused: a client's, and those of settings files; until the next change.
+const SETTINGS: &str =
+    r#"takes > tell workspace/didChangeConfiguration {} then answer [{"checkOnSave":5}] > Content-Length: 167\r\n\r\n{"jsonrpc":"2.0","method":"experimental/serverStatus","params":{"health":"warning","message":"invalid config values: client/checkOnSave: wrong type","quiescent":true}}
+takes > tell workspace/didChangeConfiguration {} then answer [{"checkOnSave":5,"files":{"watcher":"x"}}] > Content-Length: 204\r\n\r\n{"jsonrpc":"2.0","method":"experimental/serverStatus","params":{"health":"warning","message":"invalid config values: client/files.watcher: unknown value, client/checkOnSave: wrong type","quiescent":true}}
+takes > tell workspace/didChangeConfiguration {} then answer [{"checkOnSave":5}] then deferred
+takes > tell workspace/didChangeConfiguration {} then answer [{"checkOnSave":true}]
+takes > start then brought /w/Cargo.toml then file /w/rust-analyzer.toml checkOnSave = 5 > Content-Length: 183\r\n\r\n{"jsonrpc":"2.0","method":"experimental/serverStatus","params":{"health":"warning","message":"invalid config values: /w/rust-analyzer.toml/checkOnSave: wrong type","quiescent":false}}deferrevisetimer 2
+takes > start then brought /w/Cargo.toml then file /w/rust-analyzer.toml checkOnSave = > Content-Length: 170\r\n\r\n{"jsonrpc":"2.0","method":"experimental/serverStatus","params":{"health":"warning","message":"invalid config values: /w/rust-analyzer.toml/: not TOML","quiescent":false}}deferrevisetimer 2
+takes > start then brought /w/Cargo.toml then file /w/rust-analyzer.toml checkOnSave = 5 then file /w/b.rs a > deferrevisetimer 3
+takes > start then brought /w/Cargo.toml then file /w/rust-analyzer.toml checkOnSave = 5 then file /w/rust-analyzer.toml checkOnSave = true > Content-Length: 97\r\n\r\n{"jsonrpc":"2.0","method":"experimental/serverStatus","params":{"health":"ok","quiescent":false}}deferrevisetimer 3
+shows > tell workspace/didChangeConfiguration {} then answer [{"checkOnSave":5}] > Content-Length: 133\r\n\r\n{"jsonrpc":"2.0","method":"window/showMessage","params":{"message":"invalid config values: client/checkOnSave: wrong type","type":2}}"#;
+
+#[test]
+fn errors_of_settings_are_told(rt: HostRuntime) {
+    for line in SETTINGS.lines() {
+        assert!(rt; agrees(rt.alloc(), line) == Some(true), "at {line}");
+    }
+}
+
 /// All numbers of requests were given.
 const ALL_ASKED: Counters = Counters {
     turns: 0,
