@@ -1,7 +1,7 @@
 // One document changed among many, and worlds that are kept.
 use crate::made::{FOLDERS, file, scattered, text};
 use crate::report::Report;
-use analysis_host::{AnalysisHost, Change, FileChange, SharedText, TextEntry};
+use analysis_host::{AnalysisHost, Change, FileChange, SharedText, TextEntry, World};
 use docs_vfs::VfsPath;
 use plain::Items;
 use std::alloc::Global;
@@ -38,6 +38,14 @@ fn open(report: &mut Report<'_>, host: &mut AnalysisHost, documents: u32) {
     report.tell("opened", count, documents, start);
 }
 
+/// Whether a world has a text of the document with a number.
+fn has_text(alloc: Global, world: &World, number: u32) -> bool {
+    match file(alloc, number % FOLDERS, number) {
+        Some(path) => world.text(&path).is_some(),
+        None => false,
+    }
+}
+
 /// So many changes among the documents. After each the changed text is read in the frozen world.
 fn read(report: &mut Report<'_>, host: &mut AnalysisHost, documents: u32, turns: u32) {
     let alloc = report.rt.alloc();
@@ -46,8 +54,8 @@ fn read(report: &mut Report<'_>, host: &mut AnalysisHost, documents: u32, turns:
     for turn in 0..turns {
         let number = scattered(turn, documents);
         let _ = set(alloc, host, number);
-        if let (Ok(world), Some(path)) = (host.world(), file(alloc, number % FOLDERS, number)) {
-            found = found.wrapping_add(u64::from(world.text(&path).is_some()));
+        if let Ok(world) = host.world() {
+            found = found.wrapping_add(u64::from(has_text(alloc, &world, number)));
         }
     }
     report.tell("changed and read", found, turns, start);
