@@ -1,6 +1,7 @@
 // The algorithm of rust-analyzer's `apply_document_changes` and `LineEndings::normalize` in plain Rust, over the same inputs
-// as crates/bench_texts. Build it by `rustc -O --edition 2021 main.rs`. Written for this comparison; the line index is a list of
-// line starts and of the wide characters of each line, as the crate `line-index` keeps them.
+// as the words `texts` and `endings` of crates/bench, with the same sums. Build it by `rustc -O --edition 2021 main.rs`. Its two numbers
+// are the edits and the lines. Written for this comparison; the line index is a list of line starts and of the wide characters of each
+// line, as the crate `line-index` keeps them.
 use std::collections::HashMap;
 use std::time::Instant;
 
@@ -197,10 +198,14 @@ fn digest(text: &str) -> u64 {
     text.bytes().fold(0u64, |sum, b| sum.wrapping_mul(31).wrapping_add(u64::from(b)))
 }
 
+fn tell(name: &str, sum: u64, micros: u128) {
+    eprintln!("  {name}: {micros} us");
+    println!("  {name}: {sum}");
+}
+
 fn report(name: &str, start: Instant, text: &str) {
     let micros = start.elapsed().as_micros();
-    eprintln!("{name}: {micros} microseconds");
-    println!("{name}: {} bytes, {}", text.len(), digest(text));
+    tell(name, digest(text), micros);
 }
 
 /// A text of one line of ASCII, with a wide character in front of it.
@@ -226,18 +231,15 @@ fn type_letters(name: &str, mut text: String, places: &[(u32, u32)]) {
 fn positions(name: &str, text: &str, count: u32) {
     let index = Index::new(text);
     let start = Instant::now();
-    let (mut lines, mut columns) = (0u64, 0u64);
+    let mut sum = 0u64;
     for k in 0..count {
         let offset = k.wrapping_mul(7919) % index.len;
         if text.is_char_boundary(offset as usize) {
             let (line, column) = index.position(offset);
-            lines += u64::from(line);
-            columns += u64::from(column);
+            sum += u64::from(line) + u64::from(column);
         }
     }
-    let micros = start.elapsed().as_micros();
-    eprintln!("{name}: {micros} microseconds");
-    println!("{name}: lines {lines}, columns {columns}");
+    tell(name, sum, start.elapsed().as_micros());
 }
 
 /// Offsets of positions.
@@ -250,27 +252,24 @@ fn offsets(name: &str, text: &str, places: &[(u32, u32)]) {
             offsets += u64::from(offset);
         }
     }
-    let micros = start.elapsed().as_micros();
-    eprintln!("{name}: {micros} microseconds");
-    println!("{name}: offsets {offsets}");
+    tell(name, offsets, start.elapsed().as_micros());
 }
 
 /// A text's copy with its lines, so many times.
 fn build(name: &str, text: &str, count: u32) {
     let start = Instant::now();
-    let mut lines = 0;
+    let mut lines = 0u64;
     for _ in 0..count {
         let copy = text.to_owned();
-        lines += Index::new(&copy).newlines.len() + 1;
+        lines += Index::new(&copy).newlines.len() as u64 + 1;
     }
-    let micros = start.elapsed().as_micros();
-    eprintln!("{name}: {micros} microseconds");
-    println!("{name}: lines {lines}");
+    tell(name, lines, start.elapsed().as_micros());
 }
 
 fn main() {
-    let full = std::env::args().any(|word| word == "full");
-    let (edits, rows) = if full { (10_000u32, 2_236_963) } else { (50, 1000) };
+    let numbers: Vec<u32> = std::env::args().skip(1).filter_map(|word| word.parse().ok()).collect();
+    let (edits, rows) = if let [edits, rows] = numbers[..] { (edits, rows) } else { (10_000, 2_236_963) };
+    println!("texts {edits} 1");
     let text = lines(edits * 2, "\n");
     let falling: Vec<Change> = (0..edits).map(|k| letter((edits - 1 - k) * 2, 4)).collect();
     let start = Instant::now();
@@ -286,7 +285,7 @@ fn main() {
     report("scattered edits", start, &apply(&text, &scattered));
     let ones: Vec<(u32, u32)> = (0..edits / 10).map(|k| (k * 7919 % (edits / 10), 4)).collect();
     type_letters("letters one by one", text, &ones);
-    let len = if full { 1_000_000 } else { 1000 };
+    let len = edits / 10 * 1_000;
     let along: Vec<Change> = (0..edits / 10).map(|k| letter(0, k * 7919 % len)).collect();
     let start = Instant::now();
     report("edits of one long line", start, &apply(&long_line(len), &along));
@@ -299,6 +298,7 @@ fn main() {
     let ones: Vec<(u32, u32)> = (0..edits / 10).map(|k| (0, k * 7919 % len)).collect();
     offsets("offsets in one long line", &long_line(len), &ones);
     build("indices built anew", &lines(edits * 2, "\n"), edits / 50);
+    println!("endings {rows} 1");
     for (name, end) in [("lines that end with LF", "\n"), ("lines that end with CR LF", "\r\n")] {
         let text = lines(rows, end);
         let start = Instant::now();
