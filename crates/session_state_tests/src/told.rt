@@ -7,7 +7,7 @@ const TOLD: &str =
 tell textDocument/didOpen {"textDocument":{"uri":"file:///w/a.rs","version":1,"text":"a"}} then tell textDocument/didClose {"textDocument":{"uri":"file:///w/a.rs"}} > invalidate
 tell textDocument/didClose {} > log
 tell textDocument/didClose {"textDocument":{"uri":"http://w/a.rs"}} > log
-tell textDocument/didSave {"textDocument":{"uri":"file:///w/a.rs"}}
+tell textDocument/didSave {"textDocument":{"uri":"file:///w/a.rs"}} > unknown save /w/a.rs
 tell textDocument/didSave 5 > log
 tell workspace/didChangeConfiguration null > Content-Length: 108\r\n\r\n{"id":0,"jsonrpc":"2.0","method":"workspace/configuration","params":{"items":[{"section":"rust-analyzer"}]}}
 tell workspace/didChangeConfiguration {} then tell workspace/didChangeConfiguration {} > Content-Length: 108\r\n\r\n{"id":1,"jsonrpc":"2.0","method":"workspace/configuration","params":{"items":[{"section":"rust-analyzer"}]}}
