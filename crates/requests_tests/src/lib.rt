@@ -1,0 +1,7 @@
+//! Tests of `requests`, by its public calls alone.
+#![tactic(auto)]
+
+#[cfg(test)]
+mod files;
+#[cfg(test)]
+mod params;
