@@ -1,6 +1,6 @@
-//! A worker: a thread that answers one request's job.
+//! A worker: a thread that answers one job by the analysis.
 ghost use Rattle.std.specs.Prelude.{◌≡◌, true};
-ghost use Rattle.session_port.specs.Jobs.{is_request};
+ghost use Rattle.session_port.specs.Jobs.{asks_analysis};
 ghost use Rattle.crossing.specs.Workers.{IsMessageOf, IsStarted};
 
 use analysis_host::{Analysis, Never};
@@ -36,7 +36,7 @@ pub enum Worker<A: Analysis> {
 }
 
 fn work<A: Analysis>(analysis: Arc<A, Global>, job: Job) -> TaskMsg
-    requires asked { is_request job.kind ≡ true }
+    requires asked { asks_analysis job.kind ≡ true }
     ensures { IsMessageOf A.answer job result }
 {
     // A revision fits 64 bits.
@@ -48,13 +48,13 @@ fn work<A: Analysis>(analysis: Arc<A, Global>, job: Job) -> TaskMsg
     }
 }
 
-/// Starts a worker on a request's job.
+/// Starts a worker on a job for which the analysis is asked.
 pub fn start<R: Threads, A: Analysis + Send + Sync + 'static>(
     rt: &R,
     analysis: Arc<A, Global>,
     job: Job,
 ) -> Worker<A>
-    requires asked { is_request job.kind ≡ true }
+    requires asked { asks_analysis job.kind ≡ true }
     ensures { IsStarted A.answer job result }
 {
     let promise = Promised {

@@ -1,4 +1,5 @@
 pub mod Building
+pub mod Checking
 pub mod Codes
 pub mod Desk
 pub mod Fetching

@@ -5,7 +5,7 @@ use Rattle.session_port.specs.Jobs.{Jobs, final_of, fitting_job}
 use Rattle.session_port.specs.declared.event.TaskMsg.{TaskMsg}
 use Rattle.session_port.specs.declared.job.Job.{Job}
 use Rattle.session_port.specs.declared.job.JobKind.{JobKind}
-use Rattle.session_port.specs.declared.job.JobKind.TheVariants.{Request, FetchWorkspaces, FetchBuildData, LoadProcMacros}
+use Rattle.session_port.specs.declared.job.JobKind.TheVariants.{Request, ProcMacroSources, FetchWorkspaces, FetchBuildData, LoadProcMacros}
 use Rattle.session_port.specs.declared.job.JobResult.{JobResult}
 use Rattle.session_port.specs.declared.job.JobResult.TheVariants.{Value, Fault, Cancelled, NoMemory}
 use Rattle.session_port.specs.declared.job.JobValue.{JobValue}
@@ -34,6 +34,7 @@ load_end NoMemory = Some (Err (codes "out of memory"))
 -- the same, where the job was a load of macros
 abbrev pub load_end_of : JobKind → JobResult → Option LoadEnd
 load_end_of (Request ticket row params) result = None
+load_end_of (ProcMacroSources files) result = None
 load_end_of (FetchWorkspaces projects detached path force) result = None
 load_end_of (FetchBuildData version) result = None
 load_end_of (LoadProcMacros paths ignored) result = load_end result

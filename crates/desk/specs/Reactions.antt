@@ -21,7 +21,7 @@ use Rattle.session_port.specs.Jobs.{final_of, fitting_job}
 use Rattle.session_port.specs.declared.event.TaskMsg.{TaskMsg}
 use Rattle.session_port.specs.declared.job.Job.{Job}
 use Rattle.session_port.specs.declared.job.JobKind.{JobKind}
-use Rattle.session_port.specs.declared.job.JobKind.TheVariants.{Request as RequestJob, FetchWorkspaces, FetchBuildData, LoadProcMacros}
+use Rattle.session_port.specs.declared.job.JobKind.TheVariants.{Request as RequestJob, ProcMacroSources, FetchWorkspaces, FetchBuildData, LoadProcMacros}
 use Rattle.session_port.specs.declared.job.JobResult.{JobResult}
 use Rattle.desk.specs.Desk.{Desk, waiting_for}
 use Rattle.desk.specs.Meaning.{Meaning, can_read}
@@ -104,6 +104,7 @@ abbrev pub stopped_row : Meaning → Scene → Desk → RequestId → ℕ → Jo
 stopped_row meaning scene desk id revision (RequestJob ticket row params) =
     if ltb revision scene.snapshot.revision && not (retries row) then says (stopped_reply (class_of row) id)
     else class_row meaning scene desk ticket id row params
+stopped_row meaning scene desk id revision (ProcMacroSources files) = silent
 stopped_row meaning scene desk id revision (FetchWorkspaces projects detached path force) = silent
 stopped_row meaning scene desk id revision (FetchBuildData version) = silent
 stopped_row meaning scene desk id revision (LoadProcMacros paths ignored) = silent

@@ -25,7 +25,7 @@ use Rattle.session_port.specs.declared.command.LogCode.TheVariants.{UnknownReque
 use Rattle.session_port.specs.declared.event.TaskMsg.{TaskMsg}
 use Rattle.session_port.specs.declared.job.Job.{Job}
 use Rattle.session_port.specs.declared.job.JobKind.{JobKind}
-use Rattle.session_port.specs.declared.job.JobKind.TheVariants.{Request as RequestJob, FetchWorkspaces, FetchBuildData, LoadProcMacros}
+use Rattle.session_port.specs.declared.job.JobKind.TheVariants.{Request as RequestJob, ProcMacroSources, FetchWorkspaces, FetchBuildData, LoadProcMacros}
 use Rattle.session_port.specs.declared.job.JobResult.{JobResult}
 use Rattle.turn_parts.specs.Working.{Working, and_then, next_number, replied, ordered, logged}
 use Rattle.turn_parts.specs.declared.fault.Counter.{Counter}
@@ -143,6 +143,7 @@ unfoldable pub stopped : Meaning → Scene → ℕ → JobKind → Working Desk 
 stopped meaning scene revision (RequestJob ticket row params) w =
     if ltb revision scene.snapshot.revision && not (retries row) then Ok (responded ticket (stopped_reply (class_of row)) w)
     else classed meaning scene ticket row params w
+stopped meaning scene revision (ProcMacroSources files) w = Ok w
 stopped meaning scene revision (FetchWorkspaces projects detached path force) w = Ok w
 stopped meaning scene revision (FetchBuildData version) w = Ok w
 stopped meaning scene revision (LoadProcMacros paths ignored) w = Ok w

@@ -11,6 +11,7 @@ ghost use Rattle.lsp_frame.specs.Written.{AreWritable};
 ghost use Rattle.lsp_frame.specs.declared.message.Message.TheVariants.{Response as ResponseMessage};
 
 mod building;
+mod checking;
 mod fetching;
 mod loading;
 mod pending;

@@ -13,11 +13,13 @@ use Rattle.session_port.specs.declared.job.Job.{Job}
 use Rattle.session_port.specs.declared.job.JobKind.TheVariants.{FetchBuildData}
 use Rattle.state_params.specs.Unit.{is_unit}
 use Rattle.desk.specs.Building.{BuildEnd, build_ended}
+use Rattle.desk.specs.Checking.{check_ended}
 use Rattle.desk.specs.Desk.{Desk}
 use Rattle.desk.specs.Fetching.{fetch_ended}
 use Rattle.desk.specs.Loading.{load_ended}
 use Rattle.workspaces.specs.Builds.{build_to_start, end_build, rebuild_macros, start_build}
 use Rattle.workspaces.specs.Workspaces.{Workspaces}
+use Rattle.session_model.specs.Checking.{check_kept}
 use Rattle.session_model.specs.Fetching.{fetch_kept, reloaded_if, reloads, takes}
 use Rattle.session_model.specs.Loading.{load_kept}
 
@@ -31,9 +33,10 @@ build_kept (Some made) workspaces =
     then record workspaces { builds = end_build made workspaces.present workspaces.builds; switch_wanted = true }
     else workspaces
 
--- what a message of a job says of a fetch, or of a run of build data, is kept, where these jobs are out before it
+-- what a message of a job says of a fetch, of a run of build data, or of a check of sources, is kept, where these jobs are out before it
 abbrev pub run_kept : TaskMsg → Jobs → Workspaces → Workspaces
-run_kept message out workspaces = build_kept (build_ended message out) (fetch_kept (fetch_ended message out) workspaces)
+run_kept message out workspaces =
+    check_kept (check_ended message out) (build_kept (build_ended message out) (fetch_kept (fetch_ended message out) workspaces))
 
 -- and what it says of a load of macros
 abbrev pub end_kept : TaskMsg → Jobs → Workspaces → Workspaces

@@ -53,6 +53,7 @@ use Rattle.workspaces.specs.declared.follows.Follows.TheVariants.{Nothing}
 use Rattle.workspaces.specs.declared.requests.FetchRequest.{FetchRequest}
 use Rattle.session_model.specs.Asking.{client_refreshed_if, client_registered, client_watching, is_refresh_due}
 use Rattle.session_model.specs.Building.{build_due, build_jobs, end_kept, ends_kept, request_told, with_due_build}
+use Rattle.session_model.specs.Checking.{check_jobs}
 use Rattle.session_model.specs.Crates.{crates_in, crates_let_in, crates_told, files_with_crates, is_built_by, times_told}
 use Rattle.session_model.specs.Fetching.{fetch_jobs, folders_told_if, settings_told, with_fetches}
 use Rattle.session_model.specs.Hearing.{heard_of, told_by}
@@ -445,10 +446,19 @@ abbrev pub jobs_started : Input → Place → ℕ → SnapshotData → List Job
 jobs_started input place number snapshot =
     fetch_jobs number snapshot (fetch_in input place) ++ run_jobs number snapshot (build_in input place) (load_in input place)
 
--- a turn hands over the jobs of its row, and behind them those that it starts: on what the turn leaves
+-- the jobs for no request that an input hands over: those of the checks that were put off, on what is there before it
+abbrev pub jobs_resumed : Input → Place → List Job
+jobs_resumed Start place = []
+jobs_resumed (Next (Lsp message)) place = []
+jobs_resumed (Next (Task batch)) place = []
+jobs_resumed (Next (Vfs messages)) place = []
+jobs_resumed (Next (Deferred tasks)) place = check_jobs place.desk.handed (snapshot_at place) tasks
+jobs_resumed (Next (Timer ticket)) place = []
+
+-- a turn hands over the jobs of its row, or those of the checks that its input brings, and behind them those that it starts: on what the turn leaves
 abbrev pub HandsOver : Meaning → Turn → Place → Type 0
 HandsOver meaning turn place =
-    spawned turn.commands ≡ (row meaning turn.input place).jobs
+    spawned turn.commands ≡ (row meaning turn.input place).jobs ++ jobs_resumed turn.input place
     ++ jobs_started turn.input place (place_after turn place).desk.handed (snapshot_at (place_after turn place))
 
 -- the statuses that a turn tells: its own, where it is another than the last one and the client takes statuses
@@ -519,7 +529,8 @@ pub record SeesFiles (files : SessionFiles) : Type 0 where
 pub record Answers (meaning : Meaning) (settings : ConfigData) (honest : Bool) (before : List Turn) (turn : Turn) : Type 0 where
   -- it answers by the reply table
   pub does : let place = place_after_all before (beginning settings) in reaction_of turn ≡ row meaning turn.input place
-  -- and it hands over no other jobs than these, that of a fetch of workspaces, that of a run of build data and that of a load of macros
+  -- and it hands over no other jobs than these, those of checks that were put off, that of a fetch of workspaces, that of a run of build data and that of a
+  -- load of macros
   pub hands_over : HandsOver meaning turn (place_after_all before (beginning settings))
   -- it tells a client that takes statuses its own, exactly where that is another than the one told last
   pub tells_status : TellsItsStatus turn (place_after_all before (beginning settings))
@@ -577,7 +588,8 @@ abbrev pub NeedsMore : Meaning → Place → Input → Counter → Type 0
 NeedsMore meaning place input Turns = 2 ^ 64 ≤ next_turn place
 NeedsMore meaning place input Bytes = ⊥
 NeedsMore meaning place input JobsCounter =
-    2 ^ 64 ≤ place.desk.handed + length (row meaning input place).jobs + fetches_in input place + (builds_in input place + loads_in input place)
+    2 ^ 64 ≤ place.desk.handed + (length (row meaning input place).jobs + length (jobs_resumed input place)) + fetches_in input place
+    + (builds_in input place + loads_in input place)
 NeedsMore meaning place input Revisions = 2 ^ 64 - 1 ≤ place.revision + crates_in_turn input place
 NeedsMore meaning place input Outgoing = number_limit < (client_left input place).asked.given
 NeedsMore meaning place input Files = files_told input place ≡ Err Files

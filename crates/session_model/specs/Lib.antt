@@ -1,5 +1,6 @@
 pub mod Asking
 pub mod Building
+pub mod Checking
 pub mod Codes
 pub mod Course
 pub mod Crates

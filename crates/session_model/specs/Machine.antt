@@ -12,7 +12,8 @@ use Rattle.docs_vfs.specs.declared.file_kinds.FileId.{FileId}
 use Rattle.docs_vfs.specs.declared.file_url.UrlFault.{UrlFault}
 use Rattle.project_model.specs.declared.crates.CrateData.{CrateData as CrateGraph}
 use Rattle.session_port.specs.declared.command.Command.TheVariants.{Defer, Revise, Invalidate, SetLoader, Timer as SetTimer}
-use Rattle.session_port.specs.declared.command.DeferredTask.TheVariants.{CheckProcMacroSources}
+use Rattle.session_port.specs.declared.command.DeferredTask.{DeferredTask}
+use Rattle.session_port.specs.declared.command.DeferredTask.TheVariants.{CheckIfIndexed, CheckProcMacroSources}
 use Rattle.session_port.specs.declared.command.LogCode.TheVariants.{MalformedNotification, UnhandledNotification}
 use Rattle.session_port.specs.declared.command.LogCode.TheVariants.{BadPath, BuildError, FetchError, SecondSettingsFile, UnknownSave}
 use Rattle.session_port.specs.declared.event.LoaderMsg.{LoaderMsg}
@@ -34,6 +35,7 @@ use Rattle.notify.specs.declared.notice.DidOpen.{DidOpen}
 use Rattle.notify.specs.declared.notice.Notice.{Notice}
 use Rattle.notify.specs.declared.notice.Notice.TheVariants as notices
 use Rattle.desk.specs.Building.{BuildEnd, build_ended}
+use Rattle.desk.specs.Checking.{check_ended}
 use Rattle.desk.specs.Desk.{Desk}
 use Rattle.desk.specs.Fetching.{FetchEnd, fetch_ended}
 use Rattle.desk.specs.Loading.{LoadEnd, load_ended}
@@ -55,6 +57,7 @@ use Rattle.change_effects.specs.declared.effects.ChangeEffects.{ChangeEffects}
 use Rattle.change_effects.specs.declared.effects.SettingsFile.{SettingsFile}
 use Rattle.session_model.specs.Asking.{is_refresh_due, registers_saves, watchers_asked}
 use Rattle.session_model.specs.Building.{build_due, build_kept, request_told, with_due_build}
+use Rattle.session_model.specs.Checking.{check_kept, check_kind}
 use Rattle.session_model.specs.Crates.{builds_crates, crate_data, is_unknown}
 use Rattle.session_model.specs.Fetching.{fetch_kept, folders_told_if, settings_told, with_fetches}
 use Rattle.session_model.specs.Hearing.{heard_of}
@@ -242,15 +245,19 @@ crates_arrived (Some crates) w = at_files (crates_put crates) w
 unfoldable pub load_taken : Option LoadEnd → Working State → Result (Working State) Counter
 load_taken end w = crates_arrived (crates_loaded end w.state.workspaces) (at_workspaces (load_kept end) w)
 
--- what a message of a job ends: a fetch, a run of build data or a load of macros
-unfoldable pub ends_taken : Option FetchEnd → Option BuildEnd → Option LoadEnd → Working State → Result (Working State) Counter
-ends_taken fetched built loaded w = load_taken loaded (build_taken built (fetch_taken fetched w))
+-- the same of a check of the sources of macros
+abbrev pub check_taken : Option (List (List ℕ)) → Working State → Working State
+check_taken checked w = at_workspaces (check_kept checked) w
+
+-- what a message of a job ends: a fetch, a run of build data, a check of sources or a load of macros
+unfoldable pub ends_taken : Option FetchEnd → Option BuildEnd → Option (List (List ℕ)) → Option LoadEnd → Working State → Result (Working State) Counter
+ends_taken fetched built checked loaded w = load_taken loaded (check_taken checked (build_taken built (fetch_taken fetched w)))
 
 -- a message of a job, on the present snapshot; what it ends is told to the workspaces
 unfoldable pub taken : Meaning → TaskMsg → Working State → Result (Working State) Counter
 taken meaning message w =
     and_then (at_desk (taken_at_desk meaning (scene_of w.state) message) w)
-    (ends_taken (fetch_ended message w.state.desk.jobs) (build_ended message w.state.desk.jobs) (load_ended message w.state.desk.jobs))
+    (ends_taken (fetch_ended message w.state.desk.jobs) (build_ended message w.state.desk.jobs) (check_ended message w.state.desk.jobs) (load_ended message w.state.desk.jobs))
 
 -- a batch of messages, one after another
 abbrev pub batched : Meaning → List TaskMsg → Working State → Result (Working State) Counter
@@ -269,12 +276,21 @@ brought messages w =
 abbrev pub timed : ℕ → Working State → Working State
 timed ticket w = at_workspaces (with_fetches (fire ticket)) w
 
--- nothing is done yet for a deferred task
+-- a check of the sources of macros that was put off hands over its job, on the present snapshot; nothing is done yet for the other task
+unfoldable pub resumed : DeferredTask → Working State → Result (Working State) Counter
+resumed (CheckIfIndexed path) w = Ok w
+resumed (CheckProcMacroSources files) w = at_desk (handed_over (snapshot_of w.state) Worker (check_kind (snapshot_of w.state) files)) w
+
+-- the tasks that were put off, one after another
+abbrev pub all_resumed : List DeferredTask → Working State → Result (Working State) Counter
+all_resumed [] w = Ok w
+all_resumed (task ∷ tasks) w = and_then (resumed task w) (all_resumed tasks)
+
 unfoldable pub happened : Meaning → Event → Working State → Result (Working State) Counter
 happened meaning (Lsp message) w = received meaning message w
 happened meaning (Task batch) w = batched meaning batch w
 happened meaning (Vfs messages) w = brought messages w
-happened meaning (Deferred tasks) w = Ok w
+happened meaning (Deferred tasks) w = all_resumed tasks w
 happened meaning (Timer ticket) w = Ok (timed ticket w)
 
 -- the turn is counted, and its event is taken in

@@ -11,15 +11,15 @@ use Rattle.analysis_host.specs.Answers.{Finding}
 use Rattle.analysis_host.specs.SnapshotData.{SnapshotData}
 use Rattle.analysis_host.specs.declared.ask.Ask.{Ask}
 use Rattle.session_port.specs.Honest.{AreHonest, IsHonest, IsResultOf}
-use Rattle.session_port.specs.Jobs.{Jobs, after_message, fits_kind, is_request}
+use Rattle.session_port.specs.Jobs.{Jobs, after_message, fits_kind, asks_analysis}
 use Rattle.session_peers.proofs.Fitting.{after_fitting}
-use Rattle.session_peers.specs.Script.{Gift, event, results, named, left_out, can_see, can_end, sees_later, ended, asked_at, if_request, without_found, gift_of, next_gift, FinishesAt, IsGift}
+use Rattle.session_peers.specs.Script.{Gift, event, results, named, left_out, can_see, can_end, sees_later, ended, asked_at, if_asked, without_found, gift_of, next_gift, FinishesAt, IsGift}
 use Rattle.session_port.specs.declared.event.HostEvent.{HostEvent}
 use Rattle.session_port.specs.declared.event.HostEvent.TheVariants.{Bytes, Ended, Tasks, Vfs, DeferredTask, Timer}
 use Rattle.session_port.specs.declared.event.TaskMsg.{TaskMsg}
 use Rattle.session_port.specs.declared.job.Job.{Job}
 use Rattle.session_port.specs.declared.job.JobKind.{JobKind}
-use Rattle.session_port.specs.declared.job.JobKind.TheVariants.{Request, FetchWorkspaces, FetchBuildData, LoadProcMacros}
+use Rattle.session_port.specs.declared.job.JobKind.TheVariants.{Request, ProcMacroSources, FetchWorkspaces, FetchBuildData, LoadProcMacros}
 use Rattle.session_port.specs.declared.job.JobResult.{JobResult}
 use Rattle.session_port.specs.declared.job.JobResult.TheVariants.{Value, Fault, Cancelled, NoMemory}
 use Rattle.session_peers.specs.declared.script.ScriptStep.{ScriptStep}
@@ -63,9 +63,9 @@ remove_absent out number none = map.same_map nat_cmp_total map.nat_cmp-IsAntisym
 
 -- a request's job is left out unless it is done
 pub left_asked : (out : Jobs) (done : map.FinMap nat_cmp Bool) (number : ℕ) → asked_at number (left_out out done) ≡ cond (is_some (map.get done number)) None (asked_at number out)
-left_asked out done number = ap (option_and_then if_request) (get_left out done number) ∙ by_mark (is_some (map.get done number)) (map.get out number)
+left_asked out done number = ap (option_and_then if_asked) (get_left out done number) ∙ by_mark (is_some (map.get done number)) (map.get out number)
   where
-    by_mark : (b : Bool) (found : Option Job) → option_and_then if_request (cond b None found) ≡ cond b None (option_and_then if_request found)
+    by_mark : (b : Bool) (found : Option Job) → option_and_then if_asked (cond b None found) ≡ cond b None (option_and_then if_asked found)
     by_mark true found = refl
     by_mark false found = refl
 
@@ -83,13 +83,13 @@ pub done_again : (out : Jobs) (done : map.FinMap nat_cmp Bool) (number : ℕ) (m
 done_again out done number mark is =
     left_done out done number ∙ remove_absent (left_out out done) number (get_left out done number ∙ ap (λ found. cond (is_some found) None (map.get out number)) is)
 
--- a request's job that is found is out
+-- a job that is found is out
 pub asked_is : (number : ℕ) (out : Jobs) (job : Job) → asked_at number out ≡ Some job → map.get out number ≡ Some job
 asked_is number out job is = by_job (map.get out number) is
   where
-    by_job : (found : Option Job) → option_and_then if_request found ≡ Some job → found ≡ Some job
+    by_job : (found : Option Job) → option_and_then if_asked found ≡ Some job → found ≡ Some job
     by_job None is = absurd cc
-    by_job (Some other) is = by_kind (is_request other.kind) is
+    by_job (Some other) is = by_kind (asks_analysis other.kind) is
       where
         by_kind : (b : Bool) → (if b then Some other else None) ≡ Some job → Some other ≡ Some job
         by_kind true is = is
@@ -126,8 +126,9 @@ module _ (answer : SnapshotData → Ask → Finding) where
   honest_stop (Some job) out number saw is sees = (record { job = job; is_out = is; is_result = ltb-true _ _ sees }, tt)
 
   -- a job of the host's own may end with each result that fits it, and with a revision that is later
-  host_result : (kind : JobKind) (job : Job) (result : JobResult) → job.kind ≡ kind → is_request kind ≡ false → fits_kind kind result ≡ true → sees_later job.snapshot.revision result ≡ true → IsResultOf answer job result
+  host_result : (kind : JobKind) (job : Job) (result : JobResult) → job.kind ≡ kind → asks_analysis kind ≡ false → fits_kind kind result ≡ true → sees_later job.snapshot.revision result ≡ true → IsResultOf answer job result
   host_result (Request ticket row params) job result is own fits later = absurd cc
+  host_result (ProcMacroSources files) job result is own fits later = absurd cc
   host_result (FetchWorkspaces projects detached path force) job (Value value) is own fits later = rw is fits
   host_result (FetchWorkspaces projects detached path force) job (Fault code message) is own fits later = rw is refl
   host_result (FetchWorkspaces projects detached path force) job (Cancelled saw) is own fits later = ltb-true _ _ later
@@ -150,7 +151,7 @@ module _ (answer : SnapshotData → Ask → Finding) where
   honest_end : (found : Option Job) (out : Jobs) (number : ℕ) (result : JobResult) → map.get out number ≡ found → can_end found result ≡ true → AreHonest answer out (ended number result ∷ [])
   honest_end None out number result is may = absurd cc
   honest_end (Some job) out number result is may =
-      let k = all_three (is_request job.kind) (fits_kind job.kind result) (sees_later job.snapshot.revision result) may in
+      let k = all_three (asks_analysis job.kind) (fits_kind job.kind result) (sees_later job.snapshot.revision result) may in
       (record { job = job; is_out = is; is_result = host_result job.kind job result refl k.0 k.1 k.2 }, tt)
 
   honest_event : (given coming : HostEvent) (out : Jobs) → IsHonest answer out given → coming ≡ given → IsHonest answer out coming

@@ -3,7 +3,7 @@ use Rattle.std.specs.Prelude.{◌≡◌, ℕ, true, false, length}
 use Rattle.analysis_host.specs.Answers.{Finding}
 use Rattle.analysis_host.specs.SnapshotData.{SnapshotData}
 use Rattle.analysis_host.specs.declared.ask.Ask.{Ask}
-use Rattle.session_port.specs.Jobs.{Jobs, final_of, fits, is_request}
+use Rattle.session_port.specs.Jobs.{Jobs, final_of, fits, asks_analysis}
 use Rattle.session_port.specs.Honest.{IsFinalOf}
 use Rattle.session_port.specs.Runs.{IsFinal, IsUncancelled}
 use Rattle.session_port.specs.SmallProject.{IsSmall}
@@ -17,7 +17,7 @@ pub record JobsData : Type 0 where
 
 -- a message of a job of the host's own says what it comes to for a project of which nothing is known but where it lies
 abbrev pub IsOfProject : Job → TaskMsg → Type 0
-IsOfProject job message = is_request job.kind ≡ false → IsFinal (final_of message.body) (IsSmall job.kind (length job.snapshot.workspaces))
+IsOfProject job message = asks_analysis job.kind ≡ false → IsFinal (final_of message.body) (IsSmall job.kind (length job.snapshot.workspaces))
 
 -- a message with a result of that job, of its kind, which nothing stopped, and whose JSON is plain
 pub record Finishes (answer : SnapshotData → Ask → Finding) (job : Job) (message : TaskMsg) : Type 0 where

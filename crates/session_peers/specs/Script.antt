@@ -8,7 +8,7 @@ use Rattle.analysis_host.specs.Answers.{Finding}
 use Rattle.analysis_host.specs.SnapshotData.{SnapshotData}
 use Rattle.analysis_host.specs.declared.ask.Ask.{Ask}
 use Rattle.session_port.specs.Honest.{IsFinalOf}
-use Rattle.session_port.specs.Jobs.{Jobs, final_of, fits, fits_kind, is_request}
+use Rattle.session_port.specs.Jobs.{Jobs, final_of, fits, fits_kind, asks_analysis}
 use Rattle.session_peers.specs.Memory.{PlanData, no_calls}
 use Rattle.session_port.specs.Record.{HostCall}
 use Rattle.session_port.specs.Runs.{IsFinal, IsUncancelled}
@@ -27,19 +27,20 @@ pub data Gift : Type 0 where
   event : HostEvent → Gift
   results : List (ℕ × Job) → Gift
 
-abbrev pub if_request : Job → Option Job
-if_request job = if is_request job.kind then Some job else None
+-- a job, where the analysis is asked for it
+abbrev pub if_asked : Job → Option Job
+if_asked job = if asks_analysis job.kind then Some job else None
 
--- the job out with this number, where it is a request's
+-- the job out with this number, where it is not the host's own
 abbrev pub asked_at : ℕ → Jobs → Option Job
-asked_at number out = option_and_then if_request (map.get out number)
+asked_at number out = option_and_then if_asked (map.get out number)
 
 -- the jobs out without the one that was found
 abbrev pub without_found : Option Job → ℕ → Jobs → Jobs
 without_found None number out = out
 without_found (Some job) number out = map.remove out number
 
--- the requests' jobs out with these numbers, each once
+-- the jobs out with these numbers that are not the host's own, each once
 abbrev pub named : List ℕ → Jobs → List (ℕ × Job)
 named [] out = []
 named (number ∷ numbers) out =
@@ -64,7 +65,7 @@ sees_later revision NoMemory = true
 -- a job of the host's own that is out may end so
 abbrev pub can_end : Option Job → JobResult → Bool
 can_end None result = false
-can_end (Some job) result = not (is_request job.kind) && (fits_kind job.kind result && sees_later job.snapshot.revision result)
+can_end (Some job) result = not (asks_analysis job.kind) && (fits_kind job.kind result && sees_later job.snapshot.revision result)
 
 -- the message that a job has ended so
 abbrev pub ended : ℕ → JobResult → TaskMsg

@@ -1,6 +1,6 @@
 // What a job comes to where nothing cancels it.
 ghost use Rattle.std.specs.Prelude.{◌≡◌, true, false, length};
-ghost use Rattle.session_port.specs.Jobs.{fits_kind, is_request};
+ghost use Rattle.session_port.specs.Jobs.{fits_kind, asks_analysis};
 ghost use Rattle.session_port.specs.Honest.{IsResultOf};
 ghost use Rattle.session_port.specs.Runs.{IsUncancelled};
 ghost use Rattle.session_port.specs.SmallProject.{IsSmall};
@@ -14,9 +14,9 @@ pub fn result_of<A: Analysis>(alloc: Global, job: &Job, analysis: &A) -> JobResu
     ensures is { IsResultOf A.answer job.now result }
     ensures uncancelled { IsUncancelled result }
     ensures fits { fits_kind job.now.kind result ≡ true }
-    ensures project { is_request job.now.kind ≡ false → IsSmall job.now.kind (length job.now.snapshot.workspaces) result }
+    ensures project { asks_analysis job.now.kind ≡ false → IsSmall job.now.kind (length job.now.snapshot.workspaces) result }
 {
-    if !job.kind.is_request() {
+    if !job.kind.asks_analysis() {
         return small_project(alloc, job, job.snapshot.workspaces().len());
     }
     // A revision fits 64 bits.

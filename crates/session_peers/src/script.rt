@@ -17,8 +17,8 @@ pub enum ScriptStep {
     /// Gives this event, a loader's messages too. Messages of jobs are not given so, since a script is honest: the
     /// step gives nothing then.
     Give(HostEvent),
-    /// Gives one batch, with the results of those requests' jobs out that have these numbers, in this order and each
-    /// once. It is empty where none has.
+    /// Gives one batch, with the results of those jobs out that have these numbers and are not the host's own, in this order and
+    /// each once. It is empty where none has.
     Finish(Items<u64>),
     /// Gives the message that the job with the first number stopped, since it saw the second one. It gives nothing
     /// where the job isn't out, or that revision isn't above its snapshot's.
@@ -28,19 +28,19 @@ pub enum ScriptStep {
     Supply(u64, JobResult),
 }
 
-/// Finds a job out, where it is a request's.
+/// Finds a job out, where it is not the host's own.
 fn asked_at(out: &ByNumber<Job>, number: u64) -> Option<&Job>
     ensures { option_copied result ≡ asked_at number out.now }
 {
     let job = out.get(number)?;
-    if job.kind.is_request() {
+    if job.kind.asks_analysis() {
         Some(job)
     } else {
         None
     }
 }
 
-/// Finds a request's job out that was not done, and notes that it is.
+/// Finds a job out that is not the host's own and was not done, and notes that it is.
 fn job_to_do<'a>(
     out: &'a ByNumber<Job>,
     done: &mut ByNumber<bool>,
@@ -59,7 +59,7 @@ fn job_to_do<'a>(
     }
 }
 
-/// The results of the requests' jobs out with these numbers.
+/// The results of the jobs out with these numbers that are not the host's own.
 fn results_at<A: Analysis>(
     alloc: Global,
     numbers: &[u64],
@@ -98,7 +98,7 @@ fn can_end(job: Option<&Job>, outcome: &JobResult) -> bool
     let Some(job) = job else {
         return false;
     };
-    if job.kind.is_request() || !outcome.fits(&job.kind) {
+    if job.kind.asks_analysis() || !outcome.fits(&job.kind) {
         return false;
     }
     match outcome {

@@ -4,19 +4,20 @@ use Rattle.std.specs.FinMap as maps
 use Rattle.analysis_host.specs.Answers.{Finding}
 use Rattle.analysis_host.specs.SnapshotData.{SnapshotData}
 use Rattle.analysis_host.specs.declared.ask.Ask.{Ask}
-use Rattle.session_port.specs.Jobs.{Jobs, asks_of, first_result, if_value, has_workspaces, has_build_data, has_macros, final_of, after_message}
+use Rattle.session_port.specs.Jobs.{Jobs, asks_of, first_result, roots_result, if_value, has_workspaces, has_build_data, has_macros, final_of, after_message}
 use Rattle.session_port.specs.declared.event.HostEvent.{HostEvent}
 use Rattle.session_port.specs.Events.{batch_in}
 use Rattle.session_port.specs.declared.event.TaskMsg.{TaskMsg}
 use Rattle.session_port.specs.declared.job.Job.{Job}
 use Rattle.session_port.specs.declared.job.JobKind.{JobKind}
-use Rattle.session_port.specs.declared.job.JobKind.TheVariants.{Request, FetchWorkspaces, FetchBuildData, LoadProcMacros}
+use Rattle.session_port.specs.declared.job.JobKind.TheVariants.{Request, ProcMacroSources, FetchWorkspaces, FetchBuildData, LoadProcMacros}
 use Rattle.session_port.specs.declared.job.JobResult.{JobResult}
 use Rattle.session_port.specs.declared.job.JobResult.TheVariants.{Value, Fault, Cancelled, NoMemory}
 
--- a request's job ends with what its questions come to; a host's job may end with any value of its kind, and with any fault
+-- a job for which the analysis is asked ends with what its questions come to; a host's job may end with any value of its kind, and with any fault
 abbrev pub IsEndOf : JobKind → List Finding → JobResult → Type 0
 IsEndOf (Request ticket row params) findings result = result ≡ first_result findings
+IsEndOf (ProcMacroSources files) findings result = result ≡ roots_result findings
 IsEndOf (FetchWorkspaces projects detached path force) findings result = if_value has_workspaces result ≡ true
 IsEndOf (FetchBuildData version) findings result = if_value has_build_data result ≡ true
 IsEndOf (LoadProcMacros paths ignored) findings result = if_value has_macros result ≡ true

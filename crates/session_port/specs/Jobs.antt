@@ -1,5 +1,6 @@
 -- Jobs, and what they come to.
-use Rattle.std.specs.Prelude.{ℕ, List, [], ◌∷◌, Bool, true, false, Option, None, Some, option_and_then, is_some, if◌then◌else◌}
+use Rattle.std.specs.Prelude.{ℕ, List, [], ◌∷◌, map as each, Bool, true, false, Option, None, Some, option_and_then, if◌then◌else◌}
+use Rattle.std.specs.List.{flat_map}
 use Rattle.std.specs.Ordering.{nat_cmp}
 use Rattle.std.specs.FinMap as map
 use Rattle.plain.specs.Plain.{is_plain}
@@ -7,13 +8,13 @@ use Rattle.analysis_host.specs.Answers.{Finding, answer, fault}
 use Rattle.analysis_host.specs.declared.ask.Answer.{Answer}
 use Rattle.analysis_host.specs.declared.ask.Answer.TheVariants.{Json as JsonAnswer, Roots as RootsAnswer, Primed as PrimedAnswer}
 use Rattle.analysis_host.specs.declared.ask.Ask.{Ask}
-use Rattle.analysis_host.specs.declared.ask.Ask.TheVariants.{Request as RequestAsk}
+use Rattle.analysis_host.specs.declared.ask.Ask.TheVariants.{Request as RequestAsk, CratesOf}
 use Rattle.session_port.specs.declared.event.TaskBody.{TaskBody}
 use Rattle.session_port.specs.declared.event.TaskBody.TheVariants.{Final}
 use Rattle.session_port.specs.declared.event.TaskMsg.{TaskMsg}
 use Rattle.session_port.specs.declared.job.Job.{Job}
 use Rattle.session_port.specs.declared.job.JobKind.{JobKind}
-use Rattle.session_port.specs.declared.job.JobKind.TheVariants.{Request, FetchWorkspaces, FetchBuildData, LoadProcMacros}
+use Rattle.session_port.specs.declared.job.JobKind.TheVariants.{Request, ProcMacroSources, FetchWorkspaces, FetchBuildData, LoadProcMacros}
 use Rattle.session_port.specs.declared.job.JobResult.{JobResult}
 use Rattle.session_port.specs.declared.job.JobResult.TheVariants.{Value, Fault, Cancelled, NoMemory}
 use Rattle.session_port.specs.declared.job.JobValue.{JobValue}
@@ -26,17 +27,23 @@ Jobs = map.FinMap nat_cmp Job
 -- the request that a job is for, if it is for one
 abbrev pub ticket_of : JobKind → Option ℕ
 ticket_of (Request ticket row params) = Some ticket
+ticket_of (ProcMacroSources files) = None
 ticket_of (FetchWorkspaces projects detached path force) = None
 ticket_of (FetchBuildData version) = None
 ticket_of (LoadProcMacros paths ignored) = None
 
--- the job is a request's
-abbrev pub is_request : JobKind → Bool
-is_request kind = is_some (ticket_of kind)
+-- the analysis is asked: else the job is the host's own
+abbrev pub asks_analysis : JobKind → Bool
+asks_analysis (Request ticket row params) = true
+asks_analysis (ProcMacroSources files) = true
+asks_analysis (FetchWorkspaces projects detached path force) = false
+asks_analysis (FetchBuildData version) = false
+asks_analysis (LoadProcMacros paths ignored) = false
 
 -- the questions that a job asks, one after another
 abbrev pub asks_of : JobKind → List Ask
 asks_of (Request ticket row params) = RequestAsk row params ∷ []
+asks_of (ProcMacroSources files) = each CratesOf files
 asks_of (FetchWorkspaces projects detached path force) = []
 asks_of (FetchBuildData version) = []
 asks_of (LoadProcMacros paths ignored) = []
@@ -56,6 +63,26 @@ abbrev pub first_result : List Finding → JobResult
 first_result [] = NoMemory
 first_result (finding ∷ findings) = result_of finding
 
+-- the paths that an answer holds, and those that are found
+abbrev pub roots_in : Answer → List (List ℕ)
+roots_in (JsonAnswer value) = []
+roots_in (RootsAnswer paths) = paths
+roots_in PrimedAnswer = []
+
+abbrev pub roots_found : Finding → List (List ℕ)
+roots_found (answer value) = roots_in value
+roots_found (fault code message) = []
+
+-- the first fault stands for a result
+abbrev pub or_fault : List Finding → JobResult → JobResult
+or_fault [] result = result
+or_fault (answer value ∷ findings) result = or_fault findings result
+or_fault (fault code message ∷ findings) result = Fault code message
+
+-- what a check of files comes to: the roots of the crates of all of them, in order
+abbrev pub roots_result : List Finding → JobResult
+roots_result findings = or_fault findings (Value (Roots (flat_map roots_found findings)))
+
 -- the value is a request's: JSON, and plain
 abbrev pub plain_value : JobValue → Bool
 plain_value (Json value) = is_plain value
@@ -65,7 +92,15 @@ plain_value (Workspaces results) = false
 plain_value (BuildData results) = false
 plain_value (ProcMacros macros) = false
 
--- the value is of workspaces, of builds, of proc macros
+-- the value is of roots, of workspaces, of builds, of proc macros
+abbrev pub has_roots : JobValue → Bool
+has_roots (Json value) = false
+has_roots (Roots paths) = true
+has_roots Primed = false
+has_roots (Workspaces results) = false
+has_roots (BuildData results) = false
+has_roots (ProcMacros macros) = false
+
 abbrev pub has_workspaces : JobValue → Bool
 has_workspaces (Json value) = false
 has_workspaces (Roots paths) = false
@@ -108,6 +143,7 @@ final_of (Final result) = Some result
 -- a value is of the kind of its job; an end without a value is one of every job
 abbrev pub fits_kind : JobKind → JobResult → Bool
 fits_kind (Request ticket row params) result = plain_result result
+fits_kind (ProcMacroSources files) result = if_value has_roots result
 fits_kind (FetchWorkspaces projects detached path force) result = if_value has_workspaces result
 fits_kind (FetchBuildData version) result = if_value has_build_data result
 fits_kind (LoadProcMacros paths ignored) result = if_value has_macros result

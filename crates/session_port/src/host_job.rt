@@ -4,7 +4,7 @@ ghost use Rattle.analysis_host.specs.Answers.{Finding};
 ghost use Rattle.analysis_host.specs.SnapshotData.{SnapshotData};
 ghost use Rattle.analysis_host.specs.declared.ask.Ask.{Ask};
 ghost use Rattle.session_port.specs.Honest.{IsResultOf};
-ghost use Rattle.session_port.specs.Jobs.{is_request, fits_kind};
+ghost use Rattle.session_port.specs.Jobs.{asks_analysis, fits_kind};
 ghost use Rattle.session_port.specs.Runs.{IsUncancelled};
 ghost use Rattle.session_port.specs.SmallProject.{IsSmall, small_value};
 
@@ -16,7 +16,7 @@ use std::alloc::Global;
 /// What a job of the host's own comes to for a project of which nothing is known but where it lies: one workspace for each manifest or
 /// inline project, no output of a build script for each of so many workspaces, no proc macro.
 pub fn small_project(alloc: Global, job: &Job, workspaces: usize) -> JobResult
-    requires { is_request job.now.kind ≡ false }
+    requires { asks_analysis job.now.kind ≡ false }
     ensures is { IsSmall job.now.kind workspaces result }
     // It is a result that the job may have, whatever the analysis answers.
     ensures honest { (answer : SnapshotData → Ask → Finding) → IsResultOf answer job.now result }
@@ -30,11 +30,11 @@ pub fn small_project(alloc: Global, job: &Job, workspaces: usize) -> JobResult
 }
 
 fn value_of(alloc: Global, kind: &JobKind, workspaces: usize) -> Result<JobValue, NoMemory>
-    requires { is_request kind.now ≡ false }
+    requires { asks_analysis kind.now ≡ false }
     ensures { IfOk result (λ value. small_value kind.now workspaces ≡ Some value) }
 {
     match kind {
-        JobKind::Request { .. } => unreachable!(),
+        JobKind::Request { .. } | JobKind::ProcMacroSources { .. } => unreachable!(),
         JobKind::FetchWorkspaces { projects, .. } => Ok(JobValue::Workspaces(each_ok(
             alloc,
             workspaces_of(alloc, projects.as_slice())?,

@@ -1,16 +1,16 @@
 // Jobs, and what they come to.
 ghost use Rattle.std.specs.Prelude.{◌≡◌, IfOk};
-ghost use Rattle.session_port.specs.Jobs.{fits_kind, is_request};
+ghost use Rattle.session_port.specs.Jobs.{asks_analysis, fits_kind};
 
 use analysis_host::GlobalStateSnapshot;
-use docs_vfs::VfsPath;
+use docs_vfs::{FileId, VfsPath};
 use method_table::{PoolClass, RowId};
 use plain::{Copied, Items, Json, SharedJson, Text};
 use project_model::{BuildScripts, MacroPath, MacroState, ProjectWorkspace};
 use ra_settings::LinkedProject;
 use std::alloc::AllocError;
 
-/// What a job is to find out. All but a request's are the host's own: no analysis is asked.
+/// What a job is to find out: a request's and a check's by the analysis, the others by the host itself.
 #[derive(Debug, Drop)]
 pub enum JobKind {
     /// The answer to the request with this ticket.
@@ -18,6 +18,10 @@ pub enum JobKind {
         ticket: u64,
         row: RowId,
         params: SharedJson,
+    },
+    /// Where the root files of the crates are that these files are part of, file by file.
+    ProcMacroSources {
+        files: Items<FileId>,
     },
     /// The workspaces of these projects and of these files that stand alone; `path` is the file for which they are fetched, and `force`
     /// says that nothing of an earlier fetch is to be taken.
@@ -76,11 +80,16 @@ pub enum JobResult {
 }
 
 impl JobKind {
-    /// Whether the job is a request's, and not the host's own.
-    pub fn is_request(&self) -> bool
-        ensures { result ≡ is_request self.now }
+    /// Whether the analysis is asked: else the job is the host's own.
+    pub fn asks_analysis(&self) -> bool
+        ensures { result ≡ asks_analysis self.now }
     {
-        matches!(self, JobKind::Request { .. })
+        match self {
+            JobKind::Request { .. } | JobKind::ProcMacroSources { .. } => true,
+            JobKind::FetchWorkspaces { .. }
+            | JobKind::FetchBuildData { .. }
+            | JobKind::LoadProcMacros { .. } => false,
+        }
     }
 }
 
@@ -94,6 +103,7 @@ impl JobResult {
         };
         match (kind, value) {
             (JobKind::Request { .. }, JobValue::Json(json)) => json.is_plain(),
+            (JobKind::ProcMacroSources { .. }, JobValue::Roots(_)) => true,
             (JobKind::FetchWorkspaces { .. }, JobValue::Workspaces(_)) => true,
             (JobKind::FetchBuildData { .. }, JobValue::BuildData(_)) => true,
             (JobKind::LoadProcMacros { .. }, JobValue::ProcMacros(_)) => true,
@@ -122,6 +132,9 @@ impl Clone for JobKind {
                 ticket: *ticket,
                 row: *row,
                 params: params.clone()?,
+            }),
+            JobKind::ProcMacroSources { files } => Ok(JobKind::ProcMacroSources {
+                files: files.clone()?,
             }),
             JobKind::FetchWorkspaces {
                 projects,

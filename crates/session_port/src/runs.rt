@@ -1,7 +1,7 @@
 // What a job comes to.
 ghost use Rattle.std.specs.Prelude.{◌≡◌, ◌≤◌, ◌<◌, true, None, Some, IfOk};
 ghost use Rattle.analysis_host.specs.Polls.{HasPolled};
-ghost use Rattle.session_port.specs.Jobs.{is_request, fits_kind};
+ghost use Rattle.session_port.specs.Jobs.{asks_analysis, fits_kind};
 ghost use Rattle.session_port.specs.Honest.{IsResultOf};
 ghost use Rattle.session_port.specs.Runs.{IfCancelled, UnlessNoMemory};
 
@@ -9,9 +9,9 @@ use crate::job::{Job, JobKind, JobResult, JobValue};
 use analysis_host::{Analysis, Answer, Ask, Cancel, Outcome};
 use std::alloc::AllocError;
 
-/// Runs a request's job: its result on its snapshot, unless a poll says that it is out of date.
+/// Runs a job for which the analysis is asked: its result on its snapshot, unless a poll says that it is out of date.
 pub fn run_job<A: Analysis, C: Cancel>(job: &Job, analysis: &A, cancel: &mut C) -> JobResult
-    requires asked { is_request job.now.kind ≡ true }
+    requires asked { asks_analysis job.now.kind ≡ true }
     requires floor { job.now.snapshot.revision ≤ C.floor cancel.old }
     requires fresh { C.held cancel.old ≡ None }
 
@@ -37,7 +37,7 @@ fn query<A: Analysis, C: Cancel>(
     analysis: &A,
     cancel: &mut C,
 ) -> Result<JobResult, AllocError>
-    requires asked { is_request job.now.kind ≡ true }
+    requires asked { asks_analysis job.now.kind ≡ true }
     requires floor { job.now.snapshot.revision ≤ C.floor cancel.old }
     requires fresh { C.held cancel.old ≡ None }
     ensures is { IfOk result (IsResultOf A.answer job.now) }

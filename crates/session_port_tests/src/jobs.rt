@@ -43,7 +43,7 @@ impl Cancel for Third {
 
 /// What a job comes to that no later revision stops.
 fn lasting(alloc: Global, job: &Job) -> Option<JobResult> {
-    if job.kind.is_request() && job.snapshot.revision() == 0 {
+    if job.kind.asks_analysis() && job.snapshot.revision() == 0 {
         Some(run_job(job, &NullAnalysis(alloc), &mut Never::new()))
     } else {
         None
@@ -56,7 +56,7 @@ fn stopped(alloc: Global, job: &Job) -> Option<JobResult> {
         seen: false,
         polls: 0,
     };
-    if job.kind.is_request() && job.snapshot.revision() == 0 {
+    if job.kind.asks_analysis() && job.snapshot.revision() == 0 {
         Some(run_job(job, &NullAnalysis(alloc), &mut third))
     } else {
         None

@@ -49,6 +49,7 @@ impl Desk {
         match &job.kind {
             JobKind::FetchBuildData { .. } => build_end(self.alloc, outcome),
             JobKind::Request { .. }
+            | JobKind::ProcMacroSources { .. }
             | JobKind::FetchWorkspaces { .. }
             | JobKind::LoadProcMacros { .. } => Ok(None),
         }

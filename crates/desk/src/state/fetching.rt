@@ -63,6 +63,7 @@ impl Desk {
         match &job.kind {
             JobKind::FetchWorkspaces { .. } => fetch_end(self.alloc, outcome),
             JobKind::Request { .. }
+            | JobKind::ProcMacroSources { .. }
             | JobKind::FetchBuildData { .. }
             | JobKind::LoadProcMacros { .. } => Ok(None),
         }

@@ -49,6 +49,7 @@ impl Desk {
         match &job.kind {
             JobKind::LoadProcMacros { .. } => load_end(self.alloc, outcome),
             JobKind::Request { .. }
+            | JobKind::ProcMacroSources { .. }
             | JobKind::FetchWorkspaces { .. }
             | JobKind::FetchBuildData { .. } => Ok(None),
         }
