@@ -7,6 +7,7 @@ pub mod Keeping
 pub mod Parted
 pub mod Streams
 pub mod Turns
+pub mod Plain
 pub mod Written
 pub mod Bodies
 pub mod Exact

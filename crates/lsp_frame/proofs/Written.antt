@@ -1,110 +1,40 @@
 -- A written header is a header.
-use Rattle.std.proofs.Common.{◌≡◌, ◌+◌, ◌-◌, ◌<◌, ◌≤◌, ℕ, Bool, true, not, nat_eq, List, [], ◌∷◌, ◌++◌, Some, length, get_or, take, drop, refl, sym, ap, ◌∙◌, arith, lit<, length-append, append_assoc, codes}
+use Rattle.std.proofs.Common.{◌≡◌, ◌+◌, ◌-◌, ◌≤◌, ℕ, List, [], ◌++◌, length, take, drop, sym, ap, ◌∙◌, arith, lit<, length-append, append_assoc, codes}
 use Rattle.std.specs.Prelude.{decimal}
-use Rattle.std.specs.Char.{is_ascii_digit, digit_value}
-use Rattle.std.specs.List.{list_all}
-use Rattle.std.specs.Str.Parse.{AllDigits}
-use Rattle.std.proofs.Math.ListN.{get_or-append}
-use Rattle.std.proofs.Math.Seq.{take-append_seam, drop-append_seam}
-use Rattle.std.proofs.lemmas.Bool.{and_from, false≢true}
-use Rattle.std.proofs.lemmas.Bool.Decides.{nat_tests}
-use Rattle.std.proofs.lemmas.List.{get_or-append-add, append-nil, take_all, drop_all}
-use Rattle.std.proofs.lemmas.List.Folds.{list_all-append, list_all_at}
+use Rattle.std.specs.Str.Parse.{digits_value}
+use Rattle.std.proofs.Math.Seq.{drop-append_seam}
+use Rattle.std.proofs.lemmas.List.{append-nil, take_all, drop_all}
 use Rattle.std.proofs.lemmas.Fmt.{decimal_is_IsNumeral, length-decimal-le}
-use Rattle.memchr.specs.Find.{OccursAt, Nowhere}
 use Rattle.lsp_frame.specs.declared.frame.Cut.TheVariants.{Frame}
-use Rattle.lsp_frame.specs.declared.frame.Head.TheVariants.{Open, Body}
-use Rattle.lsp_frame.specs.Find.{place_of}
-use Rattle.lsp_frame.specs.Header.{is_field, is_length, is_value_byte, value_of, size_of, size_in, sizes, only_size, body_size, lines_of}
-use Rattle.lsp_frame.specs.Frames.{empty_line, sized, head_of, cut_of, frame, frames_from}
+use Rattle.lsp_frame.specs.declared.frame.Head.TheVariants.{Body}
+use Rattle.lsp_frame.specs.Frames.{empty_line, head_of, cut_of, frame, frames_from}
 use Rattle.lsp_frame.specs.Written.{header_for, frame_for}
-use Rattle.lsp_frame.proofs.Lines.{lines_of-one}
-use Rattle.lsp_frame.proofs.Places.{place_found}
-use Rattle.lsp_frame.proofs.Sizes.{size_of-some}
-use Rattle.lsp_frame.proofs.Cuts.{window-short, head_some, head_more}
+use Rattle.lsp_frame.proofs.Cuts.{head_more}
 use Rattle.lsp_frame.proofs.Turns.{cut_whole}
 use Rattle.lsp_frame.proofs.Streams.{frames_given}
+use Rattle.lsp_frame.proofs.Plain.{WriteSize, plain_block, head_plain, body_not_open}
 
--- a byte that is no CR
-abbrev is_no_cr : ℕ → Bool
-is_no_cr b = not (nat_eq b 13)
-
-digit_code : (b : ℕ) → digit_value b < 10 → is_ascii_digit b ≡ true
-digit_code b h = grind (arith, nat_tests)
-
-digit_no_cr : (b : ℕ) → digit_value b < 10 → is_no_cr b ≡ true
-digit_no_cr b h = grind (arith, nat_tests)
-
-digit_value_byte : (b : ℕ) → digit_value b < 10 → is_value_byte b ≡ true
-digit_value_byte b h = grind (arith, nat_tests)
-
-digits_pass : (test : ℕ → Bool) → ((b : ℕ) → digit_value b < 10 → test b ≡ true) → (bytes : List ℕ) → AllDigits 10 bytes → list_all test bytes ≡ true
-digits_pass test each [] all = refl
-digits_pass test each (b ∷ bytes) all = and_from _ _ (each b all.0) (digits_pass test each bytes all.1)
-
--- the block of a written header
-abbrev block_for : ℕ → List ℕ
-block_for size = codes "Content-Length: " ++ decimal size
-
-all_digits : (size : ℕ) → size ≤ 67108864 → AllDigits 10 (decimal size)
-all_digits size le = (decimal_is_IsNumeral size (omega arith)).0.1
-
-block_no_cr : (size : ℕ) → size ≤ 67108864 → list_all is_no_cr (block_for size) ≡ true
-block_no_cr size le = list_all-append is_no_cr (codes "Content-Length: ") (decimal size) ∙ digits_pass is_no_cr digit_no_cr (decimal size) (all_digits size le)
-
-no_cr_at : (bytes : List ℕ) → list_all is_no_cr bytes ≡ true → (k : ℕ) → k < length bytes → get_or bytes k 0 ≡ 13 → ⊥
-no_cr_at bytes all k lt is = false≢true (sym (list_all_at is_no_cr bytes k 0 lt (rw is refl)) ∙ all)
-
-length_block : (size : ℕ) → size ≤ 67108864 → length (block_for size) ≤ 26
-length_block size le = omega (arith, length-append (codes "Content-Length: ") (decimal size), length-decimal-le 10 size (lit< tt) (omega arith) (omega arith))
-
-one_line : (bytes : List ℕ) → list_all is_no_cr bytes ≡ true → lines_of bytes ≡ bytes ∷ []
-one_line bytes all = lines_of-one bytes (λ k occurs. no_cr_at bytes all k (omega (arith, occurs.fits)) (ap (λ i. get_or bytes i 0) (omega arith) ∙ occurs.reads 0 (lit< tt)))
-
-block_place : (bytes : List ℕ) → list_all is_no_cr bytes ≡ true → place_of empty_line (bytes ++ empty_line) ≡ Some (length bytes)
-block_place bytes all = sym (place_found (bytes ++ empty_line) empty_line (Some (length bytes)) (lit< tt) (
-  record { low = omega arith; high = omega (arith, length-append bytes empty_line); before = before },
-  record { fits = omega (arith, length-append bytes empty_line); reads = λ j lt. get_or-append-add bytes empty_line j 0 },
-))
-  where
-    before : Nowhere (OccursAt (bytes ++ empty_line) empty_line) 0 (length bytes)
-    before j low lt occurs = let e : j ≡ j + 0 = omega arith in
-        no_cr_at bytes all j lt (sym (get_or-append bytes empty_line 0 j lt) ∙ ap (λ i. get_or (bytes ++ empty_line) i 0) e ∙ occurs.reads 0 (lit< tt))
-
-size_written : (size : ℕ) → size ≤ 67108864 → size_of (decimal size) ≡ Some size
-size_written size le =
-    let numeral = decimal_is_IsNumeral size (omega arith) in
-    size_of-some (decimal size) numeral.0.0 (length-decimal-le 10 size (lit< tt) (omega arith) (omega arith)) (digits_pass is_ascii_digit digit_code (decimal size) (all_digits size le)) (omega (arith, numeral.1))
-    ∙ ap Some numeral.1
-
-one_size : (line : List ℕ) (size : ℕ) → is_field line ≡ true → is_length line ≡ true → size_of (value_of line) ≡ Some size → size_in (line ∷ []) ≡ Some size
-unfolding size_in sizes only_size
-one_size line size field named is = rw (field, named, is) refl
-
-field_written : (size : ℕ) → size ≤ 67108864 → is_field (block_for size) ≡ true
-unfolding is_field
-field_written size le = digits_pass is_value_byte digit_value_byte (decimal size) (all_digits size le)
-
-length_written : (size : ℕ) → is_length (block_for size) ≡ true
-unfolding is_length
-length_written size = refl
-
-body_size_written : (size : ℕ) → size ≤ 67108864 → body_size (block_for size) ≡ Some size
-unfolding body_size
-body_size_written size le = ap size_in (one_line (block_for size) (block_no_cr size le)) ∙ one_size (block_for size) size (field_written size le) (length_written size) (size_written size le)
+-- the digits of a size
+size_digits : (size : ℕ) → size ≤ 67108864 → WriteSize (decimal size) × (digits_value 10 (decimal size) ≡ size)
+size_digits size le = let numeral = decimal_is_IsNumeral size (omega arith) in (
+  record {
+    some = numeral.0.0;
+    ten = length-decimal-le 10 size (lit< tt) (omega arith) (omega arith);
+    all = numeral.0.1;
+    limit = omega (arith, numeral.1);
+  },
+  numeral.1,
+)
 
 head_written : (size : ℕ) → size ≤ 67108864 → head_of (header_for size) ≡ Body (length (header_for size)) (length (header_for size) + size)
 unfolding header_for
 head_written size le =
-    let block = block_for size in
-    let len : length (block ++ empty_line) ≡ length block + 4 = length-append block empty_line in
-    head_some (block ++ empty_line) (length block) (ap (place_of empty_line) (window-short (block ++ empty_line) (omega (arith, length_block size le))) ∙ block_place block (block_no_cr size le))
-    ∙ ap (λ b. sized (length block + 4) (body_size b)) (take-append_seam block empty_line)
-    ∙ ap (sized (length block + 4)) (body_size_written size le)
+    let block = plain_block (decimal size) in
+    let digits = size_digits size le in
+    let len : length (block ++ empty_line) ≡ 16 + length (decimal size) + 4 = length-append block empty_line ∙ ap (λ n. n + 4) (length-append (codes "Content-Length: ") (decimal size)) in
+    head_plain (decimal size) digits.0
+    ∙ ap (λ n. Body (16 + length (decimal size) + 4) (16 + length (decimal size) + 4 + n)) digits.1
     ∙ ap (λ n. Body n (n + size)) (sym len)
-
-body_not_open : (start end : ℕ) → Body start end ≡ Open → ⊥
-body_not_open start end e = cc
 
 -- a written frame is cut as it was written, whatever follows
 pub cut_written : (body more : List ℕ) → length body ≤ 67108864 → cut_of (frame_for body ++ more) ≡ Frame (length (header_for (length body))) (length (frame_for body))

@@ -1,12 +1,14 @@
 // The first frame of a byte string.
-ghost use Rattle.std.specs.Prelude.{◌≡◌, ◌+◌, ◌≤◌, length, IfSome, None, Some};
+ghost use Rattle.std.specs.Prelude.{◌≡◌, ◌+◌, ◌<◌, ◌≤◌, false, length, take, slice_index, IfSome, None, Some};
 ghost use Rattle.std.specs.Bool.{MatchBool};
+ghost use Rattle.std.specs.Char.{is_ascii_digit};
+ghost use Rattle.std.specs.Str.Parse.{AllDigits, digits_value};
 ghost use Rattle.memchr.specs.Find.{FindsNeedle, OccursAt};
 ghost use Rattle.lsp_frame.specs.Find.{place_of};
 ghost use Rattle.lsp_frame.specs.Frames.{empty_line, header_limit, window, head_of, cut_at, cut_of, NoneBelow, LiesWithin};
 
 use crate::frame::{Cut, Head};
-use crate::header::read_body_size;
+use crate::header::{SIZE_LIMIT, read_body_size};
 
 /// The bytes within which a frame's empty line ends.
 pub const HEADER_LIMIT: usize = 4096;
@@ -61,6 +63,45 @@ fn find_empty_line(bytes: &[u8], from: usize) -> Option<usize>
     }
 }
 
+/// How many digits some bytes begin with, ten at most, and the number that these write.
+fn front_digits(bytes: &[u8]) -> (usize, u64)
+    ensures within { result.0 ≤ length bytes.now }
+    ensures ten { result.0 ≤ 10 }
+    ensures all { AllDigits 10 (take result.0 bytes.now) }
+    ensures next { result.0 < length bytes.now → result.0 < 10 → is_ascii_digit (slice_index bytes.now result.0) ≡ false }
+    ensures value { result.1 ≡ digits_value 10 (take result.0 bytes.now) }
+{
+    let mut count = 0;
+    let mut value: u64 = 0;
+    'digits: while count < bytes.len() && count < 10 && bytes[count].is_ascii_digit() {
+        value = value * 10 + u64::from(bytes[count] - b'0');
+        count += 1;
+    }
+    (count, value)
+}
+
+/// What most headers begin with.
+const LENGTH_NAME: [u8; 16] = *b"Content-Length: ";
+
+/// What a header says that is one plain line with its size; `None` where the bytes begin with no such line.
+fn plain_head(bytes: &[u8]) -> Option<Head>
+    ensures { IfSome result (λ head. head ≡ head_of bytes.now) }
+{
+    let rest = bytes.strip_prefix(&LENGTH_NAME)?;
+    let (count, size) = front_digits(rest);
+    if count == 0 || size > SIZE_LIMIT || rest.len() - count < 4 {
+        return None;
+    }
+    if !begins_empty_line(rest, count) {
+        return None;
+    }
+    let start = LENGTH_NAME.len() + count + 4;
+    Some(Head::Body {
+        start,
+        end: start + size as usize,
+    })
+}
+
 /// What the header says, where no empty line begins below `from`.
 #[tactic(auto, using(crate::proofs::Sizes::size_fits), unfolding(crate::specs::Frames::head_of, crate::specs::Frames::head_at))]
 pub fn read_head(bytes: &[u8], from: usize) -> Head
@@ -68,6 +109,9 @@ pub fn read_head(bytes: &[u8], from: usize) -> Head
     requires none { NoneBelow bytes.now from }
     ensures { result ≡ head_of bytes.now }
 {
+    if let Some(head) = plain_head(bytes) {
+        return head;
+    }
     match find_empty_line(bytes, from) {
         None => {
             if bytes.len() < HEADER_LIMIT {

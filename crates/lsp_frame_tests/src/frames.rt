@@ -41,7 +41,20 @@ const EDGES: &str = "Content-Length: 1\r\nContent-Length: 1\r\n\r\nx > bad|\
     Content-Type: x\r\n\r\n > bad|\
     \r\n\r\n > bad|\
     not a header > more|\
-    Content-Length: 2\r\n\r\nx > more";
+    Content-Length: 2\r\n\r\nx > more|\
+    Content-Length: 01\r\n\r\nx > a frame|\
+    Content-Length: 00\r\n\r\n > a frame|\
+    Content-Length: 9999999999\r\n\r\nx > bad|\
+    Content-Length: 00000000000000000001\r\n\r\nx > bad|\
+    Content-Length: 18446744073709551617\r\n\r\nx > bad|\
+    Content-Length: 1x\r\n\r\nx > bad|\
+    Content-Length: 1\n\nx > more|\
+    Content-Length:  > more|\
+    Content-Length: 12 > more|\
+    Content-Length: 1\r\n\r > more|\
+    content-length: 1\r\n\r\nx > a frame|\
+    Content-Length: 1\r\nContent-Type: x\r\n\r\nx > a frame|\
+    Content-Length: 1\r\nContent-Type: x\r\nx > more";
 
 fn agrees(row: &str) -> bool {
     let (front, want) = parts(row);
