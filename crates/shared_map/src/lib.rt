@@ -118,13 +118,17 @@ impl<K: Ord, V> SharedMap<K, V> {
         ensures err { OnErr result (self.new ≡ []) }
         ensures cost { IsQuick (length self.old) steps.old steps.new }
     {
-        let SharedMap { tree, len, alloc } = self.take();
+        let SharedMap {
+            mut tree,
+            len,
+            alloc,
+        } = self.take();
         if len == u64::MAX {
             return Err(AllocError);
         }
         let _height = tree.height();
         let given = value.is_some();
-        let (tree, found) = change::put(tree, alloc, key, value, steps)?;
+        let found = change::put(&mut tree, alloc, key, value, steps)?;
         let len = len + u64::from(given) - u64::from(found);
         let changed = SharedMap { tree, len, alloc };
         *self = changed;

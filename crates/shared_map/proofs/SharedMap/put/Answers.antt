@@ -7,7 +7,7 @@ use Rattle.shared_map.proofs.SharedMap.put.Goals as goal
 
 pub invariant_of-changed : goal.invariant_of-changed
 invariant_of-changed g c =
-    let set = c.in_ok-tree.ensures.ok in
+    let set = c.in_ok-found.ensures.ok in
     let old = c.tree.inside.tree.0 in
     let long = length_set _ g.met.K.Ord.total c.args.key c.args.value old c.tree.invariant.order in
     let given : c.from.result ≡ from_bool (is_some c.args.value) = c.from.ensures ∙ ap from_bool c.is_some-given.ensures in
