@@ -1,6 +1,8 @@
 -- How the run of a job ends.
-use Rattle.std.specs.Prelude.{ℕ, List, [], ◌∷◌, Option, None, Some}
-use Rattle.session_port.specs.Jobs.{final_of}
+use Rattle.std.specs.Prelude.{◌≡◌, ◌≤◌, ◌^◌, ◌-◌, ℕ, List, [], ◌∷◌, Option, None, Some}
+use Rattle.analysis_host.specs.Answers.{Finding, fault}
+use Rattle.analysis_host.specs.Polls.{HasPolled}
+use Rattle.session_port.specs.Jobs.{final_of, roots_result}
 use Rattle.session_port.specs.declared.event.TaskMsg.{TaskMsg}
 use Rattle.session_port.specs.declared.job.JobResult.{JobResult}
 use Rattle.session_port.specs.declared.job.JobResult.TheVariants.{Value, Fault, Cancelled, NoMemory}
@@ -31,3 +33,21 @@ IsFinal (Some result) P = P result
 abbrev pub AreUncancelled : List TaskMsg → Type 0
 AreUncancelled [] = Unit {0}
 AreUncancelled (message ∷ messages) = IsFinal (final_of message.body) IsUncancelled × AreUncancelled messages
+
+-- at least one poll was made, and the count of them fits 64 bits
+abbrev pub HasCounted : ℕ → ℕ → Type 0
+HasCounted before now = HasPolled before now × now ≤ 2 ^ 64 - 1
+
+-- a check ends without roots at a question: by the fault that it comes to, by a later revision, or where memory runs out
+abbrev pub StopsAt : Finding → JobResult → Type 0
+StopsAt finding (Value value) = ⊥
+StopsAt finding (Fault code message) = finding ≡ fault code message
+StopsAt finding (Cancelled saw) = Unit {0}
+StopsAt finding NoMemory = Unit {0}
+
+-- so does a check whose questions come to these
+abbrev pub StopsCheck : List Finding → JobResult → Type 0
+StopsCheck findings (Value value) = ⊥
+StopsCheck findings (Fault code message) = roots_result findings ≡ Fault code message
+StopsCheck findings (Cancelled saw) = Unit {0}
+StopsCheck findings NoMemory = Unit {0}

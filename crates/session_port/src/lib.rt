@@ -10,6 +10,7 @@ mod job;
 mod lent;
 mod peers;
 mod runs;
+mod sources;
 
 pub use cause::HostError;
 pub use command::{Command, DeferredTask, LogCode};
