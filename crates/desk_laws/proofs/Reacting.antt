@@ -18,7 +18,7 @@ use Rattle.dispatch.specs.Responses.{response_with}
 use Rattle.session_port.specs.Jobs.{ticket_of}
 use Rattle.session_port.specs.declared.job.Job.{Job}
 use Rattle.session_port.specs.declared.job.JobKind.{JobKind}
-use Rattle.session_port.specs.declared.job.JobKind.TheVariants.{Request as RequestJob, FetchWorkspaces, FetchBuildData, LoadProcMacros}
+use Rattle.session_port.specs.declared.job.JobKind.TheVariants.{Request as RequestJob, ProcMacroSources, FetchWorkspaces, FetchBuildData, LoadProcMacros}
 use Rattle.session_port.specs.declared.job.JobResult.{JobResult}
 use Rattle.desk.specs.Desk.{Desk}
 use Rattle.desk.specs.Meaning.{Meaning, can_read}
@@ -79,6 +79,7 @@ stop-reacts meaning scene desk ticket id revision (RequestJob t row params) is =
     either-reacts scene desk.handed ticket id (ltb revision scene.snapshot.revision && not (retries row)) (says (stopped_reply (class_of row) id)) _
     (says-reacts scene desk.handed ticket id (stopped_reply (class_of row) id) (stopped-id (class_of row) id))
     (subst (λ u. Reacts scene desk.handed u id (class_row meaning scene desk t id row params)) same (class-reacts meaning scene desk t id row params))
+stop-reacts meaning scene desk ticket id revision (ProcMacroSources files) is = absurd cc
 stop-reacts meaning scene desk ticket id revision (FetchWorkspaces projects detached path force) is = absurd cc
 stop-reacts meaning scene desk ticket id revision (FetchBuildData version) is = absurd cc
 stop-reacts meaning scene desk ticket id revision (LoadProcMacros paths ignored) is = absurd cc

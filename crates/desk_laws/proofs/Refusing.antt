@@ -18,7 +18,7 @@ use Rattle.session_port.specs.Jobs.{final_of, fitting_job}
 use Rattle.session_port.specs.declared.event.TaskMsg.{TaskMsg}
 use Rattle.session_port.specs.declared.job.Job.{Job}
 use Rattle.session_port.specs.declared.job.JobKind.{JobKind}
-use Rattle.session_port.specs.declared.job.JobKind.TheVariants.{Request as RequestJob, FetchWorkspaces, FetchBuildData, LoadProcMacros}
+use Rattle.session_port.specs.declared.job.JobKind.TheVariants.{Request as RequestJob, ProcMacroSources, FetchWorkspaces, FetchBuildData, LoadProcMacros}
 use Rattle.session_port.specs.declared.job.JobResult.{JobResult}
 use Rattle.turn_parts.specs.Working.{Working, and_then, next_number}
 use Rattle.turn_parts.specs.declared.fault.Counter.{Counter}
@@ -133,6 +133,7 @@ stop-errs : (meaning : Meaning) (scene : Scene) (id : RequestId) (revision : ℕ
     → IfErr (stopped meaning scene revision kind w) (TooMany w.state.handed (stopped_row meaning scene w.state id revision kind))
 unfolding stopped
 stop-errs meaning scene id revision (RequestJob ticket row params) w = stop-cases meaning scene ticket id row params w (ltb revision scene.snapshot.revision && not (retries row))
+stop-errs meaning scene id revision (ProcMacroSources files) w = tt
 stop-errs meaning scene id revision (FetchWorkspaces projects detached path force) w = tt
 stop-errs meaning scene id revision (FetchBuildData version) w = tt
 stop-errs meaning scene id revision (LoadProcMacros paths ignored) w = tt

@@ -32,7 +32,7 @@ use Rattle.session_port.specs.declared.command.LogCode.TheVariants.{UnknownReque
 use Rattle.session_port.specs.declared.event.TaskMsg.{TaskMsg}
 use Rattle.session_port.specs.declared.job.Job.{Job}
 use Rattle.session_port.specs.declared.job.JobKind.{JobKind}
-use Rattle.session_port.specs.declared.job.JobKind.TheVariants.{Request as RequestJob, FetchWorkspaces, FetchBuildData, LoadProcMacros}
+use Rattle.session_port.specs.declared.job.JobKind.TheVariants.{Request as RequestJob, ProcMacroSources, FetchWorkspaces, FetchBuildData, LoadProcMacros}
 use Rattle.session_port.specs.declared.job.JobResult.{JobResult}
 use Rattle.session_port.specs.declared.job.JobResult.TheVariants.{Value, Fault, Cancelled, NoMemory}
 use Rattle.session_port.specs.declared.job.JobValue.TheVariants.{Json, Roots, Primed, Workspaces, BuildData, ProcMacros}
@@ -354,6 +354,7 @@ stop-settles : (meaning : Meaning) (scene : Scene) (id : RequestId) (revision : 
     → IfOk (stopped meaning scene revision kind w) (λ v. Settled None w v (stopped_row meaning scene w.state id revision kind) w.state.jobs)
 unfolding stopped
 stop-settles meaning scene id revision (RequestJob ticket row params) w waits = stop-cases meaning scene ticket id row params w (ltb revision scene.snapshot.revision && not (retries row)) waits
+stop-settles meaning scene id revision (ProcMacroSources files) w waits = nothing-settles w
 stop-settles meaning scene id revision (FetchWorkspaces projects detached path force) w waits = nothing-settles w
 stop-settles meaning scene id revision (FetchBuildData version) w waits = nothing-settles w
 stop-settles meaning scene id revision (LoadProcMacros paths ignored) w waits = nothing-settles w
@@ -386,6 +387,7 @@ row-without meaning scene desk jobs (Some result) job = by_request (waiting_for 
   where
     by_kind : (id : RequestId) (revision : ℕ) (kind : JobKind) → stopped_row meaning scene (record desk { jobs = jobs }) id revision kind ≡ stopped_row meaning scene desk id revision kind
     by_kind id revision (RequestJob ticket row params) = refl
+    by_kind id revision (ProcMacroSources files) = refl
     by_kind id revision (FetchWorkspaces projects detached path force) = refl
     by_kind id revision (FetchBuildData version) = refl
     by_kind id revision (LoadProcMacros paths ignored) = refl
@@ -447,6 +449,7 @@ message-turns meaning scene desk turns message = by_job (fitting_job message des
   where
     by_kind : (id : RequestId) (revision : ℕ) (kind : JobKind) → stopped_row meaning scene (record desk { turns = turns }) id revision kind ≡ stopped_row meaning scene desk id revision kind
     by_kind id revision (RequestJob ticket row params) = refl
+    by_kind id revision (ProcMacroSources files) = refl
     by_kind id revision (FetchWorkspaces projects detached path force) = refl
     by_kind id revision (FetchBuildData version) = refl
     by_kind id revision (LoadProcMacros paths ignored) = refl
