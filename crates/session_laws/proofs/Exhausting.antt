@@ -12,6 +12,7 @@ use Rattle.lsp_frame.specs.declared.message.Message.TheVariants.{Request as Requ
 use Rattle.lsp_frame.specs.declared.message.Response.{Response}
 use Rattle.analysis_host.specs.SnapshotData.{SnapshotData}
 use Rattle.session_port.specs.Jobs.{after_message}
+use Rattle.session_port.specs.declared.command.DeferredTask.{DeferredTask}
 use Rattle.session_port.specs.declared.event.TaskMsg.{TaskMsg}
 use Rattle.session_port.specs.declared.job.Job.{Job}
 use Rattle.turn_parts.specs.Working.{Working, and_then, within}
@@ -29,6 +30,7 @@ use Rattle.notify.specs.declared.notice.DidOpen.{DidOpen}
 use Rattle.notify.specs.declared.notice.Notice.{Notice}
 use Rattle.notify.specs.declared.notice.Notice.TheVariants as notices
 use Rattle.desk.specs.Building.{BuildEnd, build_ended}
+use Rattle.desk.specs.Checking.{check_ended}
 use Rattle.desk.specs.Desk.{Desk}
 use Rattle.desk.specs.Fetching.{FetchEnd, fetch_ended}
 use Rattle.desk.specs.Loading.{LoadEnd, load_ended}
@@ -47,8 +49,8 @@ use Rattle.workspaces.specs.declared.requests.FetchRequest.{FetchRequest}
 use Rattle.session_model.specs.Building.{build_due, with_due_build}
 use Rattle.session_model.specs.Crates.{crates_in, times_told}
 use Rattle.session_model.specs.Fetching.{fetch_jobs}
-use Rattle.session_model.specs.Headline.{batch_row, builds_crates_in, builds_in, client_after, client_asked, client_left, client_switched, crates_told_by, fetch_in, fetches_in, files_told, loads_in, NeedsMore, Place, place_past, row, scene_at, status_after, statuses_at}
-use Rattle.session_model.specs.Machine.{answer_taken, asked, asked_for_settings, at_client, at_desk, at_files, at_workspaces, batched, begin_part, begun_fetches, build_part, build_taken, changed_at, client_in, closed, closed_at}
+use Rattle.session_model.specs.Headline.{batch_row, builds_crates_in, builds_in, client_after, client_asked, client_left, client_switched, crates_told_by, fetch_in, fetches_in, files_told, jobs_resumed, loads_in, NeedsMore, Place, place_past, row, scene_at, status_after, statuses_at}
+use Rattle.session_model.specs.Machine.{all_resumed, answer_taken, asked, asked_for_settings, at_client, at_desk, at_files, at_workspaces, batched, begin_part, begun_fetches, build_part, build_taken, changed_at, check_taken, client_in, closed, closed_at}
 use Rattle.session_model.specs.Machine.{closing_part, counted, desk_in, ends_taken, event_part, fetch_part, fetch_started, fetch_taken, files_in, files_part, files_processed, folders_taken, happened, kept, later_parts, load_taken, noticed, opened_at, received}
 use Rattle.session_model.specs.Machine.{quiet_done, quiet_part, register_part, runs_started, saves_registered, start_parts, state_in, status_done, status_part, step, switch_done, switch_part, switched_to, taken, taken_in, told, turned, Turning, turning, with_client, with_desk, with_files}
 use Rattle.session_model.specs.Machine.{with_state}
@@ -67,11 +69,12 @@ use Rattle.session_model.specs.declared.heard.Heard.{Heard}
 use Rattle.session_model.specs.declared.heard.Heard.TheVariants.{Told, Malformed, Unhandled, Silent}
 use Rattle.session_laws.specs.Invariant.{place_of}
 use Rattle.session_laws.proofs.Building.{TooManyRuns, runs-errs}
+use Rattle.session_laws.proofs.Checking.{TooManyChecks, jobs_given, resume-errs}
 use Rattle.session_laws.proofs.Clients.{begun_client, left-more, registered-more, told-more, watched-more}
 use Rattle.session_laws.proofs.Crates.{arrived-errs}
 use Rattle.session_laws.proofs.Filing.{AtLast, IsFull, change_of, changed-step-errs, full-err, loaded-errs-by, opened-errs, processed-errs}
 use Rattle.session_laws.proofs.Fetching.{started-errs}
-use Rattle.session_laws.proofs.Rows.{at, begin_and_close, begins, BegunTurn, BehindTurn, both-note, build-made, build_and_on, client-behind, counted-is, counted_turn, desk-settles, DoesAtDesk, event-fits, fetch-made, fetch_and_close, fetch_and_on}
+use Rattle.session_laws.proofs.Rows.{at, begin_and_close, begins, BegunTurn, BehindTurn, build-made, build_and_on, client-behind, counted-is, counted_turn, desk-settles, DoesAtDesk, ends-note, event-fits, fetch-made, fetch_and_close, fetch_and_on}
 use Rattle.session_laws.proofs.Rows.{fetched-build, fetched-load, FetchedBehind, files-made, files_and_on, files_past, kept_past, MadeBehind, Mid, mid-switch, MidTurn, notification_input, ok-same, place_at, ready-fetch, ReadyBehind, ReadyStart, ReadyTurn}
 use Rattle.session_laws.proofs.Rows.{quiet-made, QuietTurn, quiet_and_on, ready-client, register_and_on, RegisteredTurn, registers, session_in, settled-place, status-begins, status_and_close, switch-made, taken-settles, told-now-rises}
 use Rattle.session_laws.proofs.Requests.{asked-errs, due_in, IsPast, quiet-errs, registered-errs}
@@ -86,12 +89,12 @@ use Rattle.session_model.specs.Switching.{switch_made}
 abbrev Refuses : ℕ → Reaction → ℕ → Counter → Type 0
 Refuses handed done revision counter = TooMany handed done counter ⊎ AtLast revision counter
 
-ends-errs : (fetched : Option FetchEnd) (built : Option BuildEnd) (loaded : Option LoadEnd) (w : Working State)
-    → IfErr (ends_taken fetched built loaded w) (AtLast w.state.files.host.revision)
+ends-errs : (fetched : Option FetchEnd) (built : Option BuildEnd) (checked : Option (List (List ℕ))) (loaded : Option LoadEnd) (w : Working State)
+    → IfErr (ends_taken fetched built checked loaded w) (AtLast w.state.files.host.revision)
 unfolding ends_taken load_taken
-ends-errs fetched built loaded w =
-    let v : Working State = build_taken built (fetch_taken fetched w) in
-    subst (λ (revision : ℕ). IfErr (load_taken loaded v) (AtLast revision)) (ap (λ (s : State). s.files.host.revision) (both-note fetched built w).state)
+ends-errs fetched built checked loaded w =
+    let v : Working State = check_taken checked (build_taken built (fetch_taken fetched w)) in
+    subst (λ (revision : ℕ). IfErr (load_taken loaded v) (AtLast revision)) (ap (λ (s : State). s.files.host.revision) (ends-note fetched built checked w).state)
     (arrived-errs (crates_loaded loaded v.state.workspaces) (at_workspaces (load_kept loaded) v))
 
 taken-errs : (meaning : Meaning) (turns : ℕ) (message : TaskMsg) (w : Working State)
@@ -103,14 +106,15 @@ taken-errs meaning turns message w =
     let revision = w.state.files.host.revision in
     let fetched : Option FetchEnd = fetch_ended message w.state.desk.jobs in
     let built : Option BuildEnd = build_ended message w.state.desk.jobs in
+    let checked : Option (List (List ℕ)) = check_ended message w.state.desk.jobs in
     let ended : Option LoadEnd = load_ended message w.state.desk.jobs in
-    err-and_then (at_desk (taken_at_desk meaning (scene_of w.state) message) w) (ends_taken fetched built ended) (Refuses w.state.desk.handed done revision)
+    err-and_then (at_desk (taken_at_desk meaning (scene_of w.state) message) w) (ends_taken fetched built checked ended) (Refuses w.state.desk.handed done revision)
     (IfErr-within desk_in with_desk (taken_at_desk meaning (scene_of w.state) message) w (Refuses w.state.desk.handed done revision)
     (err-weaker (taken_at_desk meaning (scene_of w.state) message (at w)) (TooMany w.state.desk.handed done) (Refuses w.state.desk.handed done revision)
     (subst (λ d. IfErr (taken_at_desk meaning (scene_of w.state) message (at w)) (TooMany w.state.desk.handed d)) (sym (message-turns meaning (scene_of w.state) w.state.desk turns message))
     (message-errs meaning (scene_of w.state) message (at w))) (λ c many. inl many)))
     (λ v is. let a = IfOk-at_ok (λ v. DoesAtDesk w v done (after_message message w.state.desk.jobs) w.state.workspaces (Ok w.state.files)) is (desk-settles meaning turns message w) in
-    err-weaker (ends_taken fetched built ended v) (AtLast v.state.files.host.revision) _ (ends-errs fetched built ended v)
+    err-weaker (ends_taken fetched built checked ended v) (AtLast v.state.files.host.revision) _ (ends-errs fetched built checked ended v)
     (λ c last. inr (subst (λ (f : SessionFiles). AtLast f.host.revision c) (sym (ok-same w.state.files v.state.files a.files)) last)))
 
 -- a batch: its first message that needs a job too many, behind those that the ones before have handed over
@@ -148,8 +152,12 @@ batch-errs meaning turns (m ∷ ms) w =
 abbrev Needs : Meaning → State → Input → Counter → Type 0
 Needs meaning s input counter = NeedsMore meaning (place_of s) input counter
 
-no-less : (jobs fetches runs : ℕ) → 2 ^ 64 ≤ jobs → 2 ^ 64 ≤ jobs + fetches + runs
-no-less jobs fetches runs h = omega (arith, h)
+no-less : (handed jobs checks fetches runs : ℕ) → 2 ^ 64 ≤ handed + jobs → 2 ^ 64 ≤ handed + (jobs + checks) + fetches + runs
+no-less handed jobs checks fetches runs h = omega (arith, h)
+
+-- the checks that an input brings
+abbrev checks_in : Input → State → ℕ
+checks_in input s = length (jobs_resumed input (place_of s))
 
 -- the jobs of build data and of macros that a turn starts
 abbrev runs_in : Input → State → ℕ
@@ -158,8 +166,8 @@ runs_in input s = builds_in input (place_of s) + loads_in input (place_of s)
 needs-jobs : (meaning : Meaning) (s : State) (input : Input) (done : Reaction) (counter : Counter) → row meaning input (place_of s) ≡ done → TooMany s.desk.handed done counter → Needs meaning s input counter
 needs-jobs meaning s input done counter is h =
     subst (Needs meaning s input) (sym h.0)
-    (subst (λ (d : Reaction). 2 ^ 64 ≤ s.desk.handed + length d.jobs + fetches_in input (place_of s) + runs_in input s) (sym is)
-    (no-less (s.desk.handed + length done.jobs) (fetches_in input (place_of s)) (runs_in input s) h.1))
+    (subst (λ (d : Reaction). 2 ^ 64 ≤ s.desk.handed + (length d.jobs + checks_in input s) + fetches_in input (place_of s) + runs_in input s) (sym is)
+    (no-less s.desk.handed (length done.jobs) (checks_in input s) (fetches_in input (place_of s)) (runs_in input s) h.1))
 
 read-errs : (meaning : Meaning) (s : State) (r : Request) → IfErr (asked meaning r (counted_turn s)) (Needs meaning s (Next (Lsp (RequestMessage r))))
 read-errs meaning s r =
@@ -252,6 +260,17 @@ heard-errs meaning s n Silent is = tt
 told-last : (before told built now : ℕ) → now ≡ before + told → 2 ^ 64 - 1 ≤ now → 2 ^ 64 - 1 ≤ before + (told + built)
 told-last before told built now is h = omega (arith, is, h)
 
+no-fewer : (handed checks fetches runs : ℕ) → 2 ^ 64 ≤ handed + checks → 2 ^ 64 ≤ handed + (0 + checks) + fetches + runs
+no-fewer handed checks fetches runs h = omega (arith, h)
+
+-- a check that is one too many
+deferred-errs : (meaning : Meaning) (s : State) (tasks : List DeferredTask) → IfErr (all_resumed tasks (counted_turn s)) (Needs meaning s (Next (Deferred tasks)))
+deferred-errs meaning s tasks =
+    let input : Input = Next (Deferred tasks) in
+    err-weaker (all_resumed tasks (counted_turn s)) (TooManyChecks s.desk.handed (jobs_resumed input (place_of s))) (Needs meaning s input)
+    (resume-errs tasks (counted_turn s))
+    (λ c h. subst (Needs meaning s input) (sym h.0) (no-fewer s.desk.handed (checks_in input s) (fetches_in input (place_of s)) (runs_in input s) h.1))
+
 event-errs : (meaning : Meaning) (s : State) (event : Event) → IfErr (happened meaning event (counted_turn s)) (Needs meaning s (Next event))
 unfolding happened received
 event-errs meaning s (Lsp (RequestMessage r)) = read-errs meaning s r
@@ -268,7 +287,7 @@ event-errs meaning s (Vfs messages) =
     err-and_then (at_files (loaded messages) (counted_turn s)) _ (Needs meaning s (Next (Vfs messages)))
     (files-errs meaning s (Next (Vfs messages)) (loaded messages) (after_messages messages s.files) refl (loaded-errs-by messages (record { state = s.files; out = nothing_done })))
     (λ v is. tt)
-event-errs meaning s (Deferred tasks) = tt
+event-errs meaning s (Deferred tasks) = deferred-errs meaning s tasks
 event-errs meaning s (Timer ticket) = tt
 
 turns-errs : (meaning : Meaning) (s : State) (event : Event) → IfErr (counted (begun s)) (Needs meaning s (Next event))
@@ -348,12 +367,14 @@ fetch-part-errs meaning s input asked last sent t ready =
     let may = may_start input t.state.state.client.settings in
     let fetch : Option (List ℕ × FetchRequest) = fetch_to_start may t.state.state.workspaces.fetches in
     let jobs = (row meaning input (place_of s)).jobs in
-    let handed : given ≡ s.desk.handed + length jobs = ap (λ (d : Desk). d.handed) ready.made.serves.desk ∙ ap (λ (js : List Job). s.desk.handed + length js) ready.spawns in
+    let handed : given ≡ s.desk.handed + (length jobs + checks_in input s) =
+    ap (λ (d : Desk). d.handed) ready.made.serves.desk ∙ ap (λ (js : List Job). s.desk.handed + length js) ready.spawns
+    ∙ ap (λ (n : ℕ). s.desk.handed + n) (length-append jobs (jobs_resumed input (place_of s))) in
     IfErr-within state_in with_state (fetch_started may) t (Needs meaning s input)
     (err-weaker (fetch_started may (session_in t)) (TooManyStarts given fetch) (Needs meaning s input) (started-errs may (session_in t))
     (λ c h. let many : 2 ^ 64 ≤ given + fetches_in input (place_of s) =
     subst (λ (f : Option (List ℕ × FetchRequest)). 2 ^ 64 ≤ given + (if is_some f then 1 else 0)) (ready-fetch meaning s input asked last sent t ready) h.1 in
-    subst (Needs meaning s input) (sym h.0) (with-fetch s.desk.handed (length jobs) given (fetches_in input (place_of s)) (runs_in input s) handed many)))
+    subst (Needs meaning s input) (sym h.0) (with-fetch s.desk.handed (length jobs + checks_in input s) given (fetches_in input (place_of s)) (runs_in input s) handed many)))
 
 one-fetch : (number : ℕ) (snapshot : SnapshotData) (fetch : Option (List ℕ × FetchRequest)) → length (fetch_jobs number snapshot fetch) ≡ (if is_some fetch then 1 else 0)
 one-fetch number snapshot None = refl
@@ -370,10 +391,11 @@ build-part-errs meaning s event t fetched =
     let place = place_of s in
     let given = t.state.state.desk.handed in
     let jobs = (row meaning input place).jobs in
+    let both = jobs_given meaning input place in
     let fetch = fetch_jobs given (snapshot_of t.state.state) (fetch_in input place) in
-    let handed : given ≡ s.desk.handed + length (jobs ++ fetch) = ap (λ (d : Desk). d.handed) fetched.made.serves.desk ∙ ap (λ (js : List Job). s.desk.handed + length js) fetched.hands in
-    let both : length (jobs ++ fetch) ≡ length jobs + fetches_in input place =
-    length-append jobs fetch ∙ ap (λ (n : ℕ). length jobs + n) (one-fetch given (snapshot_of t.state.state) (fetch_in input place)) in
+    let handed : given ≡ s.desk.handed + length (both ++ fetch) = ap (λ (d : Desk). d.handed) fetched.made.serves.desk ∙ ap (λ (js : List Job). s.desk.handed + length js) fetched.hands in
+    let all : length (both ++ fetch) ≡ length jobs + checks_in input s + fetches_in input place =
+    length-append both fetch ∙ (λ i. length-append jobs (jobs_resumed input place) i + one-fetch given (snapshot_of t.state.state) (fetch_in input place) i) in
     let build : Option ℕ = build_due t.state.state.workspaces in
     let load : Option MacroPaths = load_due build (with_due_build t.state.state.workspaces) in
     let ones : Option ℕ → Option MacroPaths → ℕ = λ b l. (if is_some b then 1 else 0) + (if is_some l then 1 else 0) in
@@ -382,7 +404,7 @@ build-part-errs meaning s event t fetched =
     (err-weaker (runs_started (session_in t)) (TooManyRuns given build load) (Needs meaning s input) (runs-errs (session_in t))
     (λ c h. let many : 2 ^ 64 ≤ given + runs_in input s = subst (λ (n : ℕ). 2 ^ 64 ≤ given + n) runs h.1 in
     subst (Needs meaning s input) (sym h.0)
-    (with-runs s.desk.handed (length jobs) (fetches_in input place) (runs_in input s) given (length (jobs ++ fetch)) handed both many)))
+    (with-runs s.desk.handed (length jobs + checks_in input s) (fetches_in input place) (runs_in input s) given (length (both ++ fetch)) handed all many)))
 
 -- what is shown may ask the client
 quiet-part-errs : (meaning : Meaning) (s : State) (event : Event) (t : Working Turning) → ReadyBehind meaning s event t → IfErr (quiet_part t) (Needs meaning s (Next event))

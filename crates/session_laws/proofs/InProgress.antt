@@ -2,23 +2,29 @@
 use Rattle.std.proofs.Common.{◌≡◌, ℕ, ◌+◌, List, [], ◌∷◌, ◌++◌, length, Bool, true, false, refl, sym, ap, ◌∙◌, subst}
 use Rattle.std.specs.Prelude.{codes, cond, Option, None, Some, is_some, option_and_then, option_map, Ok, Err, if◌then◌else◌}
 use Rattle.std.specs.FinMap as map
+use Rattle.std.specs.List.{filter}
 use Rattle.lsp_frame.specs.declared.message.Request.{Request}
 use Rattle.lsp_frame.specs.declared.message.Message.TheVariants.{Request as RequestMessage, Notification as NotificationMessage, Response as ResponseMessage}
+use Rattle.docs_vfs.specs.declared.file_kinds.FileId.{FileId}
 use Rattle.analysis_host.specs.SnapshotData.{SnapshotData}
+use Rattle.analysis_host.specs.SnapshotFiles.{file_exists}
 use Rattle.op_board.specs.Queue.{Queue}
 use Rattle.ra_config.specs.Config.{ConfigData}
 use Rattle.session_port.specs.Jobs.{Jobs, after_batch, after_message, final_of, fits_final, fitting_job, has_build_data, has_macros, has_workspaces, if_value, ticket_of, without_fitting}
 use Rattle.session_port.specs.Record.{spawned, with_jobs}
+use Rattle.session_port.specs.declared.command.DeferredTask.{DeferredTask}
+use Rattle.session_port.specs.declared.command.DeferredTask.TheVariants.{CheckIfIndexed, CheckProcMacroSources}
 use Rattle.session_port.specs.declared.event.TaskMsg.{TaskMsg}
 use Rattle.session_port.specs.declared.job.Job.{Job}
 use Rattle.session_port.specs.declared.job.JobKind.{JobKind}
-use Rattle.session_port.specs.declared.job.JobKind.TheVariants.{Request as RequestJob, FetchWorkspaces, FetchBuildData, LoadProcMacros}
+use Rattle.session_port.specs.declared.job.JobKind.TheVariants.{Request as RequestJob, ProcMacroSources, FetchWorkspaces, FetchBuildData, LoadProcMacros}
 use Rattle.session_port.specs.declared.job.JobResult.{JobResult}
 use Rattle.session_port.specs.declared.job.JobResult.TheVariants.{Value, Fault, Cancelled, NoMemory}
 use Rattle.session_port.specs.declared.job.JobValue.TheVariants.{Json, Roots, Primed, Workspaces as WorkspacesValue, BuildData, ProcMacros}
 use Rattle.client.specs.Client.{Client}
 use Rattle.client.specs.Folds.{after_answer}
 use Rattle.desk.specs.Building.{BuildEnd, build_end, build_end_of, build_ended, build_told}
+use Rattle.desk.specs.Checking.{check_ended}
 use Rattle.desk.specs.Desk.{Desk}
 use Rattle.desk.specs.Fetching.{FetchEnd, fetch_end, fetch_end_of, fetch_ended, fetch_told}
 use Rattle.desk.specs.Loading.{LoadEnd, load_end, load_end_of, load_ended, load_told}
@@ -37,9 +43,10 @@ use Rattle.workspaces.specs.declared.requests.FetchRequest.{FetchRequest}
 use Rattle.workspaces.specs.declared.requests.LoadRequest.{LoadRequest}
 use Rattle.workspaces.specs.declared.requests.WaitingFetch.{WaitingFetch}
 use Rattle.session_model.specs.Fetching.{fetch_job, fetch_jobs, fetch_kept, reloaded_if, reloads}
-use Rattle.session_model.specs.Headline.{beginning, build_in, fetch_in, HandsOver, load_in, may_start_at, Place, place_after, reaction_of, row, snapshot_at, workspaces_after, workspaces_built}
+use Rattle.session_model.specs.Headline.{beginning, build_in, fetch_in, HandsOver, jobs_resumed, load_in, may_start_at, Place, place_after, reaction_of, row, snapshot_at, workspaces_after, workspaces_built}
 use Rattle.session_model.specs.Headline.{workspaces_fetched, workspaces_planned, workspaces_told}
 use Rattle.session_model.specs.Building.{build_job, build_jobs, build_kept, end_kept, ends_kept, rebuilds, rebuilt_if, request_told}
+use Rattle.session_model.specs.Checking.{check_jobs, check_kept}
 use Rattle.session_model.specs.Hearing.{heard_of, told_by}
 use Rattle.session_model.specs.Loading.{MacroPaths, load_due, load_job, load_jobs, load_kept, loads_due}
 use Rattle.session_model.specs.Run.{Steps, Turn, after_input}
@@ -50,7 +57,8 @@ use Rattle.session_model.specs.declared.input.Input.{Input}
 use Rattle.session_model.specs.declared.input.Input.TheVariants.{Start, Next}
 use Rattle.session_laws.specs.Invariant.{BuildIsOut, FetchIsOut, IsOutIf, LoadIsOut, SoundAt, is_build, is_fetch, is_load, place_of}
 use Rattle.session_laws.proofs.Changing.{folders-asks, input-saves, settings-asks}
-use Rattle.session_laws.proofs.Numbered.{row-numbered}
+use Rattle.session_laws.proofs.Checking.{jobs_given}
+use Rattle.session_laws.proofs.Numbered.{given-numbered}
 use Rattle.session_laws.proofs.OneOut.{AreNone, IsSo, asked-none, fit-true, given-input, kept-off, none-some, numbered-behind, numbered-front, off-other, on-others, on-start, still-so, true-false}
 use Rattle.session_laws.proofs.Rows.{steps-fit}
 use Rattle.session_laws.proofs.Switching.{switch-moves}
@@ -126,6 +134,7 @@ fetch-ends : (workspaces : Workspaces) (n : ℕ) (job : Job) (out : Jobs) (kind 
 fetch-ends workspaces n job out kind None its there fit h = true-false (sym fit)
 fetch-ends workspaces n job out (RequestJob ticket row params) (Some result) its there fit h = off-other is_fetch workspaces.fetches.queue.in_progress n job out there (ap is_fetch its) h
 fetch-ends workspaces n job out (FetchBuildData version) (Some result) its there fit h = off-other is_fetch workspaces.fetches.queue.in_progress n job out there (ap is_fetch its) h
+fetch-ends workspaces n job out (ProcMacroSources files) (Some result) its there fit h = off-other is_fetch workspaces.fetches.queue.in_progress n job out there (ap is_fetch its) h
 fetch-ends workspaces n job out (LoadProcMacros paths ignored) (Some result) its there fit h = off-other is_fetch workspaces.fetches.queue.in_progress n job out there (ap is_fetch its) h
 fetch-ends workspaces n job out (FetchWorkspaces projects detached path force) (Some result) its there fit h =
     let end = fetch-has-end result fit in
@@ -144,7 +153,7 @@ fetch-message message out workspaces h =
     let fetched = fetch_kept (fetch_ended message out) workspaces in
     let built = build_kept (build_ended message out) fetched in
     subst (λ (f : Fetches). IsOutIf is_fetch f.queue.in_progress (after_message message out))
-    (sym ((load-leaves (load_ended message out) built).0 ∙ (build-leaves (build_ended message out) fetched).0))
+    (sym ((load-leaves (load_ended message out) (check_kept (check_ended message out) built)).0 ∙ (build-leaves (build_ended message out) fetched).0))
     (fetch-fitting message out workspaces (fitting_job message out) refl h)
 
 fetch-batch : (batch : List TaskMsg) (out : Jobs) (workspaces : Workspaces) → IsOutIf is_fetch (fetching workspaces) out
@@ -177,6 +186,7 @@ build-ends : (workspaces : Workspaces) (n : ℕ) (job : Job) (out : Jobs) (kind 
 build-ends workspaces n job out kind None its there fit h = true-false (sym fit)
 build-ends workspaces n job out (RequestJob ticket row params) (Some result) its there fit h = off-other is_build workspaces.builds.queue.in_progress n job out there (ap is_build its) h
 build-ends workspaces n job out (FetchWorkspaces projects detached path force) (Some result) its there fit h = off-other is_build workspaces.builds.queue.in_progress n job out there (ap is_build its) h
+build-ends workspaces n job out (ProcMacroSources files) (Some result) its there fit h = off-other is_build workspaces.builds.queue.in_progress n job out there (ap is_build its) h
 build-ends workspaces n job out (LoadProcMacros paths ignored) (Some result) its there fit h = off-other is_build workspaces.builds.queue.in_progress n job out there (ap is_build its) h
 build-ends workspaces n job out (FetchBuildData version) (Some result) its there fit h =
     let end = build-has-end result fit in
@@ -194,7 +204,7 @@ build-message : (message : TaskMsg) (out : Jobs) (workspaces : Workspaces) → I
 build-message message out workspaces h =
     let fetched = fetch_kept (fetch_ended message out) workspaces in
     let built = build_kept (build_ended message out) fetched in
-    subst (λ (b : Builds). IsOutIf is_build b.queue.in_progress (after_message message out)) (sym (load-leaves (load_ended message out) built).1)
+    subst (λ (b : Builds). IsOutIf is_build b.queue.in_progress (after_message message out)) (sym (load-leaves (load_ended message out) (check_kept (check_ended message out) built)).1)
     (build-fitting message out fetched (fitting_job message out) refl
     (subst (λ (b : Builds). IsOutIf is_build b.queue.in_progress out) (sym (fetch-leaves (fetch_ended message out) workspaces).0) h))
 
@@ -227,6 +237,7 @@ load-ends : (workspaces : Workspaces) (n : ℕ) (job : Job) (out : Jobs) (kind :
     → IsOutIf is_load (loading workspaces) out → IsOutIf is_load (loading (load_kept (option_and_then (load_end_of kind) final) workspaces)) (map.remove out n)
 load-ends workspaces n job out kind None its there fit h = true-false (sym fit)
 load-ends workspaces n job out (RequestJob ticket row params) (Some result) its there fit h = off-other is_load workspaces.loads.queue.in_progress n job out there (ap is_load its) h
+load-ends workspaces n job out (ProcMacroSources files) (Some result) its there fit h = off-other is_load workspaces.loads.queue.in_progress n job out there (ap is_load its) h
 load-ends workspaces n job out (FetchWorkspaces projects detached path force) (Some result) its there fit h = off-other is_load workspaces.loads.queue.in_progress n job out there (ap is_load its) h
 load-ends workspaces n job out (FetchBuildData version) (Some result) its there fit h = off-other is_load workspaces.loads.queue.in_progress n job out there (ap is_load its) h
 load-ends workspaces n job out (LoadProcMacros paths ignored) (Some result) its there fit h =
@@ -245,7 +256,7 @@ load-message : (message : TaskMsg) (out : Jobs) (workspaces : Workspaces) → Is
 load-message message out workspaces h =
     let fetched = fetch_kept (fetch_ended message out) workspaces in
     let built = build_kept (build_ended message out) fetched in
-    load-fitting message out built (fitting_job message out) refl
+    load-fitting message out (check_kept (check_ended message out) built) (fitting_job message out) refl
     (subst (λ (l : Loads). IsOutIf is_load l.queue.in_progress out) (sym ((build-leaves (build_ended message out) fetched).1 ∙ (fetch-leaves (fetch_ended message out) workspaces).1)) h)
 
 load-batch : (batch : List TaskMsg) (out : Jobs) (workspaces : Workspaces) → IsOutIf is_load (loading workspaces) out
@@ -339,21 +350,50 @@ load-told-out client (Next (Timer ticket)) desk workspaces h = h
 -- jobs for requests are none of the host's own
 asked-no-fetch : (kind : JobKind) → is_some (ticket_of kind) ≡ true → is_fetch kind ≡ false
 asked-no-fetch (RequestJob ticket row params) is = refl
+asked-no-fetch (ProcMacroSources files) is = refl
 asked-no-fetch (FetchWorkspaces projects detached path force) is = true-false (sym is)
 asked-no-fetch (FetchBuildData version) is = refl
 asked-no-fetch (LoadProcMacros paths ignored) is = refl
 
 asked-no-build : (kind : JobKind) → is_some (ticket_of kind) ≡ true → is_build kind ≡ false
 asked-no-build (RequestJob ticket row params) is = refl
+asked-no-build (ProcMacroSources files) is = refl
 asked-no-build (FetchWorkspaces projects detached path force) is = refl
 asked-no-build (FetchBuildData version) is = true-false (sym is)
 asked-no-build (LoadProcMacros paths ignored) is = refl
 
 asked-no-load : (kind : JobKind) → is_some (ticket_of kind) ≡ true → is_load kind ≡ false
 asked-no-load (RequestJob ticket row params) is = refl
+asked-no-load (ProcMacroSources files) is = refl
 asked-no-load (FetchWorkspaces projects detached path force) is = refl
 asked-no-load (FetchBuildData version) is = refl
 asked-no-load (LoadProcMacros paths ignored) is = true-false (sym is)
+
+-- the jobs of checks are neither
+checks-none : (is : JobKind → Bool) → ((files : List FileId) → is (ProcMacroSources files) ≡ false) → (given : ℕ) (snapshot : SnapshotData) (tasks : List DeferredTask)
+    → AreNone is (check_jobs given snapshot tasks)
+checks-none is none given snapshot [] = tt
+checks-none is none given snapshot (CheckIfIndexed path ∷ tasks) = checks-none is none given snapshot tasks
+checks-none is none given snapshot (CheckProcMacroSources files ∷ tasks) = (none (filter (file_exists snapshot) files), checks-none is none (given + 1) snapshot tasks)
+
+resumed-none : (is : JobKind → Bool) → ((files : List FileId) → is (ProcMacroSources files) ≡ false) → (input : Input) (place : Place) → AreNone is (jobs_resumed input place)
+resumed-none is none Start place = tt
+resumed-none is none (Next (Lsp message)) place = tt
+resumed-none is none (Next (Task batch)) place = tt
+resumed-none is none (Next (Vfs messages)) place = tt
+resumed-none is none (Next (Deferred tasks)) place = checks-none is none place.desk.handed (snapshot_at place) tasks
+resumed-none is none (Next (Timer ticket)) place = tt
+
+none-append : (is : JobKind → Bool) (xs ys : List Job) → AreNone is xs → AreNone is ys → AreNone is (xs ++ ys)
+none-append is [] ys none more = more
+none-append is (x ∷ xs) ys none more = (none.0, none-append is xs ys none.1 more)
+
+-- so what a turn hands over before it starts any is none of the host's own
+given-none : (is : JobKind → Bool) → ((kind : JobKind) → is_some (ticket_of kind) ≡ true → is kind ≡ false) → ((files : List FileId) → is (ProcMacroSources files) ≡ false)
+    → (meaning : Meaning) (turn : Turn) (place : Place) → reaction_of turn ≡ row meaning turn.input place → AreNone is (jobs_given meaning turn.input place)
+given-none is asked none meaning turn place does =
+    none-append is (row meaning turn.input place).jobs (jobs_resumed turn.input place)
+    (subst (AreNone is) (ap (λ (r : Reaction). r.jobs) does) (asked-none is asked (spawned turn.commands))) (resumed-none is none turn.input place)
 
 fetch-no-build : (number : ℕ) (snapshot : SnapshotData) (o : Option (List ℕ × FetchRequest)) → AreNone is_build (fetch_jobs number snapshot o)
 fetch-no-build number snapshot None = tt
@@ -461,15 +501,15 @@ after-loads (Next event) place number snapshot given out numbered h =
 
 -- the jobs that a turn hands over have the next numbers, and are out behind it
 record Spawns (meaning : Meaning) (turn : Turn) (place : Place) (fetch build load : List Job) : Type 0 where
-  fetch_numbered : AreNumbered (place.desk.handed + length (row meaning turn.input place).jobs) fetch
-  build_numbered : AreNumbered (place.desk.handed + length (row meaning turn.input place).jobs + length fetch) build
-  load_numbered : AreNumbered (place.desk.handed + length (row meaning turn.input place).jobs + length fetch + length build) load
-  out : with_jobs load (with_jobs build (with_jobs fetch (with_jobs (row meaning turn.input place).jobs (after_input turn.input place.desk.jobs)))) ≡ (place_after turn place).desk.jobs
+  fetch_numbered : AreNumbered (place.desk.handed + length (jobs_given meaning turn.input place)) fetch
+  build_numbered : AreNumbered (place.desk.handed + length (jobs_given meaning turn.input place) + length fetch) build
+  load_numbered : AreNumbered (place.desk.handed + length (jobs_given meaning turn.input place) + length fetch + length build) load
+  out : with_jobs load (with_jobs build (with_jobs fetch (with_jobs (jobs_given meaning turn.input place) (after_input turn.input place.desk.jobs)))) ≡ (place_after turn place).desk.jobs
 
 spawns : (meaning : Meaning) (turn : Turn) (place : Place) (fetch build load : List Job) → AreNumbered place.desk.handed (spawned turn.commands)
-    → spawned turn.commands ≡ (row meaning turn.input place).jobs ++ (fetch ++ (build ++ load)) → Spawns meaning turn place fetch build load
+    → spawned turn.commands ≡ jobs_given meaning turn.input place ++ (fetch ++ (build ++ load)) → Spawns meaning turn place fetch build load
 spawns meaning turn place fetch build load numbered hands =
-    let jobs = (row meaning turn.input place).jobs in
+    let jobs = jobs_given meaning turn.input place in
     let out = after_input turn.input place.desk.jobs in
     let given = place.desk.handed + length jobs in
     let behind = numbered-behind place.desk.handed jobs (fetch ++ (build ++ load)) (subst (AreNumbered place.desk.handed) hands numbered) in
@@ -488,20 +528,20 @@ turn-keeps-fetching meaning turn place does numbered hands sound h =
     let input = turn.input in
     let after = place_after turn place in
     let workspaces = workspaces_planned input place in
-    let jobs = (row meaning input place).jobs in
+    let jobs = jobs_given meaning input place in
     let fetch = fetch_jobs after.desk.handed (snapshot_at after) (fetch_in input place) in
     let build = build_jobs after.desk.handed (snapshot_at after) (build_in input place) in
     let out = after_input input place.desk.jobs in
     let load = load_jobs after.desk.handed (snapshot_at after) (load_in input place) in
     let all = spawns meaning turn place fetch build load numbered hands in
-    let none : AreNone is_fetch jobs = subst (AreNone is_fetch) (ap (λ (r : Reaction). r.jobs) does) (asked-none is_fetch asked-no-fetch (spawned turn.commands)) in
+    let none : AreNone is_fetch jobs = given-none is_fetch asked-no-fetch (λ files. refl) meaning turn place does in
     let told : IsSo is_fetch (fetching workspaces) place.desk.handed out = record {
       low = given-input place.desk.handed input place.desk.jobs sound.numbers;
       out_if = subst (λ b. IsOutIf is_fetch b out) (sym (turn-waits input place).in_progress)
           (subst (λ (f : Fetches). IsOutIf is_fetch f.queue.in_progress out) (sym (switch-moves input place).fetches)
           (subst (λ b. IsOutIf is_fetch b out) (sym (input-saves input place).in_progress) (fetch-told-out place.client input place.desk place.workspaces h)));
     } in
-    let rowed = on-others is_fetch (fetching workspaces) place.desk.handed jobs out (row-numbered meaning input place) none told in
+    let rowed = on-others is_fetch (fetching workspaces) place.desk.handed jobs out (given-numbered meaning input place) none told in
     let started = fetch-out (may_start_at input place) workspaces.fetches after.desk.handed (snapshot_at after) (place.desk.handed + length jobs) (with_jobs jobs out) all.fetch_numbered rowed in
     let built = on-others is_fetch (fetching (workspaces_fetched input place)) (place.desk.handed + length jobs + length fetch) build (with_jobs fetch (with_jobs jobs out)) all.build_numbered
     (build-no-fetch after.desk.handed (snapshot_at after) (build_in input place)) started in
@@ -516,20 +556,20 @@ turn-keeps-building meaning turn place does numbered hands sound h =
     let input = turn.input in
     let after = place_after turn place in
     let workspaces = workspaces_planned input place in
-    let jobs = (row meaning input place).jobs in
+    let jobs = jobs_given meaning input place in
     let fetch = fetch_jobs after.desk.handed (snapshot_at after) (fetch_in input place) in
     let build = build_jobs after.desk.handed (snapshot_at after) (build_in input place) in
     let out = after_input input place.desk.jobs in
     let load = load_jobs after.desk.handed (snapshot_at after) (load_in input place) in
     let all = spawns meaning turn place fetch build load numbered hands in
-    let none : AreNone is_build jobs = subst (AreNone is_build) (ap (λ (r : Reaction). r.jobs) does) (asked-none is_build asked-no-build (spawned turn.commands)) in
+    let none : AreNone is_build jobs = given-none is_build asked-no-build (λ files. refl) meaning turn place does in
     let told : IsSo is_build (building workspaces) place.desk.handed out = record {
       low = given-input place.desk.handed input place.desk.jobs sound.numbers;
       out_if = subst (λ (b : Builds). IsOutIf is_build b.queue.in_progress out) (sym (turn-waits input place).builds)
           (subst (λ b. IsOutIf is_build b out) (sym (switch-moves input place).building)
           (subst (λ b. IsOutIf is_build b out) (sym (input-saves input place).building) (build-told-out place.client input place.desk place.workspaces h)));
     } in
-    let rowed = on-others is_build (building workspaces) place.desk.handed jobs out (row-numbered meaning input place) none told in
+    let rowed = on-others is_build (building workspaces) place.desk.handed jobs out (given-numbered meaning input place) none told in
     let started = on-others is_build (building workspaces) (place.desk.handed + length jobs) fetch (with_jobs jobs out) all.fetch_numbered
     (fetch-no-build after.desk.handed (snapshot_at after) (fetch_in input place)) rowed in
     let built = after-builds input place after.desk.handed (snapshot_at after) (place.desk.handed + length jobs + length fetch) (with_jobs fetch (with_jobs jobs out)) all.build_numbered started in
@@ -543,20 +583,20 @@ turn-keeps-loading meaning turn place does numbered hands sound h =
     let input = turn.input in
     let after = place_after turn place in
     let workspaces = workspaces_planned input place in
-    let jobs = (row meaning input place).jobs in
+    let jobs = jobs_given meaning input place in
     let fetch = fetch_jobs after.desk.handed (snapshot_at after) (fetch_in input place) in
     let build = build_jobs after.desk.handed (snapshot_at after) (build_in input place) in
     let load = load_jobs after.desk.handed (snapshot_at after) (load_in input place) in
     let out = after_input input place.desk.jobs in
     let all = spawns meaning turn place fetch build load numbered hands in
-    let none : AreNone is_load jobs = subst (AreNone is_load) (ap (λ (r : Reaction). r.jobs) does) (asked-none is_load asked-no-load (spawned turn.commands)) in
+    let none : AreNone is_load jobs = given-none is_load asked-no-load (λ files. refl) meaning turn place does in
     let told : IsSo is_load (loading workspaces) place.desk.handed out = record {
       low = given-input place.desk.handed input place.desk.jobs sound.numbers;
       out_if = subst (λ (l : Loads). IsOutIf is_load l.queue.in_progress out) (sym (turn-waits input place).loads)
           (subst (λ b. IsOutIf is_load b out) (sym (switch-moves input place).loading)
           (subst (λ (l : Loads). IsOutIf is_load l.queue.in_progress out) (sym (input-saves input place).loads) (load-told-out place.client input place.desk place.workspaces h)));
     } in
-    let rowed = on-others is_load (loading workspaces) place.desk.handed jobs out (row-numbered meaning input place) none told in
+    let rowed = on-others is_load (loading workspaces) place.desk.handed jobs out (given-numbered meaning input place) none told in
     let started = on-others is_load (loading workspaces) (place.desk.handed + length jobs) fetch (with_jobs jobs out) all.fetch_numbered
     (fetch-no-load after.desk.handed (snapshot_at after) (fetch_in input place)) rowed in
     let built = on-others is_load (loading workspaces) (place.desk.handed + length jobs + length fetch) build (with_jobs fetch (with_jobs jobs out)) all.build_numbered

@@ -6,6 +6,7 @@ pub mod Building
 pub mod Causes
 pub mod Clients
 pub mod Changing
+pub mod Checking
 pub mod Counted
 pub mod Courses
 pub mod Crates

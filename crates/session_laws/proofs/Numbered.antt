@@ -1,5 +1,5 @@
 -- The jobs that a row hands over have the numbers after those that were given.
-use Rattle.std.proofs.Common.{List, [], ◌∷◌}
+use Rattle.std.proofs.Common.{◌≡◌, ℕ, ◌+◌, List, [], ◌∷◌, length, subst, arith}
 use Rattle.std.specs.Prelude.{Option, None, Some}
 use Rattle.lsp_frame.specs.declared.message.RequestId.{RequestId}
 use Rattle.lsp_frame.specs.declared.message.Message.TheVariants.{Request as RequestMessage, Notification as NotificationMessage, Response as ResponseMessage}
@@ -10,11 +10,12 @@ use Rattle.desk.specs.Reactions.{message_row}
 use Rattle.desk_laws.specs.Numbers.{AreNumbered}
 use Rattle.desk_laws.proofs.Numbered.{cancel-numbered, message-numbered, numbered-append, request-numbered}
 use Rattle.session_model.specs.Hearing.{heard_of, told_by}
-use Rattle.session_model.specs.Headline.{Place, notice_row, place_past, batch_row, row, scene_at, next_turn}
+use Rattle.session_model.specs.Headline.{Place, jobs_resumed, notice_row, place_past, batch_row, row, scene_at, next_turn, snapshot_at}
 use Rattle.session_model.specs.Inputs.{cancelled_by}
 use Rattle.session_model.specs.declared.input.Event.TheVariants.{Lsp, Task, Vfs, Deferred, Timer}
 use Rattle.session_model.specs.declared.input.Input.{Input}
 use Rattle.session_model.specs.declared.input.Input.TheVariants.{Start, Next}
+use Rattle.session_laws.proofs.Checking.{checks-numbered, jobs_given}
 
 notice-numbered : (cancelled : Option RequestId) (desk : Desk) → AreNumbered desk.handed (notice_row cancelled desk).jobs
 notice-numbered (Some id) desk = cancel-numbered id desk
@@ -37,3 +38,22 @@ row-numbered meaning (Next (Vfs messages)) place = tt
 row-numbered meaning (Next (Deferred tasks)) place = tt
 row-numbered meaning (Next (Timer ticket)) place = tt
 row-numbered meaning (Next (Task batch)) place = batch-numbered meaning batch place
+
+none-more : (n : ℕ) → n ≡ n + 0
+none-more n = omega arith
+
+-- the checks that an input brings come behind it
+resumed-numbered : (meaning : Meaning) (input : Input) (place : Place) → AreNumbered (place.desk.handed + length (row meaning input place).jobs) (jobs_resumed input place)
+resumed-numbered meaning Start place = tt
+resumed-numbered meaning (Next (Lsp message)) place = tt
+resumed-numbered meaning (Next (Task batch)) place = tt
+resumed-numbered meaning (Next (Vfs messages)) place = tt
+resumed-numbered meaning (Next (Deferred tasks)) place =
+    let handed = place.desk.handed in
+    subst (λ n. AreNumbered n (jobs_resumed (Next (Deferred tasks)) place)) (none-more handed) (checks-numbered handed (snapshot_at place) tasks)
+resumed-numbered meaning (Next (Timer ticket)) place = tt
+
+-- the same of both
+pub given-numbered : (meaning : Meaning) (input : Input) (place : Place) → AreNumbered place.desk.handed (jobs_given meaning input place)
+given-numbered meaning input place =
+    numbered-append place.desk.handed (row meaning input place).jobs (jobs_resumed input place) (row-numbered meaning input place) (resumed-numbered meaning input place)

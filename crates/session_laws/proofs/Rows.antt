@@ -23,6 +23,7 @@ use Rattle.session_port.specs.Jobs.{Jobs, after_message, after_batch}
 use Rattle.session_port.specs.Record.{spawned, with_jobs}
 use Rattle.session_port.specs.declared.command.Command.{Command}
 use Rattle.session_port.specs.declared.command.Command.TheVariants.{Revise, Timer as SetTimer}
+use Rattle.session_port.specs.declared.command.DeferredTask.{DeferredTask}
 use Rattle.session_port.specs.declared.command.LogCode.{LogCode}
 use Rattle.session_port.specs.declared.command.LogCode.TheVariants.{BadPath, BuildError, FetchError, UnknownSave}
 use Rattle.session_port.specs.declared.event.LoaderMsg.{LoaderMsg}
@@ -41,6 +42,7 @@ use Rattle.notify.specs.declared.notice.DidOpen.{DidOpen}
 use Rattle.notify.specs.declared.notice.Notice.{Notice}
 use Rattle.notify.specs.declared.notice.Notice.TheVariants as notices
 use Rattle.desk.specs.Building.{BuildEnd, build_ended}
+use Rattle.desk.specs.Checking.{check_ended}
 use Rattle.desk.specs.Desk.{Desk}
 use Rattle.desk.specs.Fetching.{FetchEnd, fetch_ended}
 use Rattle.desk.specs.Folds.{asked_among, pending_after, shutdown_after}
@@ -62,14 +64,15 @@ use Rattle.workspaces.specs.Workspaces.{Workspaces}
 use Rattle.workspaces.specs.declared.requests.FetchRequest.{FetchRequest}
 use Rattle.session_model.specs.Asking.{client_refreshed_if, client_registered, client_watching, is_refresh_due}
 use Rattle.session_model.specs.Building.{build_due, build_kept, end_kept, ends_kept, request_told, with_due_build}
+use Rattle.session_model.specs.Checking.{check_jobs, check_kept}
 use Rattle.session_model.specs.Crates.{crates_in, crates_let_in, crates_told, files_with_crates, is_built_by, is_unknown}
 use Rattle.session_model.specs.Fetching.{fetch_jobs, fetch_kept, folders_told_if, settings_told, with_fetches}
 use Rattle.session_model.specs.Headline.{Place, reaction_of, row, notice_row, batch_row, desk_after, place_after, place_past, client_after, last_of, revision_after, scene_at, snapshot_at}
 use Rattle.session_model.specs.Headline.{are_due, build_in, builds_crates_in, changes_due, changes_in, changes_world, client_asked, client_filed, client_left, client_switched, crates_in_turn, crates_told_by, fetch_in, files_after, files_made, files_switched, files_told, files_turned}
-use Rattle.session_model.specs.Headline.{is_changed, jobs_started, left_or, load_in, may_start_at, or_before, refreshes_at, revisions_in, run_jobs, SetsTimer}
+use Rattle.session_model.specs.Headline.{is_changed, jobs_resumed, jobs_started, left_or, load_in, may_start_at, or_before, refreshes_at, revisions_in, run_jobs, SetsTimer}
 use Rattle.session_model.specs.Headline.{sources_filed, sources_switched, status_after, statuses_at, switch_in, workspaces_after, workspaces_at, workspaces_fetched, workspaces_planned, workspaces_switched}
 use Rattle.session_model.specs.Inputs.{cancelled_by, request_in, turns_after}
-use Rattle.session_model.specs.Machine.{answer_taken, asked, asked_for_settings, at_client, at_desk, at_files, at_workspaces, batched, begin_part, begun_fetches, brought, build_part, build_taken, changed_at, client_in, closed, closed_at, closing_part, counted, crates_arrived, desk_in, ends_taken, event_part, facts_of, fetch_part}
+use Rattle.session_model.specs.Machine.{all_resumed, answer_taken, asked, asked_for_settings, at_client, at_desk, at_files, at_workspaces, batched, begin_part, begun_fetches, brought, build_part, build_taken, changed_at, check_taken, client_in, closed, closed_at, closing_part, counted, crates_arrived, desk_in, ends_taken, event_part, facts_of, fetch_part}
 use Rattle.session_model.specs.Machine.{fetch_started, fetch_taken, file_changed, files_changed, files_followed, files_in, files_part, files_processed, folders_taken, happened, has_new_world, kept, later_parts, load_taken, noticed, opened_at, quiet_done, quiet_part, received, register_part, revised, runs_started, save_noted}
 use Rattle.session_model.specs.Machine.{saved_at, saves_registered, start_parts, state_in}
 use Rattle.session_model.specs.Machine.{status_done, status_part, step, switch_done, switch_part, taken, taken_in, timed, timer_set, told}
@@ -95,6 +98,7 @@ use Rattle.session_laws.specs.Invariant.{StepFits, place_of}
 use Rattle.session_laws.proofs.Beside.{beside-fits, beside-revised}
 use Rattle.session_laws.proofs.Crates.{Arrives, LetsIn, arrived-does, lets-in}
 use Rattle.session_laws.proofs.Building.{jobs_of_runs, no-build, no-load, runs-hand, same-fetch}
+use Rattle.session_laws.proofs.Checking.{Resumes, all-resume, jobs_given}
 use Rattle.session_laws.proofs.Clients.{begun_client, left-settings, quiet-settings, switched-settings}
 use Rattle.session_laws.proofs.Fetching.{jobs_of_fetch, started-hands}
 use Rattle.session_laws.proofs.Filing.{DoesForFiles, Processes, change_of, changed-does, closed-does, loaded-does, opened-does, processed-does, revision_by, revision_now, turn-revises}
@@ -119,8 +123,8 @@ counted_turn s = record { state = record s { desk = record s.desk { turns = s.de
 abbrev pub desk_now : State → Working Desk → Working State
 desk_now s v = record { state = record s { desk = v.state }; out = v.out }
 
--- a turn behind its event
-pub record Mid (meaning : Meaning) (s : State) (input : Input) (u : Working State) : Type 0 where
+-- a turn behind its event, where these jobs are handed over
+pub record MidWith (meaning : Meaning) (s : State) (input : Input) (jobs : List Job) (u : Working State) : Type 0 where
   pub serves : Serves meaning s input (after_input input s.desk.jobs) u
   pub client : u.state.client ≡ client_after input s.client
   pub status : u.state.status ≡ s.status
@@ -130,8 +134,15 @@ pub record Mid (meaning : Meaning) (s : State) (input : Input) (u : Working Stat
   pub untimed : filter_map timer_of u.out.commands ≡ []
   pub workspaces : u.state.workspaces ≡ workspaces_at input (place_of s)
   pub sources : u.state.sources ≡ s.sources
-  -- all jobs so far are for requests
-  pub spawns : spawned u.out.commands ≡ (row meaning input (place_of s)).jobs
+  pub spawns : spawned u.out.commands ≡ jobs
+
+-- those of its row, and those of the checks that its input brings
+abbrev pub Mid : Meaning → State → Input → Working State → Type 0
+Mid meaning s input u = MidWith meaning s input (jobs_given meaning input (place_of s)) u
+
+-- where it brings none
+abbrev RowMid : Meaning → State → Input → Working State → Type 0
+RowMid meaning s input u = MidWith meaning s input (row meaning input (place_of s)).jobs u
 
 -- a turn behind its switch
 pub record Behind (meaning : Meaning) (s : State) (event : Event) (u : Working State) : Type 0 where
@@ -148,8 +159,7 @@ pub record Behind (meaning : Meaning) (s : State) (event : Event) (u : Working S
   pub changes : changes_in (Next event) (place_of s) ≡ due_changes u.state.files
   pub workspaces : u.state.workspaces ≡ workspaces_switched (Next event) (place_of s)
   pub sources : u.state.sources ≡ sources_switched (Next event) (place_of s)
-  -- all jobs so far are for requests
-  pub spawns : spawned u.out.commands ≡ (row meaning (Next event) (place_of s)).jobs
+  pub spawns : spawned u.out.commands ≡ jobs_given meaning (Next event) (place_of s)
 
 -- a turn before it closes, where the client has come to this, this status was told last, and it has told these
 pub record Made (meaning : Meaning) (s : State) (input : Input) (asked : Client) (last : Status) (sent : List Data) (u : Working State) : Type 0 where
@@ -205,7 +215,7 @@ responses-untold (response ∷ responses) = responses-untold responses
 -- a turn that changed nothing but these
 both-mid : (meaning : Meaning) (s : State) (input : Input) (done : Reaction) (v : Working Desk) (workspaces : Workspaces) → turns_after input s.desk.turns ≡ s.desk.turns + 1
     → row meaning input (place_of s) ≡ done → IsQuiet s input → workspaces_at input (place_of s) ≡ workspaces
-    → Settled (request_in input) (counted_desk s.desk) v done (after_input input s.desk.jobs) → Mid meaning s input (both_now s v workspaces)
+    → Settled (request_in input) (counted_desk s.desk) v done (after_input input s.desk.jobs) → RowMid meaning s input (both_now s v workspaces)
 both-mid meaning s input done v workspaces number is quiet told a =
     let serves = serves-desk meaning s input done v number is a in
     record {
@@ -223,14 +233,14 @@ both-mid meaning s input done v workspaces number is quiet told a =
 
 -- a turn that changed nothing but the desk
 desk-mid : (meaning : Meaning) (s : State) (input : Input) (done : Reaction) (v : Working Desk) → turns_after input s.desk.turns ≡ s.desk.turns + 1 → row meaning input (place_of s) ≡ done
-    → IsStill s input → Settled (request_in input) (counted_desk s.desk) v done (after_input input s.desk.jobs) → Mid meaning s input (desk_now s v)
+    → IsStill s input → Settled (request_in input) (counted_desk s.desk) v done (after_input input s.desk.jobs) → RowMid meaning s input (desk_now s v)
 desk-mid meaning s input done v number is still a =
     both-mid meaning s input done v s.workspaces number is (record { client = still.client; files = still.files }) still.workspaces a
 
 -- a turn that leaves the desk as it is, once it is counted
 told-mid : (meaning : Meaning) (s : State) (input : Input) (u : Working State) → Serves meaning s input (after_input input s.desk.jobs) (counted_turn s) → Tells nothing_done u.out
     → u.state.desk ≡ (counted_turn s).state.desk → u.state.client ≡ client_after input s.client → u.state.status ≡ s.status → files_told input (place_of s) ≡ Ok u.state.files
-    → u.state.workspaces ≡ workspaces_at input (place_of s) → u.state.sources ≡ s.sources → Mid meaning s input u
+    → u.state.workspaces ≡ workspaces_at input (place_of s) → u.state.sources ≡ s.sources → RowMid meaning s input u
 told-mid meaning s input u serves tells desk client status files workspaces sources = record {
   serves = beside-fits meaning s input (after_input input s.desk.jobs) (counted_turn s) u (beside-told (counted_turn s) u tells desk) serves;
   client = client;
@@ -246,7 +256,7 @@ told-mid meaning s input u serves tells desk client status files workspaces sour
 
 -- a turn that leaves all as it is
 still-mid : (meaning : Meaning) (s : State) (input : Input) (u : Working State) → Serves meaning s input (after_input input s.desk.jobs) (counted_turn s) → IsStill s input → Tells nothing_done u.out
-    → u.state ≡ (counted_turn s).state → Mid meaning s input u
+    → u.state ≡ (counted_turn s).state → RowMid meaning s input u
 still-mid meaning s input u serves still tells same =
     told-mid meaning s input u serves tells (ap (λ (t : State). t.desk) same) (ap (λ (t : State). t.client) same ∙ sym still.client) (ap (λ (t : State). t.status) same)
     (subst (λ (t : State). files_told input (place_of s) ≡ Ok t.files) (sym same) still.files)
@@ -254,7 +264,7 @@ still-mid meaning s input u serves still tells same =
 
 -- with a log line
 logged-mid : (meaning : Meaning) (s : State) (input : Input) (code : LogCode) (text : List ℕ) → Serves meaning s input (after_input input s.desk.jobs) (counted_turn s) → IsStill s input
-    → Mid meaning s input (logged code text (counted_turn s))
+    → RowMid meaning s input (logged code text (counted_turn s))
 unfolding logged ordered
 logged-mid meaning s input code text serves still = still-mid meaning s input (logged code text (counted_turn s)) serves still (tells-logged code text (counted_turn s)) refl
 
@@ -269,7 +279,7 @@ client_now s v workspaces = record { state = record (counted_turn s).state { cli
 -- a turn that changes nothing else
 client-mid : (meaning : Meaning) (s : State) (input : Input) (v : Working Client) (client : Client) (workspaces : Workspaces)
     → Serves meaning s input (after_input input s.desk.jobs) (counted_turn s) → client ≡ client_after input s.client → files_told input (place_of s) ≡ Ok s.files
-    → workspaces ≡ workspaces_at input (place_of s) → DoesForClient (client_turn s) v client → Mid meaning s input (client_now s v workspaces)
+    → workspaces ≡ workspaces_at input (place_of s) → DoesForClient (client_turn s) v client → RowMid meaning s input (client_now s v workspaces)
 client-mid meaning s input v client workspaces serves is same told does =
     told-mid meaning s input (client_now s v workspaces) serves does.tells refl (does.is ∙ is) refl same told refl
 
@@ -281,9 +291,9 @@ files_turn s = record { state = s.files; out = nothing_done }
 files-mid : (meaning : Meaning) (s : State) (input : Input) (work : Working SessionFiles → Result (Working SessionFiles) Counter) (r : Result SessionFiles Counter)
     → Serves meaning s input (after_input input s.desk.jobs) (counted_turn s) → client_after input s.client ≡ s.client → files_told input (place_of s) ≡ r
     → workspaces_at input (place_of s) ≡ s.workspaces
-    → IfOk (work (files_turn s)) (λ v. DoesForFiles (files_turn s) v r) → IfOk (at_files work (counted_turn s)) (Mid meaning s input)
+    → IfOk (work (files_turn s)) (λ v. DoesForFiles (files_turn s) v r) → IfOk (at_files work (counted_turn s)) (RowMid meaning s input)
 files-mid meaning s input work r serves client told untold does =
-    IfOk-within files_in with_files work (counted_turn s) (Mid meaning s input)
+    IfOk-within files_in with_files work (counted_turn s) (RowMid meaning s input)
     (IfOk-weaker _ (λ v. DoesForFiles (files_turn s) v r) _ does
     (λ v d. told-mid meaning s input _ serves d.tells refl (sym client) refl (told ∙ d.is) (sym untold) refl))
 
@@ -292,13 +302,13 @@ files-mid meaning s input work r serves client told untold does =
 abbrev request_input : Request → Input
 request_input r = Next (Lsp (RequestMessage r))
 
-requested-mid : (meaning : Meaning) (s : State) (r : Request) → IfOk (asked meaning r (counted_turn s)) (Mid meaning s (request_input r))
+requested-mid : (meaning : Meaning) (s : State) (r : Request) → IfOk (asked meaning r (counted_turn s)) (RowMid meaning s (request_input r))
 requested-mid meaning s r =
     let done = request_row meaning (scene_of s) (counted_desk s.desk).state (s.desk.turns + 1) r in
     let told : Working State → Working State = at_workspaces (request_told r s.desk) in
-    IfOk-and_then (at_desk (requested meaning (scene_of s) r) (counted_turn s)) (λ v. Ok (told v)) (λ v. Mid meaning s (request_input r) (told v)) (Mid meaning s (request_input r))
-    (IfOk-within desk_in with_desk (requested meaning (scene_of s) r) (counted_turn s) (λ v. Mid meaning s (request_input r) (told v))
-    (IfOk-weaker _ (λ v. Settled (Some r) (counted_desk s.desk) v done s.desk.jobs) (λ v. Mid meaning s (request_input r) (told (desk_now s v)))
+    IfOk-and_then (at_desk (requested meaning (scene_of s) r) (counted_turn s)) (λ v. Ok (told v)) (λ v. RowMid meaning s (request_input r) (told v)) (RowMid meaning s (request_input r))
+    (IfOk-within desk_in with_desk (requested meaning (scene_of s) r) (counted_turn s) (λ v. RowMid meaning s (request_input r) (told v))
+    (IfOk-weaker _ (λ v. Settled (Some r) (counted_desk s.desk) v done s.desk.jobs) (λ v. RowMid meaning s (request_input r) (told (desk_now s v)))
     (request-settles meaning (scene_of s) r (counted_desk s.desk))
     (λ v a. both-mid meaning s (request_input r) done v (request_told r s.desk s.workspaces) refl (sym (request-turns meaning (scene_of s) s.desk (s.desk.turns + 1) (s.desk.turns + 1) r))
     (record { client = refl; files = refl }) refl a)))
@@ -315,7 +325,7 @@ silent-serves : (meaning : Meaning) (s : State) (n : Notification) → notice_ro
 silent-serves meaning s n quiet = serves-desk meaning s (notification_input n) silent (counted_desk s.desk) refl quiet (nothing-settles (counted_desk s.desk))
 
 opened-cases : (meaning : Meaning) (s : State) (n : Notification) (document : DidOpen) (o : Result (List ℕ) UrlFault) → heard_of n ≡ Told (notices.DidOpen document) → path_of document.uri ≡ o
-    → IfOk (opened_at o document (counted_turn s)) (Mid meaning s (notification_input n))
+    → IfOk (opened_at o document (counted_turn s)) (RowMid meaning s (notification_input n))
 unfolding opened_at
 opened-cases meaning s n document (Err fault) heard is =
     logged-mid meaning s (notification_input n) _ _ (silent-serves meaning s n (rw heard refl)) (record { client = rw heard refl; files = rw (heard, is) refl; workspaces = rw heard refl })
@@ -326,7 +336,7 @@ opened-cases meaning s n document (Ok path) heard is =
     (opened-does excludes path document.version document.text (files_turn s))
 
 changed-cases : (meaning : Meaning) (s : State) (n : Notification) (change : DidChange) (o : Result (List ℕ) UrlFault) → heard_of n ≡ Told (notices.DidChange change) → path_of change.uri ≡ o
-    → IfOk (changed_at o change (counted_turn s)) (Mid meaning s (notification_input n))
+    → IfOk (changed_at o change (counted_turn s)) (RowMid meaning s (notification_input n))
 unfolding changed_at
 changed-cases meaning s n change (Err fault) heard is =
     logged-mid meaning s (notification_input n) _ _ (silent-serves meaning s n (rw heard refl)) (record { client = rw heard refl; files = rw (heard, is) refl; workspaces = rw heard refl })
@@ -337,7 +347,7 @@ changed-cases meaning s n change (Ok path) heard is =
     (changed-does columns path change.version change.changes (files_turn s))
 
 closed-cases : (meaning : Meaning) (s : State) (n : Notification) (uri : List ℕ) (o : Result (List ℕ) UrlFault) → heard_of n ≡ Told (notices.DidClose uri) → path_of uri ≡ o
-    → IfOk (closed_at o uri (counted_turn s)) (Mid meaning s (notification_input n))
+    → IfOk (closed_at o uri (counted_turn s)) (RowMid meaning s (notification_input n))
 unfolding closed_at
 closed-cases meaning s n uri (Err fault) heard is =
     logged-mid meaning s (notification_input n) _ _ (silent-serves meaning s n (rw heard refl)) (record { client = rw heard refl; files = rw (heard, is) refl; workspaces = rw heard refl })
@@ -357,7 +367,7 @@ noted-same true path w = refl
 noted-same false path w = refl
 
 saved-cases : (meaning : Meaning) (s : State) (n : Notification) (uri : List ℕ) (o : Result (List ℕ) UrlFault) → heard_of n ≡ Told (notices.DidSave uri) → path_of uri ≡ o
-    → Mid meaning s (notification_input n) (saved_at o uri (counted_turn s))
+    → RowMid meaning s (notification_input n) (saved_at o uri (counted_turn s))
 unfolding saved_at
 saved-cases meaning s n uri (Err fault) heard is =
     logged-mid meaning s (notification_input n) _ _ (silent-serves meaning s n (rw heard refl)) (record { client = rw heard refl; files = rw heard refl; workspaces = rw (heard, is) refl })
@@ -375,40 +385,40 @@ saved-cases meaning s n uri (Ok path) heard is =
     (ap (λ (t : State). asks t.workspaces) same ∙ sym workspaces) (ap (λ (t : State). t.sources) same)
 
 -- the loader brings files, and a fetch that waits gets a new timer
-brought-mid : (meaning : Meaning) (s : State) (messages : List LoaderMsg) → IfOk (brought messages (counted_turn s)) (Mid meaning s (Next (Vfs messages)))
+brought-mid : (meaning : Meaning) (s : State) (messages : List LoaderMsg) → IfOk (brought messages (counted_turn s)) (RowMid meaning s (Next (Vfs messages)))
 brought-mid meaning s messages =
     let input : Input = Next (Vfs messages) in
     let told : Working State → Working State = λ v. at_workspaces (renewed_if (bring_files messages) v.state.desk.turns) v in
-    IfOk-and_then (at_files (loaded messages) (counted_turn s)) (λ v. Ok (told v)) (λ v. Mid meaning s input (told v)) (Mid meaning s input)
-    (IfOk-within files_in with_files (loaded messages) (counted_turn s) (λ v. Mid meaning s input (told v))
+    IfOk-and_then (at_files (loaded messages) (counted_turn s)) (λ v. Ok (told v)) (λ v. RowMid meaning s input (told v)) (RowMid meaning s input)
+    (IfOk-within files_in with_files (loaded messages) (counted_turn s) (λ v. RowMid meaning s input (told v))
     (IfOk-weaker _ (λ v. DoesForFiles (files_turn s) v (after_messages messages s.files)) _ (loaded-does messages (files_turn s))
     (λ v d. told-mid meaning s input _ (serves-desk meaning s input silent (counted_desk s.desk) refl refl (nothing-settles (counted_desk s.desk)))
     d.tells refl refl refl d.is refl refl)))
     (λ v mid. mid)
 
 cancel-mid : (meaning : Meaning) (s : State) (n : Notification) (id : RequestId) → heard_of n ≡ Told (notices.CancelRequest id)
-    → IfOk (at_desk (λ d. Ok (cancelled id d)) (counted_turn s)) (Mid meaning s (notification_input n))
+    → IfOk (at_desk (λ d. Ok (cancelled id d)) (counted_turn s)) (RowMid meaning s (notification_input n))
 cancel-mid meaning s n id heard =
-    IfOk-within desk_in with_desk (λ d. Ok (cancelled id d)) (counted_turn s) (Mid meaning s (notification_input n))
+    IfOk-within desk_in with_desk (λ d. Ok (cancelled id d)) (counted_turn s) (RowMid meaning s (notification_input n))
     (desk-mid meaning s (notification_input n) (cancel_row id s.desk) (cancelled id (counted_desk s.desk)) refl (rw heard refl)
     (record { client = rw heard refl; files = rw heard refl; workspaces = rw heard refl }) (cancel-settles id (counted_desk s.desk)))
 
 -- the client is asked for its settings
-asking-mid : (meaning : Meaning) (s : State) (n : Notification) → heard_of n ≡ Told notices.DidChangeConfiguration → IfOk (at_client asked_for_settings (counted_turn s)) (Mid meaning s (notification_input n))
+asking-mid : (meaning : Meaning) (s : State) (n : Notification) → heard_of n ≡ Told notices.DidChangeConfiguration → IfOk (at_client asked_for_settings (counted_turn s)) (RowMid meaning s (notification_input n))
 asking-mid meaning s n heard =
-    IfOk-within client_in with_client asked_for_settings (counted_turn s) (Mid meaning s (notification_input n))
-    (IfOk-weaker _ (λ v. DoesForClient (client_turn s) v (after_asking Settings s.client)) (λ v. Mid meaning s (notification_input n) (client_now s v s.workspaces)) (asked-does Configuration Settings (client_turn s))
+    IfOk-within client_in with_client asked_for_settings (counted_turn s) (RowMid meaning s (notification_input n))
+    (IfOk-weaker _ (λ v. DoesForClient (client_turn s) v (after_asking Settings s.client)) (λ v. RowMid meaning s (notification_input n) (client_now s v s.workspaces)) (asked-does Configuration Settings (client_turn s))
     (λ v does. client-mid meaning s (notification_input n) v (after_asking Settings s.client) s.workspaces (silent-serves meaning s n (rw heard refl)) (sym (rw heard refl)) (rw heard refl) (sym (rw heard refl)) does))
 
 -- the folders of its workspaces change
 folders-mid : (meaning : Meaning) (s : State) (n : Notification) (added removed : List (List ℕ)) → heard_of n ≡ Told (notices.DidChangeWorkspaceFolders added removed)
-    → IfOk (folders_taken added removed (counted_turn s)) (Mid meaning s (notification_input n))
+    → IfOk (folders_taken added removed (counted_turn s)) (RowMid meaning s (notification_input n))
 folders-mid meaning s n added removed heard =
     let input = notification_input n in
     let refetched : Workspaces → Workspaces = folders_told_if (goes_by_folders s.client.settings) in
     let told : Working State → Working State = at_workspaces refetched in
-    IfOk-and_then (at_client (λ c. Ok (folders_changed added removed c)) (counted_turn s)) (λ v. Ok (told v)) (λ v. Mid meaning s input (told v)) (Mid meaning s input)
-    (IfOk-within client_in with_client (λ c. Ok (folders_changed added removed c)) (counted_turn s) (λ v. Mid meaning s input (told v))
+    IfOk-and_then (at_client (λ c. Ok (folders_changed added removed c)) (counted_turn s)) (λ v. Ok (told v)) (λ v. RowMid meaning s input (told v)) (RowMid meaning s input)
+    (IfOk-within client_in with_client (λ c. Ok (folders_changed added removed c)) (counted_turn s) (λ v. RowMid meaning s input (told v))
     (client-mid meaning s input _ (after_folders added removed s.client) (refetched s.workspaces) (silent-serves meaning s n (rw heard refl)) (sym (rw heard refl)) (rw heard refl) (sym (rw heard refl))
     (folders-do added removed (client_turn s))))
     (λ v mid. mid)
@@ -451,16 +461,16 @@ files-same seen (url ∷ urls) w =
     (files-same others urls done ∙ file-same url (path_of url) w)
 
 watched-mid : (meaning : Meaning) (s : State) (n : Notification) (changes : List (List ℕ)) → heard_of n ≡ Told (notices.DidChangeWatchedFiles changes)
-    → Mid meaning s (notification_input n) (files_changed map.empty changes (counted_turn s))
+    → RowMid meaning s (notification_input n) (files_changed map.empty changes (counted_turn s))
 watched-mid meaning s n changes heard =
     still-mid meaning s (notification_input n) _ (silent-serves meaning s n (rw heard refl)) (record { client = rw heard refl; files = rw heard refl; workspaces = rw heard refl })
     (files-tell map.empty changes (counted_turn s)) (files-same map.empty changes (counted_turn s))
 
 -- a notice that changes nothing
-pass-mid : (meaning : Meaning) (s : State) (n : Notification) → notice_row (cancelled_by (told_by (heard_of n))) s.desk ≡ silent → IsStill s (notification_input n) → Mid meaning s (notification_input n) (counted_turn s)
+pass-mid : (meaning : Meaning) (s : State) (n : Notification) → notice_row (cancelled_by (told_by (heard_of n))) s.desk ≡ silent → IsStill s (notification_input n) → RowMid meaning s (notification_input n) (counted_turn s)
 pass-mid meaning s n quiet still = still-mid meaning s (notification_input n) (counted_turn s) (silent-serves meaning s n quiet) still (tells-none nothing_done) refl
 
-told-cases : (meaning : Meaning) (s : State) (n : Notification) (notice : Notice) → heard_of n ≡ Told notice → IfOk (told notice (counted_turn s)) (Mid meaning s (notification_input n))
+told-cases : (meaning : Meaning) (s : State) (n : Notification) (notice : Notice) → heard_of n ≡ Told notice → IfOk (told notice (counted_turn s)) (RowMid meaning s (notification_input n))
 unfolding told
 told-cases meaning s n (notices.CancelRequest id) heard = cancel-mid meaning s n id heard
 told-cases meaning s n (notices.CancelProgress token) heard = pass-mid meaning s n (rw heard refl) (record { client = rw heard refl; files = rw heard refl; workspaces = rw heard refl })
@@ -476,7 +486,7 @@ told-cases meaning s n notices.ClearFlycheck heard = pass-mid meaning s n (rw he
 told-cases meaning s n (notices.RunFlycheck uri) heard = pass-mid meaning s n (rw heard refl) (record { client = rw heard refl; files = rw heard refl; workspaces = rw heard refl })
 told-cases meaning s n notices.AbortRunTest heard = pass-mid meaning s n (rw heard refl) (record { client = rw heard refl; files = rw heard refl; workspaces = rw heard refl })
 
-heard-cases : (meaning : Meaning) (s : State) (n : Notification) (heard : Heard) → heard_of n ≡ heard → IfOk (noticed heard n.method (counted_turn s)) (Mid meaning s (notification_input n))
+heard-cases : (meaning : Meaning) (s : State) (n : Notification) (heard : Heard) → heard_of n ≡ heard → IfOk (noticed heard n.method (counted_turn s)) (RowMid meaning s (notification_input n))
 unfolding noticed
 heard-cases meaning s n (Told notice) is = told-cases meaning s n notice is
 heard-cases meaning s n Malformed is = logged-mid meaning s (notification_input n) _ _ (silent-serves meaning s n (rw is refl)) (record { client = rw is refl; files = rw is refl; workspaces = rw is refl })
@@ -545,7 +555,7 @@ build-notes (Some made) w =
     let text : Option (List ℕ) = build_fault v.state.workspaces in
     record { desk = logged_if-settles BuildError text v; state = logged_if-same BuildError text v }
 
-pub both-note : (fetched : Option FetchEnd) (built : Option BuildEnd) (w : Working State)
+both-note : (fetched : Option FetchEnd) (built : Option BuildEnd) (w : Working State)
     → Notes (build_kept built (fetch_kept fetched w.state.workspaces)) w (build_taken built (fetch_taken fetched w))
 both-note fetched built w =
     let v : Working State = fetch_taken fetched w in
@@ -558,6 +568,13 @@ both-note fetched built w =
       state = second.state ∙ ap (λ (s : State). with_workspaces (build_kept built s.workspaces) s) first.state;
     }
 
+-- and then those of a check of sources
+pub ends-note : (fetched : Option FetchEnd) (built : Option BuildEnd) (checked : Option (List (List ℕ))) (w : Working State)
+    → Notes (check_kept checked (build_kept built (fetch_kept fetched w.state.workspaces))) w (check_taken checked (build_taken built (fetch_taken fetched w)))
+ends-note fetched built checked w =
+    let notes = both-note fetched built w in
+    record { desk = notes.desk; state = ap (λ (s : State). with_workspaces (check_kept checked s.workspaces) s) notes.state }
+
 -- what the workspaces come to by a message
 abbrev pub kept_past : TaskMsg → State → Workspaces
 kept_past message s = end_kept message s.desk.jobs s.workspaces
@@ -566,14 +583,16 @@ kept_past message s = end_kept message s.desk.jobs s.workspaces
 abbrev pub files_past : TaskMsg → State → Result SessionFiles Counter
 files_past message s = crates_let_in (crates_in message s.desk.jobs s.workspaces) s.files
 
--- the desk has done this, and then the workspaces have come to what the end of a fetch and that of a run of build data leave of them
-noted-does : (fetched : Option FetchEnd) (built : Option BuildEnd) (w v : Working State) (done : Reaction) (jobs : Jobs)
+-- the desk has done this, and then the workspaces have come to what the end of a fetch, that of a run of build data and that of a check of sources leave of
+-- them
+noted-does : (fetched : Option FetchEnd) (built : Option BuildEnd) (checked : Option (List (List ℕ))) (w v : Working State) (done : Reaction) (jobs : Jobs)
     → DoesAtDesk w v done jobs w.state.workspaces (Ok w.state.files)
-    → DoesAtDesk w (build_taken built (fetch_taken fetched v)) done jobs (build_kept built (fetch_kept fetched w.state.workspaces)) (Ok w.state.files)
-noted-does fetched built w v done jobs a =
-    let u : Working State = build_taken built (fetch_taken fetched v) in
-    let kept : Workspaces → Workspaces = λ workspaces. build_kept built (fetch_kept fetched workspaces) in
-    let notes = both-note fetched built v in
+    → DoesAtDesk w (check_taken checked (build_taken built (fetch_taken fetched v))) done jobs
+    (check_kept checked (build_kept built (fetch_kept fetched w.state.workspaces))) (Ok w.state.files)
+noted-does fetched built checked w v done jobs a =
+    let u : Working State = check_taken checked (build_taken built (fetch_taken fetched v)) in
+    let kept : Workspaces → Workspaces = λ workspaces. check_kept checked (build_kept built (fetch_kept fetched workspaces)) in
+    let notes = ends-note fetched built checked v in
     let quiet : Settled None (at v) (at u) silent jobs = subst (λ (js : Jobs). Settled None (at v) (at u) silent js) a.desk.out notes.desk in
     let said : joined done silent ≡ done = λ i. record { responses = append-nil done.responses i; jobs = append-nil done.jobs i } in
     record {
@@ -602,13 +621,14 @@ load-takes loaded w v done jobs kept a =
           ∙ ap (λ (d : Desk). record w.state { desk = d; workspaces = load_kept loaded kept; files = u.state.files }) (sym desk);
     })
 
-ends-take : (fetched : Option FetchEnd) (built : Option BuildEnd) (loaded : Option LoadEnd) (w v : Working State) (done : Reaction) (jobs : Jobs)
-    → DoesAtDesk w v done jobs w.state.workspaces (Ok w.state.files)
-    → let kept : Workspaces = build_kept built (fetch_kept fetched w.state.workspaces) in
-    IfOk (ends_taken fetched built loaded v) (λ u. DoesAtDesk w u done jobs (load_kept loaded kept) (crates_let_in (crates_loaded loaded kept) w.state.files))
+ends-take : (fetched : Option FetchEnd) (built : Option BuildEnd) (checked : Option (List (List ℕ))) (loaded : Option LoadEnd) (w v : Working State) (done : Reaction)
+    (jobs : Jobs) → DoesAtDesk w v done jobs w.state.workspaces (Ok w.state.files)
+    → let kept : Workspaces = check_kept checked (build_kept built (fetch_kept fetched w.state.workspaces)) in
+    IfOk (ends_taken fetched built checked loaded v) (λ u. DoesAtDesk w u done jobs (load_kept loaded kept) (crates_let_in (crates_loaded loaded kept) w.state.files))
 unfolding ends_taken
-ends-take fetched built loaded w v done jobs a =
-    load-takes loaded w (build_taken built (fetch_taken fetched v)) done jobs (build_kept built (fetch_kept fetched w.state.workspaces)) (noted-does fetched built w v done jobs a)
+ends-take fetched built checked loaded w v done jobs a =
+    load-takes loaded w (check_taken checked (build_taken built (fetch_taken fetched v))) done jobs (check_kept checked (build_kept built (fetch_kept fetched w.state.workspaces)))
+    (noted-does fetched built checked w v done jobs a)
 
 -- what a message ends is told to the workspaces and the files
 pub taken-settles : (meaning : Meaning) (turns : ℕ) (message : TaskMsg) (w : Working State)
@@ -621,11 +641,12 @@ taken-settles meaning turns message w =
     let jobs = after_message message w.state.desk.jobs in
     let fetched : Option FetchEnd = fetch_ended message w.state.desk.jobs in
     let built : Option BuildEnd = build_ended message w.state.desk.jobs in
+    let checked : Option (List (List ℕ)) = check_ended message w.state.desk.jobs in
     let loaded : Option LoadEnd = load_ended message w.state.desk.jobs in
-    IfOk-and_then (at_desk (taken_at_desk meaning (scene_of w.state) message) w) (ends_taken fetched built loaded)
+    IfOk-and_then (at_desk (taken_at_desk meaning (scene_of w.state) message) w) (ends_taken fetched built checked loaded)
     (λ v. DoesAtDesk w v done jobs w.state.workspaces (Ok w.state.files)) (λ v. DoesAtDesk w v done jobs (kept_past message w.state) (files_past message w.state))
     (desk-settles meaning turns message w)
-    (λ v a. ends-take fetched built loaded w v done jobs a)
+    (λ v a. ends-take fetched built checked loaded w v done jobs a)
 
 -- what a message leaves is the next one's place
 pub settled-place : (turns : ℕ) (message : TaskMsg) (w v : Working State) (done : Reaction)
@@ -674,12 +695,12 @@ batch-settles meaning turns (m ∷ ms) w =
     (λ u b. does-on w v u done (batch_row meaning ms past) jobs (after_batch ms jobs) kept (ends_kept ms jobs kept) files next a
     (subst (DoesPast meaning ms v u) (settled-place turns m w v done a) b)))
 
-batch-mid : (meaning : Meaning) (s : State) (batch : List TaskMsg) → IfOk (batched meaning batch (counted_turn s)) (Mid meaning s (Next (Task batch)))
+batch-mid : (meaning : Meaning) (s : State) (batch : List TaskMsg) → IfOk (batched meaning batch (counted_turn s)) (RowMid meaning s (Next (Task batch)))
 batch-mid meaning s batch =
     let input : Input = Next (Task batch) in
     let done = batch_row meaning batch (place_of s) in
     let kept = ends_kept batch s.desk.jobs s.workspaces in
-    IfOk-weaker _ (λ u. DoesAtDesk (counted_turn s) u done (after_batch batch s.desk.jobs) kept (crates_told batch s.desk.jobs s.workspaces s.files)) (Mid meaning s input)
+    IfOk-weaker _ (λ u. DoesAtDesk (counted_turn s) u done (after_batch batch s.desk.jobs) kept (crates_told batch s.desk.jobs s.workspaces s.files)) (RowMid meaning s input)
     (batch-settles meaning s.desk.turns batch (counted_turn s))
     (λ u a. let serves = serves-desk meaning s input done (at u) refl refl a.desk in record {
       serves = record { does = serves.does; numbered = serves.numbered; desk = serves.desk };
@@ -696,33 +717,60 @@ batch-mid meaning s batch =
 
 -- ---- whole turns
 
-response-mid : (meaning : Meaning) (s : State) (r : Response) → IfOk (answer_taken r (counted_turn s)) (Mid meaning s (Next (Lsp (ResponseMessage r))))
+response-mid : (meaning : Meaning) (s : State) (r : Response) → IfOk (answer_taken r (counted_turn s)) (RowMid meaning s (Next (Lsp (ResponseMessage r))))
 response-mid meaning s r =
     let input : Input = Next (Lsp (ResponseMessage r)) in
     let asked_by : Client → Workspaces = λ c. settings_told s.client.settings c.settings s.workspaces in
     let told : Working State → Working State = λ v. at_workspaces (settings_told s.client.settings v.state.client.settings) v in
     let does : DoesForClient (client_turn s) (answered r (client_turn s)) (after_answer r s.client) = answered-does r (client_turn s) in
-    IfOk-and_then (at_client (λ c. Ok (answered r c)) (counted_turn s)) (λ v. Ok (told v)) (λ v. Mid meaning s input (told v)) (Mid meaning s input)
-    (IfOk-within client_in with_client (λ c. Ok (answered r c)) (counted_turn s) (λ v. Mid meaning s input (told v))
+    IfOk-and_then (at_client (λ c. Ok (answered r c)) (counted_turn s)) (λ v. Ok (told v)) (λ v. RowMid meaning s input (told v)) (RowMid meaning s input)
+    (IfOk-within client_in with_client (λ c. Ok (answered r c)) (counted_turn s) (λ v. RowMid meaning s input (told v))
     (client-mid meaning s input _ (after_answer r s.client) (asked_by (answered r (client_turn s)).state)
     (serves-desk meaning s input silent (counted_desk s.desk) refl refl (nothing-settles (counted_desk s.desk))) refl refl (ap asked_by does.is) does))
     (λ v mid. mid)
 
-message-mid : (meaning : Meaning) (s : State) (message : Message) → IfOk (received meaning message (counted_turn s)) (Mid meaning s (Next (Lsp message)))
+message-mid : (meaning : Meaning) (s : State) (message : Message) → IfOk (received meaning message (counted_turn s)) (RowMid meaning s (Next (Lsp message)))
 unfolding received
 message-mid meaning s (RequestMessage r) = requested-mid meaning s r
 message-mid meaning s (NotificationMessage n) = heard-cases meaning s n (heard_of n) refl
 message-mid meaning s (ResponseMessage r) = response-mid meaning s r
 
+-- the checks that were put off hand over their jobs
+deferred-mid : (meaning : Meaning) (s : State) (tasks : List DeferredTask) → IfOk (all_resumed tasks (counted_turn s)) (Mid meaning s (Next (Deferred tasks)))
+deferred-mid meaning s tasks =
+    let input : Input = Next (Deferred tasks) in
+    IfOk-weaker (all_resumed tasks (counted_turn s)) (Resumes (check_jobs s.desk.handed (snapshot_of s) tasks) (counted_turn s)) (Mid meaning s input)
+    (all-resume tasks (counted_turn s))
+    (λ v r. record {
+      serves = beside-fits meaning s input s.desk.jobs (counted_turn s) v r.beside
+          (serves-desk meaning s input silent (counted_desk s.desk) refl refl (nothing-settles (counted_desk s.desk)));
+      client = ap (λ (t : State). t.client) r.state;
+      status = ap (λ (t : State). t.status) r.state;
+      files = ap (λ (t : State). Ok t.files) (sym r.state);
+      unrevised = r.unrevised;
+      untold = ap statuses_in r.messages;
+      untimed = r.untimed;
+      workspaces = ap (λ (t : State). t.workspaces) r.state;
+      sources = ap (λ (t : State). t.sources) r.state;
+      spawns = r.hands;
+    })
+
+-- an input that brings no check hands over the jobs of its row alone
+row-only : (meaning : Meaning) (s : State) (input : Input) (r : Result (Working State) Counter) → jobs_resumed input (place_of s) ≡ [] → IfOk r (RowMid meaning s input) → IfOk r (Mid meaning s input)
+row-only meaning s input r none h =
+    let jobs : List Job = (row meaning input (place_of s)).jobs in
+    subst (λ (js : List Job). IfOk r (MidWith meaning s input js)) (sym (append-nil jobs) ∙ ap (λ (js : List Job). jobs ++ js) (sym none)) h
+
 event-mid : (meaning : Meaning) (s : State) (event : Event) → IfOk (happened meaning event (counted_turn s)) (Mid meaning s (Next event))
 unfolding happened
-event-mid meaning s (Lsp message) = message-mid meaning s message
-event-mid meaning s (Task batch) = batch-mid meaning s batch
-event-mid meaning s (Vfs messages) = brought-mid meaning s messages
-event-mid meaning s (Deferred tasks) = desk-mid meaning s (Next (Deferred tasks)) silent (counted_desk s.desk) refl refl (record { client = refl; files = refl; workspaces = refl }) (nothing-settles (counted_desk s.desk))
+event-mid meaning s (Lsp message) = row-only meaning s (Next (Lsp message)) (received meaning message (counted_turn s)) refl (message-mid meaning s message)
+event-mid meaning s (Task batch) = row-only meaning s (Next (Task batch)) (batched meaning batch (counted_turn s)) refl (batch-mid meaning s batch)
+event-mid meaning s (Vfs messages) = row-only meaning s (Next (Vfs messages)) (brought messages (counted_turn s)) refl (brought-mid meaning s messages)
+event-mid meaning s (Deferred tasks) = deferred-mid meaning s tasks
 event-mid meaning s (Timer ticket) =
-    both-mid meaning s (Next (Timer ticket)) silent (counted_desk s.desk) (timed ticket (counted_turn s)).state.workspaces refl refl (record { client = refl; files = refl }) refl
-    (nothing-settles (counted_desk s.desk))
+    row-only meaning s (Next (Timer ticket)) (Ok (timed ticket (counted_turn s))) refl
+    (both-mid meaning s (Next (Timer ticket)) silent (counted_desk s.desk) (timed ticket (counted_turn s)).state.workspaces refl refl (record { client = refl; files = refl }) refl
+    (nothing-settles (counted_desk s.desk)))
 
 pub counted-is : (s : State) → IfOk (counted (begun s)) (λ v. v ≡ counted_turn s)
 unfolding counted counted_at_desk
@@ -754,10 +802,10 @@ start-made meaning s u tells client status files desk sources = record {
   revised = ap (λ (f : SessionFiles). f.host.revision) files ∙ none-more s.files.host.revision;
 }
 
--- a turn hands over the jobs of its row, and behind them those that it starts, on what it has left
+-- a turn hands over the jobs of its row and of the checks that its input brings, and behind them those that it starts, on what it has left
 abbrev pub Hands : Meaning → State → Input → Working State → Type 0
 Hands meaning s input v =
-    spawned v.out.commands ≡ (row meaning input (place_of s)).jobs ++ jobs_started input (place_of s) v.state.desk.handed (snapshot_of v.state)
+    spawned v.out.commands ≡ jobs_given meaning input (place_of s) ++ jobs_started input (place_of s) v.state.desk.handed (snapshot_of v.state)
 
 -- a turn of the machine before it orders a timer is a row, and what it leaves is the next place
 pub record Fits (meaning : Meaning) (s : State) (input : Input) (v : Working State) : Type 0 where
@@ -1008,19 +1056,19 @@ pub record MadeTurn (meaning : Meaning) (s : State) (input : Input) (asked : Cli
 abbrev pub LeftTurn : Meaning → State → Input → Working Turning → Type 0
 LeftTurn meaning s input t = MadeTurn meaning s input (client_left input (place_of s)) (status_after input (place_of s)) (statuses_at input (place_of s)) t
 
--- a turn before its fetch: all jobs so far are for requests
+-- a turn before its fetch
 pub record ReadyTurn (meaning : Meaning) (s : State) (input : Input) (asked : Client) (last : Status) (sent : List Data) (t : Working Turning) : Type 0 where
   pub facts : t.state.facts ≡ facts_of (begun s)
   pub made : Made meaning s input asked last sent (session_in t)
   pub workspaces : t.state.state.workspaces ≡ workspaces_planned input (place_of s)
-  pub spawns : spawned t.out.commands ≡ (row meaning input (place_of s)).jobs
+  pub spawns : spawned t.out.commands ≡ jobs_given meaning input (place_of s)
 
 -- a turn behind its fetch
 pub record FetchedTurn (meaning : Meaning) (s : State) (input : Input) (asked : Client) (last : Status) (sent : List Data) (t : Working Turning) : Type 0 where
   pub facts : t.state.facts ≡ facts_of (begun s)
   pub made : Made meaning s input asked last sent (session_in t)
   pub workspaces : t.state.state.workspaces ≡ workspaces_fetched input (place_of s)
-  pub hands : spawned t.out.commands ≡ (row meaning input (place_of s)).jobs ++ fetch_jobs t.state.state.desk.handed (snapshot_of t.state.state) (fetch_in input (place_of s))
+  pub hands : spawned t.out.commands ≡ jobs_given meaning input (place_of s) ++ fetch_jobs t.state.state.desk.handed (snapshot_of t.state.state) (fetch_in input (place_of s))
 
 -- a turn behind its quiet part
 abbrev pub QuietTurn : Meaning → State → Event → Working Turning → Type 0
@@ -1261,7 +1309,7 @@ build-made meaning s event t fetched =
     let after : Workspaces = with_due_load build (with_due_build w.state.workspaces) in
     let build_is : build ≡ build_in input place = fetched-build meaning s event t fetched in
     let load_is : load ≡ load_in input place = fetched-load meaning s event t fetched in
-    let jobs = (row meaning input place).jobs in
+    let jobs = jobs_given meaning input place in
     IfOk-within state_in with_state runs_started t (MadeBehind meaning s event)
     (IfOk-weaker (runs_started w) (StartsJobs (jobs_of_runs build load) after w) _ (runs-hand w)
     (λ v h. let fetch : List Job = fetch_jobs v.state.desk.handed (snapshot_of v.state) (fetch_in input place) in
@@ -1281,7 +1329,7 @@ start-built meaning s t fetched = record {
   facts = fetched.facts;
   made = fetched.made;
   workspaces = fetched.workspaces;
-  hands = fetched.hands ∙ ap (λ (js : List Job). (row meaning Start (place_of s)).jobs ++ js) (sym (append-nil _));
+  hands = fetched.hands ∙ ap (λ (js : List Job). jobs_given meaning Start (place_of s) ++ js) (sym (append-nil _));
 }
 
 -- ---- the status behind an event
@@ -1340,7 +1388,7 @@ told-now meaning s event t v m told = record {
 told-hands : (meaning : Meaning) (s : State) (event : Event) (w v : Working State) → Hands meaning s (Next event) w → TellsStatus w v → Hands meaning s (Next event) v
 told-hands meaning s event w v hands told =
     ap spawned told.tells.ordered ∙ spawned-append w.out.commands told.tells.commands ∙ (λ i. hands i ++ told.tells.spawns_none i) ∙ append-nil _
-    ∙ sym (λ i. (row meaning (Next event) (place_of s)).jobs ++ jobs_started (Next event) (place_of s) (told.state i).desk.handed (snapshot-told w v told i))
+    ∙ sym (λ i. jobs_given meaning (Next event) (place_of s) ++ jobs_started (Next event) (place_of s) (told.state i).desk.handed (snapshot-told w v told i))
 
 pub status-made : (meaning : Meaning) (s : State) (event : Event) (t : Working Turning) → MadeBehind meaning s event t → IfOk (status_part t) (LeftTurn meaning s (Next event))
 unfolding status_part
@@ -1456,7 +1504,7 @@ steps-fit meaning s turn new steps =
       place = fits.place;
       later = fits.later;
       revised = sym (ap (λ (p : Place). p.revision) fits.place) ∙ fits.revised;
-      hands_over = subst (λ (p : Place). spawned turn.commands ≡ (row meaning turn.input (place_of s)).jobs ++ jobs_started turn.input (place_of s) p.desk.handed (snapshot_at p))
+      hands_over = subst (λ (p : Place). spawned turn.commands ≡ jobs_given meaning turn.input (place_of s) ++ jobs_started turn.input (place_of s) p.desk.handed (snapshot_at p))
           fits.place fits.hands;
       tells_status = fits.told;
       timer = subst (SetsTimer turn) fits.place closes.timer;

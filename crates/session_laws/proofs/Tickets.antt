@@ -8,6 +8,7 @@ use Rattle.session_port.specs.declared.event.TaskMsg.{TaskMsg}
 use Rattle.client.specs.Client.{Client}
 use Rattle.client.specs.Folds.{after_answer}
 use Rattle.desk.specs.Building.{BuildEnd, build_ended}
+use Rattle.desk.specs.Checking.{check_ended}
 use Rattle.desk.specs.Desk.{Desk}
 use Rattle.desk.specs.Fetching.{FetchEnd, fetch_ended}
 use Rattle.desk.specs.Loading.{LoadEnd, load_ended}
@@ -18,6 +19,7 @@ use Rattle.workspaces.specs.Workspaces.{Fetches, Workspaces}
 use Rattle.workspaces.specs.declared.requests.FetchRequest.{FetchRequest}
 use Rattle.workspaces.specs.declared.requests.WaitingFetch.{WaitingFetch}
 use Rattle.session_model.specs.Building.{build_kept, end_kept, ends_kept, rebuilds, rebuilt_if, request_told}
+use Rattle.session_model.specs.Checking.{check_kept}
 use Rattle.session_model.specs.Fetching.{fetch_kept, reloaded_if, reloads}
 use Rattle.session_model.specs.Headline.{changes_in, client_after, may_start_at, next_turn, Place, place_after, place_after_all, workspaces_after, workspaces_fetched, workspaces_planned, workspaces_switched, workspaces_told}
 use Rattle.session_model.specs.Hearing.{heard_of, told_by}
@@ -74,7 +76,7 @@ load-same (Some told) workspaces = kept-cases workspaces.loads.queue.in_progress
 
 end-same : (message : TaskMsg) (out : Jobs) (workspaces : Workspaces) → (end_kept message out workspaces).fetches.waiting ≡ workspaces.fetches.waiting
 end-same message out workspaces =
-    load-same (load_ended message out) (build_kept (build_ended message out) (fetch_kept (fetch_ended message out) workspaces))
+    load-same (load_ended message out) (check_kept (check_ended message out) (build_kept (build_ended message out) (fetch_kept (fetch_ended message out) workspaces)))
     ∙ build-same (build_ended message out) (fetch_kept (fetch_ended message out) workspaces) ∙ fetch-same (fetch_ended message out) workspaces
 
 batch-same : (batch : List TaskMsg) (out : Jobs) (workspaces : Workspaces) → (ends_kept batch out workspaces).fetches.waiting ≡ workspaces.fetches.waiting

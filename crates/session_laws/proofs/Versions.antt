@@ -9,6 +9,7 @@ use Rattle.client.specs.Client.{Client}
 use Rattle.client.specs.Folds.{after_answer}
 use Rattle.desk.specs.Desk.{Desk}
 use Rattle.desk.specs.Building.{BuildEnd, build_ended}
+use Rattle.desk.specs.Checking.{check_ended}
 use Rattle.desk.specs.Fetching.{FetchEnd, fetch_ended}
 use Rattle.desk.specs.Loading.{LoadEnd, load_ended}
 use Rattle.workspaces.specs.Builds.{end_build, rebuild_macros, reload}
@@ -18,6 +19,7 @@ use Rattle.workspaces.specs.Workspaces.{Workspaces}
 use Rattle.session_model.specs.Fetching.{fetch_kept, reloaded_if, reloads}
 use Rattle.session_model.specs.Headline.{Place, place_after, place_after_all, workspaces_after, workspaces_at, workspaces_planned, workspaces_switched, workspaces_told}
 use Rattle.session_model.specs.Building.{build_kept, end_kept, ends_kept, rebuilds, request_told}
+use Rattle.session_model.specs.Checking.{check_kept}
 use Rattle.session_model.specs.Hearing.{heard_of, told_by}
 use Rattle.session_model.specs.Inputs.{turns_after}
 use Rattle.session_model.specs.Loading.{load_kept}
@@ -63,8 +65,10 @@ pub kept-shows : (message : TaskMsg) (out : Jobs) (workspaces : Workspaces) → 
 kept-shows message out workspaces =
     let fetched = fetch_kept (fetch_ended message out) workspaces in
     let built = build_kept (build_ended message out) fetched in
+    let checked = check_kept (check_ended message out) built in
     shows-on workspaces fetched (end_kept message out workspaces) (fetch-shows (fetch_ended message out) workspaces)
-    (shows-on fetched built (end_kept message out workspaces) (build-shows (build_ended message out) fetched) (load-shows (load_ended message out) built))
+    (shows-on fetched built (end_kept message out workspaces) (build-shows (build_ended message out) fetched)
+    (shows-on built checked (end_kept message out workspaces) (record { present = refl; version = refl }) (load-shows (load_ended message out) checked)))
 
 batch-version : (batch : List TaskMsg) (out : Jobs) (workspaces : Workspaces) → (ends_kept batch out workspaces).version ≡ workspaces.version
 batch-version [] out workspaces = refl

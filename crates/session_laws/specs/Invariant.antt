@@ -6,7 +6,7 @@ use Rattle.session_port.specs.Jobs.{Jobs}
 use Rattle.session_port.specs.Record.{spawned}
 use Rattle.session_port.specs.declared.job.Job.{Job}
 use Rattle.session_port.specs.declared.job.JobKind.{JobKind}
-use Rattle.session_port.specs.declared.job.JobKind.TheVariants.{Request, FetchWorkspaces, FetchBuildData, LoadProcMacros}
+use Rattle.session_port.specs.declared.job.JobKind.TheVariants.{Request, ProcMacroSources, FetchWorkspaces, FetchBuildData, LoadProcMacros}
 use Rattle.workspaces.specs.declared.requests.WaitingFetch.{WaitingFetch}
 use Rattle.desk.specs.Meaning.{Meaning}
 use Rattle.desk_laws.specs.Invariant.{Sound}
@@ -37,6 +37,7 @@ place_of s = record {
 -- the job fetches workspaces
 abbrev pub is_fetch : JobKind → Bool
 is_fetch (Request ticket row params) = false
+is_fetch (ProcMacroSources files) = false
 is_fetch (FetchWorkspaces projects detached path force) = true
 is_fetch (FetchBuildData version) = false
 is_fetch (LoadProcMacros paths ignored) = false
@@ -44,6 +45,7 @@ is_fetch (LoadProcMacros paths ignored) = false
 -- the job is a run of build data
 abbrev pub is_build : JobKind → Bool
 is_build (Request ticket row params) = false
+is_build (ProcMacroSources files) = false
 is_build (FetchWorkspaces projects detached path force) = false
 is_build (FetchBuildData version) = true
 is_build (LoadProcMacros paths ignored) = false
@@ -51,6 +53,7 @@ is_build (LoadProcMacros paths ignored) = false
 -- the job is a load of macros
 abbrev pub is_load : JobKind → Bool
 is_load (Request ticket row params) = false
+is_load (ProcMacroSources files) = false
 is_load (FetchWorkspaces projects detached path force) = false
 is_load (FetchBuildData version) = false
 is_load (LoadProcMacros paths ignored) = true
