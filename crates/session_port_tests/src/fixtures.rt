@@ -4,7 +4,7 @@ ghost use Rattle.session_port.specs.Events.{job_of as job_in};
 ghost use Rattle.session_port.specs.Record.{AreRising, spawned};
 
 use analysis_host::{GlobalStateSnapshot, RowId, SnapshotParts, Versions, World};
-use docs_vfs::VfsPath;
+use docs_vfs::{FileId, VfsPath};
 use file_ids::FileIds;
 use method_table::PoolClass;
 use plain::{Items, Json, SharedJson};
@@ -56,9 +56,24 @@ fn snapshot(alloc: Global) -> Option<GlobalStateSnapshot> {
     }))
 }
 
-/// What a job is to find out: a request's question, or the workspaces of a project, builds or proc macros.
+/// The files 0 and 1.
+fn two_files(alloc: Global) -> Option<Items<FileId>> {
+    let mut files = Items::new(alloc);
+    files.push(FileId(0)).ok()?;
+    files.push(FileId(1)).ok()?;
+    Some(files)
+}
+
+/// What a job is to find out: the workspaces of a project, builds or proc macros; a check of two files, or one of no file; else a
+/// request's question.
 pub fn kind_of(alloc: Global, word: &str) -> Option<JobKind> {
     match word {
+        "check" => Some(JobKind::ProcMacroSources {
+            files: two_files(alloc)?,
+        }),
+        "no check" => Some(JobKind::ProcMacroSources {
+            files: Items::new(alloc),
+        }),
         "workspaces" => Some(JobKind::FetchWorkspaces {
             projects: projects(alloc)?,
             detached: Items::new(alloc),
@@ -79,7 +94,7 @@ pub fn kind_of(alloc: Global, word: &str) -> Option<JobKind> {
 }
 
 /// A job of this kind on the first revision.
-fn job_with(alloc: Global, number: u64, word: &str) -> Option<Job>
+pub fn job_with(alloc: Global, number: u64, word: &str) -> Option<Job>
     ensures { IfSome result (λ job. job.number ≡ number) }
 {
     let kind = kind_of(alloc, word)?;
@@ -90,11 +105,6 @@ fn job_with(alloc: Global, number: u64, word: &str) -> Option<Job>
         kind,
         snapshot,
     })
-}
-
-/// A request's job on the first revision.
-pub fn job_of(alloc: Global, number: u64) -> Option<Job> {
-    job_with(alloc, number, "request")
 }
 
 fn add_spawn(commands: &mut Items<Command>, job: Job) -> Option<()>
@@ -118,14 +128,14 @@ fn two_jobs(alloc: Global, word: &str) -> Option<Items<Command>>
     Some(commands)
 }
 
-/// `jobs` for the commands to do the requests' jobs 7 and 9, `builds`, `workspaces` or `macros` for the same where 9 is the host's own,
-/// else no command.
+/// `jobs` for the commands to do the requests' jobs 7 and 9, `check` for the same where 9 is a check, `builds`, `workspaces` or `macros`
+/// where it is the host's own, else no command.
 pub fn commands_of(alloc: Global, word: &str) -> Option<Items<Command>>
     ensures { IfSome result (λ commands. AreRising 0 (spawned commands)) }
 {
     match word {
         "jobs" => two_jobs(alloc, "request"),
-        "builds" | "workspaces" | "macros" => two_jobs(alloc, word),
+        "check" | "builds" | "workspaces" | "macros" => two_jobs(alloc, word),
         _ => Some(Items::new(alloc)),
     }
 }

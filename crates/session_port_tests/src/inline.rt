@@ -122,14 +122,15 @@ fn run_on(alloc: Global, source: Small, commands: Items<Command>, count: u32) ->
 /// events are asked for. Then the events, each before a `|`, and how many calls were recorded. A `~` stands between two
 /// cases.
 ///
-/// Two frames, of 48 bytes that come in three pieces; a bad header; half a frame. In the last three, results come before
-/// bytes, and before any read, of which the first fails in the last but one; a job of the host's own ends too.
+/// Two frames, of 48 bytes that come in three pieces; a bad header; half a frame. In the last four, results come before
+/// bytes, and before any read, of which the first fails in the last but two; a check ends too, and a job of the host's own.
 const STREAMS: &str = "Content-Length: 2\r\n\r\n{}Content-Length: 4\r\n\r\nnull > 0 > idle > 3 > \
     Content-Length: 2\r\n\r\n{}|Content-Length: 4\r\n\r\nnull|ended| > no record~\
     Content-Length: x\r\n\r\n{} > 0 > idle > 2 > Content-Length: x\r\n\r\n{}|ended| > no record~\
     Content-Length: 20\r\n\r\n{} > 0 > idle > 2 > Content-Length: 20\r\n\r\n{}|ended| > no record~\
     Content-Length: 2\r\n\r\n{} > 0 > jobs > 3 > 7: null;9: null;|Content-Length: 2\r\n\r\n{}|ended| > 4~\
     Content-Length: 2\r\n\r\n{} > 1 > jobs > 3 > 7: null;9: null;|failed| > 2~\
+    Content-Length: 2\r\n\r\n{} > 0 > check > 2 > 7: null;9: roots;|Content-Length: 2\r\n\r\n{}| > 3~\
     Content-Length: 2\r\n\r\n{} > 0 > builds > 2 > 7: null;9: build data 1;|Content-Length: 2\r\n\r\n{}| > 3";
 
 fn agrees(alloc: Global, line: &str) -> Option<bool> {

@@ -1,5 +1,5 @@
 // Jobs that run, and what crosses threads.
-use crate::fixtures::{job_of, kind_of};
+use crate::fixtures::{job_with, kind_of};
 use crate::words::{add, result_text};
 use analysis_host::{Cancel, Never};
 use plain::{Items, Json};
@@ -7,9 +7,10 @@ use session_peers::NullAnalysis;
 use session_port::{HostEvent, Job, JobKind, JobResult, JobValue, TaskBody, TaskMsg, run_job};
 use std::alloc::Global;
 
-/// Tells each query that revision 3 is there.
+/// Tells that revision 3 is there, from the poll with this number on.
 #[derive(Drop)]
 struct Third {
+    from: u64,
     seen: bool,
     polls: u64,
 }
@@ -30,6 +31,9 @@ impl Cancel for Third {
 
     fn poll(&mut self) -> Option<u64> {
         self.polls = self.polls.saturating_add(1);
+        if self.polls < self.from {
+            return None;
+        }
         self.seen = true;
         Some(3)
     }
@@ -39,7 +43,7 @@ impl Cancel for Third {
     }
 }
 
-// These calls claim nothing here. They run only a request's job on the first revision.
+// These calls claim nothing here. They run only a job on the first revision for which the analysis is asked.
 
 /// What a job comes to that no later revision stops.
 fn lasting(alloc: Global, job: &Job) -> Option<JobResult> {
@@ -50,9 +54,10 @@ fn lasting(alloc: Global, job: &Job) -> Option<JobResult> {
     }
 }
 
-/// What a job comes to that a later revision stops.
-fn stopped(alloc: Global, job: &Job) -> Option<JobResult> {
+/// What a job comes to where the poll with this number, and each after it, tells of a later revision.
+fn stopped(alloc: Global, job: &Job, from: u64) -> Option<JobResult> {
     let mut third = Third {
+        from,
         seen: false,
         polls: 0,
     };
@@ -71,28 +76,52 @@ fn told(outcome: Option<JobResult>) -> &'static str {
     }
 }
 
-fn told_of(alloc: Global, job: &Job, stops: bool) -> &'static str {
-    if stops {
-        told(stopped(alloc, job))
-    } else {
+/// No poll has the number 0: then no revision stops the job.
+fn told_of(alloc: Global, job: &Job, from: u64) -> &'static str {
+    if from == 0 {
         told(lasting(alloc, job))
+    } else {
+        told(stopped(alloc, job, from))
     }
 }
 
 /// The one function that owns a job.
-fn told_in(alloc: Global, job: Job, stops: bool) -> &'static str {
-    told_of(alloc, &job, stops)
+fn told_in(alloc: Global, job: Job, from: u64) -> &'static str {
+    told_of(alloc, &job, from)
 }
 
-/// What a job comes to, in words, if a later revision stops it or not.
-fn run_told(alloc: Global, stops: bool) -> Option<&'static str> {
-    Some(told_in(alloc, job_of(alloc, 7)?, stops))
+/// What a job of this kind comes to, in words.
+fn run_told(alloc: Global, word: &str, from: u64) -> Option<&'static str> {
+    Some(told_in(alloc, job_with(alloc, 7, word)?, from))
 }
 
 #[test]
 fn jobs_run(rt: HostRuntime) {
-    assert!(rt; run_told(rt.alloc(), false) == Some("null"));
-    assert!(rt; run_told(rt.alloc(), true) == Some("cancelled"));
+    assert!(rt; run_told(rt.alloc(), "request", 0) == Some("null"));
+    assert!(rt; run_told(rt.alloc(), "request", 1) == Some("cancelled"));
+    assert!(rt; run_told(rt.alloc(), "request", 2) == Some("null"));
+}
+
+// A check polls once itself. For each file the question polls once, and the check behind it once more.
+#[test]
+fn checks_run(rt: HostRuntime) {
+    for (word, from, wanted) in [
+        ("check", 0, "roots"),
+        ("check", 1, "cancelled"),
+        ("check", 2, "cancelled"),
+        ("check", 3, "cancelled"),
+        ("check", 4, "cancelled"),
+        ("check", 5, "cancelled"),
+        ("check", 6, "roots"),
+        ("no check", 0, "roots"),
+        ("no check", 1, "cancelled"),
+        ("no check", 2, "roots"),
+    ] {
+        assert!(rt;
+            run_told(rt.alloc(), word, from) == Some(wanted),
+            "{word} stopped from {from}"
+        );
+    }
 }
 
 /// An end of a job: its value, or a word for an end without one.
@@ -146,6 +175,7 @@ fn fits_as(alloc: Global, word: &str, wanted: &str) -> Option<bool> {
 fn values_fit_their_kinds(rt: HostRuntime) {
     for (word, wanted) in [
         ("request", "ynnnnnyy"),
+        ("check", "nynnnnyy"),
         ("workspaces", "nnnynnyy"),
         ("builds", "nnnnynyy"),
         ("macros", "nnnnnyyy"),

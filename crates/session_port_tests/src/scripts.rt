@@ -152,7 +152,7 @@ fn agrees(alloc: Global, line: &str) -> Option<bool> {
     Some(run_script(alloc, steps, fails, commands, count).as_str() == wanted)
 }
 
-// Each script: whether the jobs 7 and 9 are ordered first, the second a request's too or the host's own, or nothing; the numbers of the calls that fail; the steps; how
+// Each script: whether the jobs 7 and 9 are ordered first, the second a request's too, a check or the host's own, or nothing; the numbers of the calls that fail; the steps; how
 // many events are asked for. Then what comes of the order, the events, each before a `|`, and the calls that were
 // recorded: how many commands were taken, or an event.
 
@@ -173,6 +173,15 @@ const STOPPING: &str =
 #[test]
 fn a_script_stops_jobs(rt: HostRuntime) {
     assert!(rt; agrees(rt.alloc(), STOPPING) == Some(true));
+}
+
+/// Job 9 is a check: it is finished as a request's, and not supplied.
+const CHECKING: &str =
+    "check > - > supply 9 full, finish 9 7, finish 9 > 3 > taken > 9: roots;7: null;||ended| > 2|event|event|event|";
+
+#[test]
+fn a_script_finishes_a_check(rt: HostRuntime) {
+    assert!(rt; agrees(rt.alloc(), CHECKING) == Some(true));
 }
 
 /// Job 9 is the host's own: it is not finished, and gets no end that does not fit it. Job 7 is not supplied.
