@@ -15,6 +15,7 @@ ghost use Rattle.session_model.specs.declared.input.Input.TheVariants.{Start, Ne
 
 mod asking;
 mod building;
+mod checking;
 mod crates;
 mod fetching;
 mod filing;
@@ -262,7 +263,7 @@ impl GlobalState {
             Event::Lsp(message) => self.on_message(message, analysis, out),
             Event::Task(batch) => self.on_batch(batch, analysis, out),
             Event::Vfs(messages) => self.on_loader(messages, out),
-            Event::Deferred(_) => Ok(()),
+            Event::Deferred(tasks) => self.resume_all(tasks, out),
             Event::Timer(ticket) => self.on_timer(ticket, out),
         }
     }

@@ -67,6 +67,7 @@ const NEEDS: &str = r#"turns > tell $/nothing null
 jobs > ask textDocument/hover {"a":1} > Worker > Worker
 jobs > start > Worker > Worker
 jobs > ask rust-analyzer/rebuildProcMacros null > Content-Length: 38\r\n\r\n{"id":5,"jsonrpc":"2.0","result":null}Worker > Content-Length: 38\r\n\r\n{"id":5,"jsonrpc":"2.0","result":null}Worker
+jobs > deferred 0 > check > check
 revisions > open > deferrevisetimer 1 > deferrevisetimer 1
 outgoing > tell workspace/didChangeConfiguration null > Content-Length: 108\r\n\r\n{"id":0,"jsonrpc":"2.0","method":"workspace/configuration","params":{"items":[{"section":"rust-analyzer"}]}} > Content-Length: 117\r\n\r\n{"id":2147483647,"jsonrpc":"2.0","method":"workspace/configuration","params":{"items":[{"section":"rust-analyzer"}]}}
 files > open > deferrevisetimer 1 > deferrevisetimer 1

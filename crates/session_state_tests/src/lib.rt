@@ -10,6 +10,8 @@ mod building;
 #[cfg(test)]
 mod causes;
 #[cfg(test)]
+mod checking;
+#[cfg(test)]
 mod counters;
 #[cfg(test)]
 mod crates;

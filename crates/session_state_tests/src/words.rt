@@ -1,6 +1,6 @@
 // Events from words, and what a turn did in words.
 use analysis_host::GlobalStateSnapshot;
-use docs_vfs::VfsPath;
+use docs_vfs::{FileId, VfsPath};
 use lsp_frame::{Message, Notification, Request, RequestId, Response};
 use method_table::PoolClass;
 use plain::{Bytes, Items, Json, Text};
@@ -9,8 +9,8 @@ use ra_config::Config;
 use ra_settings::LinkedProject;
 use session_model::{Counter, Event, TurnError};
 use session_port::{
-    Command, Job, JobKind, JobResult, JobValue, LoadedFile, LoaderMsg, LoadingProgress, LogCode,
-    TaskBody, TaskMsg,
+    Command, DeferredTask, Job, JobKind, JobResult, JobValue, LoadedFile, LoaderMsg,
+    LoadingProgress, LogCode, TaskBody, TaskMsg,
 };
 use session_state::TurnOut;
 use small_project::{scripts_of, workspaces_of};
@@ -139,13 +139,14 @@ fn ended(alloc: Global, job: u64, outcome: JobResult) -> Option<Event> {
     Some(Event::Task(batch))
 }
 
-/// The job that words name first, the second, the third or the fourth, else the first; and what stands behind its name.
+/// The job that words name first, the second, the third, the fourth or the fifth, else the first; and what stands behind its name.
 fn job_in(words: &str) -> (u64, &str) {
     let (name, rest) = cut(words, " ");
     match name {
         "second" => (2, rest),
         "third" => (3, rest),
         "fourth" => (4, rest),
+        "fifth" => (5, rest),
         _ => (1, words),
     }
 }
@@ -240,11 +241,59 @@ fn with_crate(alloc: Global, job: u64, words: &str) -> Option<Event> {
     ended(alloc, job, JobResult::Value(JobValue::Workspaces(fetched)))
 }
 
+/// The files with these numbers, of which a comma stands between two.
+fn files_numbered(alloc: Global, numbers: &str) -> Option<Items<FileId>> {
+    let mut files = Items::new(alloc);
+    for number in numbers.split(',') {
+        files.push(FileId(number.parse::<u32>().ok()?)).ok()?;
+    }
+    Some(files)
+}
+
+/// Numbers of files ask whether these are the sources of macros, a path whether its file is part of some crate.
+fn task(alloc: Global, word: &str) -> Option<DeferredTask> {
+    if word.starts_with("/") {
+        return Some(DeferredTask::CheckIfIndexed(VfsPath::new(alloc, word).ok()??));
+    }
+    Some(DeferredTask::CheckProcMacroSources(files_numbered(alloc, word)?))
+}
+
+/// The tasks that words are, one after another.
+fn tasks(alloc: Global, words: &str) -> Option<Items<DeferredTask>> {
+    let mut tasks = Items::new(alloc);
+    for word in words.split(' ') {
+        if !word.is_empty() {
+            tasks.push(task(alloc, word)?).ok()?;
+        }
+    }
+    Some(tasks)
+}
+
+/// The root files that a check has found, of which a comma stands between two; perhaps none.
+fn roots(alloc: Global, job: u64, paths: &str) -> Option<Event> {
+    let mut roots = Items::new(alloc);
+    for path in paths.split(',') {
+        if !path.is_empty() {
+            roots.push(VfsPath::new(alloc, path).ok()??).ok()?;
+        }
+    }
+    ended(alloc, job, JobResult::Value(JobValue::Roots(roots)))
+}
+
+/// A job that failed.
+fn failed(alloc: Global, job: u64) -> Option<Event> {
+    let outcome = JobResult::Fault {
+        code: None,
+        message: text_of(alloc, "x")?,
+    };
+    ended(alloc, job, outcome)
+}
+
 /// `ask` and `tell` with a method and its params, `answer` with the result in the response to the session's request 0,
 /// `loading` and `loaded` where files begin to load and are loaded, `reloaded` where they are by the loader's second settings, `both` where two files are read at once, `file` and `read` with a path, and perhaps a text, where the
-/// loader tells that a file has changed and where it has read it first, `open` where `/w/a.rs` is opened, `null` and `stopped` as results of the first
-/// job, or of the `second`, the `third` or the `fourth`, `fetched`, `builds` and `macros` as results that are no request's, `brought` where such a job brings the workspaces
-/// of some manifests, perhaps with the version of their compiler, `crate` where it brings one with the crate of a root file, `described` where it brings the workspace `/w` that is described as JSON, `alone` where it brings the file of a path that is a workspace by itself, `save` where the client saves the file of a path, `scripts` where build scripts made nothing, `deferred`, `timer` with its ticket,
+/// loader tells that a file has changed and where it has read it first, `open` where `/w/a.rs` is opened, `null`, `failed` and `stopped` as results of the first
+/// job, or of the `second`, the `third`, the `fourth` or the `fifth`, `fetched`, `builds` and `macros` as results that are no request's, `brought` where such a job brings the workspaces
+/// of some manifests, perhaps with the version of their compiler, `crate` where it brings one with the crate of a root file, `described` where it brings the workspace `/w` that is described as JSON, `alone` where it brings the file of a path that is a workspace by itself, `save` where the client saves the file of a path, `scripts` where build scripts made nothing, `roots` with the root files that a check found, `deferred` with tasks that were put off, `timer` with its ticket,
 /// and `shutdown` as a request.
 pub fn event_of(alloc: Global, words: &str) -> Option<Event> {
     let (kind, rest) = cut(words, " ");
@@ -265,6 +314,7 @@ pub fn event_of(alloc: Global, words: &str) -> Option<Event> {
             r#"{"textDocument":{"uri":"file:///w/a.rs","version":1,"text":"a"}}"#,
         ),
         "null" => ended(alloc, job, JobResult::Value(JobValue::Json(Json::null()))),
+        "failed" => failed(alloc, job),
         "stopped" => ended(alloc, job, JobResult::Cancelled { saw: 1 }),
         "fetched" => ended(
             alloc,
@@ -287,7 +337,8 @@ pub fn event_of(alloc: Global, words: &str) -> Option<Event> {
         "alone" => alone(alloc, job, found),
         "save" => saved(alloc, rest),
         "scripts" => scripts(alloc, job),
-        "deferred" => Some(Event::Deferred(Items::new(alloc))),
+        "roots" => roots(alloc, job, found),
+        "deferred" => Some(Event::Deferred(tasks(alloc, rest)?)),
         "timer" => Some(Event::Timer(rest.parse::<u64>().unwrap_or(1))),
         "shutdown" => request(alloc, 1, "shutdown", "null"),
         _ => None,
@@ -302,10 +353,20 @@ fn class_name(class: PoolClass) -> &'static str {
     }
 }
 
-// The class of a job; a fetch that is forced has a name of its own.
+// A check of sources, by the numbers of the files that it asks for.
+fn check_name(files: &[FileId]) -> &'static str {
+    match files {
+        [] => "check",
+        [FileId(0)] => "check 0",
+        _ => "another check",
+    }
+}
+
+// The class of a job; a fetch that is forced has a name of its own, and so has a check of sources.
 fn class_of(job: &Job) -> &'static str {
     match &job.kind {
         JobKind::FetchWorkspaces { force: true, .. } => "forced",
+        JobKind::ProcMacroSources { files } => check_name(files.as_slice()),
         _ => class_name(job.class),
     }
 }

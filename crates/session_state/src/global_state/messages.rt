@@ -12,6 +12,7 @@ ghost use Rattle.session_model.specs.State.{scene_of};
 use crate::global_state::GlobalState;
 use analysis_host::Analysis;
 use desk::{BuildEnd, FetchEnd, LoadEnd};
+use docs_vfs::VfsPath;
 use lsp_frame::{Message, Request};
 use method_table::{REBUILD_PROC_MACROS, RELOAD_WORKSPACE, RowId, row_of};
 use plain::Items;
@@ -126,13 +127,15 @@ impl GlobalState {
         &mut self,
         fetched: Option<FetchEnd>,
         built: Option<BuildEnd>,
+        checked: Option<Items<VfsPath>>,
         loaded: Option<LoadEnd>,
         out: &mut TurnOut,
     ) -> Result<(), TurnError>
-        ensures { Meets result (ends_taken fetched built loaded (record { state = self.old; out = out.old })) self.new out.new }
+        ensures { Meets result (ends_taken fetched built checked loaded (record { state = self.old; out = out.old })) self.new out.new }
     {
         self.take_fetch(fetched, out)?;
         self.take_build(built, out)?;
+        self.take_check(checked);
         self.take_load(loaded, out)
     }
 
@@ -148,9 +151,10 @@ impl GlobalState {
     {
         let fetched = self.desk.fetch_end(&message)?;
         let built = self.desk.build_end(&message)?;
+        let checked = self.desk.check_end(&message)?;
         let loaded = self.desk.load_end(&message)?;
         self.bring(message, analysis, out)?;
-        self.take_ends(fetched, built, loaded, out)
+        self.take_ends(fetched, built, checked, loaded, out)
     }
 
     // The messages of a batch, one after another.
