@@ -39,15 +39,22 @@ fn has_macro_root(roots: &[VfsPath], workspace: &ProjectWorkspace) -> bool
         .any(|root| is_among(root, workspace.crates.as_slice()))
 }
 
+// Whether a crate of macros of one of these workspaces has one of these root files.
+fn have_macro_root(roots: &[VfsPath], present: &[ProjectWorkspace]) -> bool
+    ensures { result ≡ list_any (has_macro_root roots.now) present.now }
+{
+    present
+        .iter()
+        .any(|workspace| has_macro_root(roots, workspace))
+}
+
 // Whether one of the root files that a check found, if one has ended, is that of a crate of macros.
 fn finds_macros(checked: &Option<Items<VfsPath>>, present: &[ProjectWorkspace]) -> bool
     ensures { result ≡ finds_macros checked.now present.now }
 {
     match checked {
         None => false,
-        Some(roots) => present
-            .iter()
-            .any(|workspace| has_macro_root(roots.as_slice(), workspace)),
+        Some(roots) => have_macro_root(roots.as_slice(), present),
     }
 }
 
