@@ -355,10 +355,14 @@ fn class_name(class: PoolClass) -> &'static str {
 
 // A check of sources, by the numbers of the files that it asks for.
 fn check_name(files: &[FileId]) -> &'static str {
-    match files {
-        [] => "check",
-        [FileId(0)] => "check 0",
-        _ => "another check",
+    if files.is_empty() {
+        return "check";
+    }
+    let first = files[0].0;
+    if files.len() == 1 && first == 0 {
+        "check 0"
+    } else {
+        "another check"
     }
 }
 
