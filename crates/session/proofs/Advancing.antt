@@ -17,8 +17,8 @@ use Rattle.session_model.specs.declared.fault.SessionError.TheVariants.{NoMemory
 use Rattle.session_model.specs.declared.input.Input.{Input}
 use Rattle.session_model.specs.declared.input.Input.TheVariants.{Start}
 use Rattle.session_laws.proofs.Counted.{IsLater, steps-fewer}
-use Rattle.session_laws.proofs.Stretches.{stretch-turn, stretch-fed, stretch-none, telling-none}
-use Rattle.session.specs.Looping.{AdvancesByEvent, Goes, IsFeedError, TurnDone, Done}
+use Rattle.session_laws.proofs.Stretches.{stretch-turn, stretch-fed, stretch-none, stretch-on, telling-none}
+use Rattle.session.specs.Looping.{AdvancesByEvent, Goes, IsFeedError, RunsOn, TurnDone, Done}
 use Rattle.session.specs.Reading.{course_from}
 use Rattle.session.proofs.Endings.{ends-feed, ends-turn, breaks_at_once}
 
@@ -121,23 +121,33 @@ run-none meaning config reader old honest T = record {
   ends = inl (breaks_at_once (session_course reader.place reader.held) old old refl);
 }
 
--- a run ends
-pub run-ends : (meaning : Meaning) (config : ConfigData) (s : State) (first reader : Reader) (old mid new : Told) (honest : Bool) (out_mid : Jobs) (T : Type 0) (result : Result T SessionError)
-    → Stretch meaning (fresh config) s (session_course first.place first.held) (course_from reader) (fed_bytes first) (fed_bytes reader) old mid honest maps.empty out_mid
-    → Ends meaning s (course_from reader) (fed_bytes reader) mid new honest out_mid result → IsRun meaning config first old new honest result
-run-ends meaning config s first reader old mid new honest out_mid T result stretch ends = record {
-  last = s;
-  to = course_from reader;
-  used_last = fed_bytes reader;
-  told_last = mid;
-  out_last = out_mid;
-  stretch = stretch;
-  ends = ends;
-}
+-- the rest of a run ends
+pub runs-ended : (meaning : Meaning) (s now : State) (first reader : Reader) (old mid new : Told) (honest : Bool) (out out_mid : Jobs) (T : Type 0) (result : Result T SessionError)
+    → Stretch meaning s now (course_from first) (course_from reader) (fed_bytes first) (fed_bytes reader) old mid honest out out_mid
+    → Ends meaning now (course_from reader) (fed_bytes reader) mid new honest out_mid result → RunsOn meaning s first old new honest out result
+runs-ended meaning s now first reader old mid new honest out out_mid T result stretch ends =
+    record { last = now; reader_last = reader; told_last = mid; out_last = out_mid; stretch = stretch; ends = ends }
 
--- a run breaks off
-pub run-broken : (meaning : Meaning) (config : ConfigData) (s : State) (first reader : Reader) (old mid new : Told) (honest honest_now : Bool) (out_mid : Jobs) (T : Type 0) (e : SessionError)
-    → Stretch meaning (fresh config) s (session_course first.place first.held) (course_from reader) (fed_bytes first) (fed_bytes reader) old mid honest maps.empty out_mid
-    → honest_now ≡ honest → EndsBy meaning s (course_from reader) (fed_bytes reader) mid new honest_now out_mid e → IsRun {T = T} meaning config first old new honest (Err e)
-run-broken meaning config s first reader old mid new honest honest_now out_mid T e stretch same ends =
-    run-ends meaning config s first reader old mid new honest out_mid T (Err e) stretch (subst (λ (h : Bool). EndsBy meaning s (course_from reader) (fed_bytes reader) mid new h out_mid e) same ends)
+-- it breaks off
+pub runs-broken : (meaning : Meaning) (s now : State) (first reader : Reader) (old mid new : Told) (honest honest_now : Bool) (out out_mid : Jobs) (T : Type 0) (e : SessionError)
+    → Stretch meaning s now (course_from first) (course_from reader) (fed_bytes first) (fed_bytes reader) old mid honest out out_mid
+    → honest_now ≡ honest → EndsBy meaning now (course_from reader) (fed_bytes reader) mid new honest_now out_mid e → RunsOn {T = T} meaning s first old new honest out (Err e)
+runs-broken meaning s now first reader old mid new honest honest_now out out_mid T e stretch same ends =
+    runs-ended meaning s now first reader old mid new honest out out_mid T (Err e) stretch (subst (λ (h : Bool). EndsBy meaning now (course_from reader) (fed_bytes reader) mid new h out_mid e) same ends)
+
+-- a first turn and the rest are a whole run
+pub run-whole : (meaning : Meaning) (config : ConfigData) (a b : State) (reader : Reader) (old mid new : Told) (honest honest_now : Bool) (out out_now : Jobs) (T : Type 0) (result : Result T SessionError)
+    → a ≡ fresh config → out ≡ maps.empty → Done meaning Start a b old mid out out_now → honest_now ≡ honest → RunsOn meaning b reader mid new honest_now out_now result
+    → IsRun meaning config reader old new honest result
+run-whole meaning config a b reader old mid new honest honest_now out out_now T result is none d same on =
+    let rest : RunsOn meaning b reader mid new honest out_now result = subst (λ (h : Bool). RunsOn meaning b reader mid new h out_now result) same on in
+    let start = stretch-start meaning config a b reader (fed_bytes reader) old mid honest out out_now is none d in
+    record {
+      last = rest.last;
+      to = course_from rest.reader_last;
+      used_last = fed_bytes rest.reader_last;
+      told_last = rest.told_last;
+      out_last = rest.out_last;
+      stretch = stretch-on _ _ _ _ _ _ _ _ _ _ _ _ _ _ _ _ _ _ start refl rest.stretch;
+      ends = rest.ends;
+    }

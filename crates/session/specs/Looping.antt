@@ -5,7 +5,7 @@ use Rattle.session_port.specs.Jobs.{Jobs}
 use Rattle.session_port.specs.Record.{took, after_order}
 use Rattle.session_model.specs.Machine.{step}
 use Rattle.desk.specs.Meaning.{Meaning}
-use Rattle.session_model.specs.Run.{Turn, Told, Steps, Stretch, EndsWell, EndsBy, begun, commands_of, fed_bytes, telling}
+use Rattle.session_model.specs.Run.{Turn, Told, Steps, Stretch, Ends, EndsWell, EndsBy, begun, commands_of, fed_bytes, telling}
 use Rattle.session_model.specs.State.{State}
 use Rattle.turn_parts.specs.Written.{AreRead}
 use Rattle.turn_parts.specs.declared.fault.Counter.TheVariants.{Bytes as BytesCounter}
@@ -63,6 +63,15 @@ Advances meaning before now reader reader_now old new honest out out_now (Ok Goi
 Advances meaning before now reader reader_now old new honest out out_now (Ok Stopped) = EndsWell (course_from reader) old new
 Advances meaning before now reader reader_now old new honest out out_now (Err e) =
     EndsBy meaning before (course_from reader) (fed_bytes reader) old new honest out e
+
+-- the rest of a run, from a state, a reader and jobs that are out: a stretch, and how it ended
+pub record RunsOn {T : Type 0} (meaning : Meaning) (before : State) (reader : Reader) (old new : Told) (honest : Bool) (out : Jobs) (result : Result T SessionError) : Type 0 where
+  pub last : State
+  pub reader_last : Reader
+  pub told_last : Told
+  pub out_last : Jobs
+  pub stretch : Stretch meaning before last (course_from reader) (course_from reader_last) (fed_bytes reader) (fed_bytes reader_last) old told_last honest out out_last
+  pub ends : Ends meaning last (course_from reader_last) (fed_bytes reader_last) told_last new honest out_last result
 
 -- why bytes could not be fed: there are more than can be counted, or memory ran out
 abbrev pub IsFeedError : ℕ → ℕ → SessionError → Type 0

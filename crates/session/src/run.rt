@@ -9,7 +9,9 @@ ghost use Rattle.desk.specs.Meaning.{meaning_of};
 ghost use Rattle.session_model.specs.Machine.{step};
 ghost use Rattle.turn_parts.specs.Meets.{Meets};
 ghost use Rattle.session_model.specs.Run.{IsRun, empty_reader, told_of, turn_error_of, fed_bytes};
-ghost use Rattle.session.specs.Looping.{Advances, AdvancesByEvent, TurnDone, IsFeedError};
+ghost use Rattle.session.specs.Looping.{Advances, AdvancesByEvent, RunsOn, TurnDone, IsFeedError};
+ghost use Rattle.session_model.specs.State.{fresh};
+ghost use Rattle.ra_config.specs.Config.{ConfigData};
 
 use crate::bringing::{Brought, brought_by};
 use crate::reading::{Coming, next_message};
@@ -201,7 +203,57 @@ fn advance<H: Host<A>, S: Sink, A: Analysis>(
     }
 }
 
-// Turns until `exit`, the end of the events or an error.
+// Turns until `exit`, the end of the events or an error, after the first one.
+fn run_on<H: Host<A>, S: Sink, A: Analysis>(
+    alloc: Global,
+    reader: &mut FrameReader,
+    state: &mut GlobalState,
+    host: &mut H,
+    sink: &mut S,
+    analysis: &A,
+) -> Result<(), SessionError>
+    requires host_fresh { H.spent host.old ≡ false }
+    requires sink_fresh { S.spent sink.old ≡ false }
+    requires handed { H.handed host.old ≡ state.old.desk.handed }
+    ensures run { RunsOn (meaning_of A.decodes A.answer) state.old reader.old (told_of (H.calls host.old) (S.turns sink.old)) (told_of (H.calls host.new) (S.turns sink.new)) (H.honest host.old) (H.out host.old) result }
+    ensures host_later { H.faults host.old ≤ H.faults host.new }
+    ensures host_fault { result ≡ Err SessionError.HostFault → Rose (H.faults host.old) (H.faults host.new) }
+    ensures sink_later { S.faults sink.old ≤ S.faults sink.new }
+    ensures write_fault { result ≡ Err SessionError.WriteFault → Rose (S.faults sink.old) (S.faults sink.new) }
+{
+    'inputs: loop {
+        match advance(alloc, reader, state, host, sink, analysis) {
+            Ok(Turned::Going) => {}
+            Ok(Turned::Stopped) => return Ok(()),
+            Err(error) => return Err(error),
+        }
+    }
+}
+
+// The first turn, and all others. The state is one before any turn.
+fn run_all<H: Host<A>, S: Sink, A: Analysis>(
+    alloc: Global,
+    reader: &mut FrameReader,
+    state: &mut GlobalState,
+    host: &mut H,
+    sink: &mut S,
+    analysis: &A,
+) -> Result<(), SessionError>
+    requires idle { H.out host.old ≡ map.empty }
+    requires host_fresh { H.spent host.old ≡ false }
+    requires sink_fresh { S.spent sink.old ≡ false }
+    requires handed { H.handed host.old ≡ state.old.desk.handed }
+    ensures run { (config : ConfigData) → state.old ≡ fresh config → IsRun (meaning_of A.decodes A.answer) config reader.old (told_of (H.calls host.old) (S.turns sink.old)) (told_of (H.calls host.new) (S.turns sink.new)) (H.honest host.old) result }
+    ensures host_fault { result ≡ Err SessionError.HostFault → Rose (H.faults host.old) (H.faults host.new) }
+    ensures write_fault { result ≡ Err SessionError.WriteFault → Rose (S.faults sink.old) (S.faults sink.new) }
+{
+    match run_turn(alloc, Input::Start, state, host, sink, analysis) {
+        Ok(()) => run_on(alloc, reader, state, host, sink, analysis),
+        Err(error) => Err(error),
+    }
+}
+
+// The same, over a state of its own.
 fn run_from<H: Host<A>, S: Sink, A: Analysis>(
     alloc: Global,
     config: Config,
@@ -219,17 +271,10 @@ fn run_from<H: Host<A>, S: Sink, A: Analysis>(
     ensures write_fault { result ≡ Err SessionError.WriteFault → Rose (S.faults sink.old) (S.faults sink.new) }
 {
     let mut state = GlobalState::new(alloc, config)?;
-    match run_turn(alloc, Input::Start, &mut state, host, sink, analysis) {
-        Ok(()) => {}
-        Err(error) => return Err(error),
-    }
-    'inputs: loop {
-        match advance(alloc, &mut reader, &mut state, host, sink, analysis) {
-            Ok(Turned::Going) => {}
-            Ok(Turned::Stopped) => return Ok(()),
-            Err(error) => return Err(error),
-        }
-    }
+    let end = run_all(alloc, &mut reader, &mut state, host, sink, analysis);
+    // Dropped by a call, a state is not spelled out here: that is what the proof of this function would cost.
+    drop(state);
+    end
 }
 
 /// A whole run, after bytes that a reader holds: turns until `exit`, the end of the events or an error. Messages

@@ -1,18 +1,15 @@
 use Rattle.std.proofs.Common.{◌≤◌, ◌≡◌, false}
-use Rattle.std.specs.FinMap as map
-use Rattle.session_model.specs.Course.{session_course}
 use Rattle.desk.specs.Meaning.{meaning_of}
 use Rattle.session_model.specs.Run.{Stretch, told_of, fed_bytes}
-use Rattle.session_model.specs.State.{fresh}
 use Rattle.session.specs.Looping.{left_of}
 use Rattle.session.specs.Reading.{course_from}
-use Rattle.session.proofs.run.run_from.Given as goal
+use Rattle.session.proofs.run.run_on.Given as goal
 
 abbrev pub invariant-inputs : goal.invariant-inputs
 invariant-inputs g l = record {
-  so_far : Stretch (meaning_of g.A.Analysis.decodes g.A.Analysis.answer) (fresh l.fn.config) l.state (session_course l.fn.reader.place l.fn.reader.held) (course_from l.reader) (fed_bytes l.fn.reader) (fed_bytes l.reader)
+  so_far : Stretch (meaning_of g.A.Analysis.decodes g.A.Analysis.answer) l.fn.state l.state (course_from l.fn.reader) (course_from l.reader) (fed_bytes l.fn.reader) (fed_bytes l.reader)
       (told_of (g.H.Host.calls l.fn.host) (g.S.Sink.turns l.fn.sink)) (told_of (g.H.Host.calls l.host) (g.S.Sink.turns l.sink))
-      (g.H.Host.honest l.fn.host) map.empty (g.H.Host.out l.host);
+      (g.H.Host.honest l.fn.host) (g.H.Host.out l.fn.host) (g.H.Host.out l.host);
   host_fresh : g.H.Host.spent l.host ≡ false;
   sink_fresh : g.S.Sink.spent l.sink ≡ false;
   handed : g.H.Host.handed l.host ≡ l.state.desk.handed;
