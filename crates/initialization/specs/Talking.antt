@@ -19,6 +19,8 @@ use Rattle.initialization.specs.Opening.{LeftBy, taking, telling}
 use Rattle.initialization.specs.declared.negotiation.Answer.{Answer}
 use Rattle.initialization.specs.declared.negotiation.Answer.TheVariants.{Nothing, Reply, Begins, Leaves}
 use Rattle.initialization.specs.declared.negotiation.Negotiation.{Negotiation}
+use Rattle.initialization.specs.declared.opening.Opening.{Opening}
+use Rattle.initialization.specs.declared.opening.Opening.TheVariants.{Begun, Left}
 use Rattle.initialization.specs.declared.opening.Talk.{Talk}
 use Rattle.initialization.specs.declared.opening.Turned.{Turned}
 use Rattle.initialization.specs.declared.opening.Turned.TheVariants.{Going, Started, Gone}
@@ -151,3 +153,9 @@ IsWriteError NoMemory = Unit {0}
 -- before any message
 abbrev pub first_talk : Talk
 first_talk = record { reader = empty_reader; negotiation = record { handshake = false; config = None }; events = 0 }
+
+-- how the handshake ends, by what a reader holds and the settings that came of the messages, if any came
+abbrev pub opening_of : Reader → Result (Option ConfigData) SessionError → Result Opening SessionError
+opening_of reader (Ok (Some config)) = Ok (Begun config reader)
+opening_of reader (Ok None) = Ok Left
+opening_of reader (Err error) = Err error

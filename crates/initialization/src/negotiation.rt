@@ -12,6 +12,7 @@ use lsp_frame::{Message, RequestId, Response};
 use plain::{Json, NoMemory};
 use ra_config::{Config, ConfigFault};
 use std::alloc::Global;
+use std::mem;
 
 /// What the handshake waits for: `initialize`, or `initialized` where there are settings.
 #[derive(Drop)]
@@ -57,13 +58,14 @@ impl Negotiation {
         ensures writable { IfOk result (λ response. AreWritable (ResponseMessage response)) }
     {
         match Config::from_initialize(alloc, params, threads)? {
+            // What is replaced is dropped by a call: spelled out here, settings are what the proof would cost.
             Ok(config) => {
-                let response = welcome(alloc, id, &config)?;
-                self.config = Some(config);
-                Ok(response)
+                let response = welcome(alloc, id, &config);
+                drop(self.config.replace(config));
+                response
             }
             Err(ConfigFault::NoRoot) => {
-                *self = Negotiation::new(alloc);
+                drop(mem::replace(self, Negotiation::new(alloc)));
                 no_workspace(alloc, id)
             }
         }

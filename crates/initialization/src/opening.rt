@@ -8,7 +8,7 @@ ghost use Rattle.lsp_frame.specs.declared.message.Message.TheVariants.{Response 
 ghost use Rattle.session_port.specs.Record.{Rose, after_ok, added};
 ghost use Rattle.session_model.specs.Run.{fed_bytes, told_of};
 ghost use Rattle.initialization.specs.Opening.{Opens, bytes_of};
-ghost use Rattle.initialization.specs.Talking.{Advances, AdvancesByEvent, IsInStep, IsWriteError, first_talk};
+ghost use Rattle.initialization.specs.Talking.{Advances, AdvancesByEvent, IsInStep, IsWriteError, first_talk, opening_of};
 
 use crate::negotiation::{Answer, Negotiation};
 use crate::reading::{Coming, feed, next_message};
@@ -156,6 +156,39 @@ fn advance<H: Host<A>, S: Sink, A: Analysis>(
     }
 }
 
+// Messages until `initialized`, whose settings come of it, or `exit`, of which nothing comes.
+fn talk_on<H: Host<A>, S: Sink, A: Analysis>(
+    alloc: Global,
+    threads: u32,
+    talk: &mut Talk,
+    host: &mut H,
+    sink: &mut S,
+) -> Result<Option<Config>, SessionError>
+    requires first { talk.old ≡ first_talk }
+    requires idle { H.out host.old ≡ map.empty }
+    requires host_fresh { H.spent host.old ≡ false }
+    requires sink_fresh { S.spent sink.old ≡ false }
+    ensures opens { Opens threads (told_of (H.calls host.old) (S.turns sink.old)) (told_of (H.calls host.new) (S.turns sink.new)) (opening_of talk.new.reader result) }
+    ensures idle { OnOk result (H.out host.new ≡ map.empty) }
+    ensures handed { H.handed host.new ≡ H.handed host.old }
+    ensures honest_stays { H.honest host.new ≡ H.honest host.old }
+    ensures host_fresh { OnOk result (H.spent host.new ≡ false) }
+    ensures sink_fresh { OnOk result (S.spent sink.new ≡ false) }
+    ensures host_later { H.faults host.old ≤ H.faults host.new }
+    ensures host_fault { result ≡ Err SessionError.HostFault → Rose (H.faults host.old) (H.faults host.new) }
+    ensures sink_later { S.faults sink.old ≤ S.faults sink.new }
+    ensures write_fault { result ≡ Err SessionError.WriteFault → Rose (S.faults sink.old) (S.faults sink.new) }
+{
+    'messages: loop {
+        match advance(alloc, threads, talk, host, sink) {
+            Ok(Turned::Going) => {}
+            Ok(Turned::Started(config)) => return Ok(Some(config)),
+            Ok(Turned::Gone) => return Ok(None),
+            Err(error) => return Err(error),
+        }
+    }
+}
+
 /// The handshake with a client: from the first message to `initialized` or `exit`, with so many threads in the
 /// settings. Each reply is one turn of the sink, and nothing is ordered at the host.
 pub fn initialize<H: Host<A>, S: Sink, A: Analysis>(
@@ -185,17 +218,17 @@ pub fn initialize<H: Host<A>, S: Sink, A: Analysis>(
     ensures write_fault { result ≡ Err SessionError.WriteFault → Rose (S.faults sink.old) (S.faults sink.new) }
 {
     let mut talk = Talk::new(alloc);
-    'messages: loop {
-        match advance(alloc, threads, &mut talk, host, sink) {
-            Ok(Turned::Going) => {}
-            Ok(Turned::Started(config)) => {
-                return Ok(Opening::Begun {
-                    config,
-                    reader: talk.reader,
-                });
-            }
-            Ok(Turned::Gone) => return Ok(Opening::Left),
-            Err(error) => return Err(error),
-        }
+    let ended = talk_on(alloc, threads, &mut talk, host, sink);
+    let Talk {
+        reader,
+        negotiation,
+        ..
+    } = talk;
+    // Dropped by a call, settings are not spelled out here: that is what the proof of this function would cost.
+    drop(negotiation);
+    match ended {
+        Ok(Some(config)) => Ok(Opening::Begun { config, reader }),
+        Ok(None) => Ok(Opening::Left),
+        Err(error) => Err(error),
     }
 }

@@ -4,6 +4,7 @@ use crate::words::{
     cut, event_of, fault, fetch_text, graph_text, is_fault, root_text, settings_text, shown_text,
     source_root_text, words,
 };
+use analysis_host::GlobalStateSnapshot;
 use docs_vfs::VfsPath;
 use plain::{Json, Text};
 use ra_config::Config;
@@ -48,26 +49,24 @@ fn turn(alloc: Global, state: &mut GlobalState, event: Event) -> Option<String> 
     }
 }
 
-fn settings_of(alloc: Global, state: &GlobalState) -> Option<String> {
+/// What a snapshot shows.
+fn text_of(alloc: Global, snapshot: &GlobalStateSnapshot, asked: &str) -> Option<String> {
+    match asked {
+        "settings" => settings_text(alloc, snapshot.config()),
+        "at first" => root_text(alloc, snapshot.config(), 0),
+        "at second" => root_text(alloc, snapshot.config(), 1),
+        "root" => source_root_text(alloc, snapshot),
+        "shown" => shown_text(alloc, snapshot),
+        _ => graph_text(alloc, snapshot),
+    }
+}
+
+/// What a snapshot of the present shows.
+fn present(alloc: Global, state: &GlobalState, asked: &str) -> Option<String> {
     let snapshot = state.snapshot().ok()?;
-    settings_text(alloc, snapshot.config())
-}
-
-fn settings_at(alloc: Global, state: &GlobalState, root: u32) -> Option<String> {
-    let snapshot = state.snapshot().ok()?;
-    root_text(alloc, snapshot.config(), root)
-}
-
-fn source_root(alloc: Global, state: &GlobalState) -> Option<String> {
-    source_root_text(alloc, &state.snapshot().ok()?)
-}
-
-fn shown(alloc: Global, state: &GlobalState) -> Option<String> {
-    shown_text(alloc, &state.snapshot().ok()?)
-}
-
-fn graph(alloc: Global, state: &GlobalState) -> Option<String> {
-    graph_text(alloc, &state.snapshot().ok()?)
+    let text = text_of(alloc, &snapshot, asked);
+    drop(snapshot);
+    text
 }
 
 fn dequeue_fetch(state: &mut GlobalState) -> Option<(Text, FetchRequest)> {
@@ -93,12 +92,9 @@ fn start(alloc: Global, state: &mut GlobalState) -> Option<String> {
 /// that are shown, for the fetch that waits in the queue, and for turn 0.
 fn outcome(alloc: Global, state: &mut GlobalState, event: &str) -> Option<String> {
     match event {
-        "settings" => settings_of(alloc, state),
-        "at first" => settings_at(alloc, state, 0),
-        "at second" => settings_at(alloc, state, 1),
-        "root" => source_root(alloc, state),
-        "shown" => shown(alloc, state),
-        "graph" => graph(alloc, state),
+        "settings" | "at first" | "at second" | "root" | "shown" | "graph" => {
+            present(alloc, state, event)
+        }
         "cause" => cause(alloc, state),
         "start" => start(alloc, state),
         _ => turn(alloc, state, event_of(alloc, event)?),
@@ -117,9 +113,12 @@ fn last_of(alloc: Global, state: &mut GlobalState, events: &str) -> Option<Strin
     Some(last)
 }
 
-/// The one function that owns a session.
+/// The one function that owns a session. Dropped by a call, a session is not spelled out here: that is what the proof of
+/// this function would cost.
 fn last_in(alloc: Global, mut state: GlobalState, events: &str) -> Option<String> {
-    last_of(alloc, &mut state, events)
+    let last = last_of(alloc, &mut state, events);
+    drop(state);
+    last
 }
 
 /// What a new session does at the last of some events.

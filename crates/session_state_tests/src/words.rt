@@ -162,26 +162,36 @@ fn workspaces_at(alloc: Global, manifests: &str) -> Option<Items<ProjectWorkspac
     workspaces_of(alloc, projects.as_slice()).ok()
 }
 
-/// The same, each with a compiler of this version, if one is named.
-fn fetched_at(
+/// Gives each the compiler of this version, if one is named.
+fn set_toolchain(
     alloc: Global,
-    manifests: &str,
+    workspaces: &mut [ProjectWorkspace],
     toolchain: &str,
-) -> Option<Items<Result<ProjectWorkspace, Text>>> {
-    let mut fetched = Items::new(alloc);
-    for mut workspace in workspaces_at(alloc, manifests)?.into_vec() {
+) -> Option<()> {
+    for workspace in workspaces {
         if !toolchain.is_empty() {
             workspace.toolchain = Some(text_of(alloc, toolchain)?);
         }
+    }
+    Some(())
+}
+
+/// A job brings these workspaces.
+fn bring(alloc: Global, job: u64, workspaces: Vec<ProjectWorkspace>) -> Option<Event> {
+    let mut fetched = Items::new(alloc);
+    for workspace in workspaces {
         fetched.push(Ok(workspace)).ok()?;
     }
-    Some(fetched)
+    ended(alloc, job, JobResult::Value(JobValue::Workspaces(fetched)))
 }
 
 fn brought(alloc: Global, job: u64, words: &str) -> Option<Event> {
     let (manifests, toolchain) = cut(words, " ");
-    let found = fetched_at(alloc, manifests, toolchain)?;
-    ended(alloc, job, JobResult::Value(JobValue::Workspaces(found)))
+    let mut workspaces = workspaces_at(alloc, manifests)?.into_vec();
+    match set_toolchain(alloc, &mut workspaces, toolchain) {
+        Some(()) => bring(alloc, job, workspaces),
+        None => None,
+    }
 }
 
 /// The workspace `/w`, which is described as JSON.
@@ -230,15 +240,22 @@ fn crate_at(alloc: Global, root: &str) -> Option<CrateEntry> {
     })
 }
 
+/// Gives each the crate of this root file.
+fn push_crates(alloc: Global, workspaces: &mut [ProjectWorkspace], root: &str) -> Option<()> {
+    for workspace in workspaces {
+        workspace.crates.push(crate_at(alloc, root)?).ok()?;
+    }
+    Some(())
+}
+
 /// `MANIFEST ROOT`: the workspace of a manifest, with the crate of this root file.
 fn with_crate(alloc: Global, job: u64, words: &str) -> Option<Event> {
     let (manifest, root) = cut(words, " ");
-    let mut fetched = Items::new(alloc);
-    for mut workspace in workspaces_at(alloc, manifest)?.into_vec() {
-        workspace.crates.push(crate_at(alloc, root)?).ok()?;
-        fetched.push(Ok(workspace)).ok()?;
+    let mut workspaces = workspaces_at(alloc, manifest)?.into_vec();
+    match push_crates(alloc, &mut workspaces, root) {
+        Some(()) => bring(alloc, job, workspaces),
+        None => None,
     }
-    ended(alloc, job, JobResult::Value(JobValue::Workspaces(fetched)))
 }
 
 /// The files with these numbers, of which a comma stands between two.

@@ -3,15 +3,15 @@ use Rattle.session_model.specs.Run.{told_of}
 use Rattle.initialization.specs.Talking.{first_talk}
 use Rattle.initialization.proofs.Openings.{opens-begun, opens-left, opens-broken}
 use Rattle.initialization.proofs.Stretches.{stretch-none, stretch-on}
-use Rattle.initialization.proofs.opening.initialize.Goals as goal
+use Rattle.initialization.proofs.opening.talk_on.Goals as goal
 
 pub messages-init : goal.messages-init
 messages-init g c =
     let told = told_of (g.H.Host.calls c.args.host.now) (g.S.Sink.turns c.args.sink.now) in
     record {
-      so_far = rw c.new-talk.ensures (stretch-none c.args.threads first_talk told);
-      in_step = rw c.new-talk.ensures refl;
-      fits = rw c.new-talk.ensures (omega arith);
+      so_far = rw c.requires.first (stretch-none c.args.threads first_talk told);
+      in_step = rw c.requires.first refl;
+      fits = rw c.requires.first (omega arith);
       idle = c.requires.idle;
       host_fresh = c.requires.host_fresh;
       sink_fresh = c.requires.sink_fresh;
