@@ -1,15 +1,15 @@
 // One document changed among many, and worlds that are kept.
-use crate::made::{FOLDERS, file, scattered, text};
+use crate::made::{FOLDERS, file, scattered};
 use crate::report::Report;
 use analysis_host::{AnalysisHost, Change, FileChange, SharedText, TextEntry, World};
 use docs_vfs::VfsPath;
-use plain::Items;
+use plain::{Items, Text};
 use std::alloc::Global;
 use text_core::LineEndings;
 
 /// The change of one document.
 fn change_of(alloc: Global, path: VfsPath) -> Option<Change> {
-    let text = SharedText::new(alloc, text(alloc, "fn a() {}\n")).ok()?;
+    let text = SharedText::new(alloc, Text::from_str(alloc, "fn a() {}\n").ok()?).ok()?;
     let endings = LineEndings::Unix;
     let entry = Some(TextEntry { text, endings });
     let mut files = Items::new(alloc);
