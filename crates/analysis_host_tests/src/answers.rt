@@ -1,6 +1,6 @@
 // What a snapshot answers. `/w/a.rs` has number 0 and the text `mod b;`, `/w/x.rs` 1, and is excluded, `/w/t.rs` 2, without a
 // text, and `/r.rs` 3. The first three have version 3.
-use crate::questions::{agrees, agrees_by_endings, agrees_copied};
+use crate::questions::check_answers;
 
 /// The numbers of paths.
 const PATHS: &str = "path /w/a.rs > 0
@@ -47,9 +47,7 @@ beside b\0 > none";
 #[test]
 fn files_and_their_numbers(rt: HostRuntime) {
     for table in [PATHS, URLS, FILES, VERSIONS, NAMES, BESIDE] {
-        for line in table.lines() {
-            assert!(rt; agrees(rt.alloc(), line) == Some(true), "at {line}");
-        }
+        check_answers(&rt, rt.alloc(), "plain", table);
     }
 }
 
@@ -89,28 +87,24 @@ lens x 3 0 0 > none";
 #[test]
 fn places_and_lenses(rt: HostRuntime) {
     for table in [PLACES, RANGES, LENSES] {
-        for line in table.lines() {
-            assert!(rt; agrees(rt.alloc(), line) == Some(true), "at {line}");
-        }
+        check_answers(&rt, rt.alloc(), "plain", table);
     }
 }
 
-/// The number of lines, their endings, and what a column counts.
-const ENDINGS: &str = "Unix lines 0 > 2 Unix units
-Unix lines 2 > none
-Unix lines 7 > none
-Dos lines 0 > 2 Dos units
-Dos lines 2 > none
-Dos lines 7 > none";
+/// The number of lines, their endings, and what a column counts, where lines ended by a line feed.
+const UNIX: &str = "lines 0 > 2 Unix units
+lines 2 > none
+lines 7 > none";
+
+/// The same where they ended by two characters.
+const DOS: &str = "lines 0 > 2 Dos units
+lines 2 > none
+lines 7 > none";
 
 #[test]
 fn line_endings(rt: HostRuntime) {
-    for line in ENDINGS.lines() {
-        assert!(rt;
-            agrees_by_endings(rt.alloc(), line) == Some(true),
-            "at {line}"
-        );
-    }
+    check_answers(&rt, rt.alloc(), "Unix", UNIX);
+    check_answers(&rt, rt.alloc(), "Dos", DOS);
 }
 
 /// The label and the root of the project of a target, the first dependency of a package, and the number of workspaces with
@@ -123,9 +117,7 @@ project > 1 5 loaded";
 
 #[test]
 fn workspaces_of_a_snapshot(rt: HostRuntime) {
-    for line in PROJECTS.lines() {
-        assert!(rt; agrees(rt.alloc(), line) == Some(true), "at {line}");
-    }
+    check_answers(&rt, rt.alloc(), "plain", PROJECTS);
 }
 
 /// The text and the version of the file, the threads, and the revision; then as above.
@@ -134,7 +126,5 @@ project > 1 5 loaded";
 
 #[test]
 fn copied_snapshot(rt: HostRuntime) {
-    for line in COPIED.lines() {
-        assert!(rt; agrees_copied(rt.alloc(), line) == Some(true), "at {line}");
-    }
+    check_answers(&rt, rt.alloc(), "copied", COPIED);
 }

@@ -1,43 +1,28 @@
 // What a snapshot keeps of a file beside its text, in words.
-use crate::words::{number, text_of};
+use crate::words::{add, add_number};
 use analysis_host::GlobalStateSnapshot;
 use docs_vfs::FileId;
 use std::alloc::Global;
 use text_core::{LineEndings, LineIndex, PositionEncoding};
 
-fn line_index(snapshot: &GlobalStateSnapshot, file: FileId) -> Option<Option<LineIndex>> {
-    snapshot.file_line_index(file).ok()
-}
-
-fn endings_name(endings: LineEndings) -> &'static str {
-    match endings {
-        LineEndings::Unix => "Unix",
-        LineEndings::Dos => "Dos",
+/// Adds the lines, the line endings and what a column counts.
+fn add_index(alloc: Global, text: &mut String, found: &LineIndex) {
+    add_number(alloc, text, found.index.lines());
+    match found.endings {
+        LineEndings::Unix => add(text, " Unix"),
+        LineEndings::Dos => add(text, " Dos"),
+    }
+    match found.encoding {
+        PositionEncoding::Utf8 => add(text, " bytes"),
+        PositionEncoding::Wide(_) => add(text, " units"),
     }
 }
 
-fn encoding_name(encoding: PositionEncoding) -> &'static str {
-    match encoding {
-        PositionEncoding::Utf8 => "bytes",
-        PositionEncoding::Wide(_) => "units",
+/// Adds the lines, the line endings and what a column counts of a file, or that it has no text.
+pub fn add_lines(alloc: Global, text: &mut String, snapshot: &GlobalStateSnapshot, file: FileId) {
+    match snapshot.file_line_index(file) {
+        Ok(Some(found)) => add_index(alloc, text, &found),
+        Ok(None) => add(text, "none"),
+        Err(_) => add(text, "no memory"),
     }
-}
-
-fn index_told(alloc: Global, found: &LineIndex) -> Option<String> {
-    let lines = found.index.lines();
-    let (endings, encoding) = (endings_name(found.endings), encoding_name(found.encoding));
-    format!(in alloc; "{lines} {endings} {encoding}").ok()
-}
-
-/// The lines, the line endings and what a column counts, or that there is no text.
-fn told(alloc: Global, found: Option<LineIndex>) -> Option<String> {
-    match &found {
-        Some(found) => index_told(alloc, found),
-        None => text_of(alloc, "none"),
-    }
-}
-
-/// The lines, the line endings and what a column counts of a file, by its number.
-pub fn lines_of(alloc: Global, snapshot: &GlobalStateSnapshot, word: &str) -> Option<String> {
-    told(alloc, line_index(snapshot, FileId(number(word)?))?)
 }

@@ -1,144 +1,117 @@
 // Files of a snapshot by their numbers, in words.
 use crate::files::path_at;
-use crate::words::{fault_told, number, text_of};
-use analysis_host::{GlobalStateSnapshot, ProtoFault};
-use docs_vfs::{FileId, VfsPath};
-use plain::Text;
+use crate::words::{add, add_number, add_numbers, found_in};
+use analysis_host::GlobalStateSnapshot;
+use docs_vfs::FileId;
+use plain::{NoMemory, Text};
 use std::alloc::Global;
 
-/// A number or none in words, or why there is none.
-fn number_told(alloc: Global, found: Result<Option<FileId>, ProtoFault>) -> Option<String> {
-    match found {
-        Ok(Some(file)) => format!(in alloc; "{}", file.0).ok(),
-        Ok(None) => text_of(alloc, "excluded"),
-        Err(fault) => fault_told(alloc, fault),
-    }
-}
-
-fn by_path(snapshot: &GlobalStateSnapshot, path: &VfsPath) -> Result<Option<FileId>, ProtoFault> {
-    snapshot.vfs_path_to_file_id(path)
-}
-
-fn by_url(
+/// Adds the number of a path.
+pub fn add_number_of_path(
     alloc: Global,
+    text: &mut String,
     snapshot: &GlobalStateSnapshot,
-    url: &str,
-) -> Result<Option<FileId>, ProtoFault> {
-    snapshot.url_to_file_id(alloc, url)
-}
-
-/// The number of a path.
-pub fn number_of_path(alloc: Global, snapshot: &GlobalStateSnapshot, path: &str) -> Option<String> {
-    let path = path_at(alloc, path)?;
-    number_told(alloc, by_path(snapshot, &path))
-}
-
-/// The number of a URL.
-pub fn number_of_url(alloc: Global, snapshot: &GlobalStateSnapshot, url: &str) -> Option<String> {
-    number_told(alloc, by_url(alloc, snapshot, url))
-}
-
-fn exists_name(snapshot: &GlobalStateSnapshot, file: FileId) -> &'static str {
-    if snapshot.file_exists(file) {
-        "true"
-    } else {
-        "false"
-    }
-}
-
-fn text_in<'a>(snapshot: &'a GlobalStateSnapshot, file: FileId) -> &'a str {
-    match snapshot.file_text(file) {
-        Some(text) => text,
-        None => "none",
-    }
-}
-
-fn version_in(snapshot: &GlobalStateSnapshot, file: FileId) -> Option<i32> {
-    snapshot.file_version(file)
-}
-
-fn version_told(alloc: Global, version: Option<i32>) -> Option<String> {
-    match version {
-        Some(version) => format!(in alloc; "{version}").ok(),
-        None => text_of(alloc, "none"),
-    }
-}
-
-fn held(alloc: Global, snapshot: &GlobalStateSnapshot, file: FileId) -> Option<String> {
-    let version = version_told(alloc, version_in(snapshot, file))?;
-    let (found, text) = (exists_name(snapshot, file), text_in(snapshot, file));
-    format!(in alloc; "{found} {text} {}", version.as_str()).ok()
-}
-
-/// Whether it is a number of a file that isn't excluded, and the file's text and version.
-pub fn file_of_number(alloc: Global, snapshot: &GlobalStateSnapshot, word: &str) -> Option<String> {
-    held(alloc, snapshot, FileId(number(word)?))
-}
-
-fn threads_of(snapshot: &GlobalStateSnapshot) -> u32 {
-    snapshot.config().num_threads()
-}
-
-fn revision_of(snapshot: &GlobalStateSnapshot) -> u64 {
-    snapshot.revision()
-}
-
-fn parts_told(alloc: Global, snapshot: &GlobalStateSnapshot, file: FileId) -> Option<String> {
-    let version = version_told(alloc, version_in(snapshot, file))?;
-    let (threads, revision) = (threads_of(snapshot), revision_of(snapshot));
-    let text = text_in(snapshot, file);
-    format!(in alloc; "{text} {} {threads} {revision}", version.as_str()).ok()
-}
-
-/// A file's text and version by its number, the threads of the settings, and the revision.
-pub fn parts_of(alloc: Global, snapshot: &GlobalStateSnapshot, word: &str) -> Option<String> {
-    parts_told(alloc, snapshot, FileId(number(word)?))
-}
-
-fn version_by_url(alloc: Global, snapshot: &GlobalStateSnapshot, url: &str) -> Option<Option<i32>> {
-    snapshot.url_file_version(alloc, url).ok()
-}
-
-/// The version of the document that a URL names.
-pub fn version_of_url(alloc: Global, snapshot: &GlobalStateSnapshot, url: &str) -> Option<String> {
-    version_told(alloc, version_by_url(alloc, snapshot, url)?)
-}
-
-fn names(alloc: Global, snapshot: &GlobalStateSnapshot, path: &VfsPath) -> Option<String> {
-    let Ok(Some(file)) = snapshot.vfs_path_to_file_id(path) else {
-        return None;
-    };
-    let url = snapshot.file_id_to_url(alloc, file).ok()?;
-    let path = snapshot.file_id_to_file_path(file);
-    format!(in alloc; "{} {}", path.as_str(), url.as_str()).ok()
-}
-
-/// The path and the URL of the file that a path names.
-pub fn names_of_path(alloc: Global, snapshot: &GlobalStateSnapshot, path: &str) -> Option<String> {
-    let path = path_at(alloc, path)?;
-    names(alloc, snapshot, &path)
-}
-
-fn beside(
-    alloc: Global,
-    snapshot: &GlobalStateSnapshot,
-    url: &str,
     path: &str,
-) -> Option<Option<Text>> {
-    let Ok(Some(anchor)) = snapshot.url_to_file_id(alloc, url) else {
-        return None;
+) {
+    let Some(path) = path_at(alloc, path) else {
+        return;
     };
-    snapshot.anchored_path(alloc, anchor, path).ok()
-}
-
-fn url_told(alloc: Global, url: Option<Text>) -> Option<String> {
-    match url {
-        Some(url) => Some(url.into_string()),
-        None => text_of(alloc, "none"),
+    if let Some(file) = found_in(text, snapshot.vfs_path_to_file_id(&path), "excluded") {
+        add_numbers(alloc, text, &[file.0]);
     }
 }
 
-/// The URL of the path beside `/w/a.rs`.
-pub fn url_beside(alloc: Global, snapshot: &GlobalStateSnapshot, path: &str) -> Option<String> {
-    url_told(alloc, beside(alloc, snapshot, "file:///w/a.rs", path)?)
+/// Adds the number of a URL.
+pub fn add_number_of_url(
+    alloc: Global,
+    text: &mut String,
+    snapshot: &GlobalStateSnapshot,
+    url: &str,
+) {
+    if let Some(file) = found_in(text, snapshot.url_to_file_id(alloc, url), "excluded") {
+        add_numbers(alloc, text, &[file.0]);
+    }
+}
+
+fn add_version(alloc: Global, text: &mut String, version: Option<i32>) {
+    match version {
+        Some(version) => {
+            if let Ok(digits) = format!(in alloc; "{version}") {
+                add(text, digits.as_str());
+            }
+        }
+        None => add(text, "none"),
+    }
+}
+
+/// Adds a file's text and version.
+fn add_contents(alloc: Global, text: &mut String, snapshot: &GlobalStateSnapshot, file: FileId) {
+    add(text, snapshot.file_text(file).unwrap_or("none"));
+    add(text, " ");
+    add_version(alloc, text, snapshot.file_version(file));
+}
+
+/// Adds whether it is a number of a file that isn't excluded, and the file's text and version.
+pub fn add_file(alloc: Global, text: &mut String, snapshot: &GlobalStateSnapshot, file: FileId) {
+    if snapshot.file_exists(file) {
+        add(text, "true ");
+    } else {
+        add(text, "false ");
+    }
+    add_contents(alloc, text, snapshot, file);
+}
+
+/// Adds a file's text and version, the threads of the settings, and the revision.
+pub fn add_parts(alloc: Global, text: &mut String, snapshot: &GlobalStateSnapshot, file: FileId) {
+    add_contents(alloc, text, snapshot, file);
+    add(text, " ");
+    add_number(alloc, text, u64::from(snapshot.config().num_threads()));
+    add(text, " ");
+    add_number(alloc, text, snapshot.revision());
+}
+
+/// Adds the version of the document that a URL names.
+pub fn add_version_of_url(
+    alloc: Global,
+    text: &mut String,
+    snapshot: &GlobalStateSnapshot,
+    url: &str,
+) {
+    if let Ok(version) = snapshot.url_file_version(alloc, url) {
+        add_version(alloc, text, version);
+    }
+}
+
+fn add_url(text: &mut String, url: Result<Text, NoMemory>) {
+    if let Ok(url) = url {
+        add(text, url.as_str());
+    }
+}
+
+/// Adds the path and the URL of the file that a path names.
+pub fn add_names(alloc: Global, text: &mut String, snapshot: &GlobalStateSnapshot, path: &str) {
+    let Some(path) = path_at(alloc, path) else {
+        return;
+    };
+    let Ok(Some(file)) = snapshot.vfs_path_to_file_id(&path) else {
+        return;
+    };
+    add(text, snapshot.file_id_to_file_path(file).as_str());
+    add(text, " ");
+    add_url(text, snapshot.file_id_to_url(alloc, file));
+}
+
+fn add_url_beside(text: &mut String, url: Result<Option<Text>, NoMemory>) {
+    match url {
+        Ok(Some(url)) => add(text, url.as_str()),
+        Ok(None) => add(text, "none"),
+        Err(_) => add(text, "no memory"),
+    }
+}
+
+/// Adds the URL of the path beside `/w/a.rs`.
+pub fn add_beside(alloc: Global, text: &mut String, snapshot: &GlobalStateSnapshot, path: &str) {
+    if let Ok(Some(anchor)) = snapshot.url_to_file_id(alloc, "file:///w/a.rs") {
+        add_url_beside(text, snapshot.anchored_path(alloc, anchor, path));
+    }
 }

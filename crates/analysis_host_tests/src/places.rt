@@ -1,71 +1,32 @@
 // The places that positions and ranges of a client name, in words, and the kinds of code actions.
-use crate::words::{cut, fault_told, number, position, text_of};
-use analysis_host::{
-    AssistKind, FilePosition, FileRange, GlobalStateSnapshot, ProtoFault, assist_kind,
-    file_position, file_range,
-};
+use crate::words::{add_numbers, cut, found_in, number, position};
+use analysis_host::{AssistKind, GlobalStateSnapshot, assist_kind, file_position, file_range};
 use std::alloc::Global;
-use text_core::{Position, Range};
+use text_core::Range;
 
-fn position_in(
-    alloc: Global,
-    snapshot: &GlobalStateSnapshot,
-    url: &str,
-    position: Position,
-) -> Result<Option<FilePosition>, ProtoFault> {
-    file_position(alloc, snapshot, url, position)
-}
-
-/// A place in words, or why there is none.
-fn place_told(alloc: Global, place: Result<Option<FilePosition>, ProtoFault>) -> Option<String> {
-    match place {
-        Ok(Some(place)) => format!(in alloc; "{} {}", place.file.0, place.offset).ok(),
-        Ok(None) => text_of(alloc, "excluded"),
-        Err(fault) => fault_told(alloc, fault),
-    }
-}
-
-/// The byte of a position in a file, by the file's URL, the line and the column.
-pub fn place(alloc: Global, snapshot: &GlobalStateSnapshot, words: &str) -> Option<String> {
+/// Adds the byte of a position in a file, by the file's URL, the line and the column.
+pub fn add_place(alloc: Global, text: &mut String, snapshot: &GlobalStateSnapshot, words: &str) {
     let (url, rest) = cut(words, " ");
     let (line, character) = cut(rest, " ");
-    let position = position(number(line)?, number(character)?);
-    place_told(alloc, position_in(alloc, snapshot, url, position))
-}
-
-fn range_in(
-    alloc: Global,
-    snapshot: &GlobalStateSnapshot,
-    url: &str,
-    range: Range,
-) -> Result<Option<FileRange>, ProtoFault> {
-    file_range(alloc, snapshot, url, range)
-}
-
-/// Places in words, or why there are none.
-fn places_told(alloc: Global, places: Result<Option<FileRange>, ProtoFault>) -> Option<String> {
-    match places {
-        Ok(Some(places)) => {
-            format!(in alloc; "{} {} {}", places.file.0, places.start, places.end).ok()
-        }
-        Ok(None) => text_of(alloc, "excluded"),
-        Err(fault) => fault_told(alloc, fault),
+    let position = position(number(line), number(character));
+    let found = file_position(alloc, snapshot, url, position);
+    if let Some(place) = found_in(text, found, "excluded") {
+        add_numbers(alloc, text, &[place.file.0, place.offset]);
     }
 }
 
-/// The bytes of a range of the first line of a file, by the file's URL and two columns.
-pub fn places(alloc: Global, snapshot: &GlobalStateSnapshot, words: &str) -> Option<String> {
+/// Adds the bytes of a range of the first line of a file, by the file's URL and two columns.
+pub fn add_places(alloc: Global, text: &mut String, snapshot: &GlobalStateSnapshot, words: &str) {
     let (url, rest) = cut(words, " ");
     let (start, end) = cut(rest, " ");
     let range = Range {
-        start: position(0, number(start)?),
-        end: position(0, number(end)?),
+        start: position(0, number(start)),
+        end: position(0, number(end)),
     };
-    places_told(alloc, range_in(alloc, snapshot, url, range))
-}
-
-fn kind_of(kind: &str) -> Option<AssistKind> {
-    assist_kind(kind)
+    let found = file_range(alloc, snapshot, url, range);
+    if let Some(places) = found_in(text, found, "excluded") {
+        add_numbers(alloc, text, &[places.file.0, places.start, places.end]);
+    }
 }
 
 fn kind_name(kind: Option<AssistKind>) -> &'static str {
@@ -87,7 +48,7 @@ source > none";
 
 fn agrees(line: &str) -> bool {
     let (kind, want) = cut(line, " > ");
-    kind_name(kind_of(kind)) == want
+    kind_name(assist_kind(kind)) == want
 }
 
 #[test]

@@ -1,58 +1,52 @@
-// A workspace of one package, and what a snapshot tells of it.
+// A workspace of one package, and what a snapshot tells of it. Where memory runs out, there is less than a test wants.
 use crate::files::path_at;
-use crate::words::text_of;
+use crate::words::{add, add_number};
 use analysis_host::GlobalStateSnapshot;
 use docs_vfs::VfsPath;
-use plain::{Items, Text};
+use plain::{Items, NoMemory, Text};
 use project_model::{
     Package, PackageSpecifier, ProjectWorkspace, Target, TargetKind, TargetSpec, WorkspaceKind,
 };
 use std::alloc::Global;
 use std::sync::Arc;
 
-fn text(alloc: Global, words: &str) -> Option<Text> {
-    Text::from_str(alloc, words).ok()
+fn text_of(alloc: Global, words: &str) -> Text {
+    Text::from_str(alloc, words).unwrap_or(Text::new(alloc))
 }
 
 /// A list of one item.
-pub fn one<T: Drop>(alloc: Global, item: T) -> Option<Items<T>> {
+pub fn one<T: Drop>(alloc: Global, item: T) -> Items<T> {
     let mut list = Items::new(alloc);
-    list.push(item).ok()?;
-    Some(list)
+    let _ = list.push(item);
+    list
 }
 
-fn target(alloc: Global) -> Option<Target> {
-    let name = text(alloc, "a")?;
-    let root = path_at(alloc, "/w/a.rs")?;
-    Some(Target {
-        name,
+fn target(alloc: Global, root: VfsPath) -> Target {
+    Target {
+        name: text_of(alloc, "a"),
         kind: TargetKind::Lib,
         root,
         required_features: Items::new(alloc),
-    })
+    }
 }
 
-fn package(alloc: Global) -> Option<Package> {
-    let id = text(alloc, "p")?;
-    let manifest = path_at(alloc, "/w/BUCK")?;
-    let deps = one(alloc, text(alloc, "b")?)?;
-    let targets = one(alloc, target(alloc)?)?;
-    Some(Package {
-        id,
+fn package(alloc: Global, manifest: VfsPath, target: Target) -> Package {
+    Package {
+        id: text_of(alloc, "p"),
         manifest,
-        targets,
+        targets: one(alloc, target),
         features: Items::new(alloc),
-        member_deps: Some(deps),
-    })
+        member_deps: Some(one(alloc, text_of(alloc, "b"))),
+    }
 }
 
-fn workspace(alloc: Global, root: VfsPath, packages: Items<Package>) -> ProjectWorkspace {
+fn workspace(alloc: Global, root: VfsPath, package: Package) -> ProjectWorkspace {
     ProjectWorkspace {
         kind: WorkspaceKind::Json,
         manifest: None,
         root,
         roots: Items::new(alloc),
-        packages,
+        packages: one(alloc, package),
         crates: Items::new(alloc),
         build_files: Items::new(alloc),
         toolchain: None,
@@ -67,94 +61,78 @@ fn workspace(alloc: Global, root: VfsPath, packages: Items<Package>) -> ProjectW
 
 /// A workspace at `/w` that is described as JSON. Its package `p` has the target `/w/a.rs` and depends on `b`.
 pub fn workspaces(alloc: Global) -> Option<Arc<Items<ProjectWorkspace>, Global>> {
-    let root = path_at(alloc, "/w")?;
-    let packages = one(alloc, package(alloc)?)?;
-    let list = one(alloc, workspace(alloc, root, packages))?;
-    Arc::new(alloc, list).ok()
+    let (file, (manifest, root)) = path_at(alloc, "/w/a.rs").zip(path_at(alloc, "/w/BUCK").zip(
+        path_at(alloc, "/w"),
+    ))?;
+    let package = package(alloc, manifest, target(alloc, file));
+    Arc::new(alloc, one(alloc, workspace(alloc, root, package))).ok()
 }
 
-fn spec_in(
-    alloc: Global,
-    snapshot: &GlobalStateSnapshot,
-    root: &VfsPath,
-) -> Option<Option<TargetSpec>> {
-    snapshot.target_spec_for_file(alloc, root).ok()
-}
-
-fn spec_told(alloc: Global, spec: Option<TargetSpec>) -> Option<String> {
+fn add_target(text: &mut String, spec: &Result<Option<TargetSpec>, NoMemory>) {
     match spec {
-        Some(
-            TargetSpec::ProjectJson {
-                label,
-                project_root,
-                ..
-            },
-        ) => format!(in alloc; "{} {}", label.as_str(), project_root.as_str()).ok(),
-        Some(TargetSpec::Cargo { .. }) => text_of(alloc, "cargo"),
-        None => text_of(alloc, "none"),
+        Ok(
+            Some(
+                TargetSpec::ProjectJson {
+                    label,
+                    project_root,
+                    ..
+                },
+            ),
+        ) => {
+            add(text, label.as_str());
+            add(text, " ");
+            add(text, project_root.as_str());
+        }
+        Ok(Some(TargetSpec::Cargo { .. })) => add(text, "cargo"),
+        Ok(None) => add(text, "none"),
+        Err(_) => add(text, "no memory"),
     }
 }
 
-/// The label and the root of the project whose target has this root.
-pub fn spec_of_path(alloc: Global, snapshot: &GlobalStateSnapshot, path: &str) -> Option<String> {
-    let path = path_at(alloc, path)?;
-    spec_told(alloc, spec_in(alloc, snapshot, &path)?)
-}
-
-fn deps_in(
-    alloc: Global,
-    snapshot: &GlobalStateSnapshot,
-    package: &PackageSpecifier,
-) -> Option<Option<Items<PackageSpecifier>>> {
-    snapshot
-        .all_workspace_dependencies_for_package(alloc, package)
-        .ok()
-}
-
-fn first_told(alloc: Global, deps: &Items<PackageSpecifier>) -> Option<String> {
-    text_of(alloc, deps.get(0)?.id().as_str())
-}
-
-fn deps_told(alloc: Global, deps: Option<Items<PackageSpecifier>>) -> Option<String> {
-    match deps {
-        Some(deps) => first_told(alloc, &deps),
-        None => text_of(alloc, "none"),
+/// Adds the label and the root of the project whose target has this root.
+pub fn add_spec(alloc: Global, text: &mut String, snapshot: &GlobalStateSnapshot, path: &str) {
+    if let Some(path) = path_at(alloc, path) {
+        let spec = snapshot.target_spec_for_file(alloc, &path);
+        add_target(text, &spec);
+        drop(spec);
     }
 }
 
-/// The first dependency of the package with a label.
-pub fn dependency_of_label(
+/// Adds the first package of a list.
+fn add_first(text: &mut String, packages: &Result<Option<Items<PackageSpecifier>>, NoMemory>) {
+    match packages {
+        Ok(Some(packages)) => match packages.get(0) {
+            Some(first) => add(text, first.id().as_str()),
+            None => add(text, "no package"),
+        },
+        Ok(None) => add(text, "none"),
+        Err(_) => add(text, "no memory"),
+    }
+}
+
+/// Adds the first dependency of the package with a label.
+pub fn add_dependency(
     alloc: Global,
+    text: &mut String,
     snapshot: &GlobalStateSnapshot,
     label: &str,
-) -> Option<String> {
-    let label = text(alloc, label)?;
-    let package = PackageSpecifier::BuildInfo { label };
-    deps_told(alloc, deps_in(alloc, snapshot, &package)?)
+) {
+    let package = PackageSpecifier::BuildInfo {
+        label: text_of(alloc, label),
+    };
+    let packages = snapshot.all_workspace_dependencies_for_package(alloc, &package);
+    add_first(text, &packages);
+    drop(packages);
 }
 
-fn count_in(snapshot: &GlobalStateSnapshot) -> usize {
-    snapshot.workspaces().len()
-}
-
-fn version_in(snapshot: &GlobalStateSnapshot) -> u64 {
-    snapshot.workspaces_version()
-}
-
-fn loaded_name(snapshot: &GlobalStateSnapshot) -> &'static str {
+/// Adds the number of workspaces, their version, and whether proc macros are loaded.
+pub fn add_project(alloc: Global, text: &mut String, snapshot: &GlobalStateSnapshot) {
+    add_number(alloc, text, snapshot.workspaces().len() as u64);
+    add(text, " ");
+    add_number(alloc, text, snapshot.workspaces_version());
     if snapshot.proc_macros_loaded() {
-        "loaded"
+        add(text, " loaded");
     } else {
-        "not loaded"
+        add(text, " not loaded");
     }
-}
-
-/// The number of workspaces, their version, and whether proc macros are loaded.
-pub fn project(alloc: Global, snapshot: &GlobalStateSnapshot) -> Option<String> {
-    let (count, version, loaded) = (
-        count_in(snapshot),
-        version_in(snapshot),
-        loaded_name(snapshot),
-    );
-    format!(in alloc; "{count} {version} {loaded}").ok()
 }

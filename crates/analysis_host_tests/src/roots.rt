@@ -1,84 +1,51 @@
 // Roots and crates of hosts, and of snapshots that stay as they were.
-use crate::files::{apply, new_host, path_at, revision_of, world_now};
+use crate::files::{apply, path_at};
 use crate::projects::one;
 use crate::snapshots::snapshot_in;
-use crate::words::{cut, number};
+use crate::words::{add, add_number, cut};
 use analysis_host::{AnalysisHost, Change, GlobalStateSnapshot};
-use docs_vfs::{FileId, Root, SourceRoots, VfsPath};
+use docs_vfs::{FileId, Root, SourceRoots};
 use plain::Items;
 use project_model::{CrateData, CrateInfo};
 use std::alloc::Global;
 
-fn root_at(alloc: Global, path: &str) -> Option<Root> {
-    let include = one(alloc, path_at(alloc, path)?)?;
-    Some(Root {
-        include,
+/// One local root, or none where the word is no path, as `-`.
+fn roots_given(alloc: Global, word: &str) -> Option<SourceRoots> {
+    let path = path_at(alloc, word)?;
+    let root = Root {
+        include: one(alloc, path),
         exclude: Items::new(alloc),
         is_local: true,
-    })
+    };
+    SourceRoots::new(one(alloc, root)).ok()
 }
 
-fn roots_of(roots: Items<Root>) -> Option<SourceRoots> {
-    SourceRoots::new(roots).ok()
-}
-
-fn roots_at(alloc: Global, path: &str) -> Option<SourceRoots> {
-    roots_of(one(alloc, root_at(alloc, path)?)?)
-}
-
-fn crate_at(alloc: Global, root: FileId) -> CrateInfo {
-    CrateInfo {
+/// One crate by the number of its file, or none where the word is no number, as `-`.
+fn crates_given(alloc: Global, word: &str) -> Option<CrateData> {
+    let root = FileId(word.parse::<u32>().ok()?);
+    let info = CrateInfo {
         root,
         name: None,
         deps: Items::new(alloc),
         is_proc_macro: false,
-    }
-}
-
-fn crates_at(alloc: Global, root: FileId) -> Option<CrateData> {
-    let crates = one(alloc, crate_at(alloc, root))?;
+    };
     Some(CrateData {
-        crates,
+        crates: one(alloc, info),
         env: Items::new(alloc),
         macros: Items::new(alloc),
     })
 }
 
-/// One local root, or `-`.
-fn roots_given(alloc: Global, word: &str) -> Option<Option<SourceRoots>> {
-    if word == "-" {
-        Some(None)
-    } else {
-        Some(Some(roots_at(alloc, word)?))
-    }
-}
-
-/// One crate by the number of its file, or `-`.
-fn crates_given(alloc: Global, word: &str) -> Option<Option<CrateData>> {
-    if word == "-" {
-        Some(None)
-    } else {
-        Some(Some(crates_at(alloc, FileId(number(word)?))?))
-    }
-}
-
-/// A change by the root and the crate that are given.
-fn change_of(alloc: Global, words: &str) -> Option<Change> {
+/// Makes a change by the root and the crate that are given.
+fn do_change(alloc: Global, text: &mut String, host: &mut AnalysisHost, words: &str) {
     let (root, file) = cut(words, " ");
-    let crates = crates_given(alloc, file)?;
-    let roots = roots_given(alloc, root)?;
-    Some(Change {
+    let change = Change {
         files: Items::new(alloc),
-        roots,
-        crates,
-    })
-}
-
-fn place_name(roots: &SourceRoots, path: &VfsPath) -> &'static str {
-    if roots.is_local(roots.root_of(path)) {
-        "in"
-    } else {
-        "out"
+        roots: roots_given(alloc, root),
+        crates: crates_given(alloc, file),
+    };
+    if apply(host, change) != "done" {
+        add(text, "failed > ");
     }
 }
 
@@ -90,69 +57,49 @@ fn first_crate(crates: &CrateData) -> u32 {
     }
 }
 
-/// Whether `/w/a.rs` is in a local root, and which crate is the first.
-fn told(alloc: Global, roots: &SourceRoots, crates: &CrateData) -> Option<String> {
-    let path = path_at(alloc, "/w/a.rs")?;
-    let (place, first) = (place_name(roots, &path), first_crate(crates));
-    format!(in alloc; "{place} {first}").ok()
+/// Adds whether `/w/a.rs` is in a local root, and which crate is the first.
+fn add_told(alloc: Global, text: &mut String, roots: &SourceRoots, crates: &CrateData) {
+    if let Some(path) = path_at(alloc, "/w/a.rs") {
+        if roots.is_local(roots.root_of(&path)) {
+            add(text, "in ");
+        } else {
+            add(text, "out ");
+        }
+    }
+    add_number(alloc, text, u64::from(first_crate(crates)));
+    add(text, " > ");
 }
 
-fn told_of_snapshot(alloc: Global, snapshot: &GlobalStateSnapshot) -> Option<String> {
-    told(alloc, snapshot.roots(), snapshot.crate_data())
+/// Lets go of a snapshot, and adds what it tells. The one function that owns one here.
+fn add_snapshot(alloc: Global, text: &mut String, snapshot: Option<GlobalStateSnapshot>) {
+    match &snapshot {
+        Some(snapshot) => add_told(alloc, text, snapshot.roots(), snapshot.crate_data()),
+        None => add(text, "no snapshot"),
+    }
+    drop(snapshot);
 }
 
-fn told_of_host(alloc: Global, host: &AnalysisHost) -> Option<String> {
-    told(alloc, host.roots(), host.crate_data())
-}
-
-fn does_change(alloc: Global, host: &mut AnalysisHost, words: &str) -> Option<()> {
-    let change = change_of(alloc, words)?;
-    apply(host, change).ok()
-}
-
-/// Whether the snapshot and the host are told so, and the host has this revision.
-fn are_told(
-    alloc: Global,
-    host: &AnalysisHost,
-    snapshot: &GlobalStateSnapshot,
-    words: &str,
-) -> Option<bool> {
-    let (was, rest) = cut(words, " > ");
-    let (now, revision) = cut(rest, " > ");
-    let revision = revision.parse::<u64>().ok()?;
-    Some(
-        told_of_snapshot(alloc, snapshot)?.as_str() == was
-            && told_of_host(alloc, host)?.as_str() == now
-            && revision_of(host) == revision,
-    )
-}
-
-/// The one function that owns a snapshot from before a change.
-fn ends_beside(
-    alloc: Global,
-    host: &mut AnalysisHost,
-    snapshot: GlobalStateSnapshot,
-    words: &str,
-) -> Option<bool> {
-    let (last, rest) = cut(words, " > ");
-    does_change(alloc, host, last)?;
-    are_told(alloc, host, &snapshot, rest)
-}
-
-fn does(alloc: Global, host: &mut AnalysisHost, words: &str) -> Option<bool> {
-    let (first, rest) = cut(words, " > ");
-    does_change(alloc, host, first)?;
-    let snapshot = snapshot_in(alloc, world_now(host)?)?;
-    ends_beside(alloc, host, snapshot, rest)
+/// Makes both changes, and adds what a snapshot from between them and the host behind them tell, and the revision.
+fn run(alloc: Global, text: &mut String, host: &mut AnalysisHost, first: &str, last: &str) {
+    do_change(alloc, text, host, first);
+    let snapshot = snapshot_in(alloc, host.world().ok());
+    do_change(alloc, text, host, last);
+    add_snapshot(alloc, text, snapshot);
+    add_told(alloc, text, host.roots(), host.crate_data());
+    add_number(alloc, text, host.revision());
 }
 
 /// The one function that owns a host.
-fn does_in(alloc: Global, mut host: AnalysisHost, words: &str) -> Option<bool> {
-    does(alloc, &mut host, words)
-}
-
-fn agrees(alloc: Global, line: &str) -> Option<bool> {
-    does_in(alloc, new_host(alloc)?, line)
+fn agrees(alloc: Global, line: &str) -> bool {
+    let (first, rest) = cut(line, " > ");
+    let (last, want) = cut(rest, " > ");
+    let Ok(mut host) = AnalysisHost::new(alloc) else {
+        return false;
+    };
+    let mut text = String::new(alloc);
+    run(alloc, &mut text, &mut host, first, last);
+    drop(host);
+    text.as_str() == want
 }
 
 /// Two changes, each by the root and the crate that are given; then whether `/w/a.rs` is in a root and which crate is
@@ -165,6 +112,6 @@ const CHANGES: &str = "/w 1 > - 2 > in 1 > in 2 > 2
 #[test]
 fn roots_and_crates_by_changes(rt: HostRuntime) {
     for line in CHANGES.lines() {
-        assert!(rt; agrees(rt.alloc(), line) == Some(true), "at {line}");
+        assert!(rt; agrees(rt.alloc(), line), "at {line}");
     }
 }

@@ -1,7 +1,8 @@
 // What may go to another thread, and what threads may share.
-use crate::files::{entry_of, files_without, new_host};
-use crate::snapshots::no_versions;
-use analysis_host::{Answer, Ask, Never, Outcome, RowId, TextEntry, TextTree, World, WorldFault};
+use crate::files::{copied, entry_of, files_without};
+use analysis_host::{
+    AnalysisHost, Answer, Ask, Never, Outcome, RowId, TextTree, Versions, World, WorldFault,
+};
 use plain::{Items, Json, SharedJson};
 use std::alloc::Global;
 use text_core::LineEndings;
@@ -16,26 +17,18 @@ fn shares<T: Sync + Drop>(x: T) {
     drop(x)
 }
 
-fn new_world(alloc: Global) -> Option<World> {
-    World::new(alloc).ok()
-}
-
-fn copied_entry(entry: TextEntry) -> Option<TextEntry> {
-    entry.clone().ok()
-}
-
 fn worlds_cross(alloc: Global) -> Option<()> {
-    sends(new_host(alloc)?);
-    sends(new_world(alloc)?);
-    shares(new_world(alloc)?);
-    sends(no_versions(alloc)?);
-    shares(no_versions(alloc)?);
+    sends(AnalysisHost::new(alloc).ok()?);
+    sends(World::new(alloc).ok()?);
+    shares(World::new(alloc).ok()?);
+    sends(Versions::new(alloc).ok()?);
+    shares(Versions::new(alloc).ok()?);
     Some(())
 }
 
 fn files_cross(alloc: Global) -> Option<()> {
-    sends(files_without(alloc, "/w/a.rs")?);
-    sends(copied_entry(entry_of(alloc, "", LineEndings::Unix)?)?);
+    sends(files_without(alloc, "/w/a.rs"));
+    sends(copied(entry_of(alloc, "", LineEndings::Unix)?)?);
     shares(entry_of(alloc, "", LineEndings::Dos)?);
     Some(())
 }
@@ -56,18 +49,10 @@ fn question(alloc: Global) -> Option<Ask> {
     })
 }
 
-fn copied_ask(ask: Ask) -> Option<Ask> {
-    ask.clone().ok()
-}
-
-fn copied_outcome(outcome: Outcome) -> Option<Outcome> {
-    outcome.clone().ok()
-}
-
 fn questions_cross(alloc: Global) -> Option<()> {
-    sends(copied_ask(question(alloc)?)?);
-    sends(copied_outcome(Outcome::Value(Answer::Json(Json::null())))?);
-    sends(copied_outcome(Outcome::Value(Answer::Roots(Items::new(alloc))))?);
+    sends(copied(question(alloc)?)?);
+    sends(copied(Outcome::Value(Answer::Json(Json::null())))?);
+    sends(copied(Outcome::Value(Answer::Roots(Items::new(alloc))))?);
     sends(WorldFault::Exhausted);
     Some(())
 }

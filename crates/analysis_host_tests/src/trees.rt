@@ -1,160 +1,132 @@
 // Tables of texts that share what they have in common, and changes whose steps are counted.
 ghost use Rattle.std.specs.Prelude.{◌≡◌, ◌<◌};
 
-use crate::files::{change_with, entry_of, is_present, new_host, path_at};
-use analysis_host::{AnalysisHost, Change, TextEntry, TextTree};
+use crate::files::{add_present, change_with, entry_of, path_at};
+use crate::words::{add, add_number};
+use analysis_host::{AnalysisHost, TextTree};
 use docs_vfs::VfsPath;
 use shared_map::Steps;
 use std::alloc::Global;
 use std::marker::Brand;
+use std::mem;
 use std::sync::ledger::{Blank, Ledger};
 use text_core::LineEndings;
 
-/// The table with a path set to what is kept of a file, or to none.
-fn with_entry<L: Ledger>(
-    tree: &TextTree,
-    path: VfsPath,
-    entry: Option<TextEntry>,
-    steps: &mut Steps<L>,
-) -> Option<TextTree> {
-    tree.set(path, entry, steps).ok()
-}
-
+/// The table with a text at a path, or with none there.
 fn with_text<L: Ledger>(
     alloc: Global,
     tree: &TextTree,
     path: &str,
-    text: &str,
+    text: Option<&str>,
     steps: &mut Steps<L>,
 ) -> Option<TextTree> {
     let path = path_at(alloc, path)?;
-    let entry = entry_of(alloc, text, LineEndings::Dos)?;
-    with_entry(tree, path, Some(entry), steps)
+    let entry = match text {
+        Some(text) => entry_of(alloc, text, LineEndings::Dos),
+        None => None,
+    };
+    tree.set(path, entry, steps).ok()
 }
 
-fn without<L: Ledger>(
-    alloc: Global,
-    tree: &TextTree,
-    path: &str,
-    steps: &mut Steps<L>,
-) -> Option<TextTree> {
-    let path = path_at(alloc, path)?;
-    with_entry(tree, path, None, steps)
-}
-
-fn text_in<'a>(tree: &'a TextTree, path: &VfsPath) -> &'a str {
-    match tree.get(path) {
-        Some(entry) => entry.text.as_str(),
-        None => "none",
+/// Adds the text of a path, or `none`.
+fn add_text(text: &mut String, tree: &TextTree, path: Option<VfsPath>) {
+    add(text, " ");
+    let Some(path) = path else {
+        return;
+    };
+    match tree.get(&path) {
+        Some(entry) => add(text, entry.text.as_str()),
+        None => add(text, "none"),
     }
 }
 
-fn is_text(alloc: Global, tree: &TextTree, path: &str, text: &str) -> Option<bool> {
-    let path = path_at(alloc, path)?;
-    Some(text_in(tree, &path) == text)
+/// Adds how many paths a table has, and its texts at `/a` and `/b`.
+fn add_tree(alloc: Global, text: &mut String, tree: &TextTree) {
+    add_number(alloc, text, tree.len());
+    add_text(text, tree, path_at(alloc, "/a"));
+    add_text(text, tree, path_at(alloc, "/b"));
+    add(text, ";");
 }
 
-fn is_long(tree: &TextTree, len: u64) -> bool {
-    tree.len() == len
-}
-
-/// Whether a table has so many paths, and these texts at `/a` and `/b`.
-fn has(alloc: Global, tree: &TextTree, len: u64, first: &str, second: &str) -> Option<bool> {
-    Some(
-        is_long(tree, len)
-            && is_text(alloc, tree, "/a", first)?
-            && is_text(alloc, tree, "/b", second)?,
-    )
-}
-
-/// Whether this is what is left.
-fn is_rest(alloc: Global, rest: TextTree) -> Option<bool> {
-    has(alloc, &rest, 1, "none", "y")
-}
-
-/// Whether the rest is left once `/a` is removed.
-fn is_removed<L: Ledger>(alloc: Global, both: &TextTree, steps: &mut Steps<L>) -> Option<bool> {
-    is_rest(alloc, without(alloc, both, "/a", steps)?)
-}
-
-/// Whether the rest is left, and what was there stays.
-fn stays<L: Ledger>(alloc: Global, both: &TextTree, steps: &mut Steps<L>) -> Option<bool> {
-    Some(is_removed(alloc, both, steps)? && has(alloc, both, 2, "x", "y")?)
-}
-
+/// Sets a text in a table.
 fn set<L: Ledger>(
     alloc: Global,
     tree: &mut TextTree,
     path: &str,
     text: &str,
     steps: &mut Steps<L>,
-) -> Option<()> {
-    let next = with_text(alloc, tree, path, text, steps)?;
-    *tree = next;
-    Some(())
+) {
+    if let Some(next) = with_text(alloc, tree, path, Some(text), steps) {
+        drop(mem::replace(tree, next));
+    }
 }
 
-fn set_both<L: Ledger>(alloc: Global, tree: &mut TextTree, steps: &mut Steps<L>) -> Option<()> {
-    set(alloc, tree, "/a", "x", steps)?;
-    set(alloc, tree, "/b", "y", steps)
-}
-
-fn stays_once_set<L: Ledger>(
+/// Adds what is left once `/a` is removed, and what stays where it was.
+fn add_removed<L: Ledger>(
     alloc: Global,
+    text: &mut String,
     tree: &mut TextTree,
     steps: &mut Steps<L>,
-) -> Option<bool> {
-    set_both(alloc, tree, steps)?;
-    stays(alloc, tree, steps)
+) {
+    set(alloc, tree, "/a", "x", steps);
+    set(alloc, tree, "/b", "y", steps);
+    if let Some(rest) = with_text(alloc, tree, "/a", None, steps) {
+        add_tree(alloc, text, &rest);
+        drop(rest);
+    }
+    add_tree(alloc, text, tree);
 }
 
-fn stays_as_it_was<L: Ledger>(alloc: Global, blank: Blank) -> Option<bool>
+fn stays_as_it_was<L: Ledger>(alloc: Global, blank: Blank) -> bool
     requires name { blank.name ≡ L.name }
     requires parts { blank.parts ≡ L.parts }
     requires some { 0 < L.parts }
 {
     let mut steps = Steps::<L>::new(blank);
+    let mut text = String::new(alloc);
     let mut tree = TextTree::new(alloc);
-    stays_once_set(alloc, &mut tree, &mut steps)
+    add_removed(alloc, &mut text, &mut tree, &mut steps);
+    drop(tree);
+    text.as_str() == "1 none y;2 x y;"
 }
 
 #[test]
 fn removed_path(rt: HostRuntime) {
-    assert!(rt; stays_as_it_was::<Brand>(rt.alloc(), Blank::new(1)) == Some(true));
+    assert!(rt; stays_as_it_was::<Brand>(rt.alloc(), Blank::new(1)));
 }
 
-fn apply_counted<L: Ledger>(
-    host: &mut AnalysisHost,
-    change: Change,
-    steps: &mut Steps<L>,
-) -> Option<()> {
-    host.apply_counted(change, steps).ok()
-}
-
-fn counts<L: Ledger>(alloc: Global, host: &mut AnalysisHost, steps: &mut Steps<L>) -> Option<bool> {
-    let change = change_with(alloc, "/a", "x", LineEndings::Unix)?;
-    apply_counted(host, change, steps)?;
-    is_present(alloc, host, "/a", "x", 1)
-}
-
-fn counts_in<L: Ledger>(
+/// Changes the text of `/a` to `x`, and adds what the host has then.
+fn add_counted<L: Ledger>(
     alloc: Global,
-    mut host: AnalysisHost,
+    text: &mut String,
+    host: &mut AnalysisHost,
     steps: &mut Steps<L>,
-) -> Option<bool> {
-    counts(alloc, &mut host, steps)
+) {
+    let change = change_with(alloc, "/a", "x", LineEndings::Unix);
+    if host.apply_counted(change, steps).is_err() {
+        return;
+    }
+    if let Some(path) = path_at(alloc, "/a") {
+        add_present(alloc, text, host, &path);
+    }
 }
 
-fn is_counted<L: Ledger>(alloc: Global, blank: Blank) -> Option<bool>
+fn is_counted<L: Ledger>(alloc: Global, blank: Blank) -> bool
     requires name { blank.name ≡ L.name }
     requires parts { blank.parts ≡ L.parts }
     requires some { 0 < L.parts }
 {
     let mut steps = Steps::<L>::new(blank);
-    counts_in(alloc, new_host(alloc)?, &mut steps)
+    let Ok(mut host) = AnalysisHost::new(alloc) else {
+        return false;
+    };
+    let mut text = String::new(alloc);
+    add_counted(alloc, &mut text, &mut host, &mut steps);
+    drop(host);
+    text.as_str() == "x > 1"
 }
 
 #[test]
 fn counted_change(rt: HostRuntime) {
-    assert!(rt; is_counted::<Brand>(rt.alloc(), Blank::new(1)) == Some(true));
+    assert!(rt; is_counted::<Brand>(rt.alloc(), Blank::new(1)));
 }

@@ -1,4 +1,4 @@
-// The words of tables, and faults in words.
+// The words of tables, and texts that tell what was found. Where memory runs out, less is told than a test wants.
 use analysis_host::ProtoFault;
 use docs_vfs::UrlFault;
 use std::alloc::Global;
@@ -12,46 +12,60 @@ pub fn cut<'a>(text: &'a str, mark: &str) -> (&'a str, &'a str) {
     }
 }
 
-/// The number that a word is, or none.
-pub fn number(word: &str) -> Option<u32> {
-    word.parse::<u32>().ok()
+/// The number that a word is, or the greatest one.
+pub fn number(word: &str) -> u32 {
+    word.parse::<u32>().unwrap_or(u32::MAX)
 }
 
 pub fn position(line: u32, character: u32) -> Position {
     Position { line, character }
 }
 
-pub fn text_of(alloc: Global, text: &str) -> Option<String> {
-    String::from_str(alloc, text).ok()
+/// Adds words to a text.
+pub fn add(text: &mut String, more: &str) {
+    let _ = text.push_str(more);
 }
 
-fn url_fault_name(fault: UrlFault) -> &'static str {
-    match fault {
-        UrlFault::NotFile => "Url(NotFile)",
-        UrlFault::HasHost => "Url(HasHost)",
-        UrlFault::NotText => "Url(NotText)",
-        UrlFault::NoMemory => "Url(NoMemory)",
+pub fn add_number(alloc: Global, text: &mut String, number: u64) {
+    if let Ok(digits) = format!(in alloc; "{number}") {
+        add(text, digits.as_str());
     }
 }
 
-fn offset_fault_name(fault: OffsetFault) -> &'static str {
-    match fault {
-        OffsetFault::LinePastEnd => "Offset(LinePastEnd)",
-        OffsetFault::InsideCharacter => "Offset(InsideCharacter)",
-        OffsetFault::Reversed => "Offset(Reversed)",
+/// Adds numbers, with a space between two.
+pub fn add_numbers(alloc: Global, text: &mut String, numbers: &[u32]) {
+    for (at, number) in numbers.iter().enumerate() {
+        if at > 0 {
+            add(text, " ");
+        }
+        add_number(alloc, text, u64::from(*number));
     }
 }
 
 fn fault_name(fault: ProtoFault) -> &'static str {
     match fault {
-        ProtoFault::Url(fault) => url_fault_name(fault),
+        ProtoFault::Url(UrlFault::NotFile) => "Url(NotFile)",
+        ProtoFault::Url(UrlFault::HasHost) => "Url(HasHost)",
+        ProtoFault::Url(UrlFault::NotText) => "Url(NotText)",
+        ProtoFault::Url(UrlFault::NoMemory) => "Url(NoMemory)",
         ProtoFault::NotFound => "NotFound",
-        ProtoFault::Offset(fault) => offset_fault_name(fault),
+        ProtoFault::Offset(OffsetFault::LinePastEnd) => "Offset(LinePastEnd)",
+        ProtoFault::Offset(OffsetFault::InsideCharacter) => "Offset(InsideCharacter)",
+        ProtoFault::Offset(OffsetFault::Reversed) => "Offset(Reversed)",
         ProtoFault::NoMemory => "NoMemory",
     }
 }
 
-/// Why there is no file and no place.
-pub fn fault_told(alloc: Global, fault: ProtoFault) -> Option<String> {
-    text_of(alloc, fault_name(fault))
+/// What was found. Where there is nothing, a word for that is added, or why.
+pub fn found_in<T>(
+    text: &mut String,
+    found: Result<Option<T>, ProtoFault>,
+    none: &str,
+) -> Option<T> {
+    match found {
+        Ok(Some(found)) => return Some(found),
+        Ok(None) => add(text, none),
+        Err(fault) => add(text, fault_name(fault)),
+    }
+    None
 }

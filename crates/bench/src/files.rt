@@ -1,7 +1,8 @@
 // Sessions with files: a loader brings many, one document among them is typed into, and a document is closed and opened again.
-use crate::made::{add, file, repeated};
-use crate::report::Report;
-use crate::sessions::{matching, message, open, push, push_text, time};
+use crate::sessions::{matching, message, open, push_text, time};
+use bench_parts::made::{add, file, push, repeated};
+use bench_parts::report::Report;
+use docs_vfs::VfsPath;
 use plain::{Bytes, Items};
 use session_port::{HostEvent, LoadedFile, LoaderMsg, LoadingProgress};
 use std::alloc::Global;
@@ -13,16 +14,20 @@ const BATCH: u32 = 1_000;
 const IN_PLACE: &str =
     ",\"version\":2},\"contentChanges\":[{\"range\":{\"start\":{\"line\":0,\"character\":0},\"end\":{\"line\":0,\"character\":1}},\"text\":\"";
 
+fn loaded(alloc: Global, path: VfsPath) -> LoadedFile {
+    let contents = Bytes::from_slice(alloc, b"fn a() {}\nfn b() {}\n").ok();
+    LoadedFile { path, contents }
+}
+
 /// The files from one number up to another. A loader goes from folder to folder.
-fn batch(alloc: Global, from: u32, to: u32) -> LoaderMsg {
+fn batch(alloc: Global, from: u32, to: u32) -> Items<LoadedFile> {
     let mut files = Items::new(alloc);
     for number in from..to {
         if let Some(path) = file(alloc, number / 200, number) {
-            let contents = Bytes::from_slice(alloc, b"fn a() {}\nfn b() {}\n").ok();
-            let _ = files.push(LoadedFile { path, contents });
+            push(&mut files, loaded(alloc, path));
         }
     }
-    LoaderMsg::Loaded { files }
+    files
 }
 
 fn progress(n_done: LoadingProgress) -> LoaderMsg {
@@ -37,7 +42,7 @@ fn progress(n_done: LoadingProgress) -> LoaderMsg {
 /// A loader says this.
 fn push_message(alloc: Global, events: &mut Items<HostEvent>, message: LoaderMsg) {
     let mut messages = Items::new(alloc);
-    let _ = messages.push(message);
+    push(&mut messages, message);
     push(events, HostEvent::Vfs(messages));
 }
 
@@ -47,7 +52,8 @@ fn load(alloc: Global, events: &mut Items<HostEvent>, files: u32) {
     for number in 0..files.div_ceil(BATCH) {
         let from = number.saturating_mul(BATCH);
         let to = from.saturating_add(BATCH).min(files);
-        push_message(alloc, events, batch(alloc, from, to));
+        let files = batch(alloc, from, to);
+        push_message(alloc, events, LoaderMsg::Loaded { files });
     }
     push_message(alloc, events, progress(LoadingProgress::Finished));
 }
@@ -68,7 +74,7 @@ fn talk(report: &mut Report<'_>, files: u32, opened: &str, messages: &str, parts
     push_text(alloc, &mut events, messages);
     let question = matching(alloc, "{\"line\":0,\"character\":4}");
     push_text(alloc, &mut events, question.as_str());
-    time(report, "bytes written", events, parts);
+    time(report, events, parts);
 }
 
 /// A loader brings so many files, without and with so many letters typed into a document among them.

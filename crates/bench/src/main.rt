@@ -1,25 +1,14 @@
 //! `bench`: times what docs/BENCHMARKS.md tells of.
 #![tactic(auto)]
 
-mod board;
 mod files;
-mod frames;
-mod made;
-mod maps;
-mod paths;
-mod queue;
-mod reloads;
-mod report;
-mod roots;
 mod sessions;
-mod settings;
-mod texts;
-mod worlds;
 
-use crate::report::Report;
-use crate::worlds::Use;
+use bench_parts::report::Report;
+use bench_parts::worlds::Use;
+use bench_parts::{board, frames, maps, paths, queue, reloads, roots, settings, texts, worlds};
 use std::process::ExitCode;
-use std::time::Instant;
+use std::time::{Duration, Instant};
 use std::{env, io};
 
 const USAGE: &str = "\
@@ -56,158 +45,127 @@ settings    files of settings             changes
 status: 0 all was done, 1 it was not, 2 bad words
 ";
 
-/// The words, without `little`.
+/// The words without `little`, each with how often a part is done, and the sizes of docs/BENCHMARKS.md.
 const WORDS: &str = "\
-frames
-answers
-input
-pending
-brackets
-files
-reopen
-documents
-kept
-dropped
-maps
-texts
-endings
-paths
-roots
-reload
-board
-queue
-settings
+frames 1 20000
+answers 20 1000000
+input 1 0
+pending 1 2500 5000 10000 20000
+brackets 1 5000 10000 20000
+files 100000 10 1000 100000
+reopen 40 400 4000 40000
+documents 10000 10 1000 100000
+kept 1000 10000
+dropped 1000 10000
+maps 1 100000
+texts 1 10000
+endings 1 2236963
+paths 1000 100000
+roots 100 10 100 1000
+reload 1 500 1000 2000
+board 100 100 1000 10000
+queue 1 100000
+settings 100 10 1000 10000
 ";
 
-/// What a word asks for.
-#[derive(Clone, Copy)]
-enum Work {
-    Frames,
-    Answers,
-    Input,
-    Pending,
-    Brackets,
-    Files,
-    Reopen,
-    Documents(Use),
-    Maps,
-    Texts,
-    Endings,
-    Paths,
-    Roots,
-    Reload,
-    Board,
-    Queue,
-    Settings,
-}
-
-/// What is done, how large, and how many times.
-type Plan = (Work, &'static [u32], u32);
-
-/// What a word asks for, in the sizes of docs/BENCHMARKS.md.
-fn plan(word: &str) -> Option<Plan> {
-    Some(match word {
-        "frames" => (Work::Frames, &[20_000], 1),
-        "answers" => (Work::Answers, &[1_000_000], 20),
-        "input" => (Work::Input, &[0], 1),
-        "pending" => (Work::Pending, &[2_500, 5_000, 10_000, 20_000], 1),
-        "brackets" => (Work::Brackets, &[5_000, 10_000, 20_000], 1),
-        "files" => (Work::Files, &[10, 1_000, 100_000], 100_000),
-        "reopen" => (Work::Reopen, &[400, 4_000, 40_000], 40),
-        "documents" => (Work::Documents(Use::Reads), &[10, 1_000, 100_000], 10_000),
-        "kept" => (Work::Documents(Use::Keeps), &[10_000], 1_000),
-        "dropped" => (Work::Documents(Use::Drops), &[10_000], 1_000),
-        "maps" => (Work::Maps, &[100_000], 1),
-        "texts" => (Work::Texts, &[10_000], 1),
-        "endings" => (Work::Endings, &[2_236_963], 1),
-        "paths" => (Work::Paths, &[100_000], 1_000),
-        "roots" => (Work::Roots, &[10, 100, 1_000], 100),
-        "reload" => (Work::Reload, &[500, 1_000, 2_000], 1),
-        "board" => (Work::Board, &[100, 1_000, 10_000], 100),
-        "queue" => (Work::Queue, &[100_000], 1),
-        "settings" => (Work::Settings, &[10, 1_000, 10_000], 100),
-        _ => return None,
-    })
-}
-
 /// Does what a word asks for in one size.
-fn run(report: &mut Report<'_>, word: &str, work: Work, size: u32, times: u32) {
-    let rt = report.rt;
-    let counted = println!(rt; "{word} {size} {times}");
-    let timed = eprintln!(rt; "{word} {size} {times}");
-    report.is_whole = report.is_whole && counted.is_ok() && timed.is_ok();
-    match work {
-        Work::Frames => frames::run(report, size),
-        Work::Answers => frames::answers(report, size, times),
-        Work::Input => frames::read_input(report),
-        Work::Pending => sessions::pending(report, size),
-        Work::Brackets => sessions::brackets(report, size),
-        Work::Files => files::run(report, size, times),
-        Work::Reopen => files::reopen(report, size, times),
-        Work::Documents(made) => worlds::run(report, size, times, made),
-        Work::Maps => maps::run(report, size),
-        Work::Texts => texts::run(report, size),
-        Work::Endings => texts::endings(report, size),
-        Work::Paths => paths::run(report, size, times),
-        Work::Roots => roots::run(report, size, times),
-        Work::Reload => reloads::run(report, size),
-        Work::Board => board::run(report, size, times),
-        Work::Queue => queue::run(report, size),
-        Work::Settings => settings::run(report, size, times),
+fn run(report: &mut Report<'_>, word: &str, size: u32, times: u32) {
+    report.title(word, size, times);
+    match word {
+        "frames" => frames::run(report, size),
+        "answers" => frames::answers(report, size, times),
+        "input" => frames::read_input(report),
+        "pending" => sessions::pending(report, size),
+        "brackets" => sessions::brackets(report, size),
+        "files" => files::run(report, size, times),
+        "reopen" => files::reopen(report, size, times),
+        "documents" => worlds::run(report, size, times, Use::Reads),
+        "kept" => worlds::run(report, size, times, Use::Keeps),
+        "dropped" => worlds::run(report, size, times, Use::Drops),
+        "maps" => maps::run(report, size),
+        "texts" => texts::run(report, size),
+        "endings" => texts::endings(report, size),
+        "paths" => paths::run(report, size, times),
+        "roots" => roots::run(report, size, times),
+        "reload" => reloads::run(report, size),
+        "board" => board::run(report, size, times),
+        "queue" => queue::run(report, size),
+        "settings" => settings::run(report, size, times),
+        _ => report.is_whole = false,
     }
 }
 
 /// Does what each word asks for, in little.
 fn run_little(report: &mut Report<'_>) {
-    for word in WORDS.lines() {
-        if let Some((work, _, _)) = plan(word) {
-            run(report, word, work, 50, 2);
+    for line in WORDS.lines() {
+        if let Some((word, _)) = line.split_once(' ') {
+            run(report, word, 50, 2);
         }
     }
 }
 
-/// Does what a word asks for in the sizes of docs/BENCHMARKS.md, or in the size that is given, if the words are known.
-fn run_word(report: &mut Report<'_>, word: &str, numbers: &[String]) -> Option<()> {
-    let (work, sizes, times) = plan(word)?;
-    match numbers {
-        [] => {
-            for size in sizes {
-                run(report, word, work, *size, times);
+/// What stands behind a word, if it is known.
+fn numbers_of(word: &str) -> Option<&'static str> {
+    for line in WORDS.lines() {
+        if let Some((first, numbers)) = line.split_once(' ') {
+            if first == word {
+                return Some(numbers);
             }
         }
-        [size] => run(report, word, work, size.as_str().parse().ok()?, times),
-        [size, times] => {
-            let size = size.as_str().parse().ok()?;
-            run(report, word, work, size, times.as_str().parse().ok()?);
-        }
-        _ => return None,
+    }
+    None
+}
+
+/// Does what a word asks for in each of these sizes, if they are numbers.
+fn run_sizes(report: &mut Report<'_>, word: &str, sizes: &str, times: u32) -> Option<()> {
+    for size in sizes.split(' ') {
+        run(report, word, size.parse().ok()?, times);
     }
     Some(())
+}
+
+/// Does what a word asks for in the sizes of docs/BENCHMARKS.md, or in the size that is given, if the words are known.
+fn run_word(report: &mut Report<'_>, word: &str, numbers: &[String]) -> Option<()> {
+    let (times, sizes) = numbers_of(word)?.split_once(' ')?;
+    let (sizes, times) = match numbers {
+        [] => (sizes, times),
+        [size] => (size.as_str(), times),
+        [size, times] => (size.as_str(), times.as_str()),
+        _ => return None,
+    };
+    run_sizes(report, word, sizes, times.parse().ok()?)
 }
 
 /// Does what the words ask for, if they are known.
 fn run_words(report: &mut Report<'_>, words: &[String]) -> Option<()> {
     let (word, numbers) = words.split_first()?;
-    let rt = report.rt;
     match word.as_str() {
-        "--help" => report.is_whole = print!(rt; "{USAGE}").is_ok(),
-        "--version" => report.is_whole = println!(rt; "bench 0.1.0").is_ok(),
+        "--help" => report.is_whole = print!(report.rt; "{USAGE}").is_ok(),
+        "--version" => report.is_whole = println!(report.rt; "bench 0.1.0").is_ok(),
         "little" => run_little(report),
-        word => run_word(report, word, numbers)?,
+        word => return run_word(report, word, numbers),
     }
     Some(())
 }
 
-fn main(rt: HostRuntime) -> io::Result<ExitCode> {
-    let words: Vec<String> = env::args(&rt)?.skip(1).collect(rt.alloc())?;
+/// Does what the words ask for, and answers the status.
+fn status(rt: &HostRuntime, words: &[String]) -> io::Result<u8> {
     let mut report = Report {
-        rt: &rt,
-        clock: Instant::now(&rt)?,
+        rt,
+        clock: Instant::now(rt)?,
+        start: Duration::ZERO,
         is_whole: true,
     };
-    if run_words(&mut report, words.as_slice()).is_none() {
+    if run_words(&mut report, words).is_none() {
         eprint!(rt; "{USAGE}")?;
-        return Ok(ExitCode::from(2));
+        return Ok(2);
     }
-    Ok(ExitCode::from(u8::from(!report.is_whole)))
+    Ok(u8::from(!report.is_whole))
+}
+
+fn main(rt: HostRuntime) -> io::Result<ExitCode> {
+    let words: Vec<String> = env::args(&rt)?.skip(1).collect(rt.alloc())?;
+    let status = status(&rt, words.as_slice());
+    drop(words);
+    Ok(ExitCode::from(status?))
 }

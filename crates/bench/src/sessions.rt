@@ -2,10 +2,10 @@
 ghost use Rattle.std.specs.Prelude.{◌≡◌, false};
 ghost use Rattle.std.specs.FinMap as map;
 
-use crate::made::{add, frame, repeated};
-use crate::report::Report;
-use crate::settings;
 use analysis_host::Analysis;
+use bench_parts::made::{add, frame, push, repeated};
+use bench_parts::report::Report;
+use bench_parts::settings;
 use plain::{Bytes, Items, Json};
 use ra_config::Config;
 use session::{SessionError, main_loop};
@@ -39,11 +39,6 @@ pub fn matching(alloc: Global, positions: &str) -> String {
     message(alloc, head, "},\"positions\":[", positions, "]")
 }
 
-/// A host gives this.
-pub fn push(events: &mut Items<HostEvent>, event: HostEvent) {
-    let _ = events.push(event);
-}
-
 /// A host brings the bytes of a text.
 pub fn push_text(alloc: Global, events: &mut Items<HostEvent>, text: &str) {
     if let Ok(bytes) = Bytes::from_slice(alloc, text.as_bytes()) {
@@ -67,31 +62,47 @@ fn serve<H: Host<A>, S: Sink, A: Analysis>(
     main_loop(alloc, config, host, sink, analysis)
 }
 
-/// How many bytes a session of these events wrote.
-fn written(alloc: Global, config: Config, events: Items<HostEvent>) -> u64 {
-    let analysis = SmallAnalysis::new(alloc);
-    let mut host = HostileHost::new(alloc, events);
-    let mut sink = MemorySink::new(alloc, Items::new(alloc));
-    let _ = serve(alloc, config, &mut host, &mut sink, &analysis);
+/// How many bytes these turns have.
+fn count_bytes(turns: &[Bytes]) -> u64 {
     let mut bytes = 0u64;
-    for turn in sink.turns() {
+    for turn in turns {
         bytes = bytes.wrapping_add(turn.as_slice().len() as u64);
     }
     bytes
 }
 
-/// Runs a session of these events and then `exit`, and tells how many bytes it wrote.
-pub fn time(report: &mut Report<'_>, name: &str, mut events: Items<HostEvent>, parts: u32) {
-    let alloc = report.rt.alloc();
+/// How many bytes a session of these events wrote.
+fn written(alloc: Global, config: Config, events: Items<HostEvent>) -> u64 {
+    let analysis = SmallAnalysis::new(alloc);
+    let mut host = HostileHost::new(alloc, events);
+    let mut sink = MemorySink::new(alloc, Items::new(alloc));
+    drop(serve(alloc, config, &mut host, &mut sink, &analysis));
+    let bytes = count_bytes(sink.turns());
+    drop(host);
+    drop(sink);
+    bytes
+}
+
+/// The bytes of `exit`.
+fn push_exit(alloc: Global, events: &mut Items<HostEvent>) {
     let exit = frame(alloc, "{\"jsonrpc\":\"2.0\",\"method\":\"exit\"}");
-    push_text(alloc, &mut events, exit.as_str());
-    let start = report.now();
+    push_text(alloc, events, exit.as_str());
+}
+
+/// Runs a session of these events and then `exit`, and tells how many bytes it wrote.
+pub fn time(report: &mut Report<'_>, mut events: Items<HostEvent>, parts: u32) {
+    let alloc = report.rt.alloc();
+    push_exit(alloc, &mut events);
+    report.begin();
     match settings::none(alloc) {
         Some(config) => {
             let bytes = written(alloc, config, events);
-            report.tell(name, bytes, parts, start);
+            report.tell("bytes written", bytes, parts);
         }
-        None => report.is_whole = false,
+        None => {
+            drop(events);
+            report.is_whole = false;
+        }
     }
 }
 
@@ -108,20 +119,30 @@ fn hovers(alloc: Global, count: u32) -> String {
     stream
 }
 
-/// So many requests in one piece, and one batch with their results, the last one first. Job 1 is the fetch of the start.
-pub fn pending(report: &mut Report<'_>, count: u32) {
-    let alloc = report.rt.alloc();
+/// The result of a request. Job 1 is the fetch of the start.
+fn result_of(number: u32) -> TaskMsg {
+    TaskMsg {
+        job: u64::from(number) + 2,
+        body: TaskBody::Final(JobResult::Value(JobValue::Json(Json::null()))),
+    }
+}
+
+/// The results of so many requests, the last one first.
+fn results(alloc: Global, count: u32) -> Items<TaskMsg> {
     let mut batch = Items::new(alloc);
     for number in (0..count).rev() {
-        let _ = batch.push(TaskMsg {
-            job: u64::from(number) + 2,
-            body: TaskBody::Final(JobResult::Value(JobValue::Json(Json::null()))),
-        });
+        push(&mut batch, result_of(number));
     }
+    batch
+}
+
+/// So many requests in one piece, and one batch with their results, the last one first.
+pub fn pending(report: &mut Report<'_>, count: u32) {
+    let alloc = report.rt.alloc();
     let mut events = Items::new(alloc);
     push_text(alloc, &mut events, hovers(alloc, count).as_str());
-    push(&mut events, HostEvent::Tasks(batch));
-    time(report, "bytes written", events, count);
+    push(&mut events, HostEvent::Tasks(results(alloc, count)));
+    time(report, events, count);
 }
 
 /// The positions of the braces that end so many lines, each so many lines below the one before.
@@ -137,20 +158,27 @@ fn braces(alloc: Global, count: u32, step: u32) -> String {
     positions
 }
 
+/// Asks for the partners of so many brackets, each so many lines below the one before, in a document that is opened.
+fn ask(report: &mut Report<'_>, opened: &str, count: u32, step: u32) {
+    let alloc = report.rt.alloc();
+    let positions = braces(alloc, count, step);
+    let question = matching(alloc, positions.as_str());
+    let mut events = Items::new(alloc);
+    push_text(alloc, &mut events, opened);
+    push_text(alloc, &mut events, question.as_str());
+    time(report, events, count);
+}
+
 /// Asks for the partners of no bracket, of up to 1,000, and of as many as half of the lines have, in a document of so many
 /// lines, whose first half opens blocks that the second half closes.
 pub fn brackets(report: &mut Report<'_>, lines: u32) {
     let alloc = report.rt.alloc();
     let half = lines / 2;
+    let few = half.min(1_000);
     let mut text = repeated(alloc, "fn name(a: &[u8]) {\\n", half);
     add(&mut text, "} // name(a: &[u8])\\n", half);
     let opened = open(alloc, text.as_str());
-    for count in [0, half.min(1_000), half] {
-        let positions = braces(alloc, count, half / count.max(1));
-        let question = matching(alloc, positions.as_str());
-        let mut events = Items::new(alloc);
-        push_text(alloc, &mut events, opened.as_str());
-        push_text(alloc, &mut events, question.as_str());
-        time(report, "bytes written", events, count);
-    }
+    ask(report, opened.as_str(), 0, half);
+    ask(report, opened.as_str(), few, half / few.max(1));
+    ask(report, opened.as_str(), half, half / half.max(1));
 }

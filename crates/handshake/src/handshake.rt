@@ -51,17 +51,49 @@ fn notification_step(begun: bool, notification: &Notification) -> Step
     }
 }
 
+/// The step that refuses a request.
+fn refused(alloc: Global, id: RequestId, expected: &str) -> Result<Step, NoMemory>
+    ensures { IfOk result (λ step. step ≡ Step.Refuse (refusal id expected.now)) }
+{
+    let response = refusal(alloc, id, expected)?;
+    Ok(Step::Refuse(response))
+}
+
 /// What a request is.
 fn request_step(alloc: Global, begun: bool, request: Request) -> Result<Step, NoMemory>
     ensures { IfOk result (λ step. step ≡ request_step begun request) }
 {
+    let Request { id, method, params } = request;
+    let begins = method.is("initialize");
+    drop(method);
     if begun {
-        return Ok(Step::Refuse(refusal(alloc, request.id, "expected initialized notification")?));
+        drop(params);
+        return refused(alloc, id, "expected initialized notification");
     }
-    if request.method.is("initialize") {
-        return Ok(Step::Initialize(request.id, request.params));
+    if begins {
+        return Ok(Step::Initialize(id, params));
     }
-    Ok(Step::Refuse(refusal(alloc, request.id, "expected initialize request")?))
+    drop(params);
+    refused(alloc, id, "expected initialize request")
+}
+
+/// What a message is.
+fn step_of(alloc: Global, begun: bool, message: Message) -> Result<Step, NoMemory>
+    ensures step { IfOk result (λ step. step ≡ step_of begun message) }
+    ensures writable { IfOk result IfRefused }
+{
+    match message {
+        Message::Request(request) => request_step(alloc, begun, request),
+        Message::Notification(notification) => {
+            let step = notification_step(begun, &notification);
+            drop(notification);
+            Ok(step)
+        }
+        Message::Response(response) => {
+            drop(response);
+            Ok(Step::Ignore)
+        }
+    }
 }
 
 impl Handshake {
@@ -82,16 +114,10 @@ impl Handshake {
         ensures writable { IfOk result IfRefused }
         ensures err { OnErr result (self.new ≡ self.old) }
     {
-        match message {
-            Message::Request(request) => {
-                let step = request_step(self.alloc, self.begun, request)?;
-                if let Step::Initialize(_, _) = &step {
-                    self.begun = true;
-                }
-                Ok(step)
-            }
-            Message::Notification(notification) => Ok(notification_step(self.begun, &notification)),
-            Message::Response(_) => Ok(Step::Ignore),
+        let step = step_of(self.alloc, self.begun, message)?;
+        if let Step::Initialize(_, _) = &step {
+            self.begun = true;
         }
+        Ok(step)
     }
 }

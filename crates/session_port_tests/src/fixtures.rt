@@ -16,34 +16,39 @@ use small_project::workspaces_of;
 use std::alloc::Global;
 use std::sync::Arc;
 
+fn path(alloc: Global, text: &str) -> Option<VfsPath> {
+    VfsPath::new(alloc, text).ok()?
+}
+
 /// The settings with the one workspace `/w`.
 fn settings(alloc: Global) -> Option<Arc<Config>> {
-    let root = VfsPath::new(alloc, "/w").ok()??;
-    let config = Config::new(alloc, root, 4).ok()?;
+    let config = Config::new(alloc, path(alloc, "/w")?, 4).ok()?;
     Arc::new(alloc, config).ok()
 }
 
 /// The project with the manifest `/a/Cargo.toml`.
-fn projects(alloc: Global) -> Option<Items<LinkedProject>> {
-    let manifest = VfsPath::new(alloc, "/a/Cargo.toml").ok()??;
+fn projects(alloc: Global) -> Items<LinkedProject> {
     let mut projects = Items::new(alloc);
+    if let Some(manifest) = path(alloc, "/a/Cargo.toml") {
+        let _ = projects.push(LinkedProject::ProjectManifest(manifest));
+    }
     projects
-        .push(LinkedProject::ProjectManifest(manifest))
-        .ok()?;
-    Some(projects)
 }
 
 /// The one workspace of that project.
-fn workspaces(alloc: Global) -> Option<Items<ProjectWorkspace>> {
-    workspaces_of(alloc, projects(alloc)?.as_slice()).ok()
+fn workspaces(alloc: Global) -> Option<Arc<Items<ProjectWorkspace>>> {
+    let projects = projects(alloc);
+    let workspaces = workspaces_of(alloc, projects.as_slice()).ok();
+    drop(projects);
+    Arc::new(alloc, workspaces?).ok()
 }
 
 /// The first revision, with one workspace.
 fn snapshot(alloc: Global) -> Option<GlobalStateSnapshot> {
-    let world = World::new(alloc).ok()?;
-    let versions = Versions::new(alloc).ok()?;
-    let config = settings(alloc)?;
-    let workspaces = Arc::new(alloc, workspaces(alloc)?).ok()?;
+    let texts = World::new(alloc).ok().zip(Versions::new(alloc).ok());
+    let ((world, versions), (config, workspaces)) = texts.zip(settings(alloc).zip(workspaces(
+        alloc,
+    )))?;
     Some(GlobalStateSnapshot::new(SnapshotParts {
         world,
         file_ids: FileIds::new(alloc),
@@ -57,11 +62,11 @@ fn snapshot(alloc: Global) -> Option<GlobalStateSnapshot> {
 }
 
 /// The files 0 and 1.
-fn two_files(alloc: Global) -> Option<Items<FileId>> {
+fn two_files(alloc: Global) -> Items<FileId> {
     let mut files = Items::new(alloc);
-    files.push(FileId(0)).ok()?;
-    files.push(FileId(1)).ok()?;
-    Some(files)
+    let _ = files.push(FileId(0));
+    let _ = files.push(FileId(1));
+    files
 }
 
 /// What a job is to find out: the workspaces of a project, builds or proc macros; a check of two files, or one of no file; else a
@@ -69,13 +74,13 @@ fn two_files(alloc: Global) -> Option<Items<FileId>> {
 pub fn kind_of(alloc: Global, word: &str) -> Option<JobKind> {
     match word {
         "check" => Some(JobKind::ProcMacroSources {
-            files: two_files(alloc)?,
+            files: two_files(alloc),
         }),
         "no check" => Some(JobKind::ProcMacroSources {
             files: Items::new(alloc),
         }),
         "workspaces" => Some(JobKind::FetchWorkspaces {
-            projects: projects(alloc)?,
+            projects: projects(alloc),
             detached: Items::new(alloc),
             path: None,
             force: false,
@@ -85,11 +90,14 @@ pub fn kind_of(alloc: Global, word: &str) -> Option<JobKind> {
             paths: Items::new(alloc),
             ignored: Items::new(alloc),
         }),
-        _ => Some(JobKind::Request {
-            ticket: 1,
-            row: RowId(0),
-            params: SharedJson::new(alloc, Json::null()).ok()?,
-        }),
+        _ => {
+            let params = SharedJson::new(alloc, Json::null()).ok()?;
+            Some(JobKind::Request {
+                ticket: 1,
+                row: RowId(0),
+                params,
+            })
+        }
     }
 }
 
@@ -97,8 +105,7 @@ pub fn kind_of(alloc: Global, word: &str) -> Option<JobKind> {
 pub fn job_with(alloc: Global, number: u64, word: &str) -> Option<Job>
     ensures { IfSome result (λ job. job.number ≡ number) }
 {
-    let kind = kind_of(alloc, word)?;
-    let snapshot = snapshot(alloc)?;
+    let (kind, snapshot) = kind_of(alloc, word).zip(snapshot(alloc))?;
     Some(Job {
         number,
         class: PoolClass::Worker,
@@ -116,16 +123,30 @@ fn add_spawn(commands: &mut Items<Command>, job: Job) -> Option<()>
     }
 }
 
-/// The commands to do the jobs 7, a request's, and 9, of this kind.
+/// Adds the commands to do the jobs 7, a request's, and 9, of this kind.
+fn add_jobs(alloc: Global, commands: &mut Items<Command>, word: &str) -> Option<()>
+    requires { commands.old ≡ [] }
+    ensures { IfSome result (λ _. AreRising 0 (spawned commands.new)) }
+{
+    let first = job_with(alloc, 7, "request")?;
+    add_spawn(commands, first)?;
+    let second = job_with(alloc, 9, word)?;
+    add_spawn(commands, second)?;
+    Some(())
+}
+
+/// These commands alone.
 fn two_jobs(alloc: Global, word: &str) -> Option<Items<Command>>
     ensures { IfSome result (λ commands. AreRising 0 (spawned commands)) }
 {
-    let first = job_with(alloc, 7, "request")?;
     let mut commands = Items::new(alloc);
-    add_spawn(&mut commands, first)?;
-    let second = job_with(alloc, 9, word)?;
-    add_spawn(&mut commands, second)?;
-    Some(commands)
+    match add_jobs(alloc, &mut commands, word) {
+        Some(()) => Some(commands),
+        None => {
+            drop(commands);
+            None
+        }
+    }
 }
 
 /// `jobs` for the commands to do the requests' jobs 7 and 9, `check` for the same where 9 is a check, `builds`, `workspaces` or `macros`
@@ -141,35 +162,33 @@ pub fn commands_of(alloc: Global, word: &str) -> Option<Items<Command>>
 }
 
 /// `v` and a version for the settings of a loader, `t` and a ticket for a timer, else a task.
-fn command_of(alloc: Global, word: &str) -> Option<Command>
-    ensures { IfSome result (λ command. job_in command ≡ None) }
+fn command_of(alloc: Global, word: &str) -> Command
+    ensures { job_in result ≡ None }
 {
     if let Some(version) = word.strip_prefix("v") {
-        return Some(Command::SetLoader {
+        let version = version.parse::<u32>().unwrap_or(u32::MAX);
+        return Command::SetLoader {
             load: Items::new(alloc),
             watch: false,
-            version: version.parse::<u32>().ok()?,
-        });
+            version,
+        };
     }
     if let Some(ticket) = word.strip_prefix("t") {
-        return Some(Command::Timer(ticket.parse::<u64>().ok()?));
+        return Command::Timer(ticket.parse::<u64>().unwrap_or(u64::MAX));
     }
-    Some(Command::Defer(DeferredTask::CheckProcMacroSources(Items::new(alloc))))
-}
-
-fn alone(alloc: Global, command: Command) -> Option<Items<Command>>
-    ensures { IfSome result (λ commands. commands ≡ command ∷ []) }
-{
-    let mut commands = Items::new(alloc);
-    match commands.push(command) {
-        Ok(()) => Some(commands),
-        Err(_) => None,
-    }
+    Command::Defer(DeferredTask::CheckProcMacroSources(Items::new(alloc)))
 }
 
 /// A turn with the one order that a word is.
 pub fn order_of(alloc: Global, word: &str) -> Option<Items<Command>>
     ensures { IfSome result (λ commands. (low : ℕ) → AreRising low (spawned commands)) }
 {
-    alone(alloc, command_of(alloc, word)?)
+    let mut commands = Items::new(alloc);
+    match commands.push(command_of(alloc, word)) {
+        Ok(()) => Some(commands),
+        Err(_) => {
+            drop(commands);
+            None
+        }
+    }
 }

@@ -172,15 +172,12 @@ pub fn add_loader(alloc: Global, text: &mut String, messages: &[LoaderMsg]) {
     }
 }
 
-fn told<H: Tireless>(alloc: Global, host: &mut H) -> String {
-    let mut text = String::new(alloc);
-    add_run(alloc, &mut text, host, 2);
-    text
-}
-
 /// Two events of a host that is handed over, and its calls.
 fn told_of<H: Tireless + Drop>(alloc: Global, mut host: H) -> String {
-    told(alloc, &mut host)
+    let mut text = String::new(alloc);
+    add_run(alloc, &mut text, &mut host, 2);
+    drop(host);
+    text
 }
 
 fn steps(alloc: Global) -> Items<ScriptStep> {
@@ -226,21 +223,20 @@ fn is_loading(alloc: Global, event: &HostEvent) -> bool {
     text.as_str() == WORDS
 }
 
-/// The one function that owns a copy.
-fn is_copy_loading(alloc: Global, copy: Option<HostEvent>) -> bool {
-    match &copy {
-        Some(copy) => is_loading(alloc, copy),
-        None => false,
-    }
-}
-
 fn copy_of(event: &HostEvent) -> Option<HostEvent> {
     event.clone().ok()
 }
 
-/// Whether an event and its copy are these messages. The one function that owns the event.
+/// Whether an event and its copy are these messages. The one function that owns both.
 fn are_loading(alloc: Global, event: HostEvent) -> bool {
-    is_copy_loading(alloc, copy_of(&event)) && is_loading(alloc, &event)
+    let copy = copy_of(&event);
+    let are_loading = match &copy {
+        Some(copy) => is_loading(alloc, copy) && is_loading(alloc, &event),
+        None => false,
+    };
+    drop(copy);
+    drop(event);
+    are_loading
 }
 
 #[test]

@@ -30,14 +30,9 @@ impl Source for Small {
 /// A source of these bytes, which fails at the reads with these numbers.
 pub fn source(alloc: Global, text: &str, fails: &str) -> Option<Small> {
     let bytes = Bytes::from_slice(alloc, text.as_bytes()).ok()?;
-    let fails = numbers(alloc, fails)?;
     Some(Small {
-        source: MemorySource::new(alloc, bytes, fails),
+        source: MemorySource::new(alloc, bytes, numbers(alloc, fails)),
     })
-}
-
-fn sink_of(alloc: Global, fails: &str) -> Option<MemorySink> {
-    Some(MemorySink::new(alloc, numbers(alloc, fails)?))
 }
 
 // These calls claim nothing here.
@@ -85,17 +80,16 @@ fn are_kept(turns: &[Bytes]) -> bool {
 }
 
 /// The one function that owns this sink.
-fn fails_as_listed(mut sink: MemorySink) -> bool {
-    put_agree(&mut sink) && are_kept(sink.turns())
-}
-
-fn sink_agrees(alloc: Global) -> Option<bool> {
-    Some(fails_as_listed(sink_of(alloc, "2")?))
+fn fails_as_listed(alloc: Global) -> bool {
+    let mut sink = MemorySink::new(alloc, numbers(alloc, "2"));
+    let fails = put_agree(&mut sink) && are_kept(sink.turns());
+    drop(sink);
+    fails
 }
 
 #[test]
 fn a_sink_fails_at_listed_calls(rt: HostRuntime) {
-    assert!(rt; sink_agrees(rt.alloc()) == Some(true));
+    assert!(rt; fails_as_listed(rt.alloc()));
 }
 
 /// How long each piece of `abc` is where the first read fails, and how much is left then.
@@ -109,23 +103,28 @@ fn reads_as(small: &mut Small, line: &str) -> bool {
     read(small) == piece.parse::<usize>().ok() && rest.parse::<usize>().ok() == Some(left_in(small))
 }
 
-/// The one function that owns this source.
-fn reads_agree(mut small: Small) -> bool {
+fn all_read_as(small: &mut Small) -> bool {
     for line in PIECES.lines() {
-        if !reads_as(&mut small, line) {
+        if !reads_as(small, line) {
             return false;
         }
     }
     true
 }
 
-fn source_agrees(alloc: Global) -> Option<bool> {
-    Some(reads_agree(source(alloc, "abc", "1")?))
+/// The one function that owns this source.
+fn source_agrees(alloc: Global) -> bool {
+    let Some(mut small) = source(alloc, "abc", "1") else {
+        return false;
+    };
+    let agrees = all_read_as(&mut small);
+    drop(small);
+    agrees
 }
 
 #[test]
 fn a_source_fails_at_listed_calls(rt: HostRuntime) {
-    assert!(rt; source_agrees(rt.alloc()) == Some(true));
+    assert!(rt; source_agrees(rt.alloc()));
 }
 
 /// Whether a sink that is handed over takes a turn.
@@ -142,20 +141,23 @@ fn gives<S: Source>(mut source: S) -> bool
     matches!(source.read_piece(2), Ok(Some(_)))
 }
 
-fn lent_sink_takes(mut sink: MemorySink) -> bool {
-    put_to(&mut sink, b"ab") && sink.turns().len() == 1
+fn lent_sink_takes(alloc: Global) -> bool {
+    let mut sink = MemorySink::new(alloc, Items::new(alloc));
+    let takes = put_to(&mut sink, b"ab") && sink.turns().len() == 1;
+    drop(sink);
+    takes
 }
 
-fn lent_source_gives(mut small: Small) -> bool {
-    gives(&mut small) && left_in(&small) == 1
-}
-
-fn lent_peers_agree(alloc: Global) -> Option<bool> {
-    let small = source(alloc, "abc", "-")?;
-    Some(lent_source_gives(small) && lent_sink_takes(MemorySink::new(alloc, Items::new(alloc))))
+fn lent_source_gives(alloc: Global) -> bool {
+    let Some(mut small) = source(alloc, "abc", "-") else {
+        return false;
+    };
+    let gives = gives(&mut small) && left_in(&small) == 1;
+    drop(small);
+    gives
 }
 
 #[test]
 fn lent_peers_are_peers(rt: HostRuntime) {
-    assert!(rt; lent_peers_agree(rt.alloc()) == Some(true));
+    assert!(rt; lent_source_gives(rt.alloc()) && lent_sink_takes(rt.alloc()));
 }

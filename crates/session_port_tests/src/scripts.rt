@@ -9,6 +9,7 @@ use plain::{Bytes, Items, Json};
 use session_peers::{HostileHost, NullAnalysis, ScriptHost, ScriptStep};
 use session_port::{Command, Host, HostError, HostEvent, JobResult, JobValue, TaskBody, TaskMsg};
 use std::alloc::Global;
+use std::process::Abort;
 
 /// A message that a job has this result.
 fn one_message(alloc: Global, job: u64, end: JobResult) -> HostEvent {
@@ -50,7 +51,8 @@ fn end(alloc: Global, word: &str) -> JobResult {
 
 fn supply(alloc: Global, words: &str) -> Option<ScriptStep> {
     let (job, word) = cut(words, " ");
-    Some(ScriptStep::Supply(job.parse::<u64>().ok()?, end(alloc, word)))
+    let job = job.parse::<u64>().ok()?;
+    Some(ScriptStep::Supply(job, end(alloc, word)))
 }
 
 /// `finish` with the numbers of jobs, `stop` with a job and the revision that it saw, `supply` with a job and its end; `bytes`,
@@ -58,7 +60,7 @@ fn supply(alloc: Global, words: &str) -> Option<ScriptStep> {
 fn step(alloc: Global, words: &str) -> Option<ScriptStep> {
     let (word, rest) = cut(words, " ");
     match word {
-        "finish" => Some(ScriptStep::Finish(numbers(alloc, rest)?)),
+        "finish" => Some(ScriptStep::Finish(numbers(alloc, rest))),
         "stop" => stop(rest),
         "supply" => supply(alloc, rest),
         "timer" => Some(ScriptStep::Give(HostEvent::Timer(5))),
@@ -69,16 +71,18 @@ fn step(alloc: Global, words: &str) -> Option<ScriptStep> {
     }
 }
 
-fn push_step(alloc: Global, steps: &mut Items<ScriptStep>, words: &str) -> Option<()> {
-    steps.push(step(alloc, words)?).ok()
+fn push_step(alloc: Global, steps: &mut Items<ScriptStep>, words: &str) {
+    if let Some(step) = step(alloc, words) {
+        let _ = steps.push(step);
+    }
 }
 
-fn steps(alloc: Global, words: &str) -> Option<Items<ScriptStep>> {
+fn steps(alloc: Global, words: &str) -> Items<ScriptStep> {
     let mut steps = Items::new(alloc);
     for one in words.split(", ") {
-        push_step(alloc, &mut steps, one)?;
+        push_step(alloc, &mut steps, one);
     }
-    Some(steps)
+    steps
 }
 
 /// What an order comes to.
@@ -96,60 +100,62 @@ fn order(host: &mut ScriptHost<'_, NullAnalysis>, commands: Items<Command>) -> &
     order_name(host.order(commands))
 }
 
-/// What a first order comes to, so many events then, and the calls.
+/// Adds what a first order comes to, so many events then, and the calls.
 fn run(
     alloc: Global,
+    text: &mut String,
     host: &mut ScriptHost<'_, NullAnalysis>,
     commands: Items<Command>,
     count: u32,
-) -> String
+)
     requires { AreRising host.old.handed (spawned commands) }
 {
-    let mut text = String::new(alloc);
-    add(&mut text, order(host, commands));
-    add(&mut text, " > ");
-    add_run(alloc, &mut text, host, count);
-    text
+    add(text, order(host, commands));
+    add(text, " > ");
+    add_run(alloc, text, host, count);
 }
 
 /// The one function that owns a host with a script and commands.
-fn run_in(
-    alloc: Global,
-    mut host: ScriptHost<'_, NullAnalysis>,
-    commands: Items<Command>,
-    count: u32,
-) -> String
-    requires { AreRising host.handed (spawned commands) }
-{
-    run(alloc, &mut host, commands, count)
-}
-
 fn run_script(
     alloc: Global,
+    text: &mut String,
     steps: Items<ScriptStep>,
     fails: Items<u64>,
     commands: Items<Command>,
     count: u32,
-) -> String
+)
     requires { AreRising 0 (spawned commands) }
 {
     let analysis = NullAnalysis(alloc);
-    let Ok(host) = ScriptHost::new(alloc, &analysis, steps, fails) else {
-        return String::new(alloc);
+    let mut host = match ScriptHost::new(alloc, &analysis, steps, fails) {
+        Ok(host) => host,
+        Err(_) => {
+            drop(commands);
+            return;
+        }
     };
-    run_in(alloc, host, commands, count)
+    run(alloc, text, &mut host, commands, count);
+    drop(host);
 }
 
-fn agrees(alloc: Global, line: &str) -> Option<bool> {
+fn agrees(alloc: Global, line: &str) -> bool {
     let (orders, rest) = cut(line, " > ");
     let (fails, rest) = cut(rest, " > ");
     let (script, rest) = cut(rest, " > ");
     let (count, wanted) = cut(rest, " > ");
-    let count = count.parse::<u32>().ok()?;
-    let fails = numbers(alloc, fails)?;
-    let steps = steps(alloc, script)?;
-    let commands = commands_of(alloc, orders)?;
-    Some(run_script(alloc, steps, fails, commands, count).as_str() == wanted)
+    let count = count.parse::<u32>().unwrap_or(0);
+    let mut text = String::new(alloc);
+    let Some(commands) = commands_of(alloc, orders) else {
+        return false;
+    };
+    let (steps, fails) = (steps(alloc, script), numbers(alloc, fails));
+    run_script(alloc, &mut text, steps, fails, commands, count);
+    text.as_str() == wanted
+}
+
+/// Asserts that a script comes to what its line says.
+fn check_script(rt: &impl Abort, alloc: Global, line: &str) {
+    assert!(rt; agrees(alloc, line), "at {line}");
 }
 
 // Each script: whether the jobs 7 and 9 are ordered first, the second a request's too, a check or the host's own, or nothing; the numbers of the calls that fail; the steps; how
@@ -163,7 +169,7 @@ const FINISHING: &str =
 
 #[test]
 fn a_script_finishes_jobs(rt: HostRuntime) {
-    assert!(rt; agrees(rt.alloc(), FINISHING) == Some(true));
+    check_script(&rt, rt.alloc(), FINISHING);
 }
 
 /// Job 7 is stopped by steps of which most give nothing.
@@ -172,7 +178,7 @@ const STOPPING: &str =
 
 #[test]
 fn a_script_stops_jobs(rt: HostRuntime) {
-    assert!(rt; agrees(rt.alloc(), STOPPING) == Some(true));
+    check_script(&rt, rt.alloc(), STOPPING);
 }
 
 /// Job 9 is a check: it is finished as a request's, and not supplied.
@@ -181,7 +187,7 @@ const CHECKING: &str =
 
 #[test]
 fn a_script_finishes_a_check(rt: HostRuntime) {
-    assert!(rt; agrees(rt.alloc(), CHECKING) == Some(true));
+    check_script(&rt, rt.alloc(), CHECKING);
 }
 
 /// Job 9 is the host's own: it is not finished, and gets no end that does not fit it. Job 7 is not supplied.
@@ -193,8 +199,8 @@ const LATE: &str = "builds > - > supply 9 late > 2 > taken > 9: cancelled;|ended
 
 #[test]
 fn a_script_supplies_ends(rt: HostRuntime) {
-    assert!(rt; agrees(rt.alloc(), SUPPLYING) == Some(true));
-    assert!(rt; agrees(rt.alloc(), LATE) == Some(true));
+    check_script(&rt, rt.alloc(), SUPPLYING);
+    check_script(&rt, rt.alloc(), LATE);
 }
 
 /// The first order fails.
@@ -203,7 +209,7 @@ const FAILING: &str =
 
 #[test]
 fn a_script_fails_an_order(rt: HostRuntime) {
-    assert!(rt; agrees(rt.alloc(), FAILING) == Some(true));
+    check_script(&rt, rt.alloc(), FAILING);
 }
 
 fn push(events: &mut Items<HostEvent>, event: HostEvent) {
@@ -232,28 +238,25 @@ fn order_hostile(host: &mut HostileHost, commands: Items<Command>) -> &'static s
     order_name(Host::<NullAnalysis>::order(host, commands))
 }
 
-/// What a first order comes to, five events then, and the calls.
-fn run_hostile(alloc: Global, host: &mut HostileHost, commands: Items<Command>) -> String
+/// Adds what a first order comes to, five events then, and the calls.
+fn run_hostile(alloc: Global, text: &mut String, host: &mut HostileHost, commands: Items<Command>)
     requires { AreRising host.old.handed (spawned commands) }
 {
-    let mut text = String::new(alloc);
-    add(&mut text, order_hostile(host, commands));
-    add(&mut text, " > ");
-    add_run(alloc, &mut text, host, 5);
-    text
+    add(text, order_hostile(host, commands));
+    add(text, " > ");
+    add_run(alloc, text, host, 5);
 }
 
 /// The one function that owns a host that makes results up.
-fn run_made_up(alloc: Global, events: Items<HostEvent>, commands: Items<Command>) -> String
-    requires { AreRising 0 (spawned commands) }
-{
-    let mut host = HostileHost::new(alloc, events);
-    run_hostile(alloc, &mut host, commands)
-}
-
-fn made_up_agrees(alloc: Global, wanted: &str) -> Option<bool> {
-    let commands = commands_of(alloc, "jobs")?;
-    Some(run_made_up(alloc, made_up(alloc), commands).as_str() == wanted)
+fn made_up_agrees(alloc: Global, wanted: &str) -> bool {
+    let Some(commands) = commands_of(alloc, "jobs") else {
+        return false;
+    };
+    let mut host = HostileHost::new(alloc, made_up(alloc));
+    let mut text = String::new(alloc);
+    run_hostile(alloc, &mut text, &mut host, commands);
+    drop(host);
+    text.as_str() == wanted
 }
 
 const MADE_UP: &str =
@@ -261,7 +264,7 @@ const MADE_UP: &str =
 
 #[test]
 fn made_up_results(rt: HostRuntime) {
-    assert!(rt; made_up_agrees(rt.alloc(), MADE_UP) == Some(true));
+    assert!(rt; made_up_agrees(rt.alloc(), MADE_UP));
 }
 
 /// The next event of a host that is handed over.
@@ -278,18 +281,18 @@ fn is_first(alloc: Global, event: Result<HostEvent, HostError>) -> bool {
 }
 
 /// Whether a host that is lent gives its first event, and records it.
-fn lent_gives(alloc: Global, mut host: ScriptHost<'_, NullAnalysis>) -> bool {
-    is_first(alloc, next_of(&mut host)) && host.calls().len() == 1
-}
-
-fn lent_host_agrees(alloc: Global) -> Option<bool> {
-    let steps = steps(alloc, "bytes ab, finish 9 8 9, finish 9, end, finish 9 7")?;
+fn lent_host_gives(alloc: Global) -> bool {
+    let steps = steps(alloc, "bytes ab, finish 9 8 9, finish 9, end, finish 9 7");
     let analysis = NullAnalysis(alloc);
-    let host = ScriptHost::new(alloc, &analysis, steps, Items::new(alloc)).ok()?;
-    Some(lent_gives(alloc, host))
+    let Ok(mut host) = ScriptHost::new(alloc, &analysis, steps, Items::new(alloc)) else {
+        return false;
+    };
+    let gives = is_first(alloc, next_of(&mut host)) && host.calls().len() == 1;
+    drop(host);
+    gives
 }
 
 #[test]
 fn a_lent_host_is_one(rt: HostRuntime) {
-    assert!(rt; lent_host_agrees(rt.alloc()) == Some(true));
+    assert!(rt; lent_host_gives(rt.alloc()));
 }

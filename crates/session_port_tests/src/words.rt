@@ -13,20 +13,19 @@ pub fn cut<'a>(text: &'a str, mark: &str) -> (&'a str, &'a str) {
     }
 }
 
-fn push_number(numbers: &mut Items<u64>, word: &str) -> Option<()> {
-    numbers.push(word.parse::<u64>().ok()?).ok()
+fn push_number(numbers: &mut Items<u64>, word: &str) {
+    if let Ok(number) = word.parse::<u64>() {
+        let _ = numbers.push(number);
+    }
 }
 
-/// The numbers that words are, or none where a `-` stands.
-pub fn numbers(alloc: Global, words: &str) -> Option<Items<u64>> {
+/// The numbers among words, none where a `-` stands.
+pub fn numbers(alloc: Global, words: &str) -> Items<u64> {
     let mut numbers = Items::new(alloc);
-    if words == "-" {
-        return Some(numbers);
-    }
     for word in words.split(' ') {
-        push_number(&mut numbers, word)?;
+        push_number(&mut numbers, word);
     }
-    Some(numbers)
+    numbers
 }
 
 /// Adds words to a text.
@@ -111,6 +110,7 @@ pub fn add_event(alloc: Global, text: &mut String, event: Result<HostEvent, Host
         Ok(event) => add_given(alloc, text, event),
         Err(_) => add(text, "failed"),
     }
+    drop(event);
     add(text, "|");
 }
 

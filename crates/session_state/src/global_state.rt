@@ -1,101 +1,52 @@
-// The session's state and its turns.
-ghost use Rattle.std.specs.Prelude.{◌≡◌, ◌≤◌, [], IfOk, OnOk, Some, is_some, not};
-ghost use Rattle.lsp_frame.specs.Pending.{IsAbove, id_of, is_pending};
+// The session's state, as its callers see it.
+ghost use Rattle.std.specs.Prelude.{◌≡◌, ◌≤◌, IfOk, OnOk, Some, is_some, not};
+ghost use Rattle.lsp_frame.specs.Pending.{id_of, is_pending};
 ghost use Rattle.lsp_frame.specs.Written.{AreWritable};
 ghost use Rattle.lsp_frame.specs.declared.message.Message.TheVariants.{Response as ResponseMessage};
+ghost use Rattle.notify.specs.Writing.{HoldsPlain};
 ghost use Rattle.outgoing.specs.Outgoing.{number_limit};
-ghost use Rattle.turn_parts.specs.Meets.{Meets, Gives};
-ghost use Rattle.turn_parts.specs.Working.{ordered, logged};
-ghost use Rattle.client.specs.Steps.{logged_if};
+ghost use Rattle.turn_parts.specs.Meets.{Meets};
+ghost use Rattle.turn_parts.specs.Working.{written};
+ghost use Rattle.client.specs.Steps.{asked_for, notification_of};
 ghost use Rattle.desk.specs.Meaning.{Meaning, meaning_of};
 ghost use Rattle.desk.specs.Steps.{responded, cancelled};
-ghost use Rattle.session_model.specs.Machine.{at_desk, closed, counted, facts_of, happened, kept, revised, step, taken_in};
-ghost use Rattle.session_model.specs.State.{macros_loaded_in, scene_of, snapshot_of, first_status, fresh, fresh_at};
+ghost use Rattle.session_files.specs.Folds.{is_due};
+ghost use Rattle.workspaces.specs.Fetches.{fetch_to_start, start_fetch};
+ghost use Rattle.session_model.specs.Fetching.{with_fetches};
+ghost use Rattle.session_model.specs.Machine.{answer_taken, at_client, files_processed, step, with_workspaces};
+ghost use Rattle.session_model.specs.State.{snapshot_of, fresh, fresh_at};
+ghost use Rattle.session_model.specs.Status.{is_quiescent};
 ghost use Rattle.session_model.specs.declared.input.Input.TheVariants.{Start, Next};
 
-mod asking;
-mod building;
-mod checking;
-mod crates;
-mod fetching;
-mod filing;
-mod loading;
-mod messages;
-mod notifications;
-mod refreshing;
-mod registering;
-mod saving;
-mod settings;
-mod switching;
-mod telling;
-mod timing;
-mod watching;
-
-use analysis_host::{Analysis, GlobalStateSnapshot, SnapshotParts};
-use client::Client;
-use desk::{Desk, Scene};
-use docs_vfs::SourceRoots;
+use crate::turns;
+use analysis_host::{Analysis, GlobalStateSnapshot};
+use client::ReqHandler;
 use lsp_frame::{RequestId, Response};
-use plain::{Items, NoMemory, Text};
+use notify::Outgo;
+use plain::{NoMemory, Text};
 use ra_config::Config;
-use session_files::SessionFiles;
-use session_model::{Counters, Event, Facts, TurnError};
-use session_port::{Command, LogCode};
-use status::{Health, Status};
+use session_model::{Counters, Event, TurnError};
+use session_store::Store;
 use std::alloc::{AllocError, Global};
 use std::marker::Model;
-use std::sync::Arc;
 use turn_parts::TurnOut;
-use workspaces::Workspaces;
+use workspaces::FetchRequest;
 
 /// The state of a session.
 #[derive(Drop)]
 pub struct GlobalState {
-    alloc: Global,
-    client: Client,
-    files: SessionFiles,
-    desk: Desk,
-    workspaces: Workspaces,
-    /// The source roots of the workspaces, as a switch made them.
-    roots: SourceRoots,
-    /// Their parents, where the settings don't have them yet.
-    parents: Option<Items<(u32, u32)>>,
-    /// The status that was told last.
-    status: Status,
-}
-
-// No source roots.
-fn no_roots(alloc: Global) -> Result<SourceRoots, NoMemory>
-    ensures { IfOk result (λ roots. roots ≡ []) }
-{
-    SourceRoots::new(Items::new(alloc))
-}
-
-// The status that the first one is compared with: all is well, and nothing is worked on.
-fn first_status() -> Status
-    ensures { result ≡ first_status }
-{
-    Status {
-        health: Health::Ok,
-        quiescent: true,
-        message: None,
-    }
+    store: Store,
 }
 
 impl Model for GlobalState {
-    ghost use Rattle.docs_vfs.specs.contracts.file_table.FileTable as files_of;
-    ghost use Rattle.client.specs.contracts.handler.ReqHandler as handler;
-    ghost use Rattle.session_port.specs.contracts.job.Job as job;
-    ghost use Rattle.status.specs.contracts.status.Status as status_of;
-    ghost use Rattle.workspaces.specs.contracts.state.Workspaces as workspaces_of;
-    ghost use Rattle.session_model.specs.Codes.{state_code};
+    ghost use Rattle.session_store.specs.contracts.state.Store as store_of;
     ghost use Rattle.session_model.specs.State.{State};
 
     ghost Value = { State };
 
-    ghost coded = { state_code handler.the_row.coded files_of.the_row.coded job.the_row.coded workspaces_of.the_row.coded status_of.the_row.coded };
+    ghost coded = { store_of.the_row.coded };
 
-    ghost view = { λ g. record { client = g.client; files = g.files; desk = g.desk; workspaces = g.workspaces; sources = record { roots = g.roots; parents = g.parents }; status = g.status } };
+    ghost view = { λ g. g.store };
 }
 
 impl GlobalState {
@@ -104,14 +55,7 @@ impl GlobalState {
         ensures { IfOk result (λ state. state ≡ fresh settings) }
     {
         Ok(GlobalState {
-            alloc,
-            client: Client::new(alloc, settings)?,
-            files: SessionFiles::new(alloc)?,
-            desk: Desk::new(alloc),
-            workspaces: Workspaces::new(alloc)?,
-            roots: no_roots(alloc)?,
-            parents: None,
-            status: first_status(),
+            store: Store::new(alloc, settings)?,
         })
     }
 
@@ -121,49 +65,22 @@ impl GlobalState {
         ensures { IfOk result (λ state. state ≡ fresh_at used settings) }
     {
         Ok(GlobalState {
-            alloc,
-            client: Client::new_at(alloc, used.outgoing, settings)?,
-            files: SessionFiles::new_at(alloc, used.files, used.revisions)?,
-            desk: Desk::new_at(alloc, used.turns, used.jobs),
-            workspaces: Workspaces::new_at(alloc, used.loader_settings)?,
-            roots: no_roots(alloc)?,
-            parents: None,
-            status: first_status(),
+            store: Store::new_at(alloc, settings, used)?,
         })
-    }
-
-    // Whether all macros are there that are wanted: none are, or the last load succeeded.
-    fn macros_loaded(&self) -> bool
-        ensures { result ≡ macros_loaded_in self.now.client.settings self.now.workspaces }
-    {
-        !self.loads_macros() || self.workspaces.are_macros_loaded()
     }
 
     /// The snapshot of the present.
     pub fn snapshot(&self) -> Result<GlobalStateSnapshot, AllocError>
         ensures { IfOk result (λ snapshot. snapshot ≡ snapshot_of self.now) }
     {
-        Ok(GlobalStateSnapshot::new(SnapshotParts {
-            world: self.files.world()?,
-            file_ids: self.files.file_ids()?,
-            versions: self.files.versions()?,
-            config: Arc::try_clone(self.client.settings())?,
-            proc_macros_loaded: self.macros_loaded(),
-            workspaces: self.workspaces.share_present()?,
-            workspaces_version: self.workspaces.version(),
-            revision: self.files.revision(),
-        }))
+        self.store.snapshot()
     }
 
-    // What a request meets.
-    fn scene(&self) -> Result<Scene, AllocError>
-        ensures { IfOk result (λ scene. scene ≡ scene_of self.now) }
+    /// Whether no files are loading, and nothing that renews the workspaces is in progress or waits for a timer.
+    pub fn is_quiescent(&self) -> bool
+        ensures { result ≡ is_quiescent self.now.files self.now.workspaces }
     {
-        Ok(Scene {
-            snapshot: self.snapshot()?,
-            loading: self.files.is_loading(),
-            incomplete: self.workspaces.is_incomplete(),
-        })
+        self.store.is_quiescent()
     }
 }
 
@@ -181,7 +98,7 @@ impl GlobalState {
         ensures others { self.new ≡ record self.old { desk = self.new.desk } }
         ensures after { OnOk result (record { state = self.new.desk; out = out.new } ≡ responded ticket (λ id. record response { id = Some id }) (record { state = self.old.desk; out = out.old })) }
     {
-        self.desk.respond(ticket, response, out)
+        self.store.respond(ticket, response, out)
     }
 
     /// Answers the request of an id as one that the client cancelled, and closes it; false where it isn't pending. After an `Err` the
@@ -191,152 +108,86 @@ impl GlobalState {
         ensures others { self.new ≡ record self.old { desk = self.new.desk } }
         ensures after { OnOk result (record { state = self.new.desk; out = out.new } ≡ cancelled id (record { state = self.old.desk; out = out.old })) }
     {
-        self.desk.cancel(id, out)
+        self.store.cancel(id, out)
     }
 
     /// Whether no request waits under a ticket.
     pub fn is_completed(&self, ticket: u64) -> bool
         ensures { result ≡ not (is_some (id_of ticket self.now.desk.pending)) }
     {
-        self.desk.is_completed(ticket)
+        self.store.is_completed(ticket)
     }
 }
 
-// What is ordered.
+// What is agreed with the client.
 impl GlobalState {
-    #[tactic(auto, unfolding(turn_parts::specs::Working::ordered))]
-    fn order(&mut self, command: Command, out: &mut TurnOut) -> Result<(), TurnError>
-        ensures gives { Gives result (ordered command (record { state = self.old; out = out.old })) self.new out.new }
-        ensures same { self.new ≡ self.old }
-    {
-        out.order(command)?;
-        Ok(())
-    }
-
-    #[tactic(auto, unfolding(turn_parts::specs::Working::logged))]
-    fn log(&mut self, code: LogCode, text: Text, out: &mut TurnOut) -> Result<(), TurnError>
-        ensures gives { Gives result (logged code text (record { state = self.old; out = out.old })) self.new out.new }
-        ensures same { self.new ≡ self.old }
-    {
-        self.order(Command::Log(code, text), out)
-    }
-
-    // A log line, if there is a text.
-    fn log_if(
+    /// Sends a request of the session's own, whose answer is followed by what `then` says. After an `Err` the state is spent.
+    pub fn send_request(
         &mut self,
-        code: LogCode,
-        text: Option<Text>,
+        message: Outgo,
+        then: ReqHandler,
         out: &mut TurnOut,
     ) -> Result<(), TurnError>
-        ensures gives { Gives result (logged_if code text (record { state = self.old; out = out.old })) self.new out.new }
+        requires { HoldsPlain message }
+        ensures { Meets result (at_client (asked_for message then) (record { state = self.old; out = out.old })) self.new out.new }
+    {
+        self.store.send_request(message, then, out)
+    }
+
+    /// Sends a notification.
+    pub fn send_notification(&mut self, message: Outgo, out: &mut TurnOut) -> Result<(), NoMemory>
+        requires { HoldsPlain message }
+        ensures after { OnOk result (written (notification_of message) (record { state = self.old; out = out.old }) ≡ record { state = self.new; out = out.new }) }
         ensures same { self.new ≡ self.old }
     {
-        match text {
-            None => Ok(()),
-            Some(text) => self.log(code, text, out),
-        }
+        self.store.send_notification(message, out)
+    }
+
+    /// The client answers what it was asked. Other settings than before ask for a fetch. That no request has the answer's id
+    /// is logged. After an `Err` the state is spent.
+    pub fn complete_request(
+        &mut self,
+        response: Response,
+        out: &mut TurnOut,
+    ) -> Result<(), TurnError>
+        ensures { Meets result (answer_taken response (record { state = self.old; out = out.old })) self.new out.new }
+    {
+        session_notices::complete_request(&mut self.store, response, out)
+    }
+}
+
+// Fetches and files.
+impl GlobalState {
+    /// Takes the fetch that waits out of the queue, with its cause, where fetches may start and none is in progress: it is in
+    /// progress from then on.
+    pub fn dequeue_fetch(&mut self, may: bool) -> Option<(Text, FetchRequest)>
+        ensures value { result ≡ fetch_to_start may self.old.workspaces.fetches }
+        ensures after { self.new ≡ with_workspaces (with_fetches (start_fetch may) self.old.workspaces) self.old }
+    {
+        session_renewal::dequeue_fetch(&mut self.store, may)
+    }
+
+    /// What has changed goes into the world, unless files are loading: one change, and so one revision. The settings files
+    /// among it go into the settings, and the fetch that it asks for waits for a timer. Answers whether something has
+    /// changed. After an `Err` the state is spent.
+    pub fn process_changes(&mut self, out: &mut TurnOut) -> Result<bool, TurnError>
+        ensures meets { Meets result (files_processed (record { state = self.old; out = out.old })) self.new out.new }
+        ensures some { IfOk result (λ some. some ≡ is_due self.old.files) }
+    {
+        session_notices::process_changes(&mut self.store, out)
     }
 }
 
 // Turns.
 impl GlobalState {
-    // The turn is counted.
-    #[tactic(auto, unfolding(session_model::specs::Machine::counted))]
-    fn count(&mut self, out: &mut TurnOut) -> Result<(), TurnError>
-        ensures above { OnOk result (IsAbove self.new.desk.turns self.new.desk.pending) }
-        ensures meets { Meets result (counted (record { state = self.old; out = out.old })) self.new out.new }
-    {
-        self.desk.count(out)
-    }
-
-    #[tactic(auto, unfolding(session_model::specs::Machine::happened))]
-    fn on_event<A: Analysis>(
-        &mut self,
-        event: Event,
-        analysis: &A,
-        out: &mut TurnOut,
-    ) -> Result<(), TurnError>
-        requires { IsAbove self.old.desk.turns self.old.desk.pending }
-        ensures { Meets result (happened (meaning_of A.decodes A.answer) event (record { state = self.old; out = out.old })) self.new out.new }
-    {
-        match event {
-            Event::Lsp(message) => self.on_message(message, analysis, out),
-            Event::Task(batch) => self.on_batch(batch, analysis, out),
-            Event::Vfs(messages) => self.on_loader(messages, out),
-            Event::Deferred(tasks) => self.resume_all(tasks, out),
-            Event::Timer(ticket) => self.on_timer(ticket, out),
-        }
-    }
-
-    // The turn is counted, and its event is taken in.
-    #[tactic(auto, unfolding(session_model::specs::Machine::taken_in))]
-    fn take_in<A: Analysis>(
-        &mut self,
-        event: Event,
-        analysis: &A,
-        out: &mut TurnOut,
-    ) -> Result<(), TurnError>
-        ensures { Meets result (taken_in (meaning_of A.decodes A.answer) event (record { state = self.old; out = out.old })) self.new out.new }
-    {
-        self.count(out)?;
-        self.on_event(event, analysis, out)
-    }
-
-    // The jobs that this turn hands over are out.
-    #[tactic(auto, unfolding(session_model::specs::Machine::kept))]
-    fn keep_jobs(&mut self, before: usize, out: &mut TurnOut) -> Result<(), TurnError>
-        ensures { Meets result (kept before (record { state = self.old; out = out.old })) self.new out.new }
-    {
-        self.desk.keep_jobs(before, out)
-    }
-
-    // The host is told of a revision that rose in this turn.
-    #[tactic(auto, unfolding(session_model::specs::Machine::revised))]
-    fn revise(&mut self, before: u64, out: &mut TurnOut) -> Result<(), TurnError>
-        ensures { Gives result (revised before (record { state = self.old; out = out.old })) self.new out.new }
-    {
-        let revision = self.files.revision();
-        if revision == before {
-            return Ok(());
-        }
-        self.order(Command::Revise(revision), out)
-    }
-
-    // What closes a turn.
-    fn close_turn(&mut self, facts: Facts, out: &mut TurnOut) -> Result<(), TurnError>
-        ensures { Meets result (closed facts (record { state = self.old; out = out.old })) self.new out.new }
-    {
-        self.keep_jobs(facts.ordered, out)?;
-        self.revise(facts.revision, out)?;
-        self.set_timer(out)
-    }
-
-    // The facts before a turn.
-    fn facts(&self, out: &TurnOut) -> Facts
-        ensures { result ≡ facts_of (record { state = self.now; out = out.now }) }
-    {
-        Facts {
-            revision: self.files.revision(),
-            ordered: out.commands().len(),
-            quiescent: self.is_quiescent(),
-        }
-    }
-
     /// Turn 0. It uses no number of the turns. After an `Err` the state is spent.
-    #[tactic(auto, unfolding(session_model::specs::Machine::step, session_model::specs::Machine::register_part, session_model::specs::Machine::begin_part, session_model::specs::Machine::fetch_part, session_model::specs::Machine::status_part, session_model::specs::Machine::closing_part, turn_parts::specs::Working::within))]
     pub fn start(&mut self, out: &mut TurnOut) -> Result<(), TurnError>
         ensures { (meaning : Meaning) → Meets result (step meaning Start (record { state = self.old; out = out.old })) self.new out.new }
     {
-        let facts = self.facts(out);
-        self.report_status(out)?;
-        self.register_saves(out)?;
-        self.begin_fetches(out)?;
-        self.start_fetch(true, out)?;
-        self.close_turn(facts, out)
+        turns::start(&mut self.store, out)
     }
 
     /// One turn. After an `Err` the state is spent.
-    #[tactic(auto, unfolding(session_model::specs::Machine::step, session_model::specs::Machine::event_part, session_model::specs::Machine::switch_part, session_model::specs::Machine::files_part, session_model::specs::Machine::quiet_part, session_model::specs::Machine::fetch_part, session_model::specs::Machine::build_part, session_model::specs::Machine::status_part, session_model::specs::Machine::closing_part, turn_parts::specs::Working::within))]
     pub fn handle_event<A: Analysis>(
         &mut self,
         event: Event,
@@ -345,15 +196,6 @@ impl GlobalState {
     ) -> Result<(), TurnError>
         ensures { Meets result (step (meaning_of A.decodes A.answer) (Next event) (record { state = self.old; out = out.old })) self.new out.new }
     {
-        let facts = self.facts(out);
-        self.take_in(event, analysis, out)?;
-        self.switch_workspaces(out)?;
-        self.process(out)?;
-        self.refresh(facts, out)?;
-        let may = self.may_fetch();
-        self.start_fetch(may, out)?;
-        self.start_runs(out)?;
-        self.report_status(out)?;
-        self.close_turn(facts, out)
+        turns::handle_event(&mut self.store, event, analysis, out)
     }
 }

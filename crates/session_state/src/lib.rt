@@ -2,6 +2,8 @@
 #![tactic(auto)]
 
 mod global_state;
+mod messages;
+mod turns;
 
 pub use global_state::GlobalState;
 pub use plain::NoMemory;

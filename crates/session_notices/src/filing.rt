@@ -1,0 +1,186 @@
+// Documents, the loader's files, and the world that is made of them.
+ghost use Rattle.std.specs.Prelude.{◌≡◌, ◌<◌, ◌^◌, length, Ok, IfOk};
+ghost use Rattle.docs_vfs.specs.FileUrls.{path_of};
+ghost use Rattle.turn_parts.specs.Meets.{Meets, Gives};
+ghost use Rattle.session_files.specs.Folds.{due_changes, is_due};
+ghost use Rattle.session_files.specs.Steps.{changed, closed as closed_document, loaded, opened, processed};
+ghost use Rattle.session_model.specs.Machine.{at_files, brought, changed_at, closed_at, files_followed, files_processed, opened_at};
+ghost use Rattle.session_model.specs.State.{columns_in, excludes_in};
+ghost use Rattle.session_model.specs.Timing.{bring_files, brings_files};
+
+use crate::timing::{do_effects, effects_for, renew_timer_if};
+use docs_vfs::{ChangedFile, UrlFault, VfsPath, path_of_url};
+use notify::{DidChange, DidOpen};
+use plain::{Items, Text};
+use session_model::TurnError;
+use session_port::{LoaderMsg, LogCode};
+use session_store::Store;
+use text_core::ContentChange;
+use turn_parts::TurnOut;
+
+// Whether a loader's message brings files.
+fn brings_files(message: &LoaderMsg) -> bool
+    ensures { result ≡ brings_files message.now }
+{
+    match message {
+        LoaderMsg::Changed { .. } | LoaderMsg::Loaded { .. } => true,
+        LoaderMsg::Progress { .. } => false,
+    }
+}
+
+// Whether one of these does.
+fn bring_files(messages: &[LoaderMsg]) -> bool
+    ensures { result ≡ bring_files messages.now }
+{
+    messages.iter().any(|message| brings_files(message))
+}
+
+fn open_at(
+    store: &mut Store,
+    path: VfsPath,
+    version: i32,
+    text: Text,
+    out: &mut TurnOut,
+) -> Result<(), TurnError>
+    requires { length text < 2 ^ 32 }
+    ensures { Meets result (at_files (opened (excludes_in store.old.client.settings) path version text) (record { state = store.old; out = out.old })) store.new out.new }
+{
+    let excludes = store.client.settings().files_exclude();
+    store.files.open(excludes, path, version, text, out)
+}
+
+// A document is open at the path of its URL.
+#[tactic(auto, unfolding(session_model::specs::Machine::opened_at))]
+pub(crate) fn on_open(
+    store: &mut Store,
+    document: DidOpen,
+    out: &mut TurnOut,
+) -> Result<(), TurnError>
+    requires { length document.text < 2 ^ 32 }
+    ensures { Meets result (opened_at (path_of document.uri) document (record { state = store.old; out = out.old })) store.new out.new }
+{
+    match path_of_url(store.alloc, document.uri.as_str()) {
+        Ok(path) => open_at(store, path, document.version, document.text, out),
+        Err(UrlFault::NoMemory) => Err(TurnError::NoMemory),
+        Err(UrlFault::NotFile | UrlFault::HasHost | UrlFault::NotText) => {
+            store.log(LogCode::BadPath, document.uri, out)
+        }
+    }
+}
+
+fn change_at(
+    store: &mut Store,
+    path: VfsPath,
+    version: i32,
+    changes: Items<ContentChange>,
+    out: &mut TurnOut,
+) -> Result<(), TurnError>
+    ensures { Meets result (at_files (changed (columns_in store.old.client.settings) path version changes) (record { state = store.old; out = out.old })) store.new out.new }
+{
+    let columns = store.client.settings().encodings();
+    store.files.change(columns, path, version, changes, out)
+}
+
+// A document is changed at the path of its URL.
+#[tactic(auto, unfolding(session_model::specs::Machine::changed_at))]
+pub(crate) fn on_change(
+    store: &mut Store,
+    change: DidChange,
+    out: &mut TurnOut,
+) -> Result<(), TurnError>
+    ensures { Meets result (changed_at (path_of change.uri) change (record { state = store.old; out = out.old })) store.new out.new }
+{
+    match path_of_url(store.alloc, change.uri.as_str()) {
+        Ok(path) => change_at(store, path, change.version, change.changes, out),
+        Err(UrlFault::NoMemory) => Err(TurnError::NoMemory),
+        Err(UrlFault::NotFile | UrlFault::HasHost | UrlFault::NotText) => {
+            store.log(LogCode::BadPath, change.uri, out)
+        }
+    }
+}
+
+fn close_at(store: &mut Store, path: VfsPath, out: &mut TurnOut) -> Result<(), TurnError>
+    ensures { Meets result (at_files (λ f. Ok (closed_document path f)) (record { state = store.old; out = out.old })) store.new out.new }
+{
+    store.files.close(path, out)
+}
+
+// A document is closed at the path of its URL.
+#[tactic(auto, unfolding(session_model::specs::Machine::closed_at))]
+pub(crate) fn on_close(store: &mut Store, uri: Text, out: &mut TurnOut) -> Result<(), TurnError>
+    ensures { Meets result (closed_at (path_of uri) uri (record { state = store.old; out = out.old })) store.new out.new }
+{
+    match path_of_url(store.alloc, uri.as_str()) {
+        Ok(path) => close_at(store, path, out),
+        Err(UrlFault::NoMemory) => Err(TurnError::NoMemory),
+        Err(UrlFault::NotFile | UrlFault::HasHost | UrlFault::NotText) => {
+            store.log(LogCode::BadPath, uri, out)
+        }
+    }
+}
+
+// What a loader brings, in the files.
+fn load(store: &mut Store, messages: Items<LoaderMsg>, out: &mut TurnOut) -> Result<(), TurnError>
+    ensures { Meets result (at_files (loaded messages) (record { state = store.old; out = out.old })) store.new out.new }
+{
+    store.files.load(messages, out)
+}
+
+/// What a loader brings. Where it brings files, a fetch that waits gets a new timer.
+pub fn on_loader(
+    store: &mut Store,
+    messages: Items<LoaderMsg>,
+    out: &mut TurnOut,
+) -> Result<(), TurnError>
+    ensures { Meets result (brought messages (record { state = store.old; out = out.old })) store.new out.new }
+{
+    let brings = bring_files(messages.as_slice());
+    load(store, messages, out)?;
+    renew_timer_if(store, brings, out)
+}
+
+// What has changed goes into the world, unless files are loading, and with files that came or went the source roots.
+// Answers the files that have changed.
+fn take_up(store: &mut Store, out: &mut TurnOut) -> Result<Items<ChangedFile>, TurnError>
+    ensures meets { Meets result (at_files (processed store.old.sources.roots) (record { state = store.old; out = out.old })) store.new out.new }
+    ensures changed { IfOk result (λ changed. changed ≡ due_changes store.old.files) }
+{
+    store.files.process(&store.roots, out)
+}
+
+// What follows from files that have changed is done; without any, nothing is.
+#[tactic(auto, unfolding(session_model::specs::Machine::files_followed))]
+fn follow_files(
+    store: &mut Store,
+    changed: &Items<ChangedFile>,
+    out: &mut TurnOut,
+) -> Result<(), TurnError>
+    ensures { Gives result (files_followed changed.now (record { state = store.old; out = out.old })) store.new out.new }
+{
+    if changed.is_empty() {
+        return Ok(());
+    }
+    let effects = effects_for(store, changed.as_slice())?;
+    do_effects(store, effects, out)
+}
+
+/// What has changed goes into the world, unless files are loading: one change, and so one revision. The settings files
+/// among it go into the settings, and the fetch that it asks for waits for a timer. Answers whether something has
+/// changed. After an `Err` the state is spent.
+#[tactic(auto, unfolding(session_model::specs::Machine::files_processed))]
+pub fn process_changes(store: &mut Store, out: &mut TurnOut) -> Result<bool, TurnError>
+    ensures meets { Meets result (files_processed (record { state = store.old; out = out.old })) store.new out.new }
+    ensures some { IfOk result (λ some. some ≡ is_due store.old.files) }
+{
+    let changed = take_up(store, out)?;
+    follow_files(store, &changed, out)?;
+    Ok(!changed.is_empty())
+}
+
+/// The same behind the event of a turn.
+pub fn process(store: &mut Store, out: &mut TurnOut) -> Result<(), TurnError>
+    ensures { Meets result (files_processed (record { state = store.old; out = out.old })) store.new out.new }
+{
+    process_changes(store, out)?;
+    Ok(())
+}

@@ -1,0 +1,16 @@
+//! What a client and a loader tell a session: documents, saved files, settings, folders, watched files and answers.
+#![tactic(auto)]
+
+mod asking;
+mod causes;
+mod filing;
+mod notifications;
+mod saving;
+mod settings;
+mod timing;
+mod watching;
+
+pub use asking::complete_request;
+pub use filing::{on_loader, process, process_changes};
+pub use notifications::on_notification;
+pub use timing::set_timer;

@@ -1,0 +1,100 @@
+// Build data of workspaces.
+ghost use Rattle.std.specs.Prelude.{◌≡◌, Some, IfOk, OnOk};
+ghost use Rattle.client.specs.Steps.{logged_if};
+ghost use Rattle.session_port.specs.declared.command.LogCode.TheVariants.{BuildError};
+ghost use Rattle.turn_parts.specs.Meets.{Meets, Gives};
+ghost use Rattle.session_model.specs.Building.{build_due, build_kept, rebuilt_if};
+ghost use Rattle.session_model.specs.Machine.{at_workspaces, build_handed_over, build_started, build_taken, runs_started};
+ghost use Rattle.session_model.specs.Status.{build_fault};
+
+use crate::loading::start_load;
+use desk::BuildEnd;
+use plain::NoMemory;
+use session_model::TurnError;
+use session_port::{JobKind, LogCode};
+use session_store::Store;
+use turn_parts::TurnOut;
+
+/// Asks for the macros anew, where this flag is set.
+pub fn rebuild_macros_if(
+    store: &mut Store,
+    rebuilds: bool,
+    out: &mut TurnOut,
+) -> Result<(), TurnError>
+    ensures { Gives result (at_workspaces (rebuilt_if rebuilds) (record { state = store.old; out = out.old })) store.new out.new }
+{
+    if rebuilds {
+        store.workspaces.rebuild_macros()?;
+    }
+    Ok(())
+}
+
+// What a run of build data came to is kept, where one is in progress.
+fn end_build(store: &mut Store, made: BuildEnd) -> Result<(), NoMemory>
+    ensures { OnOk result (store.new ≡ record store.old { workspaces = build_kept (Some made) store.old.workspaces }) }
+{
+    if store.workspaces.is_building() {
+        store.workspaces.end_build(made)?;
+    }
+    Ok(())
+}
+
+// The errors of the last run are logged.
+fn log_build(store: &mut Store, out: &mut TurnOut) -> Result<(), TurnError>
+    ensures { Gives result (logged_if BuildError (build_fault store.old.workspaces) (record { state = store.old; out = out.old })) store.new out.new }
+{
+    let errors = store.workspaces.build_error()?;
+    store.log_if(LogCode::BuildError, errors, out)
+}
+
+/// What a run of build data came to is kept, where one is in progress, and its errors are logged.
+#[tactic(auto, unfolding(session_model::specs::Machine::build_taken))]
+pub fn take_build(
+    store: &mut Store,
+    end: Option<BuildEnd>,
+    out: &mut TurnOut,
+) -> Result<(), TurnError>
+    ensures { Gives result (build_taken end (record { state = store.old; out = out.old })) store.new out.new }
+{
+    let Some(made) = end else {
+        return Ok(());
+    };
+    end_build(store, made)?;
+    log_build(store, out)
+}
+
+// Hands over the job of a run of build data that is to start on workspaces of this version.
+#[tactic(auto, unfolding(session_model::specs::Machine::build_handed_over))]
+fn hand_over_build(
+    store: &mut Store,
+    version: Option<u64>,
+    out: &mut TurnOut,
+) -> Result<(), TurnError>
+    ensures { Meets result (build_handed_over version (record { state = store.old; out = out.old })) store.new out.new }
+{
+    match version {
+        None => Ok(()),
+        Some(version) => store.hand_over(JobKind::FetchBuildData { version }, out),
+    }
+}
+
+// Starts the run of build data that is asked for, where neither a fetch nor another run is in progress. Answers the version of the
+// workspaces that it is on.
+#[tactic(auto, unfolding(session_model::specs::Machine::build_started))]
+fn start_build(store: &mut Store, out: &mut TurnOut) -> Result<Option<u64>, TurnError>
+    ensures meets { Meets result (build_started (record { state = store.old; out = out.old })) store.new out.new }
+    ensures value { IfOk result (λ version. version ≡ build_due store.old.workspaces) }
+{
+    let version = store.workspaces.start_build();
+    hand_over_build(store, version, out)?;
+    Ok(version)
+}
+
+/// Starts build data, else macros.
+#[tactic(auto, unfolding(session_model::specs::Machine::runs_started))]
+pub fn start_runs(store: &mut Store, out: &mut TurnOut) -> Result<(), TurnError>
+    ensures { Meets result (runs_started (record { state = store.old; out = out.old })) store.new out.new }
+{
+    let build = start_build(store, out)?;
+    start_load(store, build, out)
+}

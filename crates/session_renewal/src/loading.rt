@@ -1,0 +1,116 @@
+// Loads of the macros of workspaces.
+ghost use Rattle.std.specs.Prelude.{◌≡◌, IfOk, OnOk};
+ghost use Rattle.turn_parts.specs.Meets.{Meets};
+ghost use Rattle.session_model.specs.Loading.{crates_loaded, load_kept, load_kind};
+ghost use Rattle.session_model.specs.Machine.{crates_arrived, load_handed_over, load_started, load_taken};
+
+use crate::crates::put_crates;
+use desk::LoadEnd;
+use plain::{Items, NoMemory, Text};
+use project_model::{CrateData, MacroPath};
+use session_model::TurnError;
+use session_port::JobKind;
+use session_store::Store;
+use std::alloc::{AllocError, Global};
+use turn_parts::TurnOut;
+
+// A copy of texts by their names.
+fn copied(
+    alloc: Global,
+    lists: &[(Text, Items<Text>)],
+) -> Result<Items<(Text, Items<Text>)>, AllocError>
+    ensures { IfOk result (λ copy. copy ≡ lists.now) }
+{
+    let mut copy = Items::new(alloc);
+    for (name, texts) in lists {
+        copy.push((name.clone()?, texts.clone()?))?;
+    }
+    Ok(copy)
+}
+
+// A load of macros ends, where one is in progress. Answers the crate data that waited for it.
+fn end_load(store: &mut Store, end: Option<LoadEnd>) -> Result<Option<CrateData>, NoMemory>
+    ensures value { IfOk result (λ crates. crates ≡ crates_loaded end store.old.workspaces) }
+    ensures after { OnOk result (store.new ≡ record store.old { workspaces = load_kept end store.old.workspaces }) }
+{
+    let Some(told) = end else {
+        return Ok(None);
+    };
+    if !store.workspaces.is_loading() {
+        return Ok(None);
+    }
+    store.workspaces.end_load(told)
+}
+
+// Crate data that comes goes into the world.
+#[tactic(auto, unfolding(session_model::specs::Machine::crates_arrived))]
+fn let_in(store: &mut Store, crates: Option<CrateData>, out: &mut TurnOut) -> Result<(), TurnError>
+    ensures { Meets result (crates_arrived crates (record { state = store.old; out = out.old })) store.new out.new }
+{
+    match crates {
+        None => Ok(()),
+        Some(crates) => put_crates(store, crates, out),
+    }
+}
+
+/// The end of a load of macros is told to the workspaces, and crate data that waited for it goes into the world.
+#[tactic(auto, unfolding(session_model::specs::Machine::load_taken))]
+pub fn take_load(
+    store: &mut Store,
+    end: Option<LoadEnd>,
+    out: &mut TurnOut,
+) -> Result<(), TurnError>
+    ensures { Meets result (load_taken end (record { state = store.old; out = out.old })) store.new out.new }
+{
+    let crates = end_load(store, end)?;
+    let_in(store, crates, out)
+}
+
+// What the job of a load of these libraries is to find.
+fn load_kind(store: &Store, paths: Items<Items<(u32, MacroPath)>>) -> Result<JobKind, AllocError>
+    ensures { IfOk result (λ kind. kind ≡ load_kind store.now.client.settings paths) }
+{
+    Ok(JobKind::LoadProcMacros {
+        paths,
+        ignored: copied(
+            store.alloc,
+            store.client.settings().proc_macro_ignored(None),
+        )?,
+    })
+}
+
+// Hands over the job of a load that is to start.
+#[tactic(auto, unfolding(session_model::specs::Machine::load_handed_over))]
+fn hand_over_load(
+    store: &mut Store,
+    paths: Option<Items<Items<(u32, MacroPath)>>>,
+    out: &mut TurnOut,
+) -> Result<(), TurnError>
+    ensures { Meets result (load_handed_over paths (record { state = store.old; out = out.old })) store.new out.new }
+{
+    match paths {
+        None => Ok(()),
+        Some(paths) => {
+            let kind = load_kind(store, paths)?;
+            store.hand_over(kind, out)
+        }
+    }
+}
+
+// Starts the load that is asked for, where neither a fetch nor another load is in progress, nor this run of build data starts.
+#[tactic(auto, unfolding(session_model::specs::Machine::load_started, session_model::specs::Machine::load_handed_over))]
+pub(crate) fn start_load(
+    store: &mut Store,
+    build: Option<u64>,
+    out: &mut TurnOut,
+) -> Result<(), TurnError>
+    ensures { Meets result (load_started build (record { state = store.old; out = out.old })) store.new out.new }
+{
+    match build {
+        Some(_) => Ok(()),
+        None => {
+            let paths = store.workspaces.start_load();
+            hand_over_load(store, paths, out)
+        }
+    }
+}

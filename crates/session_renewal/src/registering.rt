@@ -1,0 +1,82 @@
+// What the client is asked to tell of.
+ghost use Rattle.std.specs.Prelude.{◌≡◌, map, IfOk};
+ghost use Rattle.turn_parts.specs.Meets.{Meets};
+ghost use Rattle.session_model.specs.Asking.{watcher_asked, watchers_asked};
+ghost use Rattle.session_model.specs.Machine.{saves_registered, watchers_registered};
+ghost use Rattle.session_model.specs.State.{watched_names};
+
+use client::ReqHandler;
+use notify::{Outgo, Watcher};
+use plain::{Items, NoMemory, Text};
+use reload::{Watcher as WatchedFiles, watchers};
+use session_model::TurnError;
+use session_store::Store;
+use std::alloc::Global;
+use turn_parts::TurnOut;
+
+fn watcher_asked(files: WatchedFiles) -> Watcher
+    ensures { result ≡ watcher_asked files }
+{
+    match files {
+        WatchedFiles::Relative { base_uri, pattern } => Watcher::Relative { base_uri, pattern },
+        WatchedFiles::Text(pattern) => Watcher::Text(pattern),
+    }
+}
+
+// What the client is asked to watch, for each of these.
+fn each_asked(alloc: Global, files: Items<WatchedFiles>) -> Result<Items<Watcher>, NoMemory>
+    ensures { IfOk result (λ asked. asked ≡ map watcher_asked files) }
+{
+    let mut asked = Items::new(alloc);
+    for one in files.into_vec() {
+        asked.push(watcher_asked(one))?;
+    }
+    Ok(asked)
+}
+
+// The names of the files that the command which discovers the projects watches.
+fn names_to_watch(store: &Store) -> Result<Items<Text>, NoMemory>
+    ensures { IfOk result (λ names. names ≡ watched_names store.now.client.settings) }
+{
+    match store.client.settings().workspace_discover_config() {
+        None => Ok(Items::new(store.alloc)),
+        Some(command) => command.files_to_watch.clone(),
+    }
+}
+
+/// The client is asked to tell of the documents that it saves, where it can be asked.
+#[tactic(auto, unfolding(session_model::specs::Machine::saves_registered, session_model::specs::Machine::asked_if))]
+pub fn register_saves(store: &mut Store, out: &mut TurnOut) -> Result<(), TurnError>
+    ensures { Meets result (saves_registered (record { state = store.old; out = out.old })) store.new out.new }
+{
+    if !store.client.settings().did_save_registration() {
+        return Ok(());
+    }
+    let files_to_watch = names_to_watch(store)?;
+    store.send_request(
+        Outgo::RegisterSave { files_to_watch },
+        ReqHandler::Ignore,
+        out,
+    )
+}
+
+// The files of the workspaces that are present, by patterns as the client takes them.
+fn files_to_watch(store: &Store) -> Result<Items<Watcher>, NoMemory>
+    ensures { IfOk result (λ asked. asked ≡ watchers_asked store.now.client.settings store.now.workspaces.present) }
+{
+    let relative = store.client.settings().relative_pattern();
+    let files = watchers(store.alloc, store.workspaces.present(), relative)?;
+    each_asked(store.alloc, files)
+}
+
+// The client is asked to watch them, where it is the client that watches.
+#[tactic(auto, unfolding(session_model::specs::Machine::watchers_registered, session_model::specs::Machine::asked_if))]
+pub(crate) fn register_watchers(store: &mut Store, out: &mut TurnOut) -> Result<(), TurnError>
+    ensures { Meets result (watchers_registered (record { state = store.old; out = out.old })) store.new out.new }
+{
+    if !store.client_watches() {
+        return Ok(());
+    }
+    let watchers = files_to_watch(store)?;
+    store.send_request(Outgo::RegisterWatch { watchers }, ReqHandler::Ignore, out)
+}

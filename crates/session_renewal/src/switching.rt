@@ -1,0 +1,137 @@
+// Switches to workspaces that were fetched.
+ghost use Rattle.std.specs.Prelude.{◌≡◌, ◌⊎◌, None, Some, Ok, Err, IfOk, IfErr, OnOk};
+ghost use Rattle.turn_parts.specs.Meets.{Meets, Gives};
+ghost use Rattle.turn_parts.specs.declared.fault.Counter.TheVariants.{LoaderSettings};
+ghost use Rattle.turn_parts.specs.declared.fault.TurnError.TheVariants.{Exhausted, NoMemory as OutOfMemory};
+ghost use Rattle.session_model.specs.Machine.{followed, loader_set, roots_renewed, switch_done, warned};
+ghost use Rattle.session_model.specs.Sources.{sources_now};
+ghost use Rattle.session_model.specs.Switching.{switch_by, switch_made};
+
+use crate::crates::{build_crates, builds_crates, follow_crates};
+use crate::registering::register_watchers;
+use docs_vfs::SourceRoots;
+use notify::{MessageKind, Outgo};
+use plain::{Items, Text};
+use session_model::{Counter, TurnError};
+use session_port::Command;
+use session_store::Store;
+use std::alloc::AllocError;
+use turn_parts::TurnOut;
+use workspaces::{Follows, SwitchFault};
+
+// The user is told of a compiler that is too old.
+#[tactic(auto, unfolding(session_model::specs::Machine::warned))]
+fn warn(store: &mut Store, texts: Items<Text>, out: &mut TurnOut) -> Result<(), TurnError>
+    ensures { Gives result (warned texts (record { state = store.old; out = out.old })) store.new out.new }
+{
+    for message in texts.into_vec() {
+        let kind = MessageKind::Warning;
+        store.send_notification(Outgo::ShowMessage { message, kind }, out)?;
+    }
+    Ok(())
+}
+
+// The host is to load the files of the workspaces that are present.
+#[tactic(auto, unfolding(session_model::specs::Machine::loader_set))]
+fn set_loader(store: &mut Store, version: u32, out: &mut TurnOut) -> Result<(), TurnError>
+    ensures { Gives result (loader_set version (record { state = store.old; out = out.old })) store.new out.new }
+{
+    let load = store.workspaces.loader_roots(store.excludes())?;
+    let watch = !store.client_watches();
+    store.order(
+        Command::SetLoader {
+            load,
+            watch,
+            version,
+        },
+        out,
+    )
+}
+
+// The roots that the loader gets for the workspaces that are present.
+fn roots_now(store: &Store) -> Result<SourceRoots, AllocError>
+    ensures { IfOk result (λ roots. roots ≡ (sources_now store.now.client.settings store.now.workspaces).roots) }
+{
+    SourceRoots::new(store.workspaces.loader_roots(store.excludes())?)
+}
+
+// The source roots are those that the loader gets.
+#[tactic(auto, unfolding(session_model::specs::Machine::roots_renewed))]
+fn renew_roots(store: &mut Store, out: &mut TurnOut) -> Result<(), TurnError>
+    ensures { Gives result (roots_renewed (record { state = store.old; out = out.old })) store.new out.new }
+{
+    let roots = roots_now(store)?;
+    store.parents = Some(roots.parent_map()?);
+    store.roots = roots;
+    Ok(())
+}
+
+// What the user, the client and the host are told behind a switch, and the roots that it renews.
+#[tactic(auto, unfolding(session_model::specs::Machine::followed))]
+fn follow(store: &mut Store, follows: Follows, out: &mut TurnOut) -> Result<(), TurnError>
+    ensures { Meets result (followed follows (record { state = store.old; out = out.old })) store.new out.new }
+{
+    match follows {
+        Follows::Nothing | Follows::CrateData => Ok(()),
+        Follows::Wait { msrv } => warn(store, msrv, out),
+        Follows::GoOn {
+            msrv,
+            loader_version,
+            ..
+        } => {
+            warn(store, msrv, out)?;
+            register_watchers(store, out)?;
+            set_loader(store, loader_version, out)?;
+            renew_roots(store, out)
+        }
+    }
+}
+
+// The switch by the settings, and what follows it.
+fn make_switch(store: &mut Store) -> Result<Follows, TurnError>
+    ensures made { IfOk result (λ follows. switch_by store.old.client.settings store.old.workspaces ≡ Some (follows, store.new.workspaces)) }
+    ensures rest { store.new ≡ record store.old { workspaces = store.new.workspaces } }
+    ensures err { IfErr result (λ e. (e ≡ OutOfMemory) ⊎ ((e ≡ Exhausted LoaderSettings) × (switch_by store.old.client.settings store.old.workspaces ≡ None))) }
+{
+    if !store.workspaces.has_next_version() {
+        return Err(TurnError::Exhausted {
+            counter: Counter::LoaderSettings,
+        });
+    }
+    let discovers = store.discovers();
+    let builds_scripts = store.builds_scripts();
+    match store.workspaces.switch(discovers, builds_scripts) {
+        Ok(follows) => Ok(follows),
+        Err(SwitchFault::Exhausted) => Err(TurnError::Exhausted {
+            counter: Counter::LoaderSettings,
+        }),
+        Err(SwitchFault::NoMemory) => Err(TurnError::NoMemory),
+    }
+}
+
+// The same where a switch is wanted and no files are loading, with the crate data that is built behind it; else nothing follows.
+fn make_switch_if_due(store: &mut Store) -> Result<Follows, TurnError>
+    ensures made { IfOk result (λ follows. switch_made store.old.client.settings store.old.files store.old.workspaces ≡ Ok (follows, store.new.workspaces)) }
+    ensures rest { OnOk result (store.new ≡ record store.old { workspaces = store.new.workspaces }) }
+    ensures err { IfErr result (λ e. (e ≡ OutOfMemory)
+        ⊎ ((e ≡ Exhausted LoaderSettings) × (switch_made store.old.client.settings store.old.files store.old.workspaces ≡ Err LoaderSettings))) }
+{
+    if store.workspaces.is_switch_wanted() && !store.files.is_loading() {
+        let follows = make_switch(store)?;
+        follow_crates(store, &follows)?;
+        Ok(follows)
+    } else {
+        Ok(Follows::Nothing)
+    }
+}
+
+/// The switch that is wanted is made, unless files are loading, and what follows it is done.
+#[tactic(auto, unfolding(session_model::specs::Machine::switch_done, session_model::specs::Machine::switched_to))]
+pub fn switch_workspaces(store: &mut Store, out: &mut TurnOut) -> Result<(), TurnError>
+    ensures { Meets result (switch_done (record { state = store.old; out = out.old })) store.new out.new }
+{
+    let follows = make_switch_if_due(store)?;
+    let built = builds_crates(store, &follows);
+    follow(store, follows, out)?;
+    build_crates(store, built, out)
+}

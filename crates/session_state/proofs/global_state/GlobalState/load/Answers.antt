@@ -1,7 +1,0 @@
-use Rattle.std.proofs.Common.{rules}
-use Rattle.session_files.specs.Steps.{loaded}
-use Rattle.session_state.proofs.AtFiles.{files_meets}
-use Rattle.session_state.proofs.global_state.GlobalState.load.Goals as goal
-
-pub returns : goal.returns
-returns c = files_meets (loaded c.args.messages) c.load.result c.args.self.now _ c.self.inside.files c.load.new.self _ _ (search rules) (search rules) c.load.ensures

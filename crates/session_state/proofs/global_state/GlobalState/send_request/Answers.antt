@@ -1,8 +1,0 @@
-use Rattle.std.proofs.Common.{rules}
-use Rattle.client.specs.Steps.{asked_for}
-use Rattle.session_state.proofs.AtClient.{client_meets}
-use Rattle.session_state.proofs.global_state.GlobalState.send_request.Goals as goal
-
-pub returns : goal.returns
-returns c =
-    client_meets (asked_for c.args.message c.args.then) c.ask.result c.args.self.now _ c.self.inside.client c.ask.new.self _ _ (search rules) (search rules) c.ask.ensures

@@ -1,9 +1,0 @@
-use Rattle.std.proofs.Common.{rules}
-use Rattle.std.specs.Prelude.{Ok}
-use Rattle.client.specs.Steps.{answered}
-use Rattle.session_state.proofs.AtClient.{client_meets}
-use Rattle.session_state.proofs.global_state.GlobalState.take_answer.Goals as goal
-
-pub returns : goal.returns
-returns c =
-    client_meets (λ w. Ok (answered c.args.response w)) c.complete.result c.args.self.now _ c.self.inside.client c.complete.new.self _ _ (search rules) (search rules) c.complete.ensures

@@ -1,0 +1,12 @@
+use Rattle.std.proofs.Common.{rules}
+use Rattle.desk.specs.Meaning.{meaning_of}
+use Rattle.desk.specs.Steps.{requested}
+use Rattle.session_model.specs.State.{scene_of}
+use Rattle.session_store.proofs.AtDesk.{desk_meets}
+use Rattle.session_state.proofs.messages.ask.Goals as goal
+
+pub returns : goal.returns
+returns g c =
+    let scene = c.in_ok-scene.ensures in
+    desk_meets (requested (meaning_of g.A.Analysis.decodes g.A.Analysis.answer) (scene_of c.args.store.now) c.args.request) c.on_request.result c.args.store.now _ c.store.inside.desk c.on_request.new.self _ _
+    (search rules) (search rules) (rw scene at c.on_request.ensures)

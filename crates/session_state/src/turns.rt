@@ -1,0 +1,136 @@
+// The turns of a session.
+ghost use Rattle.std.specs.Prelude.{◌≡◌, OnOk};
+ghost use Rattle.lsp_frame.specs.Pending.{IsAbove};
+ghost use Rattle.turn_parts.specs.Meets.{Meets, Gives};
+ghost use Rattle.desk.specs.Meaning.{Meaning, meaning_of};
+ghost use Rattle.session_model.specs.Machine.{closed, counted, facts_of, happened, kept, revised, step, taken_in};
+ghost use Rattle.session_model.specs.declared.input.Input.TheVariants.{Start, Next};
+
+use crate::messages::{on_batch, on_message};
+use analysis_host::Analysis;
+use session_model::{Event, Facts, TurnError};
+use session_notices::{on_loader, process, set_timer};
+use session_port::Command;
+use session_renewal::{
+    begin_fetches, on_timer, register_saves, resume_all, start_fetch, start_runs, switch_workspaces,
+};
+use session_status::{refresh, report_status};
+use session_store::Store;
+use turn_parts::TurnOut;
+
+// The turn is counted.
+#[tactic(auto, unfolding(session_model::specs::Machine::counted))]
+fn count(store: &mut Store, out: &mut TurnOut) -> Result<(), TurnError>
+    ensures above { OnOk result (IsAbove store.new.desk.turns store.new.desk.pending) }
+    ensures meets { Meets result (counted (record { state = store.old; out = out.old })) store.new out.new }
+{
+    store.desk.count(out)
+}
+
+#[tactic(auto, unfolding(session_model::specs::Machine::happened))]
+fn on_event<A: Analysis>(
+    store: &mut Store,
+    event: Event,
+    analysis: &A,
+    out: &mut TurnOut,
+) -> Result<(), TurnError>
+    requires { IsAbove store.old.desk.turns store.old.desk.pending }
+    ensures { Meets result (happened (meaning_of A.decodes A.answer) event (record { state = store.old; out = out.old })) store.new out.new }
+{
+    match event {
+        Event::Lsp(message) => on_message(store, message, analysis, out),
+        Event::Task(batch) => on_batch(store, batch, analysis, out),
+        Event::Vfs(messages) => on_loader(store, messages, out),
+        Event::Deferred(tasks) => resume_all(store, tasks, out),
+        Event::Timer(ticket) => on_timer(store, ticket, out),
+    }
+}
+
+// The turn is counted, and its event is taken in.
+#[tactic(auto, unfolding(session_model::specs::Machine::taken_in))]
+fn take_in<A: Analysis>(
+    store: &mut Store,
+    event: Event,
+    analysis: &A,
+    out: &mut TurnOut,
+) -> Result<(), TurnError>
+    ensures { Meets result (taken_in (meaning_of A.decodes A.answer) event (record { state = store.old; out = out.old })) store.new out.new }
+{
+    count(store, out)?;
+    on_event(store, event, analysis, out)
+}
+
+// The jobs that this turn hands over are out.
+#[tactic(auto, unfolding(session_model::specs::Machine::kept))]
+fn keep_jobs(store: &mut Store, before: usize, out: &mut TurnOut) -> Result<(), TurnError>
+    ensures { Meets result (kept before (record { state = store.old; out = out.old })) store.new out.new }
+{
+    store.desk.keep_jobs(before, out)
+}
+
+// The host is told of a revision that rose in this turn.
+#[tactic(auto, unfolding(session_model::specs::Machine::revised))]
+fn revise(store: &mut Store, before: u64, out: &mut TurnOut) -> Result<(), TurnError>
+    ensures { Gives result (revised before (record { state = store.old; out = out.old })) store.new out.new }
+{
+    let revision = store.files.revision();
+    if revision == before {
+        return Ok(());
+    }
+    store.order(Command::Revise(revision), out)
+}
+
+// What closes a turn.
+fn close_turn(store: &mut Store, facts: Facts, out: &mut TurnOut) -> Result<(), TurnError>
+    ensures { Meets result (closed facts (record { state = store.old; out = out.old })) store.new out.new }
+{
+    keep_jobs(store, facts.ordered, out)?;
+    revise(store, facts.revision, out)?;
+    set_timer(store, out)
+}
+
+// The facts before a turn.
+fn facts(store: &Store, out: &TurnOut) -> Facts
+    ensures { result ≡ facts_of (record { state = store.now; out = out.now }) }
+{
+    Facts {
+        revision: store.files.revision(),
+        ordered: out.commands().len(),
+        quiescent: store.is_quiescent(),
+    }
+}
+
+// Turn 0. It uses no number of the turns. After an `Err` the state is spent.
+#[tactic(auto, unfolding(session_model::specs::Machine::step, session_model::specs::Machine::register_part, session_model::specs::Machine::begin_part, session_model::specs::Machine::fetch_part, session_model::specs::Machine::status_part, session_model::specs::Machine::closing_part, turn_parts::specs::Working::within))]
+pub(crate) fn start(store: &mut Store, out: &mut TurnOut) -> Result<(), TurnError>
+    ensures { (meaning : Meaning) → Meets result (step meaning Start (record { state = store.old; out = out.old })) store.new out.new }
+{
+    let facts = facts(store, out);
+    report_status(store, out)?;
+    register_saves(store, out)?;
+    begin_fetches(store, out)?;
+    start_fetch(store, true, out)?;
+    close_turn(store, facts, out)
+}
+
+// One turn. After an `Err` the state is spent.
+#[tactic(auto, unfolding(session_model::specs::Machine::step, session_model::specs::Machine::event_part, session_model::specs::Machine::switch_part, session_model::specs::Machine::files_part, session_model::specs::Machine::quiet_part, session_model::specs::Machine::fetch_part, session_model::specs::Machine::build_part, session_model::specs::Machine::status_part, session_model::specs::Machine::closing_part, turn_parts::specs::Working::within))]
+pub(crate) fn handle_event<A: Analysis>(
+    store: &mut Store,
+    event: Event,
+    analysis: &A,
+    out: &mut TurnOut,
+) -> Result<(), TurnError>
+    ensures { Meets result (step (meaning_of A.decodes A.answer) (Next event) (record { state = store.old; out = out.old })) store.new out.new }
+{
+    let facts = facts(store, out);
+    take_in(store, event, analysis, out)?;
+    switch_workspaces(store, out)?;
+    process(store, out)?;
+    refresh(store, facts, out)?;
+    let may = store.may_fetch();
+    start_fetch(store, may, out)?;
+    start_runs(store, out)?;
+    report_status(store, out)?;
+    close_turn(store, facts, out)
+}

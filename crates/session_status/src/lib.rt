@@ -1,0 +1,8 @@
+//! What a session tells of its status, and what it asks the client to ask for anew.
+#![tactic(auto)]
+
+mod refreshing;
+mod telling;
+
+pub use refreshing::refresh;
+pub use telling::report_status;

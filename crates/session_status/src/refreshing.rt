@@ -1,0 +1,64 @@
+// What the client is asked to ask anew.
+ghost use Rattle.std.specs.Prelude.{◌≡◌};
+ghost use Rattle.notify.specs.Writing.{HoldsPlain};
+ghost use Rattle.turn_parts.specs.Meets.{Meets};
+ghost use Rattle.session_model.specs.Asking.{is_refresh_due};
+ghost use Rattle.session_model.specs.Machine.{asked_if, has_new_world, quiet_done, refreshed};
+ghost use Rattle.session_model.specs.Status.{is_quiescent};
+
+use client::ReqHandler;
+use notify::Outgo;
+use session_model::{Facts, TurnError};
+use session_store::Store;
+use turn_parts::TurnOut;
+
+// The client is asked for this, where the flag is set. Nothing follows its answer.
+#[tactic(auto, unfolding(session_model::specs::Machine::asked_if))]
+fn ask_if(
+    store: &mut Store,
+    wanted: bool,
+    message: Outgo,
+    out: &mut TurnOut,
+) -> Result<(), TurnError>
+    requires { HoldsPlain message }
+    ensures { Meets result (asked_if wanted message (record { state = store.old; out = out.old })) store.new out.new }
+{
+    if wanted {
+        return store.send_request(message, ReqHandler::Ignore, out);
+    }
+    Ok(())
+}
+
+// The client is asked to ask anew for what it shows, for each thing where it can be asked.
+#[tactic(auto, unfolding(session_model::specs::Machine::refreshed))]
+fn ask_refreshes(store: &mut Store, out: &mut TurnOut) -> Result<(), TurnError>
+    ensures { Meets result (refreshed store.old.client.settings.capabilities (record { state = store.old; out = out.old })) store.new out.new }
+{
+    let settings = store.client.settings();
+    let tokens = settings.semantic_tokens_refresh();
+    let lenses = settings.code_lens_refresh();
+    let hints = settings.inlay_hints_refresh();
+    let diagnostics = settings.diagnostics_refresh();
+    ask_if(store, tokens, Outgo::SemanticTokensRefresh, out)?;
+    ask_if(store, lenses, Outgo::CodeLensRefresh, out)?;
+    ask_if(store, hints, Outgo::InlayHintRefresh, out)?;
+    ask_if(store, diagnostics, Outgo::DiagnosticRefresh, out)
+}
+
+// Whether the session has come to be quiescent, or is and its world is another than before the event.
+fn is_refresh_due(store: &Store, facts: Facts) -> bool
+    ensures { result ≡ is_refresh_due facts.quiescent (is_quiescent store.now.files store.now.workspaces) (has_new_world facts store.now) }
+{
+    store.is_quiescent() && (!facts.quiescent || store.files.revision() != facts.revision)
+}
+
+/// In a session that has come to be quiescent, and in one that is and whose world has changed.
+#[tactic(auto, unfolding(session_model::specs::Machine::quiet_done))]
+pub fn refresh(store: &mut Store, facts: Facts, out: &mut TurnOut) -> Result<(), TurnError>
+    ensures { Meets result (quiet_done facts (record { state = store.old; out = out.old })) store.new out.new }
+{
+    if is_refresh_due(store, facts) {
+        return ask_refreshes(store, out);
+    }
+    Ok(())
+}

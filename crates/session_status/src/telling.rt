@@ -1,0 +1,238 @@
+// The status of the session, and how the client is told of it.
+ghost use Rattle.std.specs.Prelude.{◌≡◌, ◌==◌, length, IfOk};
+ghost use Rattle.ra_config.specs.Config.{projects_of};
+ghost use Rattle.turn_parts.specs.Meets.{Meets};
+ghost use Rattle.session_model.specs.Machine.{status_changed, status_done, status_kept, status_told, text_shown};
+ghost use Rattle.session_model.specs.State.{linked_of};
+ghost use Rattle.session_model.specs.Status.{facts_known, has_build_error, has_fetch_error, health_text, lacks_projects, needs_reload, opens_logs, shown_as, shown_of, status_message, status_now};
+
+use client::ReqHandler;
+use notify::{MessageKind, Outgo};
+use plain::{Items, NoMemory, Text};
+use project_model::ProjectWorkspace;
+use ra_settings::LinkedProject;
+use session_model::TurnError;
+use session_store::Store;
+use status::{Health, Status, StatusInput, status_with};
+use std::alloc::{AllocError, Global};
+use turn_parts::TurnOut;
+
+fn health_text(health: Health) -> &'static str
+    ensures { result.now ≡ health_text health }
+{
+    match health {
+        Health::Ok => "ok",
+        Health::Warning => "warning",
+        Health::Error => "error",
+    }
+}
+
+fn copied(message: &Option<Text>) -> Result<Option<Text>, AllocError>
+    ensures { IfOk result (λ copy. copy ≡ message.now) }
+{
+    match message {
+        None => Ok(None),
+        Some(message) => Ok(Some(message.clone()?)),
+    }
+}
+
+// A status, for a client that takes them.
+fn status_message(alloc: Global, status: &Status) -> Result<Outgo, NoMemory>
+    ensures { IfOk result (λ message. message ≡ status_message status.now) }
+{
+    Ok(Outgo::ServerStatus {
+        health: Text::from_str(alloc, health_text(status.health))?,
+        message: copied(&status.message)?,
+        quiescent: status.quiescent,
+    })
+}
+
+fn shown_as(health: Health, text: Text) -> Option<(Text, MessageKind)>
+    ensures { result ≡ shown_as health text }
+{
+    match health {
+        Health::Ok => None,
+        Health::Warning => Some((text, MessageKind::Warning)),
+        Health::Error => Some((text, MessageKind::Error)),
+    }
+}
+
+// The text of a warning or an error, for any other client.
+fn shown_of(status: &Status) -> Result<Option<(Text, MessageKind)>, AllocError>
+    ensures { IfOk result (λ text. text ≡ shown_of status.now) }
+{
+    match &status.message {
+        None => Ok(None),
+        Some(message) => Ok(shown_as(status.health, message.clone()?)),
+    }
+}
+
+// Whether there are no projects. Their list is made only where there are no roots, whose manifests are projects where no others are.
+#[tactic(auto, using(crate::proofs::Projects::roots_have_projects))]
+fn has_no_projects(store: &Store) -> Result<bool, AllocError>
+    ensures { IfOk result (λ none. none ≡ (length (projects_of store.now.client.settings) == 0)) }
+{
+    let settings = store.client.settings();
+    if !settings.workspace_roots().is_empty() {
+        return Ok(false);
+    }
+    let projects = settings.linked_or_discovered_projects(store.alloc)?;
+    Ok(projects.len() == 0)
+}
+
+// Whether there is nothing to load: no projects, and no files that stand alone.
+fn lacks_projects(store: &Store) -> Result<bool, AllocError>
+    ensures { IfOk result (λ lacks. lacks ≡ lacks_projects store.now.client.settings) }
+{
+    let none = has_no_projects(store)?;
+    Ok(none && store.client.settings().detached_files().is_empty())
+}
+
+// Whether workspaces have changed, and wait until they are asked for.
+fn needs_reload(store: &Store) -> bool
+    ensures { result ≡ needs_reload store.now.client.settings store.now.files store.now.workspaces }
+{
+    !store.may_fetch() && store.is_quiescent() && store.workspaces.is_fetch_requested()
+}
+
+// Whether the last fetch failed.
+fn has_fetch_error(store: &Store) -> Result<bool, NoMemory>
+    ensures { IfOk result (λ has. has ≡ has_fetch_error store.now.client.settings store.now.workspaces) }
+{
+    Ok(store.workspaces.fetch_error(store.discovers())?.is_some())
+}
+
+// Whether some of the last builds failed.
+fn has_build_error(store: &Store) -> Result<bool, NoMemory>
+    ensures { IfOk result (λ has. has ≡ has_build_error store.now.workspaces) }
+{
+    Ok(store.workspaces.build_error()?.is_some())
+}
+
+// The facts of a status but for its lists.
+fn facts_known(store: &Store) -> Result<StatusInput, NoMemory>
+    ensures { IfOk result (λ facts. record facts { linked = linked_of store.now.client.settings; workspaces = store.now.workspaces.present }
+        ≡ facts_known store.now.client store.now.files store.now.workspaces) }
+{
+    let build_error = has_build_error(store)?;
+    let config_errors = store.client.errors_text()?;
+    let no_projects = lacks_projects(store)?;
+    let workspace_error = has_fetch_error(store)?;
+    Ok(StatusInput {
+        reload_needed: needs_reload(store),
+        build_deps_changed: store.workspaces.have_build_deps_changed(),
+        build_error,
+        config_errors,
+        check_error: None,
+        no_projects,
+        workspace_error,
+        linked: Items::new(store.alloc),
+        workspaces: Items::new(store.alloc),
+        fully_ready: store.is_quiescent(),
+    })
+}
+
+// The projects that are linked.
+fn linked_projects(store: &Store) -> &[LinkedProject]
+    ensures { result.now ≡ linked_of store.now.client.settings }
+{
+    store.client.settings().linked_projects()
+}
+
+// The workspaces that are present.
+fn present_workspaces(store: &Store) -> &[ProjectWorkspace]
+    ensures { result.now ≡ store.now.workspaces.present }
+{
+    store.workspaces.present()
+}
+
+// The status of the present.
+fn status_now(store: &Store) -> Result<Status, NoMemory>
+    ensures { IfOk result (λ status. status ≡ status_now store.now.client store.now.files store.now.workspaces) }
+{
+    let facts = facts_known(store)?;
+    status_with(
+        store.alloc,
+        &facts,
+        linked_projects(store),
+        present_workspaces(store),
+    )
+}
+
+// Whether a text is shown with the button that opens the logs.
+fn opens_logs(store: &Store) -> Result<bool, NoMemory>
+    ensures { IfOk result (λ opens. opens ≡ opens_logs store.now.client.settings store.now.workspaces) }
+{
+    if !store.client.settings().open_server_logs() {
+        return Ok(false);
+    }
+    let builds = has_build_error(store)?;
+    let fetch = has_fetch_error(store)?;
+    Ok(builds || fetch)
+}
+
+// A text is shown; with the button that opens the logs it is a request.
+#[tactic(auto, unfolding(session_model::specs::Machine::text_shown))]
+fn show_text(
+    store: &mut Store,
+    button: bool,
+    text: Option<(Text, MessageKind)>,
+    out: &mut TurnOut,
+) -> Result<(), TurnError>
+    ensures { Meets result (text_shown button text (record { state = store.old; out = out.old })) store.new out.new }
+{
+    let Some((message, kind)) = text else {
+        return Ok(());
+    };
+    if button {
+        let asked = Outgo::ShowMessageRequest { message, kind };
+        return store.send_request(asked, ReqHandler::OpenLogs, out);
+    }
+    store.send_notification(Outgo::ShowMessage { message, kind }, out)?;
+    Ok(())
+}
+
+// A client that takes statuses is told this one, and any other is shown its text.
+#[tactic(auto, unfolding(session_model::specs::Machine::status_told))]
+fn tell_status(store: &mut Store, status: &Status, out: &mut TurnOut) -> Result<(), TurnError>
+    ensures { Meets result (status_told status.now (record { state = store.old; out = out.old })) store.new out.new }
+{
+    if store.client.settings().server_status_notification() {
+        let message = status_message(store.alloc, status)?;
+        store.send_notification(message, out)?;
+        return Ok(());
+    }
+    let button = opens_logs(store)?;
+    let text = shown_of(status)?;
+    show_text(store, button, text, out)
+}
+
+// The same, where it is another than the last one.
+#[tactic(auto, unfolding(session_model::specs::Machine::status_changed))]
+fn tell_change(store: &mut Store, status: &Status, out: &mut TurnOut) -> Result<(), TurnError>
+    ensures { Meets result (status_changed status.now (record { state = store.old; out = out.old })) store.new out.new }
+{
+    if store.status.is_same(status) {
+        return Ok(());
+    }
+    tell_status(store, status, out)
+}
+
+// And it is kept.
+#[tactic(auto, unfolding(session_model::specs::Machine::status_kept))]
+fn keep_status(store: &mut Store, status: Status, out: &mut TurnOut) -> Result<(), TurnError>
+    ensures { Meets result (status_kept status (record { state = store.old; out = out.old })) store.new out.new }
+{
+    tell_change(store, &status, out)?;
+    store.status = status;
+    Ok(())
+}
+
+/// The status of the present is told where it is another than the last one, and kept.
+#[tactic(auto, unfolding(session_model::specs::Machine::status_done))]
+pub fn report_status(store: &mut Store, out: &mut TurnOut) -> Result<(), TurnError>
+    ensures { Meets result (status_done (record { state = store.old; out = out.old })) store.new out.new }
+{
+    let status = status_now(store)?;
+    keep_status(store, status, out)
+}

@@ -1,0 +1,3 @@
+pub mod AtClient
+pub mod AtDesk
+pub mod AtFiles

@@ -1,0 +1,39 @@
+// What the client is asked and told.
+ghost use Rattle.std.specs.Prelude.{◌≡◌, OnOk};
+ghost use Rattle.notify.specs.Writing.{HoldsPlain};
+ghost use Rattle.turn_parts.specs.Meets.{Meets};
+ghost use Rattle.turn_parts.specs.Working.{written};
+ghost use Rattle.client.specs.Steps.{asked_for, notification_of};
+ghost use Rattle.session_model.specs.Machine.{at_client};
+
+use crate::state::Store;
+use client::ReqHandler;
+use notify::Outgo;
+use plain::NoMemory;
+use session_model::TurnError;
+use turn_parts::TurnOut;
+
+impl Store {
+    /// Sends a request of the session's own, whose answer is followed by what `then` says. After an `Err` the state is spent.
+    pub fn send_request(
+        &mut self,
+        message: Outgo,
+        then: ReqHandler,
+        out: &mut TurnOut,
+    ) -> Result<(), TurnError>
+        requires { HoldsPlain message }
+        ensures { Meets result (at_client (asked_for message then) (record { state = self.old; out = out.old })) self.new out.new }
+    {
+        self.client.ask(message, then, out)
+    }
+
+    /// Sends a notification.
+    #[tactic(auto, unfolding(turn_parts::specs::Working::written))]
+    pub fn send_notification(&mut self, message: Outgo, out: &mut TurnOut) -> Result<(), NoMemory>
+        requires { HoldsPlain message }
+        ensures after { OnOk result (written (notification_of message) (record { state = self.old; out = out.old }) ≡ record { state = self.new; out = out.new }) }
+        ensures same { self.new ≡ self.old }
+    {
+        self.client.tell(message, out)
+    }
+}

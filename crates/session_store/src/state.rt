@@ -1,0 +1,249 @@
+// The state of a session, and what its subjects share.
+ghost use Rattle.std.specs.Prelude.{◌≡◌, ◌≤◌, [], IfOk, Ok, OnOk, Some, is_some, not};
+ghost use Rattle.lsp_frame.specs.Pending.{id_of, is_pending};
+ghost use Rattle.lsp_frame.specs.Written.{AreWritable};
+ghost use Rattle.lsp_frame.specs.declared.message.Message.TheVariants.{Response as ResponseMessage};
+ghost use Rattle.outgoing.specs.Outgoing.{number_limit};
+ghost use Rattle.turn_parts.specs.Meets.{Meets, Gives};
+ghost use Rattle.turn_parts.specs.Working.{ordered, logged};
+ghost use Rattle.client.specs.Steps.{logged_if};
+ghost use Rattle.desk.specs.Steps.{responded, cancelled, handed_over};
+ghost use Rattle.session_model.specs.Machine.{at_desk};
+ghost use Rattle.session_model.specs.State.{macros_loaded_in, scene_of, snapshot_of, first_status, fresh, fresh_at};
+ghost use Rattle.method_table.specs.declared.class.PoolClass.TheVariants.{Worker};
+
+use analysis_host::{GlobalStateSnapshot, SnapshotParts};
+use client::Client;
+use desk::{Desk, Scene};
+use docs_vfs::SourceRoots;
+use lsp_frame::{RequestId, Response};
+use method_table::PoolClass;
+use plain::{Items, NoMemory, Text};
+use ra_config::Config;
+use session_files::SessionFiles;
+use session_model::{Counters, TurnError};
+use session_port::{Command, JobKind, LogCode};
+use status::{Health, Status};
+use std::alloc::{AllocError, Global};
+use std::marker::Model;
+use std::sync::Arc;
+use turn_parts::TurnOut;
+use workspaces::Workspaces;
+
+/// The state of a session, as the crates of its subjects change it.
+#[derive(Drop)]
+pub struct Store {
+    pub alloc: Global,
+    pub client: Client,
+    pub files: SessionFiles,
+    pub desk: Desk,
+    pub workspaces: Workspaces,
+    /// The source roots of the workspaces, as a switch made them.
+    pub roots: SourceRoots,
+    /// Their parents, where the settings don't have them yet.
+    pub parents: Option<Items<(u32, u32)>>,
+    /// The status that was told last.
+    pub status: Status,
+}
+
+// No source roots.
+fn no_roots(alloc: Global) -> Result<SourceRoots, NoMemory>
+    ensures { IfOk result (λ roots. roots ≡ []) }
+{
+    SourceRoots::new(Items::new(alloc))
+}
+
+// Values that were made, or want of memory where one wasn't. Generic, since what a `?` lets go of is spelled out to its last field where
+// its type is known.
+fn all_made<A: Drop, B: Drop, C: Drop, D: Drop>(
+    first: Result<A, AllocError>,
+    second: Result<B, AllocError>,
+    third: Result<C, AllocError>,
+    fourth: Result<D, AllocError>,
+) -> Result<(A, B, C, D), AllocError>
+    ensures { IfOk result (λ made. (first ≡ Ok made.0) × (second ≡ Ok made.1) × (third ≡ Ok made.2) × (fourth ≡ Ok made.3)) }
+{
+    Ok((first?, second?, third?, fourth?))
+}
+
+// The status that the first one is compared with: all is well, and nothing is worked on.
+fn first_status() -> Status
+    ensures { result ≡ first_status }
+{
+    Status {
+        health: Health::Ok,
+        quiescent: true,
+        message: None,
+    }
+}
+
+impl Model for Store {
+    ghost use Rattle.docs_vfs.specs.contracts.file_table.FileTable as files_of;
+    ghost use Rattle.client.specs.contracts.handler.ReqHandler as handler;
+    ghost use Rattle.session_port.specs.contracts.job.Job as job;
+    ghost use Rattle.status.specs.contracts.status.Status as status_of;
+    ghost use Rattle.workspaces.specs.contracts.state.Workspaces as workspaces_of;
+    ghost use Rattle.session_model.specs.Codes.{state_code};
+    ghost use Rattle.session_model.specs.State.{State};
+
+    ghost Value = { State };
+
+    ghost coded = { state_code handler.the_row.coded files_of.the_row.coded job.the_row.coded workspaces_of.the_row.coded status_of.the_row.coded };
+
+    ghost view = { λ g. record { client = g.client; files = g.files; desk = g.desk; workspaces = g.workspaces; sources = record { roots = g.roots; parents = g.parents }; status = g.status } };
+}
+
+impl Store {
+    /// The state before any turn.
+    pub fn new(alloc: Global, settings: Config) -> Result<Self, AllocError>
+        ensures { IfOk result (λ state. state ≡ fresh settings) }
+    {
+        let used = Counters {
+            turns: 0,
+            jobs: 0,
+            revisions: 0,
+            outgoing: 0,
+            files: 0,
+            loader_settings: 0,
+        };
+        Store::new_at(alloc, settings, used)
+    }
+
+    /// The same, where so many of each counter were used.
+    pub fn new_at(alloc: Global, settings: Config, used: Counters) -> Result<Self, AllocError>
+        requires { used.outgoing ≤ number_limit }
+        ensures { IfOk result (λ state. state ≡ fresh_at used settings) }
+    {
+        let (client, files, workspaces, roots) = all_made(
+            Client::new_at(alloc, used.outgoing, settings),
+            SessionFiles::new_at(alloc, used.files, used.revisions),
+            Workspaces::new_at(alloc, used.loader_settings),
+            no_roots(alloc),
+        )?;
+        Ok(Store {
+            alloc,
+            client,
+            files,
+            desk: Desk::new_at(alloc, used.turns, used.jobs),
+            workspaces,
+            roots,
+            parents: None,
+            status: first_status(),
+        })
+    }
+
+    /// Whether all macros are there that are wanted: none are, or the last load succeeded.
+    pub fn macros_loaded(&self) -> bool
+        ensures { result ≡ macros_loaded_in self.now.client.settings self.now.workspaces }
+    {
+        !self.loads_macros() || self.workspaces.are_macros_loaded()
+    }
+
+    /// The snapshot of the present.
+    pub fn snapshot(&self) -> Result<GlobalStateSnapshot, AllocError>
+        ensures { IfOk result (λ snapshot. snapshot ≡ snapshot_of self.now) }
+    {
+        Ok(GlobalStateSnapshot::new(SnapshotParts {
+            world: self.files.world()?,
+            file_ids: self.files.file_ids()?,
+            versions: self.files.versions()?,
+            config: Arc::try_clone(self.client.settings())?,
+            proc_macros_loaded: self.macros_loaded(),
+            workspaces: self.workspaces.share_present()?,
+            workspaces_version: self.workspaces.version(),
+            revision: self.files.revision(),
+        }))
+    }
+
+    /// What a request meets.
+    pub fn scene(&self) -> Result<Scene, AllocError>
+        ensures { IfOk result (λ scene. scene ≡ scene_of self.now) }
+    {
+        Ok(Scene {
+            snapshot: self.snapshot()?,
+            loading: self.files.is_loading(),
+            incomplete: self.workspaces.is_incomplete(),
+        })
+    }
+}
+
+// Requests by their tickets and ids.
+impl Store {
+    /// Answers the request of a ticket under its id, and closes it; false where it isn't pending. After an `Err` the state is spent.
+    pub fn respond(
+        &mut self,
+        ticket: u64,
+        response: Response,
+        out: &mut TurnOut,
+    ) -> Result<bool, NoMemory>
+        requires { AreWritable (ResponseMessage response) }
+        ensures pending { IfOk result (λ done. done ≡ is_some (id_of ticket self.old.desk.pending)) }
+        ensures others { self.new ≡ record self.old { desk = self.new.desk } }
+        ensures after { OnOk result (record { state = self.new.desk; out = out.new } ≡ responded ticket (λ id. record response { id = Some id }) (record { state = self.old.desk; out = out.old })) }
+    {
+        self.desk.respond(ticket, response, out)
+    }
+
+    /// Answers the request of an id as one that the client cancelled, and closes it; false where it isn't pending. After an `Err` the
+    /// state is spent.
+    pub fn cancel(&mut self, id: RequestId, out: &mut TurnOut) -> Result<bool, NoMemory>
+        ensures pending { IfOk result (λ done. done ≡ is_pending id self.old.desk.pending) }
+        ensures others { self.new ≡ record self.old { desk = self.new.desk } }
+        ensures after { OnOk result (record { state = self.new.desk; out = out.new } ≡ cancelled id (record { state = self.old.desk; out = out.old })) }
+    {
+        self.desk.cancel(id, out)
+    }
+
+    /// Whether no request waits under a ticket.
+    pub fn is_completed(&self, ticket: u64) -> bool
+        ensures { result ≡ not (is_some (id_of ticket self.now.desk.pending)) }
+    {
+        self.desk.is_completed(ticket)
+    }
+}
+
+// What is ordered.
+impl Store {
+    /// Orders a command.
+    #[tactic(auto, unfolding(turn_parts::specs::Working::ordered))]
+    pub fn order(&mut self, command: Command, out: &mut TurnOut) -> Result<(), TurnError>
+        ensures gives { Gives result (ordered command (record { state = self.old; out = out.old })) self.new out.new }
+        ensures same { self.new ≡ self.old }
+    {
+        out.order(command)?;
+        Ok(())
+    }
+
+    /// Writes a log line.
+    #[tactic(auto, unfolding(turn_parts::specs::Working::logged))]
+    pub fn log(&mut self, code: LogCode, text: Text, out: &mut TurnOut) -> Result<(), TurnError>
+        ensures gives { Gives result (logged code text (record { state = self.old; out = out.old })) self.new out.new }
+        ensures same { self.new ≡ self.old }
+    {
+        self.order(Command::Log(code, text), out)
+    }
+
+    /// A log line, if there is a text.
+    pub fn log_if(
+        &mut self,
+        code: LogCode,
+        text: Option<Text>,
+        out: &mut TurnOut,
+    ) -> Result<(), TurnError>
+        ensures gives { Gives result (logged_if code text (record { state = self.old; out = out.old })) self.new out.new }
+        ensures same { self.new ≡ self.old }
+    {
+        match text {
+            None => Ok(()),
+            Some(text) => self.log(code, text, out),
+        }
+    }
+
+    /// Hands over a job of the session's own on the present snapshot.
+    pub fn hand_over(&mut self, kind: JobKind, out: &mut TurnOut) -> Result<(), TurnError>
+        ensures { Meets result (at_desk (handed_over (snapshot_of self.old) Worker kind) (record { state = self.old; out = out.old })) self.new out.new }
+    {
+        let snapshot = self.snapshot()?;
+        self.desk.hand_over(kind, PoolClass::Worker, snapshot, out)
+    }
+}
