@@ -1,5 +1,6 @@
 // The desk: the requests that wait, and the jobs that work on them.
 ghost use Rattle.std.specs.Prelude.{◌≡◌, ◌+◌, IfOk, OnOk, MatchResult, drop};
+ghost use Rattle.std.specs.FinMap as map;
 ghost use Rattle.session_port.specs.Record.{after_order};
 ghost use Rattle.turn_parts.specs.Meets.{Meets, Gives};
 ghost use Rattle.turn_parts.specs.Working.{next_number, replied, ordered, logged};
@@ -74,13 +75,21 @@ fn behind<T>(items: &[T], at: usize) -> &[T]
     if at <= items.len() { &items[at..] } else { &[] }
 }
 
+// A job is out. Large values are let go of by calls here: a `drop(..)` spells out nothing of them in the proof.
+fn put_job(jobs: &mut ByNumber<Job>, job: &Job) -> Result<(), AllocError>
+    ensures { OnOk result (jobs.new ≡ map.insert jobs.old job.now.number job.now) }
+{
+    drop(jobs.insert(job.number, job.clone()?)?);
+    Ok(())
+}
+
 // The jobs that commands hand over are out.
 fn put_jobs(jobs: &mut ByNumber<Job>, commands: &[Command]) -> Result<(), AllocError>
     ensures { IfOk result (λ _. jobs.new ≡ after_order commands.now jobs.old) }
 {
     for command in commands {
         if let Command::Spawn(job) = command {
-            jobs.insert(job.number, job.clone()?)?;
+            put_job(jobs, job)?;
         }
     }
     Ok(())

@@ -3,6 +3,7 @@ ghost use Rattle.std.specs.Prelude.{◌≡◌, true, Some};
 ghost use Rattle.file_ids.specs.Numbers.{IsFree};
 
 use docs_vfs::{FileExcluded, FileId, VfsPath};
+use expectations::{expect, expect_text};
 use file_ids::FileIds;
 use std::alloc::Global;
 use std::test::Fail;
@@ -76,14 +77,18 @@ fn told(alloc: Global, ids: &FileIds) -> Result<String, Fail> {
     Ok(text)
 }
 
+/// That a table says this.
+fn says(alloc: Global, ids: &FileIds, text: &str) -> Result<(), Fail> {
+    expect_text("a table", told(alloc, ids)?.as_str(), text)
+}
+
 #[test]
 fn set_and_removed(rt: HostRuntime) -> Result<(), Fail> {
     let alloc = rt.alloc();
     let both = two_files(alloc)?;
     let rest = without(alloc, &both, "/a")?;
-    assert_eq!(rt; told(alloc, &rest)?.as_str(), "none, 2 Yes: none /b none");
-    assert_eq!(rt; told(alloc, &both)?.as_str(), "1 No, 2 Yes: /a /b none");
-    Ok(())
+    says(alloc, &rest, "none, 2 Yes: none /b none")?;
+    says(alloc, &both, "1 No, 2 Yes: /a /b none")
 }
 
 #[test]
@@ -91,8 +96,7 @@ fn another_number(rt: HostRuntime) -> Result<(), Fail> {
     let alloc = rt.alloc();
     let both = two_files(alloc)?.clone()?;
     let moved = with(alloc, &both, "/a", 3, FileExcluded::Yes)?;
-    assert_eq!(rt; told(alloc, &moved)?.as_str(), "3 Yes, 2 Yes: none /b /a");
-    Ok(())
+    says(alloc, &moved, "3 Yes, 2 Yes: none /b /a")
 }
 
 #[test]
@@ -105,26 +109,27 @@ fn replaced(rt: HostRuntime) -> Result<(), Fail> {
     if is_free(&ids, &path, FileId(3)) {
         ids.replace(path, entry, Some((FileId(3), FileExcluded::Yes)))?;
     }
-    assert_eq!(rt; told(alloc, &ids)?.as_str(), "3 Yes, 2 Yes: none /b /a");
+    says(alloc, &ids, "3 Yes, 2 Yes: none /b /a")?;
     let path = path_at(alloc, "/b")?;
     let entry = ids.get(&path);
     ids.replace(path, entry, None)?;
-    assert_eq!(rt; told(alloc, &ids)?.as_str(), "3 Yes, none: none none /a");
+    says(alloc, &ids, "3 Yes, none: none none /a")?;
     let path = path_at(alloc, "/b")?;
     let entry = ids.get(&path);
     if is_free(&ids, &path, FileId(1)) {
         ids.replace(path, entry, Some((FileId(1), FileExcluded::No)))?;
     }
-    assert_eq!(rt; told(alloc, &ids)?.as_str(), "3 Yes, 1 No: /b none /a");
-    assert_eq!(rt; told(alloc, &both)?.as_str(), "1 No, 2 Yes: /a /b none");
-    Ok(())
+    says(alloc, &ids, "3 Yes, 1 No: /b none /a")?;
+    says(alloc, &both, "1 No, 2 Yes: /a /b none")
 }
 
 #[test]
 fn taken_number(rt: HostRuntime) -> Result<(), Fail> {
     let alloc = rt.alloc();
     let both = two_files(alloc)?;
-    assert!(rt; !is_free(&both, &path_at(alloc, "/a")?, FileId(2)));
-    assert!(rt; is_free(&both, &path_at(alloc, "/b")?, FileId(2)));
-    Ok(())
+    expect(
+        "2 is taken",
+        !is_free(&both, &path_at(alloc, "/a")?, FileId(2)),
+    )?;
+    expect("by /b", is_free(&both, &path_at(alloc, "/b")?, FileId(2)))
 }

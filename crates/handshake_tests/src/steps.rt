@@ -1,102 +1,115 @@
 // Messages, and the steps that they are.
+use expectations::expect_text;
 use handshake::{Handshake, Step};
 use lsp_frame::{Message, Notification, Request, RequestId, Response};
 use plain::{Json, Text};
 use std::alloc::Global;
 use std::test::Fail;
 
-/// A message of a table.
-#[derive(Clone, Copy)]
-enum Sent {
-    /// A request, by its id and its method.
-    Asks(i32, &'static str),
-    /// A notification, by its method.
-    Tells(&'static str),
-    /// A response.
-    Answers,
+/// The two parts of a line around the first blank.
+fn cut(line: &str) -> (&str, &str) {
+    line.split_once(" ").unwrap_or((line, ""))
 }
 
-use Sent::{Answers, Asks, Tells};
+fn request(alloc: Global, line: &str) -> Result<Message, Fail> {
+    let (id, method) = cut(line);
+    let id = id.parse::<i32>().ok().ok_or("no id")?;
+    let method = Text::from_str(alloc, method)?;
+    Ok(Message::Request(Request {
+        id: RequestId::Number(id),
+        method,
+        params: Json::null(),
+    }))
+}
 
-fn message(alloc: Global, sent: Sent) -> Result<Message, Fail> {
-    Ok(match sent {
-        Asks(id, method) => Message::Request(Request {
-            id: RequestId::Number(id),
-            method: Text::from_str(alloc, method)?,
-            params: Json::null(),
-        }),
-        Tells(method) => Message::Notification(Notification {
-            method: Text::from_str(alloc, method)?,
-            params: Json::null(),
-        }),
-        Answers => Message::Response(Response {
-            id: None,
-            result: Some(Json::null()),
-            error: None,
-        }),
+fn notification(alloc: Global, method: &str) -> Result<Message, Fail> {
+    let method = Text::from_str(alloc, method)?;
+    Ok(Message::Notification(Notification {
+        method,
+        params: Json::null(),
+    }))
+}
+
+fn response() -> Message {
+    Message::Response(Response {
+        id: None,
+        result: Some(Json::null()),
+        error: None,
     })
 }
 
-fn told_refusal(alloc: Global, response: Response) -> Result<String, Fail> {
-    let error = response.error.ok_or("no error")?;
-    Ok(format!(in alloc; "{} {}", error.code, error.message)?)
+/// `asks ID METHOD`, `tells METHOD`, or else a response.
+fn message(alloc: Global, words: &str) -> Result<Message, Fail> {
+    let (kind, rest) = cut(words);
+    match kind {
+        "asks" => request(alloc, rest),
+        "tells" => notification(alloc, rest),
+        _ => Ok(response()),
+    }
+}
+
+fn told_refusal(alloc: Global, response: &Response) -> Result<String, Fail> {
+    match &response.error {
+        Some(error) => Ok(format!(in alloc; "{} {}", error.code, error.message)?),
+        None => Err(Fail::from("no error")),
+    }
 }
 
 /// A step in words.
 fn told(alloc: Global, step: Step) -> Result<String, Fail> {
     match step {
         Step::Initialize(id, _) => Ok(format!(in alloc; "initialize {id:?}")?),
-        Step::Refuse(response) => told_refusal(alloc, response),
+        Step::Refuse(response) => told_refusal(alloc, &response),
         Step::Ignore => Ok(String::from_str(alloc, "ignored")?),
         Step::Initialized => Ok(String::from_str(alloc, "initialized")?),
         Step::Exit => Ok(String::from_str(alloc, "exit")?),
     }
 }
 
-const EARLY: &str = "-32002 expected initialize request";
-
-const LATE: &str = "-32002 expected initialized notification";
-
 /// Messages in a row, from the first on, with the step that each is.
-const IN_ORDER: [(Sent, &str); 12] = [
-    (Asks(1, "textDocument/hover"), EARLY),
-    (Asks(2, "exit"), EARLY),
-    (Tells("initialized"), "ignored"),
-    (Tells("initialize"), "ignored"),
-    (Answers, "ignored"),
-    (Asks(3, "initialize"), "initialize Number(3)"),
-    (Asks(4, "initialize"), LATE),
-    (Asks(5, "shutdown"), LATE),
-    (Tells("textDocument/didOpen"), "ignored"),
-    (Tells("initialize"), "ignored"),
-    (Answers, "ignored"),
-    (Tells("initialized"), "initialized"),
-];
+const IN_ORDER: &str = "asks 1 textDocument/hover: -32002 expected initialize request
+asks 2 exit: -32002 expected initialize request
+tells initialized: ignored
+tells initialize: ignored
+answers: ignored
+asks 3 initialize: initialize Number(3)
+asks 4 initialize: -32002 expected initialized notification
+asks 5 shutdown: -32002 expected initialized notification
+tells textDocument/didOpen: ignored
+tells initialize: ignored
+answers: ignored
+tells initialized: initialized";
 
-#[test]
-fn steps_by_their_messages(rt: HostRuntime) -> Result<(), Fail> {
-    let alloc = rt.alloc();
+/// That a message is this step, both in a line.
+fn steps(alloc: Global, handshake: &mut Handshake, line: &str) -> Result<(), Fail> {
+    let (words, step) = line.split_once(": ").ok_or("no step")?;
+    let given = handshake.step(message(alloc, words)?)?;
+    expect_text(line, told(alloc, given)?.as_str(), step)
+}
+
+/// That each message is the step of its line.
+fn steps_by(alloc: Global, lines: &str) -> Result<(), Fail> {
     let mut handshake = Handshake::new(alloc);
-    for (sent, step) in IN_ORDER {
-        let given = handshake.step(message(alloc, sent)?)?;
-        assert_eq!(rt; told(alloc, given)?.as_str(), step);
+    for line in lines.lines() {
+        steps(alloc, &mut handshake, line)?;
     }
     Ok(())
 }
 
 #[test]
+fn steps_by_their_messages(rt: HostRuntime) -> Result<(), Fail> {
+    steps_by(rt.alloc(), IN_ORDER)
+}
+
+#[test]
 fn exit_at_any_time(rt: HostRuntime) -> Result<(), Fail> {
-    let alloc = rt.alloc();
-    let cases = [
-        [Tells("exit"), Tells("exit")],
-        [Asks(1, "initialize"), Tells("exit")],
-        [Asks(1, "textDocument/hover"), Tells("exit")],
-    ];
-    for [first, last] in cases {
-        let mut handshake = Handshake::new(alloc);
-        handshake.step(message(alloc, first)?)?;
-        let given = handshake.step(message(alloc, last)?)?;
-        assert_eq!(rt; told(alloc, given)?.as_str(), "exit");
-    }
-    Ok(())
+    steps_by(rt.alloc(), "tells exit: exit\ntells exit: exit")?;
+    steps_by(
+        rt.alloc(),
+        "asks 1 initialize: initialize Number(1)\ntells exit: exit",
+    )?;
+    steps_by(
+        rt.alloc(),
+        "asks 1 textDocument/hover: -32002 expected initialize request\ntells exit: exit",
+    )
 }

@@ -4,9 +4,9 @@ use Rattle.std.specs.Prelude.{Option, None, Some, option_to_list}
 use Rattle.lsp_frame.specs.declared.message.Response.{Response}
 use Rattle.session_port.specs.Record.{HostCall, gave, grown}
 use Rattle.session_port.specs.declared.event.HostEvent.{HostEvent}
-use Rattle.session_model.specs.Course.{Course, takes}
-use Rattle.session_model.specs.Run.{Told, giving}
-use Rattle.session_model.specs.declared.input.Input.{Input}
+use Rattle.session_laws.specs.Course.{Course, takes}
+use Rattle.session_laws.specs.Run.{Told, giving}
+use Rattle.session_laws.specs.Input.{Input}
 use Rattle.initialization.specs.Opening.{bytes_of, taking, telling}
 use Rattle.initialization.specs.Stages.{Stage, by_input, stage_after, replies_to}
 

@@ -4,10 +4,10 @@ use Rattle.std.specs.Prelude.{Option, None, Some, option_to_list, Ok, Err}
 use Rattle.lsp_frame.specs.declared.message.Response.{Response}
 use Rattle.ra_config.specs.Config.{ConfigData}
 use Rattle.session_port.specs.declared.event.HostEvent.{HostEvent}
-use Rattle.session_model.specs.Course.{stops, exit, course_of, bytes_in}
-use Rattle.session_model.specs.Run.{Told, fed_bytes}
-use Rattle.session_model.specs.declared.fault.SessionError.{SessionError}
-use Rattle.session_model.specs.declared.input.Input.{Input}
+use Rattle.session_laws.specs.Course.{stops, exit, course_of, bytes_in}
+use Rattle.session_laws.specs.Run.{Told, fed_bytes}
+use Rattle.session_laws.specs.SessionError.{SessionError}
+use Rattle.session_laws.specs.Input.{Input}
 use Rattle.session_laws.proofs.Stretches.{bytes-append}
 use Rattle.initialization.specs.Opening.{Opens, IsWaiting, taking, telling}
 use Rattle.initialization.specs.Stages.{Outcome, Stage, awaits_initialize, stage_after, replies_to}

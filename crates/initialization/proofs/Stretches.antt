@@ -10,12 +10,12 @@ use Rattle.session_port.specs.declared.command.DeferredTask.{DeferredTask}
 use Rattle.session_port.specs.declared.event.HostEvent.TheVariants.{Bytes, Tasks, Vfs as Files, DeferredTask as Given, Timer as TimerEvent}
 use Rattle.session_port.specs.declared.event.LoaderMsg.{LoaderMsg}
 use Rattle.session_port.specs.declared.event.TaskMsg.{TaskMsg}
-use Rattle.session_model.specs.Course.{is_exit, course_of}
-use Rattle.session_model.specs.Run.{Told, fed_bytes}
-use Rattle.session_model.specs.declared.fault.SessionError.{SessionError}
-use Rattle.session_model.specs.declared.fault.SessionError.TheVariants.{ClientExited, BadFrame, BadMessage, HostFault, WriteFault, Exhausted, NoMemory}
-use Rattle.session_model.specs.declared.input.Event.TheVariants.{Lsp, Task, Vfs, Deferred, Timer}
-use Rattle.session_model.specs.declared.input.Input.TheVariants.{Next}
+use Rattle.session_laws.specs.Course.{is_exit, course_of}
+use Rattle.session_laws.specs.Run.{Told, fed_bytes}
+use Rattle.session_laws.specs.SessionError.{SessionError}
+use Rattle.session_laws.specs.SessionError.TheVariants.{ClientExited, BadFrame, BadMessage, HostFault, WriteFault, Exhausted, NoMemory}
+use Rattle.session_laws.specs.Event.TheVariants.{Lsp, Task, Vfs, Deferred, Timer}
+use Rattle.session_laws.specs.Input.TheVariants.{Next}
 use Rattle.session_laws.proofs.Courses.{course-event, course-fed, course-empty, message-takes}
 use Rattle.session_laws.proofs.Stretches.{bytes-append}
 use Rattle.initialization.specs.Opening.{taking, telling}

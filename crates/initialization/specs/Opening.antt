@@ -7,11 +7,11 @@ use Rattle.lsp_frame.specs.declared.message.Response.{Response}
 use Rattle.ra_config.specs.Config.{ConfigData}
 use Rattle.session_port.specs.Record.{grown}
 use Rattle.session_port.specs.declared.event.HostEvent.{HostEvent}
-use Rattle.session_model.specs.Course.{Course, takes, stops, waits, exit, bad_frame, bad_message, client_gone, course_of, bytes_in}
-use Rattle.session_model.specs.Run.{Told, fed_bytes, giving}
-use Rattle.session_model.specs.declared.fault.SessionError.{SessionError}
-use Rattle.session_model.specs.declared.fault.SessionError.TheVariants.{ClientExited, BadFrame, BadMessage, HostFault, WriteFault, Exhausted, NoMemory}
-use Rattle.session_model.specs.declared.input.Input.{Input}
+use Rattle.session_laws.specs.Course.{Course, takes, stops, waits, exit, bad_frame, bad_message, client_gone, course_of, bytes_in}
+use Rattle.session_laws.specs.Run.{Told, fed_bytes, giving}
+use Rattle.session_laws.specs.SessionError.{SessionError}
+use Rattle.session_laws.specs.SessionError.TheVariants.{ClientExited, BadFrame, BadMessage, HostFault, WriteFault, Exhausted, NoMemory}
+use Rattle.session_laws.specs.Input.{Input}
 use Rattle.turn_parts.specs.declared.fault.Counter.{Counter}
 use Rattle.turn_parts.specs.declared.fault.Counter.TheVariants.{Turns, Bytes}
 use Rattle.initialization.specs.Stages.{Stage, awaits_initialize, awaits_initialized, begun, by_input, stage_after, replies_to}

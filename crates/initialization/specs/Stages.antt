@@ -10,9 +10,9 @@ use Rattle.ra_config.specs.Config.{ConfigData}
 use Rattle.ra_config.specs.Initialize.{initial_config}
 use Rattle.ra_config.specs.declared.initialize.ConfigFault.{ConfigFault}
 use Rattle.ra_config.specs.declared.initialize.ConfigFault.TheVariants.{NoRoot}
-use Rattle.session_model.specs.declared.input.Event.TheVariants.{Lsp, Task, Vfs, Deferred, Timer}
-use Rattle.session_model.specs.declared.input.Input.{Input}
-use Rattle.session_model.specs.declared.input.Input.TheVariants.{Start, Next}
+use Rattle.session_laws.specs.Event.TheVariants.{Lsp, Task, Vfs, Deferred, Timer}
+use Rattle.session_laws.specs.Input.{Input}
+use Rattle.session_laws.specs.Input.TheVariants.{Start, Next}
 use Rattle.initialization.specs.Replies.{welcome, no_workspace}
 
 -- what a handshake waits for: an `initialize`, or `initialized` with the settings of the `initialize` that was accepted; or it is over

@@ -8,11 +8,11 @@ use Rattle.lsp_frame.specs.declared.message.Message.{Message}
 use Rattle.lsp_frame.specs.declared.message.Message.TheVariants.{Response as ResponseMessage}
 use Rattle.ra_config.specs.Config.{ConfigData}
 use Rattle.session_port.specs.declared.event.HostEvent.{HostEvent}
-use Rattle.session_model.specs.Course.{Course, takes, stops, exit, bad_frame, bad_message, is_exit, message_then, course_of, bytes_in}
-use Rattle.session_model.specs.Run.{Told, empty_reader, fed_bytes}
-use Rattle.session_model.specs.declared.fault.SessionError.{SessionError}
-use Rattle.session_model.specs.declared.fault.SessionError.TheVariants.{ClientExited, BadFrame, BadMessage, HostFault, WriteFault, Exhausted, NoMemory}
-use Rattle.session_model.specs.declared.input.Input.{Input}
+use Rattle.session_laws.specs.Course.{Course, takes, stops, exit, bad_frame, bad_message, is_exit, message_then, course_of, bytes_in}
+use Rattle.session_laws.specs.Run.{Told, empty_reader, fed_bytes}
+use Rattle.session_laws.specs.SessionError.{SessionError}
+use Rattle.session_laws.specs.SessionError.TheVariants.{ClientExited, BadFrame, BadMessage, HostFault, WriteFault, Exhausted, NoMemory}
+use Rattle.session_laws.specs.Input.{Input}
 use Rattle.turn_parts.specs.declared.fault.Counter.TheVariants.{Bytes as BytesCounter}
 use Rattle.initialization.specs.Stages.{Stage, awaits_initialize, awaits_initialized, begun, by_input, by_message, quiet, replied, stage_after, replies_to}
 use Rattle.initialization.specs.Opening.{LeftBy, taking, telling}

@@ -6,7 +6,7 @@ ghost use Rattle.lsp_frame.specs.Written.{AreWritable};
 ghost use Rattle.lsp_frame.specs.declared.frame.Cut.TheVariants.{NeedMore};
 ghost use Rattle.lsp_frame.specs.declared.message.Message.TheVariants.{Response as ResponseMessage};
 ghost use Rattle.session_port.specs.Record.{Rose, after_ok, added};
-ghost use Rattle.session_model.specs.Run.{fed_bytes, told_of};
+ghost use Rattle.session_laws.specs.Run.{fed_bytes, told_of};
 ghost use Rattle.initialization.specs.Opening.{Opens, bytes_of};
 ghost use Rattle.initialization.specs.Talking.{Advances, AdvancesByEvent, IsInStep, IsWriteError, first_talk, opening_of};
 
@@ -15,7 +15,7 @@ use crate::reading::{Coming, feed, next_message};
 use analysis_host::Analysis;
 use lsp_frame::{FrameReader, Message, Response, write_message};
 use ra_config::Config;
-use session_model::{Counter, SessionError};
+use session_laws::{Counter, SessionError};
 use session_port::{Host, HostError, HostEvent, Sink};
 use std::alloc::Global;
 

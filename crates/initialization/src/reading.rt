@@ -1,11 +1,11 @@
 // What the bytes held give next, and the bytes that come.
 ghost use Rattle.std.specs.Prelude.{◌≡◌, ◌<◌, ◌^◌, ◌+◌, ◌++◌, length, false, IfOk, IfErr, OnOk};
-ghost use Rattle.session_model.specs.Run.{fed_bytes};
+ghost use Rattle.session_laws.specs.Run.{fed_bytes};
 ghost use Rattle.initialization.specs.Talking.{IsNext, IsFeedError};
 
 use lsp_frame::{FrameFault, FrameReader, Message};
 use plain::Bytes;
-use session_model::{Counter, SessionError};
+use session_laws::{Counter, SessionError};
 use std::alloc::AllocError;
 
 /// What the bytes held give next.

@@ -1,11 +1,11 @@
 // Handshakes: what a client sends, what it is answered, and how it ends.
+use expectations::expect_text;
 use initialization::{Opening, initialize};
 use plain::{Bytes, Items};
 use session_model::SessionError;
 use session_peers::{HostileHost, MemorySink, NullAnalysis};
 use session_port::{HostEvent, LoaderMsg, LoadingProgress};
 use std::alloc::{AllocError, Global};
-use std::process::Abort;
 use std::test::Fail;
 use text_core::PositionEncoding;
 
@@ -100,11 +100,11 @@ fn handshake(alloc: Global, stream: &str, size: usize, fails: &[u64]) -> Result<
 }
 
 /// The handshake over frames of these bodies, in pieces of some sizes.
-fn shakes(rt: &impl Abort, alloc: Global, bodies: &str, wanted: &str) -> Result<(), Fail> {
+fn shakes(alloc: Global, bodies: &str, expected: &str) -> Result<(), Fail> {
     let stream = framed(alloc, bodies)?;
     for size in [1, 7, 100_000] {
         let got = handshake(alloc, stream.as_str(), size, &[])?;
-        assert_eq!(rt; got.as_str(), wanted, "in pieces of {size}");
+        expect_text("a handshake in pieces", got.as_str(), expected)?;
     }
     Ok(())
 }
@@ -126,7 +126,7 @@ begun /w utf-16 0";
 
 #[test]
 fn requests_that_come_too_early(rt: HostRuntime) -> Result<(), Fail> {
-    shakes(&rt, rt.alloc(), EARLY, EARLY_ANSWERED)
+    shakes(rt.alloc(), EARLY, EARLY_ANSWERED)
 }
 
 const ANEW: &str =
@@ -144,7 +144,7 @@ begun /a/b utf-8 0";
 
 #[test]
 fn a_fault_and_then_a_good_one(rt: HostRuntime) -> Result<(), Fail> {
-    shakes(&rt, rt.alloc(), ANEW, ANEW_ANSWERED)
+    shakes(rt.alloc(), ANEW, ANEW_ANSWERED)
 }
 
 const LEAVE: &str = r#"{"jsonrpc":"2.0","method":"exit"}
@@ -152,7 +152,7 @@ const LEAVE: &str = r#"{"jsonrpc":"2.0","method":"exit"}
 
 #[test]
 fn exit_comes_first(rt: HostRuntime) -> Result<(), Fail> {
-    shakes(&rt, rt.alloc(), LEAVE, "left")
+    shakes(rt.alloc(), LEAVE, "left")
 }
 
 const GOOD: &str =
@@ -169,47 +169,41 @@ fn good_and(alloc: Global, rest: &str, fails: &[u64]) -> Result<String, Fail> {
     handshake(alloc, stream.as_str(), 100_000, fails)
 }
 
+/// That a handshake of a good start with this behind it ends so.
+fn holds(alloc: Global, rest: &str, end: &str) -> Result<(), Fail> {
+    let got = good_and(alloc, rest, &[])?;
+    let behind = got.strip_prefix(RESULT).unwrap_or("another answer");
+    expect_text(rest, behind, end)
+}
+
 #[test]
 fn bytes_behind_initialized_are_held(rt: HostRuntime) -> Result<(), Fail> {
-    for (rest, end) in [
-        ("", "begun /w utf-16 0"),
-        ("Content", "begun /w utf-16 7"),
-        ("Content-Length: 2\r\n\r\n[]", "begun /w utf-16 23"),
-    ] {
-        let got = good_and(rt.alloc(), rest, &[])?;
-        assert_eq!(rt; got.strip_prefix(RESULT), Some(end));
-    }
-    Ok(())
+    holds(rt.alloc(), "", "begun /w utf-16 0")?;
+    holds(rt.alloc(), "Content", "begun /w utf-16 7")?;
+    holds(
+        rt.alloc(),
+        "Content-Length: 2\r\n\r\n[]",
+        "begun /w utf-16 23",
+    )
 }
 
 #[test]
 fn a_sink_that_fails(rt: HostRuntime) -> Result<(), Fail> {
-    assert_eq!(rt;
-        good_and(rt.alloc(), "", &[1])?.as_str(),
-        "the output failed"
-    );
-    Ok(())
+    let got = good_and(rt.alloc(), "", &[1])?;
+    expect_text("the first write", got.as_str(), "the output failed")
+}
+
+/// That a handshake of these bytes ends so.
+fn ends(alloc: Global, stream: &str, end: &str) -> Result<(), Fail> {
+    expect_text(stream, handshake(alloc, stream, 5, &[])?.as_str(), end)
 }
 
 #[test]
 fn ends_by_their_bytes(rt: HostRuntime) -> Result<(), Fail> {
-    for (stream, end) in [
-        ("", "client exited without proper shutdown sequence"),
-        (
-            "Content-Length: 2\r\n\r\n{",
-            "client exited without proper shutdown sequence",
-        ),
-        ("Content: 2\r\n\r\n{}", "bad frame at byte 0"),
-        (
-            "Content-Length: 2\r\n\r\n{}Content-Length: 3\r\n\r\n[1]",
-            "bad message at byte 0",
-        ),
-    ] {
-        assert_eq!(rt;
-            handshake(rt.alloc(), stream, 5, &[])?.as_str(),
-            end,
-            "{stream}"
-        );
-    }
-    Ok(())
+    let lost = "client exited without proper shutdown sequence";
+    ends(rt.alloc(), "", lost)?;
+    ends(rt.alloc(), "Content-Length: 2\r\n\r\n{", lost)?;
+    ends(rt.alloc(), "Content: 2\r\n\r\n{}", "bad frame at byte 0")?;
+    let list = "Content-Length: 2\r\n\r\n{}Content-Length: 3\r\n\r\n[1]";
+    ends(rt.alloc(), list, "bad message at byte 0")
 }

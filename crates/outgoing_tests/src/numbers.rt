@@ -1,4 +1,5 @@
 // The numbers of the server's own requests.
+use expectations::expect_same;
 use lsp_frame::RequestId;
 use outgoing::{Outgoing, OutgoingFault};
 use plain::Text;
@@ -14,44 +15,40 @@ fn three(alloc: Global) -> Result<Outgoing<u32>, Fail> {
     Ok(outgoing)
 }
 
+/// That the answer with this number is this one.
+fn completes(outgoing: &mut Outgoing<u32>, number: i32, then: Option<u32>) -> Result<(), Fail> {
+    let found = outgoing.complete(&RequestId::Number(number));
+    expect_same("an answer", &(number, found), &(number, then))
+}
+
 #[test]
 fn answers_are_found_by_number(rt: HostRuntime) -> Result<(), Fail> {
     let mut outgoing = three(rt.alloc())?;
-    let cases = [
-        (1, Some(20)),
-        (1, None),
-        (-1, None),
-        (3, None),
-        (0, Some(10)),
-        (2, Some(30)),
-        (2, None),
-    ];
-    for (number, then) in cases {
-        assert_eq!(rt;
-            outgoing.complete(&RequestId::Number(number)),
-            then,
-            "{number}"
-        );
-    }
-    assert_eq!(rt; outgoing.register(40), Ok(3));
-    Ok(())
+    completes(&mut outgoing, 1, Some(20))?;
+    completes(&mut outgoing, 1, None)?;
+    completes(&mut outgoing, -1, None)?;
+    completes(&mut outgoing, 3, None)?;
+    completes(&mut outgoing, 0, Some(10))?;
+    completes(&mut outgoing, 2, Some(30))?;
+    completes(&mut outgoing, 2, None)?;
+    expect_same("the next number", &outgoing.register(40), &Ok(3))
 }
 
 #[test]
 fn no_text_waits(rt: HostRuntime) -> Result<(), Fail> {
     let mut outgoing = three(rt.alloc())?;
     let id = RequestId::Text(Text::from_str(rt.alloc(), "1")?);
-    assert_eq!(rt; outgoing.complete(&id), None);
-    assert_eq!(rt; outgoing.complete(&RequestId::Number(1)), Some(20));
-    Ok(())
+    expect_same("a text", &outgoing.complete(&id), &None)?;
+    completes(&mut outgoing, 1, Some(20))
 }
 
 #[test]
-fn the_last_number_is_given_once(rt: HostRuntime) {
+fn the_last_number_is_given_once(rt: HostRuntime) -> Result<(), Fail> {
     let mut outgoing = Outgoing::new_at(rt.alloc(), 2_147_483_647);
-    assert_eq!(rt; outgoing.register(10), Ok(i32::MAX));
-    assert_eq!(rt; outgoing.register(20), Err(OutgoingFault::Exhausted));
-    assert_eq!(rt; outgoing.given(), 2_147_483_648);
-    assert_eq!(rt; outgoing.complete(&RequestId::Number(i32::MAX)), Some(10));
-    assert_eq!(rt; outgoing.register(30), Err(OutgoingFault::Exhausted));
+    let exhausted = Err(OutgoingFault::Exhausted);
+    expect_same("the last", &outgoing.register(10), &Ok(i32::MAX))?;
+    expect_same("one more", &outgoing.register(20), &exhausted)?;
+    expect_same("numbers given", &outgoing.given(), &2_147_483_648)?;
+    completes(&mut outgoing, i32::MAX, Some(10))?;
+    expect_same("again", &outgoing.register(30), &exhausted)
 }

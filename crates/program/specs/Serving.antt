@@ -4,8 +4,8 @@ use Rattle.std.specs.Io.KnownBytes.{Appends}
 use Rattle.server.specs.Serving.{Serves, asked_by}
 use Rattle.server.specs.declared.words.Asked.{Asked}
 use Rattle.server.specs.declared.words.Asked.TheVariants.{Session, Lsp, Unknown}
-use Rattle.desk.specs.Meaning.{Meaning}
-use Rattle.session_model.specs.Run.{told_of}
+use Rattle.server.specs.Meaning.{Meaning}
+use Rattle.server.specs.Run.{told_of}
 use Rattle.session_peers.specs.Inline.{started}
 use Rattle.session_port.specs.Record.{HostCall, Rose}
 use Rattle.stdio.specs.Streams.{OutputData}

@@ -8,6 +8,5 @@ mod words;
 
 pub use plain::NoMemory;
 pub use running::{Program, run};
-pub use server::{Counter, SessionError, main_loop_from, serve, status_of, status_text};
 pub use starting::start;
 pub use words::Words;

@@ -4,7 +4,7 @@ ghost use Rattle.program.specs.Serving.{Prints, Served, ServesStream, keeps_of};
 ghost use Rattle.program.specs.Words.{asked_by, texts_of};
 ghost use Rattle.program.specs.declared.words.Asked.TheVariants.{Help, Version, Serve, Unreadable};
 ghost use Rattle.server.specs.Status.{bad_words};
-ghost use Rattle.desk.specs.Meaning.{meaning_of};
+ghost use Rattle.server.specs.Meaning.{meaning_of};
 
 use crate::words::{Asked, Words, asked_by};
 use analysis_host::Analysis;
@@ -72,7 +72,10 @@ fn serve_stream<R: Read + Drop, W: Write + Drop, L: Log, A: Analysis>(
     let input = StandardInput::new(alloc, input)?;
     let keeps = keeps_of(keeps_record, server::asked_by(texts));
     let mut host = LoggingHost::new(log, InlineHost::new(alloc, input, analysis, keeps)?);
-    Ok(serve(alloc, texts, &mut host, output, analysis))
+    let status = serve(alloc, texts, &mut host, output, analysis);
+    // Dropped by a call, a host is not spelled out here.
+    drop(host);
+    Ok(status)
 }
 
 /// Does what the words of the command line ask for, and answers the status to end with: `--help` and `--version` print

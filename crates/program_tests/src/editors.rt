@@ -1,5 +1,6 @@
 // The first seconds of editors, and their leave.
-use crate::runs::{outcome_of, words};
+use crate::runs::{ended, outcome_of, words};
+use expectations::expect_same;
 use std::alloc::Global;
 use std::test::Fail;
 
@@ -66,17 +67,18 @@ const EMACS_ANSWERED: &str =
 {"id":2,"jsonrpc":"2.0","result":null}
 {"id":3,"jsonrpc":"2.0","result":null}"#;
 
+// The whole session of an editor.
+fn attaches(rt: &HostRuntime, editor: &str, sent: &str, answered: &str) -> Result<(), Fail> {
+    let stream = framed(rt.alloc(), sent)?;
+    let answers = framed(rt.alloc(), answered)?;
+    let outcome = outcome_of(rt, &words(rt.alloc(), "lsp")?, stream.as_str(), false, 4096)?;
+    ended(editor, &outcome, 0, answers.as_str())
+}
+
 #[test]
 fn editors_attach_and_leave(rt: HostRuntime) -> Result<(), Fail> {
-    let lsp = words(rt.alloc(), "lsp")?;
-    for (sent, answered) in [(NEOVIM, NEOVIM_ANSWERED), (EMACS, EMACS_ANSWERED)] {
-        let stream = framed(rt.alloc(), sent)?;
-        let wanted = framed(rt.alloc(), answered)?;
-        let outcome = outcome_of(&rt, &lsp, stream.as_str(), false, 4096)?;
-        assert_eq!(rt; outcome.written.as_str(), wanted.as_str());
-        assert_eq!(rt; outcome.status, 0);
-    }
-    Ok(())
+    attaches(&rt, "Neovim", NEOVIM, NEOVIM_ANSWERED)?;
+    attaches(&rt, "Emacs", EMACS, EMACS_ANSWERED)
 }
 
 const LEAVE: &str = r#"{"jsonrpc":"2.0","method":"exit"}"#;
@@ -85,18 +87,17 @@ const LOST: &str =
     r#"{"jsonrpc":"2.0","id":1,"method":"initialize","params":{"rootUri":"file:///w","capabilities":{}}}
 {"jsonrpc":"2.0","method":"initialized"}"#;
 
+// The status behind these messages.
+fn leaves(rt: &HostRuntime, what: &str, sent: &str, room: usize, status: u8) -> Result<(), Fail> {
+    let stream = framed(rt.alloc(), sent)?;
+    let outcome = outcome_of(rt, &words(rt.alloc(), "lsp")?, stream.as_str(), false, room)?;
+    expect_same(what, &outcome.status, &status)
+}
+
 #[test]
 fn editors_that_leave_early(rt: HostRuntime) -> Result<(), Fail> {
-    let lsp = words(rt.alloc(), "lsp")?;
-    for (sent, room, status) in [
-        (LEAVE, 4096, 0),
-        ("", 4096, 3),
-        (LOST, 4096, 3),
-        (LOST, 9, 7),
-    ] {
-        let stream = framed(rt.alloc(), sent)?;
-        let outcome = outcome_of(&rt, &lsp, stream.as_str(), false, room)?;
-        assert_eq!(rt; outcome.status, status, "of {sent}");
-    }
-    Ok(())
+    leaves(&rt, "exit before initialize", LEAVE, 4096, 0)?;
+    leaves(&rt, "no message", "", 4096, 3)?;
+    leaves(&rt, "lost after initialized", LOST, 4096, 3)?;
+    leaves(&rt, "an output that fails", LOST, 9, 7)
 }

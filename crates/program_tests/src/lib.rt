@@ -6,6 +6,4 @@ mod editors;
 #[cfg(test)]
 mod runs;
 #[cfg(test)]
-mod statuses;
-#[cfg(test)]
 mod streams;

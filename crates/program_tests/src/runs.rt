@@ -1,5 +1,6 @@
 // Runs of the program.
 use crate::streams::{Paper, Tape};
+use expectations::{expect, expect_same, expect_text};
 use plain::{Items, Text};
 use program::{Program, Words, run};
 use session_peers::NullAnalysis;
@@ -88,59 +89,71 @@ pub(crate) fn words(alloc: Global, line: &str) -> Result<Words, Fail> {
     Ok(Words::Texts(texts))
 }
 
+/// That a run ended with this status and wrote this. All of it was flushed, unless the output failed.
+pub(crate) fn ended(what: &str, outcome: &Outcome, status: u8, written: &str) -> Result<(), Fail> {
+    expect_same(what, &outcome.status, &status)?;
+    expect_text(what, outcome.written.as_str(), written)?;
+    expect(what, outcome.flushed || status == 7)
+}
+
+// A run of these words without an input.
+fn prints(
+    rt: &HostRuntime,
+    line: &str,
+    room: usize,
+    status: u8,
+    written: &str,
+) -> Result<(), Fail> {
+    let outcome = outcome_of(rt, &words(rt.alloc(), line)?, "", false, room)?;
+    ended(line, &outcome, status, written)
+}
+
 #[test]
 fn words_that_print(rt: HostRuntime) -> Result<(), Fail> {
-    for (line, room, status, written) in [
-        ("--help", 4096, 0, HELP),
-        ("--version", 4096, 0, VERSION),
-        ("--version", 3, 7, "ver"),
-        ("--help", 5, 7, "usage"),
-        ("--help --version", 4096, 2, ""),
-        ("sessions", 4096, 2, ""),
-        ("session session", 4096, 2, ""),
-        ("", 4096, 2, ""),
-    ] {
-        let outcome = outcome_of(&rt, &words(rt.alloc(), line)?, "", false, room)?;
-        assert_eq!(rt; outcome.status, status, "of {line}");
-        assert_eq!(rt; outcome.written.as_str(), written, "of {line}");
-        assert!(rt; outcome.flushed || status == 7, "of {line}");
-    }
-    Ok(())
+    prints(&rt, "--help", 4096, 0, HELP)?;
+    prints(&rt, "--version", 4096, 0, VERSION)?;
+    prints(&rt, "--version", 3, 7, "ver")?;
+    prints(&rt, "--help", 5, 7, "usage")?;
+    prints(&rt, "--help --version", 4096, 2, "")?;
+    prints(&rt, "sessions", 4096, 2, "")?;
+    prints(&rt, "session session", 4096, 2, "")?;
+    prints(&rt, "", 4096, 2, "")
 }
 
 #[test]
 fn a_word_that_is_no_text(rt: HostRuntime) -> Result<(), Fail> {
     let outcome = outcome_of(&rt, &Words::NotText, EXIT, false, 4096)?;
-    assert_eq!(rt; outcome.status, 2);
-    assert_eq!(rt; outcome.written.as_str(), "");
-    Ok(())
+    ended("no text", &outcome, 2, "")
 }
 
-/// A stream of these frames.
-fn stream(alloc: Global, frames: &[&str]) -> Result<String, Fail> {
-    let mut stream = String::new(alloc);
-    for frame in frames {
-        stream.push_str(frame)?;
-    }
-    Ok(stream)
+// A session of a document, a hover and these last bytes.
+fn serves(
+    rt: &HostRuntime,
+    last: &str,
+    fails: bool,
+    room: usize,
+    status: u8,
+    written: &str,
+) -> Result<(), Fail> {
+    let mut stream = String::from_str(rt.alloc(), OPEN)?;
+    stream.push_str(HOVER)?;
+    stream.push_str(last)?;
+    let outcome = outcome_of(
+        rt,
+        &words(rt.alloc(), "session")?,
+        stream.as_str(),
+        fails,
+        room,
+    )?;
+    ended(last, &outcome, status, written)
 }
 
 #[test]
 fn sessions(rt: HostRuntime) -> Result<(), Fail> {
-    let session = words(rt.alloc(), "session")?;
-    for (last, fails, room, status, written) in [
-        (EXIT, false, 4096, 0, REPLY),
-        ("Content-Length: 33\r\n\r\n{}", false, 4096, 3, REPLY),
-        ("Content-Length: x\r\n\r\n{}", false, 4096, 4, REPLY),
-        ("Content-Length: 3\r\n\r\n[1]", false, 4096, 5, REPLY),
-        ("", true, 4096, 6, REPLY),
-        (EXIT, false, 14, 7, "Content-Length"),
-    ] {
-        let stream = stream(rt.alloc(), &[OPEN, HOVER, last])?;
-        let outcome = outcome_of(&rt, &session, stream.as_str(), fails, room)?;
-        assert_eq!(rt; outcome.status, status, "of {last}");
-        assert_eq!(rt; outcome.written.as_str(), written, "of {last}");
-        assert!(rt; outcome.flushed || status == 7, "of {last}");
-    }
-    Ok(())
+    serves(&rt, EXIT, false, 4096, 0, REPLY)?;
+    serves(&rt, "Content-Length: 33\r\n\r\n{}", false, 4096, 3, REPLY)?;
+    serves(&rt, "Content-Length: x\r\n\r\n{}", false, 4096, 4, REPLY)?;
+    serves(&rt, "Content-Length: 3\r\n\r\n[1]", false, 4096, 5, REPLY)?;
+    serves(&rt, "", true, 4096, 6, REPLY)?;
+    serves(&rt, EXIT, false, 14, 7, "Content-Length")
 }

@@ -1,6 +1,7 @@
 // What is written of places, text edits and diagnostics. Each function holds one large value, so that it stays quick to
 // prove.
 use docs_vfs::VfsPath;
+use expectations::expect_text;
 use op_board::{Diagnostic, Related};
 use plain::{Items, Text};
 use protocol_values::{ToJson, list_json};
@@ -36,36 +37,34 @@ fn listed(alloc: Global, positions: &[Position]) -> Result<String, Fail> {
 #[test]
 fn a_position(rt: HostRuntime) -> Result<(), Fail> {
     let text = written(rt.alloc(), &RANGE.start)?;
-    assert_eq!(rt; text.as_str(), "{\"character\":7,\"line\":0}");
-    Ok(())
+    expect_text("JSON", text.as_str(), "{\"character\":7,\"line\":0}")
 }
 
 #[test]
 fn a_range(rt: HostRuntime) -> Result<(), Fail> {
     let text = written(rt.alloc(), &RANGE)?;
-    assert_eq!(rt;
+    expect_text(
+        "JSON",
         text.as_str(),
-        "{\"end\":{\"character\":8,\"line\":0},\"start\":{\"character\":7,\"line\":0}}"
-    );
-    Ok(())
+        "{\"end\":{\"character\":8,\"line\":0},\"start\":{\"character\":7,\"line\":0}}",
+    )
 }
 
 #[test]
 fn a_list(rt: HostRuntime) -> Result<(), Fail> {
     let text = listed(rt.alloc(), [RANGE.start, RANGE.end].as_slice())?;
-    assert_eq!(rt;
+    expect_text(
+        "JSON",
         text.as_str(),
-        "[{\"character\":7,\"line\":0},{\"character\":8,\"line\":0}]"
-    );
-    Ok(())
+        "[{\"character\":7,\"line\":0},{\"character\":8,\"line\":0}]",
+    )
 }
 
 #[test]
 fn an_empty_list(rt: HostRuntime) -> Result<(), Fail> {
     let none: [Position; 0] = [];
     let text = listed(rt.alloc(), none.as_slice())?;
-    assert_eq!(rt; text.as_str(), "[]");
-    Ok(())
+    expect_text("JSON", text.as_str(), "[]")
 }
 
 fn edit(alloc: Global) -> Result<TextEdit, Fail> {
@@ -78,11 +77,11 @@ fn edit(alloc: Global) -> Result<TextEdit, Fail> {
 #[test]
 fn a_text_edit(rt: HostRuntime) -> Result<(), Fail> {
     let text = written(rt.alloc(), &edit(rt.alloc())?)?;
-    assert_eq!(rt;
+    expect_text(
+        "JSON",
         text.as_str(),
-        "{\"newText\":\"a\\n\",\"range\":{\"end\":{\"character\":8,\"line\":0},\"start\":{\"character\":7,\"line\":0}}}"
-    );
-    Ok(())
+        "{\"newText\":\"a\\n\",\"range\":{\"end\":{\"character\":8,\"line\":0},\"start\":{\"character\":7,\"line\":0}}}",
+    )
 }
 
 fn least(alloc: Global) -> Result<Diagnostic, Fail> {
@@ -100,11 +99,11 @@ fn least(alloc: Global) -> Result<Diagnostic, Fail> {
 #[test]
 fn a_diagnostic_without_more(rt: HostRuntime) -> Result<(), Fail> {
     let text = written(rt.alloc(), &least(rt.alloc())?)?;
-    assert_eq!(rt;
+    expect_text(
+        "JSON",
         text.as_str(),
-        "{\"message\":\"unmatched bracket\",\"range\":{\"end\":{\"character\":8,\"line\":0},\"start\":{\"character\":7,\"line\":0}},\"severity\":1,\"source\":\"ra_serve\"}"
-    );
-    Ok(())
+        "{\"message\":\"unmatched bracket\",\"range\":{\"end\":{\"character\":8,\"line\":0},\"start\":{\"character\":7,\"line\":0}},\"severity\":1,\"source\":\"ra_serve\"}",
+    )
 }
 
 fn place(alloc: Global) -> Result<Related, Fail> {
@@ -138,9 +137,9 @@ fn most(alloc: Global) -> Result<Diagnostic, Fail> {
 #[test]
 fn a_diagnostic_with_all_it_may_have(rt: HostRuntime) -> Result<(), Fail> {
     let text = written(rt.alloc(), &most(rt.alloc())?)?;
-    assert_eq!(rt;
+    expect_text(
+        "JSON",
         text.as_str(),
-        "{\"code\":\"E1\",\"message\":\"\\\"\",\"range\":{\"end\":{\"character\":8,\"line\":0},\"start\":{\"character\":7,\"line\":0}},\"relatedInformation\":[{\"location\":{\"range\":{\"end\":{\"character\":8,\"line\":0},\"start\":{\"character\":7,\"line\":0}},\"uri\":\"file:///w/a%20b.rs\"},\"message\":\"here\"}]}"
-    );
-    Ok(())
+        "{\"code\":\"E1\",\"message\":\"\\\"\",\"range\":{\"end\":{\"character\":8,\"line\":0},\"start\":{\"character\":7,\"line\":0}},\"relatedInformation\":[{\"location\":{\"range\":{\"end\":{\"character\":8,\"line\":0},\"start\":{\"character\":7,\"line\":0}},\"uri\":\"file:///w/a%20b.rs\"},\"message\":\"here\"}]}",
+    )
 }

@@ -7,6 +7,7 @@ use analysis_host::{
     SnapshotParts, TextEntry, Versions,
 };
 use docs_vfs::{FileExcluded, FileId, VfsPath};
+use expectations::{expect, expect_text};
 use file_ids::FileIds;
 use plain::{Items, Text};
 use ra_config::Config;
@@ -75,15 +76,15 @@ fn with_number(
 
 /// `/w/a.rs` with number 0, `/w/x.rs` with 1, which is excluded, and `/w/t.rs` with 2.
 fn numbers(alloc: Global) -> Result<FileIds, Fail> {
-    let mut ids = FileIds::new(alloc);
-    for (path, number, excluded) in [
-        ("/w/a.rs", 0, FileExcluded::No),
-        ("/w/x.rs", 1, FileExcluded::Yes),
-        ("/w/t.rs", 2, FileExcluded::No),
-    ] {
-        ids = with_number(alloc, &ids, path, FileId(number), excluded)?;
-    }
-    Ok(ids)
+    let first = with_number(
+        alloc,
+        &FileIds::new(alloc),
+        "/w/a.rs",
+        FileId(0),
+        FileExcluded::No,
+    )?;
+    let second = with_number(alloc, &first, "/w/x.rs", FileId(1), FileExcluded::Yes)?;
+    with_number(alloc, &second, "/w/t.rs", FileId(2), FileExcluded::No)
 }
 
 fn snapshot(alloc: Global) -> Result<GlobalStateSnapshot, Fail> {
@@ -110,22 +111,21 @@ fn found(alloc: Global, uri: &str) -> Result<Text, Fail> {
     }
 }
 
+// That this is found of a URL.
+fn finds(alloc: Global, uri: &str, expected: &str) -> Result<(), Fail> {
+    expect_text(uri, found(alloc, uri)?.as_str(), expected)
+}
+
 #[test]
 fn texts(rt: HostRuntime) -> Result<(), Fail> {
-    for (uri, text) in [
-        ("file:///w/a.rs", "fn a() {}"),
-        ("file:///w/x.rs", "excluded"),
-        ("file:///w/t.rs", "file not found: /w/t.rs"),
-        ("file:///w/b.rs", "file not found: /w/b.rs"),
-        ("http://x/a", "url is not a file"),
-        ("file://h/a", "url is not a file"),
-        ("file:///a%FF", "url is not a file"),
-        ("", "url is not a file"),
-    ] {
-        let found = found(rt.alloc(), uri)?;
-        assert_eq!(rt; found.as_str(), text, "{uri}");
-    }
-    Ok(())
+    finds(rt.alloc(), "file:///w/a.rs", "fn a() {}")?;
+    finds(rt.alloc(), "file:///w/x.rs", "excluded")?;
+    finds(rt.alloc(), "file:///w/t.rs", "file not found: /w/t.rs")?;
+    finds(rt.alloc(), "file:///w/b.rs", "file not found: /w/b.rs")?;
+    finds(rt.alloc(), "http://x/a", "url is not a file")?;
+    finds(rt.alloc(), "file://h/a", "url is not a file")?;
+    finds(rt.alloc(), "file:///a%FF", "url is not a file")?;
+    finds(rt.alloc(), "", "url is not a file")
 }
 
 fn message_of(outcome: Outcome) -> Result<Text, Fail> {
@@ -141,8 +141,7 @@ fn message_of(outcome: Outcome) -> Result<Text, Fail> {
 #[test]
 fn a_refusal(rt: HostRuntime) -> Result<(), Fail> {
     let message = message_of(refusal(Text::from_str(rt.alloc(), "no")?))?;
-    assert_eq!(rt; message.as_str(), "no");
-    Ok(())
+    expect_text("a refusal", message.as_str(), "no")
 }
 
 fn is_null(outcome: Outcome) -> bool {
@@ -153,13 +152,12 @@ fn is_null(outcome: Outcome) -> bool {
 }
 
 #[test]
-fn the_answer_null(rt: HostRuntime) {
-    assert!(rt; is_null(nothing()));
+fn the_answer_null() -> Result<(), Fail> {
+    expect("null", is_null(nothing()))
 }
 
 #[test]
 fn params_that_cannot_be_read(rt: HostRuntime) -> Result<(), Fail> {
     let message = message_of(malformed(rt.alloc())?)?;
-    assert_eq!(rt; message.as_str(), "invalid params");
-    Ok(())
+    expect_text("malformed params", message.as_str(), "invalid params")
 }

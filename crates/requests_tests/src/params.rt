@@ -1,4 +1,5 @@
 // What is read of params.
+use expectations::{expect_same, expect_text};
 use plain::{Json, Text};
 use requests::{has_positions, position_of, positions_of, range_of, uri_of};
 use std::alloc::Global;
@@ -14,24 +15,28 @@ fn uri(alloc: Global, params: &str) -> Result<Text, Fail> {
     Ok(Text::from_str(alloc, uri_of(&params).unwrap_or("none"))?)
 }
 
+// That params name this document.
+fn names(alloc: Global, params: &str, expected: &str) -> Result<(), Fail> {
+    expect_text(params, uri(alloc, params)?.as_str(), expected)
+}
+
 #[test]
 fn documents(rt: HostRuntime) -> Result<(), Fail> {
-    for (params, expected) in [
-        ("{\"textDocument\":{\"uri\":\"file:///a\"}}", "file:///a"),
-        (
-            "{\"textDocument\":{\"uri\":\"\",\"version\":1},\"more\":0}",
-            "",
-        ),
-        ("{\"textDocument\":{\"uri\":7}}", "none"),
-        ("{\"textDocument\":\"file:///a\"}", "none"),
-        ("{\"uri\":\"file:///a\"}", "none"),
-        ("[]", "none"),
-        ("null", "none"),
-    ] {
-        let found = uri(rt.alloc(), params)?;
-        assert_eq!(rt; found.as_str(), expected, "{params}");
-    }
-    Ok(())
+    names(
+        rt.alloc(),
+        "{\"textDocument\":{\"uri\":\"file:///a\"}}",
+        "file:///a",
+    )?;
+    names(
+        rt.alloc(),
+        "{\"textDocument\":{\"uri\":\"\",\"version\":1},\"more\":0}",
+        "",
+    )?;
+    names(rt.alloc(), "{\"textDocument\":{\"uri\":7}}", "none")?;
+    names(rt.alloc(), "{\"textDocument\":\"file:///a\"}", "none")?;
+    names(rt.alloc(), "{\"uri\":\"file:///a\"}", "none")?;
+    names(rt.alloc(), "[]", "none")?;
+    names(rt.alloc(), "null", "none")
 }
 
 /// The line and the character of the position of params.
@@ -42,24 +47,40 @@ fn place(alloc: Global, params: &str) -> Result<Option<(u32, u32)>, Fail> {
     }
 }
 
+// That params have this place.
+fn is_at(alloc: Global, params: &str, expected: Option<(u32, u32)>) -> Result<(), Fail> {
+    expect_same(params, &place(alloc, params)?, &expected)
+}
+
 #[test]
 fn places(rt: HostRuntime) -> Result<(), Fail> {
-    for (params, expected) in [
-        ("{\"position\":{\"line\":3,\"character\":4}}", Some((3, 4))),
-        (
-            "{\"position\":{\"line\":4294967295,\"character\":0,\"more\":[]}}",
-            Some((4294967295, 0)),
-        ),
-        ("{\"position\":{\"line\":4294967296,\"character\":0}}", None),
-        ("{\"position\":{\"line\":-1,\"character\":0}}", None),
-        ("{\"position\":{\"line\":1.0,\"character\":0}}", None),
-        ("{\"position\":{\"line\":1}}", None),
-        ("{\"position\":[3,4]}", None),
-    ] {
-        let found = place(rt.alloc(), params)?;
-        assert_eq!(rt; found, expected, "{params}");
-    }
-    Ok(())
+    is_at(
+        rt.alloc(),
+        "{\"position\":{\"line\":3,\"character\":4}}",
+        Some((3, 4)),
+    )?;
+    is_at(
+        rt.alloc(),
+        "{\"position\":{\"line\":4294967295,\"character\":0,\"more\":[]}}",
+        Some((4294967295, 0)),
+    )?;
+    is_at(
+        rt.alloc(),
+        "{\"position\":{\"line\":4294967296,\"character\":0}}",
+        None,
+    )?;
+    is_at(
+        rt.alloc(),
+        "{\"position\":{\"line\":-1,\"character\":0}}",
+        None,
+    )?;
+    is_at(
+        rt.alloc(),
+        "{\"position\":{\"line\":1.0,\"character\":0}}",
+        None,
+    )?;
+    is_at(rt.alloc(), "{\"position\":{\"line\":1}}", None)?;
+    is_at(rt.alloc(), "{\"position\":[3,4]}", None)
 }
 
 /// The line at which the range of params begins, and the character at which it ends.
@@ -70,19 +91,19 @@ fn ends(alloc: Global, params: &str) -> Result<Option<(u32, u32)>, Fail> {
     }
 }
 
+// That params have a range with these ends.
+fn ends_at(alloc: Global, params: &str, expected: Option<(u32, u32)>) -> Result<(), Fail> {
+    expect_same(params, &ends(alloc, params)?, &expected)
+}
+
 #[test]
 fn ranges(rt: HostRuntime) -> Result<(), Fail> {
-    for (params, expected) in [
-        (
-            "{\"range\":{\"start\":{\"line\":1,\"character\":2},\"end\":{\"line\":0,\"character\":7}}}",
-            Some((1, 7)),
-        ),
-        ("{\"range\":null}", None),
-    ] {
-        let found = ends(rt.alloc(), params)?;
-        assert_eq!(rt; found, expected, "{params}");
-    }
-    Ok(())
+    ends_at(
+        rt.alloc(),
+        "{\"range\":{\"start\":{\"line\":1,\"character\":2},\"end\":{\"line\":0,\"character\":7}}}",
+        Some((1, 7)),
+    )?;
+    ends_at(rt.alloc(), "{\"range\":null}", None)
 }
 
 /// How many positions the list of params has.
@@ -99,28 +120,30 @@ fn counted(alloc: Global, params: &str) -> Result<(bool, Option<usize>), Fail> {
     Ok((has_positions(&params), count(alloc, &params)?))
 }
 
+// That params have a list of so many places.
+fn lists(alloc: Global, params: &str, expected: (bool, Option<usize>)) -> Result<(), Fail> {
+    expect_same(params, &counted(alloc, params)?, &expected)
+}
+
 #[test]
 fn lists_of_places(rt: HostRuntime) -> Result<(), Fail> {
-    for (params, expected) in [
-        ("{\"positions\":[]}", (true, Some(0))),
-        (
-            "{\"positions\":[{\"line\":0,\"character\":1}]}",
-            (true, Some(1)),
-        ),
-        (
-            "{\"positions\":[{\"line\":0,\"character\":1},{\"line\":2,\"character\":3}]}",
-            (true, Some(2)),
-        ),
-        (
-            "{\"positions\":[{\"line\":0,\"character\":1},7]}",
-            (false, None),
-        ),
-        ("{\"positions\":null}", (false, None)),
-        ("{\"positions\":{}}", (false, None)),
-        ("{}", (false, None)),
-    ] {
-        let found = counted(rt.alloc(), params)?;
-        assert_eq!(rt; found, expected, "{params}");
-    }
-    Ok(())
+    lists(rt.alloc(), "{\"positions\":[]}", (true, Some(0)))?;
+    lists(
+        rt.alloc(),
+        "{\"positions\":[{\"line\":0,\"character\":1}]}",
+        (true, Some(1)),
+    )?;
+    lists(
+        rt.alloc(),
+        "{\"positions\":[{\"line\":0,\"character\":1},{\"line\":2,\"character\":3}]}",
+        (true, Some(2)),
+    )?;
+    lists(
+        rt.alloc(),
+        "{\"positions\":[{\"line\":0,\"character\":1},7]}",
+        (false, None),
+    )?;
+    lists(rt.alloc(), "{\"positions\":null}", (false, None))?;
+    lists(rt.alloc(), "{\"positions\":{}}", (false, None))?;
+    lists(rt.alloc(), "{}", (false, None))
 }

@@ -4,12 +4,12 @@ use Rattle.std.specs.Prelude.{⊤, Option, Result, Ok, Err}
 use Rattle.lsp_frame.specs.Reader.{Reader}
 use Rattle.ra_config.specs.Config.{ConfigData}
 use Rattle.session_port.specs.Record.{HostCall, Rose}
-use Rattle.session_model.specs.Course.{end_of}
-use Rattle.session_model.specs.Headline.{EndsByCause, IsAnswered, IsComplete}
-use Rattle.session_model.specs.Run.{Told, IsRun}
-use Rattle.desk.specs.Meaning.{Meaning}
-use Rattle.session_model.specs.declared.fault.SessionError.{SessionError}
-use Rattle.session_model.specs.declared.fault.SessionError.TheVariants.{HostFault, WriteFault}
+use Rattle.session.specs.Course.{end_of}
+use Rattle.session.specs.Headline.{EndsByCause, IsAnswered, IsComplete}
+use Rattle.session.specs.Run.{Told, IsRun}
+use Rattle.session.specs.Meaning.{Meaning}
+use Rattle.session.specs.SessionError.{SessionError}
+use Rattle.session.specs.SessionError.TheVariants.{HostFault, WriteFault}
 use Rattle.initialization.specs.Opening.{Opens}
 use Rattle.initialization.specs.declared.opening.Opening.TheVariants.{Begun, Left}
 use Rattle.server.specs.Serving.{RanSession, Welcomed, thread_count}

@@ -1,12 +1,12 @@
 -- A session for whose settings there was no memory.
 use Rattle.std.proofs.Common.{Bool, refl}
 use Rattle.std.specs.Prelude.{⊤, Err}
-use Rattle.session_model.specs.Headline.{EndsByCause, IsAnswered}
-use Rattle.desk.specs.Meaning.{Meaning}
-use Rattle.session_model.specs.Run.{Told, empty_reader, IsRun}
-use Rattle.session_model.specs.declared.fault.SessionError.TheVariants.{NoMemory}
-use Rattle.session_laws.proofs.Answered.{run-answered}
-use Rattle.session_laws.proofs.Causes.{answered-caused, answered-complete}
+use Rattle.session.specs.Headline.{EndsByCause, IsAnswered}
+use Rattle.session.specs.Meaning.{Meaning}
+use Rattle.session.specs.Run.{Told, empty_reader, IsRun}
+use Rattle.session.specs.SessionError.TheVariants.{NoMemory}
+use Rattle.session.proofs.Answered.{run-answered}
+use Rattle.session.proofs.Causes.{answered-caused, answered-complete}
 use Rattle.session.proofs.Advancing.{run-none}
 use Rattle.server.specs.Serving.{RanSession, session_config}
 

@@ -5,14 +5,14 @@ use Rattle.lsp_frame.specs.Reader.{Reader}
 use Rattle.ra_config.specs.Config.{ConfigData}
 use Rattle.session_port.specs.Record.{HostCall, given_in, grown}
 use Rattle.session_port.specs.declared.event.HostEvent.{HostEvent}
-use Rattle.session_model.specs.Course.{Course, Stop, course_of, session_course, end_of}
-use Rattle.session_model.specs.Headline.{EndsByCause, IsAnswered, IsEnd}
-use Rattle.session_model.specs.Run.{Told, empty_reader, giving}
-use Rattle.session_model.specs.declared.fault.SessionError.{SessionError}
-use Rattle.session_model.specs.declared.fault.SessionError.TheVariants.{ClientExited, BadFrame, BadMessage, HostFault, WriteFault, Exhausted, NoMemory}
-use Rattle.session_model.specs.declared.input.Input.{Input}
-use Rattle.desk.specs.Meaning.{Meaning}
-use Rattle.session_laws.proofs.Asking.{given-append, given-giving}
+use Rattle.session.specs.Course.{Course, Stop, course_of, session_course, end_of}
+use Rattle.session.specs.Headline.{EndsByCause, IsAnswered, IsEnd}
+use Rattle.session.specs.Run.{Told, empty_reader, giving}
+use Rattle.session.specs.SessionError.{SessionError}
+use Rattle.session.specs.SessionError.TheVariants.{ClientExited, BadFrame, BadMessage, HostFault, WriteFault, Exhausted, NoMemory}
+use Rattle.session.specs.Input.{Input}
+use Rattle.session.specs.Meaning.{Meaning}
+use Rattle.session.proofs.Asking.{given-append, given-giving}
 use Rattle.initialization.specs.Opening.{Opens, LeftBy, taking}
 use Rattle.initialization.specs.Stages.{Stage}
 use Rattle.initialization.specs.declared.opening.Opening.{Opening}

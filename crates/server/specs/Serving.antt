@@ -3,13 +3,13 @@ use Rattle.std.specs.Prelude.{◌≡◌, ℕ, List, [], ◌∷◌, ◌++◌, Boo
 use Rattle.lsp_frame.specs.Reader.{Reader}
 use Rattle.ra_config.specs.Config.{ConfigData, config_at}
 use Rattle.session_port.specs.Record.{HostCall, given_in}
-use Rattle.session_model.specs.Course.{course_of, end_of, exit}
-use Rattle.session_model.specs.Headline.{IsAnswered, EndsByCause, IsComplete}
-use Rattle.desk.specs.Meaning.{Meaning}
-use Rattle.session_model.specs.Run.{Told, IsRun, empty_reader}
-use Rattle.session_model.specs.Texts.{same_text}
-use Rattle.session_model.specs.declared.fault.SessionError.{SessionError}
-use Rattle.session_model.specs.declared.fault.SessionError.TheVariants.{ClientExited, BadFrame, BadMessage, HostFault, WriteFault, Exhausted, NoMemory}
+use Rattle.session.specs.Course.{course_of, end_of, exit}
+use Rattle.session.specs.Headline.{IsAnswered, EndsByCause, IsComplete}
+use Rattle.session.specs.Meaning.{Meaning}
+use Rattle.session.specs.Run.{Told, IsRun, empty_reader}
+use Rattle.session.specs.Texts.{same_text}
+use Rattle.session.specs.SessionError.{SessionError}
+use Rattle.session.specs.SessionError.TheVariants.{ClientExited, BadFrame, BadMessage, HostFault, WriteFault, Exhausted, NoMemory}
 use Rattle.initialization.specs.Opening.{Opens}
 use Rattle.initialization.specs.declared.opening.Opening.{Opening}
 use Rattle.initialization.specs.declared.opening.Opening.TheVariants.{Begun, Left}

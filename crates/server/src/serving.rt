@@ -2,8 +2,8 @@
 ghost use Rattle.std.specs.Prelude.{◌≡◌, IfOk, false, ◌↔◌};
 ghost use Rattle.std.specs.FinMap as map;
 ghost use Rattle.session_port.specs.Record.{Rose};
-ghost use Rattle.desk.specs.Meaning.{meaning_of};
-ghost use Rattle.session_model.specs.Run.{empty_reader, told_of};
+ghost use Rattle.session.specs.Meaning.{meaning_of};
+ghost use Rattle.session.specs.Run.{empty_reader, told_of};
 ghost use Rattle.server.specs.Serving.{asked_by, session_config, EndsWith, Serves, RanSession, Welcomed};
 ghost use Rattle.server.specs.Status.{status_of, bad_words};
 

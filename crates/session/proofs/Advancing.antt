@@ -8,14 +8,14 @@ use Rattle.session_port.specs.Jobs.{Jobs}
 use Rattle.session_port.specs.Record.{gave}
 use Rattle.session_port.specs.declared.event.HostEvent.{HostEvent}
 use Rattle.session_port.specs.declared.event.HostEvent.TheVariants.{Bytes}
-use Rattle.session_model.specs.Course.{Course, takes, waits, session_course, bytes_in}
-use Rattle.desk.specs.Meaning.{Meaning}
-use Rattle.session_model.specs.Run.{Told, Brings, Stretch, IsRun, Ends, EndsBy, IsHonestInput, MayAsk, after_input, fed_bytes, giving, telling}
-use Rattle.session_model.specs.State.{State, fresh}
-use Rattle.session_model.specs.declared.fault.SessionError.{SessionError}
-use Rattle.session_model.specs.declared.fault.SessionError.TheVariants.{NoMemory}
-use Rattle.session_model.specs.declared.input.Input.{Input}
-use Rattle.session_model.specs.declared.input.Input.TheVariants.{Start}
+use Rattle.session_laws.specs.Course.{Course, takes, waits, session_course, bytes_in}
+use Rattle.session_laws.specs.Meaning.{Meaning}
+use Rattle.session_laws.specs.Run.{Told, Brings, Stretch, IsRun, Ends, EndsBy, IsHonestInput, MayAsk, after_input, fed_bytes, giving, telling}
+use Rattle.session_laws.specs.State.{State, fresh}
+use Rattle.session_laws.specs.SessionError.{SessionError}
+use Rattle.session_laws.specs.SessionError.TheVariants.{NoMemory}
+use Rattle.session_laws.specs.Input.{Input}
+use Rattle.session_laws.specs.Input.TheVariants.{Start}
 use Rattle.session_laws.proofs.Counted.{IsLater, steps-fewer}
 use Rattle.session_laws.proofs.Stretches.{stretch-turn, stretch-fed, stretch-none, stretch-on, telling-none}
 use Rattle.session.specs.Looping.{AdvancesByEvent, Goes, IsFeedError, RunsOn, TurnDone, Done}

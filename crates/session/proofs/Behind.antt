@@ -5,9 +5,9 @@ use Rattle.session_port.specs.declared.event.HostEvent.{HostEvent}
 use Rattle.session_port.specs.declared.event.HostEvent.TheVariants.{Bytes, Tasks, Vfs, DeferredTask, Timer, Ended as HostEnded}
 use Rattle.lsp_frame.specs.Frames.{cut_of}
 use Rattle.lsp_frame.specs.declared.frame.Cut.TheVariants.{NeedMore}
-use Rattle.session_model.specs.Course.{takes, course_of, bytes_in}
-use Rattle.session_model.specs.Inputs.{batch_of}
-use Rattle.session_model.specs.declared.input.Input.{Input}
+use Rattle.session_laws.specs.Course.{takes, course_of, bytes_in}
+use Rattle.session_laws.specs.Inputs.{batch_of}
+use Rattle.session_laws.specs.Input.{Input}
 use Rattle.session_laws.proofs.Counted.{IsLater}
 use Rattle.session_laws.proofs.Courses.{course-event}
 use Rattle.session.specs.Bringing.{brought_by}

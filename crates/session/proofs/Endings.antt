@@ -5,13 +5,13 @@ use Rattle.session_port.specs.Jobs.{Jobs}
 use Rattle.session_port.specs.Record.{HostCall, gave}
 use Rattle.session_port.specs.declared.event.HostEvent.{HostEvent}
 use Rattle.session_port.specs.declared.event.HostEvent.TheVariants.{Bytes}
-use Rattle.session_model.specs.Course.{Course, takes, waits}
-use Rattle.desk.specs.Meaning.{Meaning}
-use Rattle.session_model.specs.Run.{Told, Turn, Brings, BreaksOffUnwritten, BreaksOffWritten, EndsBy, IsHonestInput, MayAsk, giving, telling}
-use Rattle.session_model.specs.State.{State}
-use Rattle.session_model.specs.declared.fault.SessionError.{SessionError}
-use Rattle.session_model.specs.declared.fault.SessionError.TheVariants.{ClientExited, BadFrame, BadMessage, HostFault, WriteFault, Exhausted, NoMemory}
-use Rattle.session_model.specs.declared.input.Input.{Input}
+use Rattle.session_laws.specs.Course.{Course, takes, waits}
+use Rattle.session_laws.specs.Meaning.{Meaning}
+use Rattle.session_laws.specs.Run.{Told, Turn, Brings, BreaksOffUnwritten, BreaksOffWritten, EndsBy, IsHonestInput, MayAsk, giving, telling}
+use Rattle.session_laws.specs.State.{State}
+use Rattle.session_laws.specs.SessionError.{SessionError}
+use Rattle.session_laws.specs.SessionError.TheVariants.{ClientExited, BadFrame, BadMessage, HostFault, WriteFault, Exhausted, NoMemory}
+use Rattle.session_laws.specs.Input.{Input}
 use Rattle.session_laws.proofs.Stretches.{telling-append, telling-none}
 use Rattle.session.specs.Looping.{TurnDone, Untaken, IsFeedError}
 

@@ -2,3 +2,7 @@ pub mod Advancing
 pub mod Behind
 pub mod Endings
 pub mod Feeding
+-- The laws of runs, passed on to servers over a session.
+pub use Rattle.session_laws.proofs.Answered
+pub use Rattle.session_laws.proofs.Asking
+pub use Rattle.session_laws.proofs.Causes

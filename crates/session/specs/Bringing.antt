@@ -2,8 +2,8 @@
 use Rattle.std.specs.Prelude.{[], ◌∷◌}
 use Rattle.session_port.specs.declared.event.HostEvent.{HostEvent}
 use Rattle.session_port.specs.declared.event.HostEvent.TheVariants.{Bytes, Tasks, Vfs, DeferredTask, Timer, Ended as HostEnded}
-use Rattle.session_model.specs.declared.input.Event.TheVariants.{Task, Vfs as VfsEvent, Deferred, Timer as TimerEvent}
-use Rattle.session_model.specs.declared.input.Input.TheVariants.{Next}
+use Rattle.session_laws.specs.Event.TheVariants.{Task, Vfs as VfsEvent, Deferred, Timer as TimerEvent}
+use Rattle.session_laws.specs.Input.TheVariants.{Next}
 use Rattle.session.specs.declared.bringing.Brought.{Brought}
 use Rattle.session.specs.declared.bringing.Brought.TheVariants.{Input, Fed, Ended}
 

@@ -3,15 +3,15 @@ use Rattle.std.specs.Prelude.{◌≡◌, ◌≤◌, ◌<◌, ◌⊎◌, ℕ, ◌
 use Rattle.lsp_frame.specs.Reader.{Reader}
 use Rattle.session_port.specs.Jobs.{Jobs}
 use Rattle.session_port.specs.Record.{took, after_order}
-use Rattle.session_model.specs.Machine.{step}
-use Rattle.desk.specs.Meaning.{Meaning}
-use Rattle.session_model.specs.Run.{Turn, Told, Steps, Stretch, Ends, EndsWell, EndsBy, begun, commands_of, fed_bytes, telling}
-use Rattle.session_model.specs.State.{State}
+use Rattle.session_laws.specs.Machine.{step}
+use Rattle.session_laws.specs.Meaning.{Meaning}
+use Rattle.session_laws.specs.Run.{Turn, Told, Steps, Stretch, Ends, EndsWell, EndsBy, begun, commands_of, fed_bytes, telling}
+use Rattle.session_laws.specs.State.{State}
 use Rattle.turn_parts.specs.Written.{AreRead}
 use Rattle.turn_parts.specs.declared.fault.Counter.TheVariants.{Bytes as BytesCounter}
-use Rattle.session_model.specs.declared.fault.SessionError.{SessionError}
-use Rattle.session_model.specs.declared.fault.SessionError.TheVariants.{ClientExited, BadFrame, BadMessage, HostFault, WriteFault, Exhausted, NoMemory}
-use Rattle.session_model.specs.declared.input.Input.{Input}
+use Rattle.session_laws.specs.SessionError.{SessionError}
+use Rattle.session_laws.specs.SessionError.TheVariants.{ClientExited, BadFrame, BadMessage, HostFault, WriteFault, Exhausted, NoMemory}
+use Rattle.session_laws.specs.Input.{Input}
 use Rattle.session.specs.Reading.{course_from}
 use Rattle.session.specs.declared.run.Turned.{Turned}
 use Rattle.session.specs.declared.run.Turned.TheVariants.{Going, Stopped}

@@ -5,10 +5,10 @@ use Rattle.lsp_frame.specs.Frames.{cut_of}
 use Rattle.lsp_frame.specs.Reader.{Reader}
 use Rattle.lsp_frame.specs.declared.message.Message.{Message}
 use Rattle.session_port.specs.declared.event.HostEvent.{HostEvent}
-use Rattle.session_model.specs.Course.{Course, takes, stops, exit, bad_frame, bad_message, course_of}
-use Rattle.session_model.specs.Run.{fed_bytes}
-use Rattle.session_model.specs.declared.input.Event.TheVariants.{Lsp}
-use Rattle.session_model.specs.declared.input.Input.TheVariants.{Next as NextInput}
+use Rattle.session_laws.specs.Course.{Course, takes, stops, exit, bad_frame, bad_message, course_of}
+use Rattle.session_laws.specs.Run.{fed_bytes}
+use Rattle.session_laws.specs.Event.TheVariants.{Lsp}
+use Rattle.session_laws.specs.Input.TheVariants.{Next as NextInput}
 use Rattle.session.specs.declared.reading.Coming.{Coming}
 use Rattle.session.specs.declared.reading.Coming.TheVariants.{Message as ComingMessage, Exit, BadFrame, BadMessage, Waits}
 

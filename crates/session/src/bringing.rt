@@ -3,8 +3,8 @@ ghost use Rattle.std.specs.Prelude.{◌≡◌};
 ghost use Rattle.session.specs.Bringing.{brought_by};
 
 use plain::{Bytes, Items};
-use session_model::{Event, Input};
 use session_port::HostEvent;
+use session_state::{Event, Input};
 use std::alloc::Global;
 
 // What comes of an event: the input of a turn, bytes that are to be fed, or the end.

@@ -7,5 +7,4 @@ mod run;
 
 pub use plain::NoMemory;
 pub use run::{main_loop, main_loop_from};
-pub use session_model::{Counter, Event, SessionError, TurnError};
-pub use session_state::{GlobalState, TurnOut};
+pub use session_state::{Counter, Event, GlobalState, SessionError, TurnError, TurnOut};

@@ -1,7 +1,7 @@
 // What the bytes held give next.
 ghost use Rattle.std.specs.Prelude.{◌≡◌, IfOk};
 ghost use Rattle.session.specs.Reading.{IsNext};
-ghost use Rattle.session_model.specs.Course.{is_exit};
+ghost use Rattle.session_laws.specs.Course.{is_exit};
 
 use lsp_frame::{FrameFault, FrameReader, Message};
 use notify::notification_is;

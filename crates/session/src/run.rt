@@ -4,13 +4,13 @@ ghost use Rattle.std.specs.FinMap as map;
 ghost use Rattle.lsp_frame.specs.Frames.{cut_of};
 ghost use Rattle.lsp_frame.specs.declared.frame.Cut.TheVariants.{NeedMore};
 ghost use Rattle.session_port.specs.Record.{HasCause, Rose, after_ok, added, took};
-ghost use Rattle.session_model.specs.Headline.{IsAnswered, EndsByCause, IsComplete};
-ghost use Rattle.desk.specs.Meaning.{meaning_of};
-ghost use Rattle.session_model.specs.Machine.{step};
+ghost use Rattle.session_laws.specs.Headline.{IsAnswered, EndsByCause, IsComplete};
+ghost use Rattle.session_laws.specs.Meaning.{meaning_of};
+ghost use Rattle.session_laws.specs.Machine.{step};
 ghost use Rattle.turn_parts.specs.Meets.{Meets};
-ghost use Rattle.session_model.specs.Run.{IsRun, empty_reader, told_of, turn_error_of, fed_bytes};
+ghost use Rattle.session_laws.specs.Run.{IsRun, empty_reader, told_of, turn_error_of, fed_bytes};
 ghost use Rattle.session.specs.Looping.{Advances, AdvancesByEvent, RunsOn, TurnDone, IsFeedError};
-ghost use Rattle.session_model.specs.State.{fresh};
+ghost use Rattle.session_laws.specs.State.{fresh};
 ghost use Rattle.ra_config.specs.Config.{ConfigData};
 
 use crate::bringing::{Brought, brought_by};
@@ -19,9 +19,8 @@ use analysis_host::Analysis;
 use lsp_frame::FrameReader;
 use plain::{Bytes, Items};
 use ra_config::Config;
-use session_model::{Counter, Event, Input, SessionError, TurnError};
 use session_port::{Command, Host, HostError, Sink};
-use session_state::{GlobalState, TurnOut};
+use session_state::{Counter, Event, GlobalState, Input, SessionError, TurnError, TurnOut};
 use std::alloc::Global;
 
 // Whether the run goes on.

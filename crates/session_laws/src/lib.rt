@@ -10,3 +10,4 @@ pub use laws::{
     rows_keep_the_invariant, runs_keep_the_invariant, steps_are_rows, timers_are_of_their_turns,
     turns_are_read, versions_never_pass_the_turns,
 };
+pub use session_model::{Counter, SessionError};

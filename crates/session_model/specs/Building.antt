@@ -54,7 +54,7 @@ is_rebuild row = option_map_or (λ r. r.0 == REBUILD_PROC_MACROS.0) row false
 
 -- a request asks for the macros anew, and is taken
 abbrev pub rebuilds : Request → Desk → Bool
-rebuilds r desk = is_rebuild (row_of r.method) && is_unit r.params && takes r desk
+rebuilds r desk = is_unit r.params && is_rebuild (row_of r.method) && takes r desk
 
 abbrev pub rebuilt_if : Bool → Workspaces → Workspaces
 rebuilt_if rebuilds workspaces = if rebuilds then rebuild_macros workspaces else workspaces

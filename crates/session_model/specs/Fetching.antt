@@ -42,7 +42,7 @@ takes r desk = not (desk.shutdown || is_pending r.id desk.pending)
 
 -- a request asks for the workspaces anew, and is taken
 abbrev pub reloads : Request → Desk → Bool
-reloads r desk = is_reload (row_of r.method) && is_unit r.params && takes r desk
+reloads r desk = is_unit r.params && is_reload (row_of r.method) && takes r desk
 
 abbrev pub reloaded_if : Bool → Workspaces → Workspaces
 reloaded_if reloads workspaces = if reloads then reload workspaces else workspaces

@@ -8,9 +8,12 @@ mod fault;
 mod heard;
 mod input;
 
+pub use client::{Client, ReqHandler};
 pub use counters::Counters;
+pub use desk::{BuildEnd, Desk, FetchEnd, LoadEnd, Scene};
 pub use facts::Facts;
 pub use fault::SessionError;
 pub use heard::Heard;
 pub use input::{Event, Input};
+pub use session_files::SessionFiles;
 pub use turn_parts::{Counter, TurnError};

@@ -1,15 +1,14 @@
 // What is agreed with the client.
 ghost use Rattle.std.specs.Prelude.{Ok};
 ghost use Rattle.turn_parts.specs.Meets.{Meets};
-ghost use Rattle.client.specs.Steps.{answered, folders_changed};
+ghost use Rattle.session_model.specs.ClientSteps.{answered, folders_changed};
 ghost use Rattle.session_model.specs.Machine.{answer_taken, asked_for_settings, at_client, folders_taken};
 
 use crate::causes::{tell_folders_if, tell_settings};
-use client::ReqHandler;
 use lsp_frame::Response;
 use notify::Outgo;
 use plain::{Items, Text};
-use session_model::TurnError;
+use session_model::{ReqHandler, TurnError};
 use session_store::Store;
 use std::sync::Arc;
 use turn_parts::TurnOut;

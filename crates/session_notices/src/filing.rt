@@ -2,8 +2,8 @@
 ghost use Rattle.std.specs.Prelude.{◌≡◌, ◌<◌, ◌^◌, length, Ok, IfOk};
 ghost use Rattle.docs_vfs.specs.FileUrls.{path_of};
 ghost use Rattle.turn_parts.specs.Meets.{Meets, Gives};
-ghost use Rattle.session_files.specs.Folds.{due_changes, is_due};
-ghost use Rattle.session_files.specs.Steps.{changed, closed as closed_document, loaded, opened, processed};
+ghost use Rattle.session_model.specs.FilesFolds.{due_changes, is_due};
+ghost use Rattle.session_model.specs.FilesSteps.{changed, closed as closed_document, loaded, opened, processed};
 ghost use Rattle.session_model.specs.Machine.{at_files, brought, changed_at, closed_at, files_followed, files_processed, opened_at};
 ghost use Rattle.session_model.specs.State.{columns_in, excludes_in};
 ghost use Rattle.session_model.specs.Timing.{bring_files, brings_files};

@@ -1,7 +1,7 @@
 // Notifications.
 ghost use Rattle.std.specs.Prelude.{Ok};
 ghost use Rattle.turn_parts.specs.Meets.{Meets};
-ghost use Rattle.desk.specs.Steps.{cancelled};
+ghost use Rattle.session_model.specs.DeskSteps.{cancelled};
 ghost use Rattle.notify.specs.Reading.{FitsWorld as NoticeFitsWorld};
 ghost use Rattle.session_model.specs.Hearing.{heard_of, FitsWorld};
 ghost use Rattle.session_model.specs.Machine.{at_desk, noticed, told};

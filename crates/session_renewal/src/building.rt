@@ -1,6 +1,6 @@
 // Build data of workspaces.
 ghost use Rattle.std.specs.Prelude.{◌≡◌, Some, IfOk, OnOk};
-ghost use Rattle.client.specs.Steps.{logged_if};
+ghost use Rattle.session_model.specs.ClientSteps.{logged_if};
 ghost use Rattle.session_port.specs.declared.command.LogCode.TheVariants.{BuildError};
 ghost use Rattle.turn_parts.specs.Meets.{Meets, Gives};
 ghost use Rattle.session_model.specs.Building.{build_due, build_kept, rebuilt_if};
@@ -8,9 +8,8 @@ ghost use Rattle.session_model.specs.Machine.{at_workspaces, build_handed_over, 
 ghost use Rattle.session_model.specs.Status.{build_fault};
 
 use crate::loading::start_load;
-use desk::BuildEnd;
 use plain::NoMemory;
-use session_model::TurnError;
+use session_model::{BuildEnd, TurnError};
 use session_port::{JobKind, LogCode};
 use session_store::Store;
 use turn_parts::TurnOut;

@@ -2,7 +2,7 @@
 ghost use Rattle.std.specs.Prelude.{◌≡◌, IfOk, OnOk};
 ghost use Rattle.std.specs.FinMap as map;
 ghost use Rattle.turn_parts.specs.Meets.{Meets};
-ghost use Rattle.session_files.specs.Steps.{crates_put};
+ghost use Rattle.session_model.specs.FilesSteps.{crates_put};
 ghost use Rattle.session_model.specs.Crates.{are_unknown, builds_crates, crate_data, crate_graph, crates_asked, crates_sought, crates_wait, followed_by, waits, with_paths};
 ghost use Rattle.session_model.specs.Machine.{at_files, crates_built};
 

@@ -1,6 +1,6 @@
 // Fetches of workspaces.
 ghost use Rattle.std.specs.Prelude.{◌≡◌, Some, IfOk, OnOk};
-ghost use Rattle.client.specs.Steps.{logged_if};
+ghost use Rattle.session_model.specs.ClientSteps.{logged_if};
 ghost use Rattle.session_port.specs.declared.command.LogCode.TheVariants.{FetchError};
 ghost use Rattle.turn_parts.specs.Meets.{Meets, Gives};
 ghost use Rattle.session_model.specs.Fetching.{fetch_kept, reloaded_if, with_fetches};
@@ -9,10 +9,9 @@ ghost use Rattle.workspaces.specs.Fetches.{fetch_to_start, start_fetch};
 ghost use Rattle.session_model.specs.State.{fetch_kind};
 ghost use Rattle.session_model.specs.Status.{fetch_fault};
 
-use desk::FetchEnd;
 use docs_vfs::VfsPath;
 use plain::{Items, NoMemory, Text};
-use session_model::TurnError;
+use session_model::{FetchEnd, TurnError};
 use session_port::{JobKind, LogCode};
 use session_store::Store;
 use std::alloc::{AllocError, Global};

@@ -5,10 +5,9 @@ ghost use Rattle.session_model.specs.Loading.{crates_loaded, load_kept, load_kin
 ghost use Rattle.session_model.specs.Machine.{crates_arrived, load_handed_over, load_started, load_taken};
 
 use crate::crates::put_crates;
-use desk::LoadEnd;
 use plain::{Items, NoMemory, Text};
 use project_model::{CrateData, MacroPath};
-use session_model::TurnError;
+use session_model::{LoadEnd, TurnError};
 use session_port::JobKind;
 use session_store::Store;
 use std::alloc::{AllocError, Global};

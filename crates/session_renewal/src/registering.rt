@@ -5,11 +5,10 @@ ghost use Rattle.session_model.specs.Asking.{watcher_asked, watchers_asked};
 ghost use Rattle.session_model.specs.Machine.{saves_registered, watchers_registered};
 ghost use Rattle.session_model.specs.State.{watched_names};
 
-use client::ReqHandler;
 use notify::{Outgo, Watcher};
 use plain::{Items, NoMemory, Text};
 use reload::{Watcher as WatchedFiles, watchers};
-use session_model::TurnError;
+use session_model::{ReqHandler, TurnError};
 use session_store::Store;
 use std::alloc::Global;
 use turn_parts::TurnOut;

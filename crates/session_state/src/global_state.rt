@@ -7,10 +7,10 @@ ghost use Rattle.notify.specs.Writing.{HoldsPlain};
 ghost use Rattle.outgoing.specs.Outgoing.{number_limit};
 ghost use Rattle.turn_parts.specs.Meets.{Meets};
 ghost use Rattle.turn_parts.specs.Working.{written};
-ghost use Rattle.client.specs.Steps.{asked_for, notification_of};
-ghost use Rattle.desk.specs.Meaning.{Meaning, meaning_of};
-ghost use Rattle.desk.specs.Steps.{responded, cancelled};
-ghost use Rattle.session_files.specs.Folds.{is_due};
+ghost use Rattle.session_model.specs.ClientSteps.{asked_for, notification_of};
+ghost use Rattle.session_model.specs.Meaning.{Meaning, meaning_of};
+ghost use Rattle.session_model.specs.DeskSteps.{responded, cancelled};
+ghost use Rattle.session_model.specs.FilesFolds.{is_due};
 ghost use Rattle.workspaces.specs.Fetches.{fetch_to_start, start_fetch};
 ghost use Rattle.session_model.specs.Fetching.{with_fetches};
 ghost use Rattle.session_model.specs.Machine.{answer_taken, at_client, files_processed, step, with_workspaces};
@@ -20,12 +20,11 @@ ghost use Rattle.session_model.specs.declared.input.Input.TheVariants.{Start, Ne
 
 use crate::turns;
 use analysis_host::{Analysis, GlobalStateSnapshot};
-use client::ReqHandler;
 use lsp_frame::{RequestId, Response};
 use notify::Outgo;
 use plain::{NoMemory, Text};
 use ra_config::Config;
-use session_model::{Counters, Event, TurnError};
+use session_model::{Counters, Event, ReqHandler, TurnError};
 use session_store::Store;
 use std::alloc::{AllocError, Global};
 use std::marker::Model;

@@ -2,20 +2,19 @@
 ghost use Rattle.std.specs.Prelude.{◌≡◌};
 ghost use Rattle.lsp_frame.specs.Pending.{IsAbove};
 ghost use Rattle.turn_parts.specs.Meets.{Meets};
-ghost use Rattle.desk.specs.Meaning.{meaning_of};
-ghost use Rattle.desk.specs.Steps.{requested, taken as taken_at_desk};
+ghost use Rattle.session_model.specs.Meaning.{meaning_of};
+ghost use Rattle.session_model.specs.DeskSteps.{requested, taken as taken_at_desk};
 ghost use Rattle.session_model.specs.Building.{is_rebuild, rebuilds};
 ghost use Rattle.session_model.specs.Fetching.{is_reload, reloads};
 ghost use Rattle.session_model.specs.Machine.{asked, at_desk, batched, ends_taken, received, taken};
 ghost use Rattle.session_model.specs.State.{scene_of};
 
 use analysis_host::Analysis;
-use desk::{BuildEnd, FetchEnd, LoadEnd};
 use docs_vfs::VfsPath;
 use lsp_frame::{Message, Request};
 use method_table::{REBUILD_PROC_MACROS, RELOAD_WORKSPACE, RowId, row_of};
 use plain::Items;
-use session_model::TurnError;
+use session_model::{BuildEnd, FetchEnd, LoadEnd, TurnError};
 use session_notices::{complete_request, on_notification};
 use session_port::TaskMsg;
 use session_renewal::{
@@ -63,8 +62,8 @@ fn ask<A: Analysis>(
 fn reloads(store: &Store, request: &Request) -> bool
     ensures { result ≡ reloads request.now store.now.desk }
 {
-    is_reload(row_of(request.method.as_str()))
-        && is_unit(&request.params)
+    is_unit(&request.params)
+        && is_reload(row_of(request.method.as_str()))
         && store.desk.takes(&request.id)
 }
 
@@ -72,8 +71,8 @@ fn reloads(store: &Store, request: &Request) -> bool
 fn rebuilds(store: &Store, request: &Request) -> bool
     ensures { result ≡ rebuilds request.now store.now.desk }
 {
-    is_rebuild(row_of(request.method.as_str()))
-        && is_unit(&request.params)
+    is_unit(&request.params)
+        && is_rebuild(row_of(request.method.as_str()))
         && store.desk.takes(&request.id)
 }
 

@@ -2,7 +2,7 @@
 ghost use Rattle.std.specs.Prelude.{◌≡◌, OnOk};
 ghost use Rattle.lsp_frame.specs.Pending.{IsAbove};
 ghost use Rattle.turn_parts.specs.Meets.{Meets, Gives};
-ghost use Rattle.desk.specs.Meaning.{Meaning, meaning_of};
+ghost use Rattle.session_model.specs.Meaning.{Meaning, meaning_of};
 ghost use Rattle.session_model.specs.Machine.{closed, counted, facts_of, happened, kept, revised, step, taken_in};
 ghost use Rattle.session_model.specs.declared.input.Input.TheVariants.{Start, Next};
 

@@ -6,9 +6,8 @@ ghost use Rattle.session_model.specs.Asking.{is_refresh_due};
 ghost use Rattle.session_model.specs.Machine.{asked_if, has_new_world, quiet_done, refreshed};
 ghost use Rattle.session_model.specs.Status.{is_quiescent};
 
-use client::ReqHandler;
 use notify::Outgo;
-use session_model::{Facts, TurnError};
+use session_model::{Facts, ReqHandler, TurnError};
 use session_store::Store;
 use turn_parts::TurnOut;
 

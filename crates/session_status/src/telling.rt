@@ -6,12 +6,11 @@ ghost use Rattle.session_model.specs.Machine.{status_changed, status_done, statu
 ghost use Rattle.session_model.specs.State.{linked_of};
 ghost use Rattle.session_model.specs.Status.{facts_known, has_build_error, has_fetch_error, health_text, lacks_projects, needs_reload, opens_logs, shown_as, shown_of, status_message, status_now};
 
-use client::ReqHandler;
 use notify::{MessageKind, Outgo};
 use plain::{Items, NoMemory, Text};
 use project_model::ProjectWorkspace;
 use ra_settings::LinkedProject;
-use session_model::TurnError;
+use session_model::{ReqHandler, TurnError};
 use session_store::Store;
 use status::{Health, Status, StatusInput, status_with};
 use std::alloc::{AllocError, Global};
@@ -92,7 +91,7 @@ fn lacks_projects(store: &Store) -> Result<bool, AllocError>
 fn needs_reload(store: &Store) -> bool
     ensures { result ≡ needs_reload store.now.client.settings store.now.files store.now.workspaces }
 {
-    !store.may_fetch() && store.is_quiescent() && store.workspaces.is_fetch_requested()
+    store.workspaces.is_fetch_requested() && !store.may_fetch() && store.is_quiescent()
 }
 
 // Whether the last fetch failed.

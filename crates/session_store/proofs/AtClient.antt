@@ -7,7 +7,7 @@ use Rattle.turn_parts.specs.Working.{Working}
 use Rattle.turn_parts.specs.Written.{Written}
 use Rattle.turn_parts.specs.declared.fault.Counter.{Counter}
 use Rattle.turn_parts.specs.declared.fault.TurnError.{TurnError}
-use Rattle.client.specs.Client.{Client}
+use Rattle.session_model.specs.Client.{Client}
 use Rattle.session_model.specs.Machine.{at_client, client_in, with_client}
 use Rattle.session_model.specs.State.{State}
 

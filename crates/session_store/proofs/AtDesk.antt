@@ -7,7 +7,7 @@ use Rattle.turn_parts.specs.Working.{Working, within, put_back}
 use Rattle.turn_parts.specs.Written.{Written}
 use Rattle.turn_parts.specs.declared.fault.Counter.{Counter}
 use Rattle.turn_parts.specs.declared.fault.TurnError.{TurnError}
-use Rattle.desk.specs.Desk.{Desk}
+use Rattle.session_model.specs.Desk.{Desk}
 use Rattle.session_model.specs.Machine.{at_desk, desk_in, with_desk}
 use Rattle.session_model.specs.State.{State}
 

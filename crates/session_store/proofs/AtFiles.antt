@@ -10,8 +10,8 @@ use Rattle.turn_parts.specs.Working.{Working}
 use Rattle.turn_parts.specs.Written.{Written}
 use Rattle.turn_parts.specs.declared.fault.Counter.{Counter}
 use Rattle.turn_parts.specs.declared.fault.TurnError.{TurnError}
-use Rattle.session_files.specs.SessionFiles.{SessionFiles}
-use Rattle.session_files.specs.Steps.{changed, opened, processed}
+use Rattle.session_model.specs.SessionFiles.{SessionFiles}
+use Rattle.session_model.specs.FilesSteps.{changed, opened, processed}
 use Rattle.session_model.specs.Machine.{at_files, files_in, with_files}
 use Rattle.session_model.specs.State.{State}
 

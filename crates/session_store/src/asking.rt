@@ -3,14 +3,13 @@ ghost use Rattle.std.specs.Prelude.{◌≡◌, OnOk};
 ghost use Rattle.notify.specs.Writing.{HoldsPlain};
 ghost use Rattle.turn_parts.specs.Meets.{Meets};
 ghost use Rattle.turn_parts.specs.Working.{written};
-ghost use Rattle.client.specs.Steps.{asked_for, notification_of};
+ghost use Rattle.session_model.specs.ClientSteps.{asked_for, notification_of};
 ghost use Rattle.session_model.specs.Machine.{at_client};
 
 use crate::state::Store;
-use client::ReqHandler;
 use notify::Outgo;
 use plain::NoMemory;
-use session_model::TurnError;
+use session_model::{ReqHandler, TurnError};
 use turn_parts::TurnOut;
 
 impl Store {

@@ -6,22 +6,19 @@ ghost use Rattle.lsp_frame.specs.declared.message.Message.TheVariants.{Response 
 ghost use Rattle.outgoing.specs.Outgoing.{number_limit};
 ghost use Rattle.turn_parts.specs.Meets.{Meets, Gives};
 ghost use Rattle.turn_parts.specs.Working.{ordered, logged};
-ghost use Rattle.client.specs.Steps.{logged_if};
-ghost use Rattle.desk.specs.Steps.{responded, cancelled, handed_over};
+ghost use Rattle.session_model.specs.ClientSteps.{logged_if};
+ghost use Rattle.session_model.specs.DeskSteps.{responded, cancelled, handed_over};
 ghost use Rattle.session_model.specs.Machine.{at_desk};
 ghost use Rattle.session_model.specs.State.{macros_loaded_in, scene_of, snapshot_of, first_status, fresh, fresh_at};
 ghost use Rattle.method_table.specs.declared.class.PoolClass.TheVariants.{Worker};
 
 use analysis_host::{GlobalStateSnapshot, SnapshotParts};
-use client::Client;
-use desk::{Desk, Scene};
 use docs_vfs::SourceRoots;
 use lsp_frame::{RequestId, Response};
 use method_table::PoolClass;
 use plain::{Items, NoMemory, Text};
 use ra_config::Config;
-use session_files::SessionFiles;
-use session_model::{Counters, TurnError};
+use session_model::{Client, Counters, Desk, Scene, SessionFiles, TurnError};
 use session_port::{Command, JobKind, LogCode};
 use status::{Health, Status};
 use std::alloc::{AllocError, Global};
@@ -79,7 +76,7 @@ fn first_status() -> Status
 
 impl Model for Store {
     ghost use Rattle.docs_vfs.specs.contracts.file_table.FileTable as files_of;
-    ghost use Rattle.client.specs.contracts.handler.ReqHandler as handler;
+    ghost use Rattle.session_model.specs.HandlerCode as handler;
     ghost use Rattle.session_port.specs.contracts.job.Job as job;
     ghost use Rattle.status.specs.contracts.status.Status as status_of;
     ghost use Rattle.workspaces.specs.contracts.state.Workspaces as workspaces_of;

@@ -1,5 +1,6 @@
 // Documents, files and loading, in whole sessions.
 use crate::scripts::written;
+use expectations::expect_text;
 use std::test::Fail;
 
 /// Requests with a default get it while files are loading, their params unread; a request on the loop is answered as at other times.
@@ -60,21 +61,23 @@ const BRACES_ANSWERS: &str = r#"{"id":4,"jsonrpc":"2.0","result":[{"character":8
 {"id":4,"jsonrpc":"2.0","result":[{"character":8,"line":0}]}
 "#;
 
+// That a run of these lines writes this.
+fn writes(rt: &HostRuntime, what: &str, lines: &str, answers: &str) -> Result<(), Fail> {
+    expect_text(what, written(rt.alloc(), lines)?.as_str(), answers)
+}
+
 #[test]
 fn requests_while_files_are_loading(rt: HostRuntime) -> Result<(), Fail> {
-    assert_eq!(rt; written(rt.alloc(), LOADING)?.as_str(), LOADING_ANSWERS);
-    assert_eq!(rt; written(rt.alloc(), BRACES)?.as_str(), BRACES_ANSWERS);
-    Ok(())
+    writes(&rt, "loading", LOADING, LOADING_ANSWERS)?;
+    writes(&rt, "braces", BRACES, BRACES_ANSWERS)
 }
 
 #[test]
 fn texts_are_normalised(rt: HostRuntime) -> Result<(), Fail> {
-    assert_eq!(rt; written(rt.alloc(), ENDINGS)?.as_str(), ENDINGS_ANSWERS);
-    Ok(())
+    writes(&rt, "endings", ENDINGS, ENDINGS_ANSWERS)
 }
 
 #[test]
 fn files_are_seen_once_loaded(rt: HostRuntime) -> Result<(), Fail> {
-    assert_eq!(rt; written(rt.alloc(), FILES)?.as_str(), FILES_ANSWERS);
-    Ok(())
+    writes(&rt, "files", FILES, FILES_ANSWERS)
 }

@@ -1,10 +1,14 @@
 // Runs of a session by scripts: one event a line.
+ghost use Rattle.std.specs.Prelude.{◌≡◌, false};
+ghost use Rattle.std.specs.FinMap as map;
+
+use analysis_host::Analysis;
 use docs_vfs::VfsPath;
 use plain::{Bytes, Items};
 use ra_config::Config;
 use session::main_loop;
 use session_peers::{MemorySink, ScriptHost, ScriptStep};
-use session_port::{HostEvent, LoadedFile, LoaderMsg, LoadingProgress};
+use session_port::{Host, HostEvent, LoadedFile, LoaderMsg, LoadingProgress, Sink};
 use small_analysis::SmallAnalysis;
 use std::alloc::Global;
 use std::test::Fail;
@@ -89,17 +93,41 @@ fn steps(alloc: Global, lines: &str) -> Result<Items<ScriptStep>, Fail> {
     Ok(steps)
 }
 
-// A run, and what it writes. This call claims nothing here.
-fn turns(alloc: Global, lines: &str) -> Result<MemorySink, Fail> {
-    let analysis = SmallAnalysis::new(alloc);
-    let mut host = ScriptHost::new(alloc, &analysis, steps(alloc, lines)?, Items::new(alloc))?;
-    let mut sink = MemorySink::new(alloc, Items::new(alloc));
+/// The settings of a session in `/w`.
+fn settings(alloc: Global) -> Result<Config, Fail> {
     let root = VfsPath::new(alloc, "/w")?.ok_or("no path")?;
-    let config = Config::new(alloc, root, 4)?;
-    match main_loop(alloc, config, &mut host, &mut sink, &analysis) {
-        Ok(()) => Ok(sink),
-        Err(_) => Err(Fail::from("no end")),
+    Ok(Config::new(alloc, root, 4)?)
+}
+
+// Whether a run over a host ends well. This call claims nothing here.
+fn ends<H: Host<A>, S: Sink, A: Analysis>(
+    alloc: Global,
+    config: Config,
+    host: &mut H,
+    sink: &mut S,
+    analysis: &A,
+) -> bool
+    requires idle { H.out host.old ≡ map.empty }
+    requires unused { H.handed host.old ≡ 0 }
+    requires host_fresh { H.spent host.old ≡ false }
+    requires sink_fresh { S.spent sink.old ≡ false }
+{
+    main_loop(alloc, config, host, sink, analysis).is_ok()
+}
+
+// A run, and what it writes. Each `?` lets go of settings at most.
+fn turns(alloc: Global, lines: &str) -> Result<MemorySink, Fail> {
+    let config = settings(alloc)?;
+    let steps = steps(alloc, lines)?;
+    let analysis = SmallAnalysis::new(alloc);
+    let mut host = ScriptHost::new(alloc, &analysis, steps, Items::new(alloc))?;
+    let mut sink = MemorySink::new(alloc, Items::new(alloc));
+    let ends = ends(alloc, config, &mut host, &mut sink, &analysis);
+    drop(host);
+    if ends {
+        return Ok(sink);
     }
+    Err(Fail::from("no end"))
 }
 
 /// The body of the frame that a turn wrote, if it wrote one.

@@ -1,4 +1,5 @@
 use crate::made::{path_at, text_of, workspace};
+use expectations::{expect, expect_same, expect_text};
 use plain::{Items, Json, Text};
 use project_model::{ProjectWorkspace, WorkspaceKind};
 use ra_settings::LinkedProject;
@@ -55,37 +56,44 @@ fn one_workspace(alloc: Global, toolchain: &str) -> Result<StatusInput, Fail> {
 const OUTDATED: &str =
     "Workspace `/w` is using an outdated toolchain version `1.77.2` but rust-analyzer only supports `1.78.0` and higher.\nConsider using the rust-analyzer rustup component for your toolchain or\nupgrade your toolchain to a supported version.";
 
+/// That this is told, with this health.
+pub(crate) fn tells(
+    alloc: Global,
+    input: &StatusInput,
+    text: &str,
+    health: Health,
+) -> Result<(), Fail> {
+    expect_text("a message", message_of(alloc, input)?.as_str(), text)?;
+    expect_same(text, &health_of(alloc, input)?, &health)
+}
+
 #[test]
 fn outdated_toolchains_are_warned_of(rt: HostRuntime) -> Result<(), Fail> {
     let input = one_workspace(rt.alloc(), "1.77.2")?;
-    let message = message_of(rt.alloc(), &input)?;
-    assert_eq!(rt; message.as_str(), OUTDATED);
-    assert_eq!(rt; health_of(rt.alloc(), &input)?, Health::Warning);
-    Ok(())
+    tells(rt.alloc(), &input, OUTDATED, Health::Warning)
+}
+
+/// That a toolchain of this version is supported, or that it isn't.
+fn is_supported(alloc: Global, toolchain: &str, supported: bool) -> Result<(), Fail> {
+    let input = one_workspace(alloc, toolchain)?;
+    let found = message_of(alloc, &input)?.as_str() == "none";
+    expect(toolchain, found == supported)
 }
 
 #[test]
 fn toolchains_from_the_oldest_on_are_supported(rt: HostRuntime) -> Result<(), Fail> {
-    let cases = [
-        ("1.78.0", true),
-        ("1.78.1", true),
-        ("1.79.0", true),
-        ("2.0.0", true),
-        ("1.78.0+build", true),
-        ("1.78.0-nightly", false),
-        ("1.78.1-nightly", true),
-        ("1.77.9", false),
-        ("0.99.0", false),
-        ("nightly", true),
-        ("1.77", true),
-        ("", true),
-    ];
-    for (toolchain, supported) in cases {
-        let input = one_workspace(rt.alloc(), toolchain)?;
-        let message = message_of(rt.alloc(), &input)?;
-        assert_eq!(rt; message.as_str() == "none", supported, "{toolchain}");
-    }
-    Ok(())
+    is_supported(rt.alloc(), "1.78.0", true)?;
+    is_supported(rt.alloc(), "1.78.1", true)?;
+    is_supported(rt.alloc(), "1.79.0", true)?;
+    is_supported(rt.alloc(), "2.0.0", true)?;
+    is_supported(rt.alloc(), "1.78.0+build", true)?;
+    is_supported(rt.alloc(), "1.78.0-nightly", false)?;
+    is_supported(rt.alloc(), "1.78.1-nightly", true)?;
+    is_supported(rt.alloc(), "1.77.9", false)?;
+    is_supported(rt.alloc(), "0.99.0", false)?;
+    is_supported(rt.alloc(), "nightly", true)?;
+    is_supported(rt.alloc(), "1.77", true)?;
+    is_supported(rt.alloc(), "", true)
 }
 
 /// A project that is linked: a manifest, or an object where the text is empty.
@@ -110,28 +118,25 @@ fn not_loaded(alloc: Global, manifests: &[&str]) -> Result<StatusInput, Fail> {
     Ok(input)
 }
 
+// That this is told where no workspaces could be loaded and these projects are linked.
+fn lists(alloc: Global, manifests: &[&str], text: &str) -> Result<(), Fail> {
+    let input = not_loaded(alloc, manifests)?;
+    tells(alloc, &input, text, Health::Error)
+}
+
+const ONE: &str =
+    "Failed to load workspaces.`rust-analyzer.linkedProjects` have been specified, which may be incorrect. Specified project paths:\n    /a";
+
+const TWO: &str =
+    "Failed to load workspaces.`rust-analyzer.linkedProjects` have been specified, which may be incorrect. Specified project paths:\n    /a\n    /b\nAdditionally, one or more project jsons are specified";
+
+const OBJECT: &str =
+    "Failed to load workspaces.`rust-analyzer.linkedProjects` have been specified, which may be incorrect. Specified project paths:\n    \nAdditionally, one or more project jsons are specified";
+
 #[test]
 fn what_is_linked_is_told_with_an_error(rt: HostRuntime) -> Result<(), Fail> {
-    let cases: [(&[&str], &str); 4] = [
-        (&[], "Failed to load workspaces."),
-        (
-            &["/a"],
-            "Failed to load workspaces.`rust-analyzer.linkedProjects` have been specified, which may be incorrect. Specified project paths:\n    /a",
-        ),
-        (
-            &["/a", "", "/b"],
-            "Failed to load workspaces.`rust-analyzer.linkedProjects` have been specified, which may be incorrect. Specified project paths:\n    /a\n    /b\nAdditionally, one or more project jsons are specified",
-        ),
-        (
-            &[""],
-            "Failed to load workspaces.`rust-analyzer.linkedProjects` have been specified, which may be incorrect. Specified project paths:\n    \nAdditionally, one or more project jsons are specified",
-        ),
-    ];
-    for (manifests, wanted) in cases {
-        let input = not_loaded(rt.alloc(), manifests)?;
-        let message = message_of(rt.alloc(), &input)?;
-        assert_eq!(rt; message.as_str(), wanted);
-        assert_eq!(rt; health_of(rt.alloc(), &input)?, Health::Error);
-    }
-    Ok(())
+    lists(rt.alloc(), &[], "Failed to load workspaces.")?;
+    lists(rt.alloc(), &["/a"], ONE)?;
+    lists(rt.alloc(), &["/a", "", "/b"], TWO)?;
+    lists(rt.alloc(), &[""], OBJECT)
 }

@@ -1,5 +1,6 @@
-use crate::health::{all_is_well, health_of, message_of};
+use crate::health::{all_is_well, message_of, tells};
 use crate::made::{path_at, text_of, workspace};
+use expectations::{expect, expect_text};
 use project_model::{ProjectWorkspace, WorkspaceKind};
 use status::{Health, StatusInput, current_status};
 use std::alloc::Global;
@@ -31,26 +32,21 @@ fn one_fact(alloc: Global, number: u32) -> Result<StatusInput, Fail> {
     Ok(input)
 }
 
+// That this is told of a session of which one fact holds.
+fn is_told(alloc: Global, number: u32, text: &str, health: Health) -> Result<(), Fail> {
+    let input = one_fact(alloc, number)?;
+    tells(alloc, &input, text, health)
+}
+
 #[test]
 fn each_fact_has_its_text(rt: HostRuntime) -> Result<(), Fail> {
-    let cases = [
-        (0, "none"),
-        (1, RELOAD),
-        (2, REBUILD),
-        (3, BUILD),
-        (4, "settings"),
-        (5, "check"),
-        (6, DISCOVER),
-    ];
-    for (number, wanted) in cases {
-        let input = one_fact(rt.alloc(), number)?;
-        let message = message_of(rt.alloc(), &input)?;
-        assert_eq!(rt; message.as_str(), wanted);
-        let health = health_of(rt.alloc(), &input)?;
-        assert_eq!(rt; health == Health::Ok, number == 0);
-        assert!(rt; health != Health::Error);
-    }
-    Ok(())
+    is_told(rt.alloc(), 0, "none", Health::Ok)?;
+    is_told(rt.alloc(), 1, RELOAD, Health::Warning)?;
+    is_told(rt.alloc(), 2, REBUILD, Health::Warning)?;
+    is_told(rt.alloc(), 3, BUILD, Health::Warning)?;
+    is_told(rt.alloc(), 4, "settings", Health::Warning)?;
+    is_told(rt.alloc(), 5, "check", Health::Warning)?;
+    is_told(rt.alloc(), 6, DISCOVER, Health::Warning)
 }
 
 /// A session of which the first facts hold, and workspaces couldn't be loaded.
@@ -69,14 +65,14 @@ fn all_facts(alloc: Global) -> Result<StatusInput, Fail> {
 #[test]
 fn facts_are_told_in_order(rt: HostRuntime) -> Result<(), Fail> {
     let input = all_facts(rt.alloc())?;
-    let message = message_of(rt.alloc(), &input)?;
-    let wanted = format!(in rt.alloc();
+    let text = format!(in rt.alloc();
         "{RELOAD}\n\n{REBUILD}\n\n{BUILD}settings\ncheck\nFailed to load workspaces.\n\nFailed to read Cargo metadata with dependencies for `/w`: one"
     )?;
-    assert_eq!(rt; message.as_str(), wanted.as_str());
-    assert_eq!(rt; health_of(rt.alloc(), &input)?, Health::Error);
-    assert!(rt; !current_status(rt.alloc(), &input)?.quiescent);
-    Ok(())
+    tells(rt.alloc(), &input, text.as_str(), Health::Error)?;
+    expect(
+        "not quiescent",
+        !current_status(rt.alloc(), &input)?.quiescent,
+    )
 }
 
 /// A workspace with one error, or with all at 0.
@@ -115,21 +111,19 @@ const THIRD: &str =
 
 const FOURTH: &str = "Failed loading rustc_private crates for workspace `/w/Cargo.toml`: four";
 
+// That this is told of a session with one broken workspace.
+fn is_broken(alloc: Global, number: u32, text: &str) -> Result<(), Fail> {
+    let input = one_broken(alloc, number)?;
+    expect_text("a message", message_of(alloc, &input)?.as_str(), text)
+}
+
 #[test]
 fn errors_of_workspaces_are_told(rt: HostRuntime) -> Result<(), Fail> {
     let all = format!(in rt.alloc(); "{FIRST}\n\n{SECOND}\n\n{THIRD}\n\n{FOURTH}")?;
-    let cases = [
-        (0, all.as_str()),
-        (1, FIRST),
-        (2, SECOND),
-        (3, THIRD),
-        (4, FOURTH),
-        (5, "none"),
-    ];
-    for (number, wanted) in cases {
-        let input = one_broken(rt.alloc(), number)?;
-        let message = message_of(rt.alloc(), &input)?;
-        assert_eq!(rt; message.as_str(), wanted);
-    }
-    Ok(())
+    is_broken(rt.alloc(), 0, all.as_str())?;
+    is_broken(rt.alloc(), 1, FIRST)?;
+    is_broken(rt.alloc(), 2, SECOND)?;
+    is_broken(rt.alloc(), 3, THIRD)?;
+    is_broken(rt.alloc(), 4, FOURTH)?;
+    is_broken(rt.alloc(), 5, "none")
 }

@@ -159,7 +159,14 @@ impl Desk {
     ) -> Result<(), TurnError>
         ensures { Meets result (handed_over snapshot class kind (record { state = self.old; out = out.old })) self.new out.new }
     {
-        let number = next_number(self.handed, Counter::Jobs)?;
+        let number = match next_number(self.handed, Counter::Jobs) {
+            Ok(number) => number,
+            Err(error) => {
+                drop(kind);
+                drop(snapshot);
+                return Err(error);
+            }
+        };
         let job = Job {
             number,
             class,

@@ -49,18 +49,25 @@ impl Desk {
         ensures { Meets result (stopped (meaning_of A.decodes A.answer) scene.now job.snapshot.revision job.kind (record { state = self.old; out = out.old })) self.new out.new }
     {
         let Job { kind, snapshot, .. } = job;
-        let JobKind::Request {
-            ticket,
-            row,
-            params,
-        } = kind
-        else {
-            return Ok(());
-        };
-        if snapshot.revision() < scene.snapshot.revision() && !retries(row) {
-            return self.refuse_stopped(ticket, row, out);
+        let is_old = snapshot.revision() < scene.snapshot.revision();
+        drop(snapshot);
+        match kind {
+            JobKind::Request {
+                ticket,
+                row,
+                params,
+            } => {
+                if is_old && !retries(row) {
+                    drop(params);
+                    return self.refuse_stopped(ticket, row, out);
+                }
+                self.on_class(scene, ticket, row, params, analysis, out)
+            }
+            kind => {
+                drop(kind);
+                Ok(())
+            }
         }
-        self.on_class(scene, ticket, row, params, analysis, out)
     }
 
     // A result, where its request still waits. A job of the host is for none.
@@ -77,16 +84,23 @@ impl Desk {
         ensures { Meets result (delivered (meaning_of A.decodes A.answer) scene.now (waiting_for job self.old) job outcome (record { state = self.old; out = out.old })) self.new out.new }
     {
         let JobKind::Request { ticket, .. } = &job.kind else {
+            drop(job);
+            drop(outcome);
             return Ok(());
         };
         let ticket = *ticket;
         if self.is_completed(ticket) {
+            drop(job);
+            drop(outcome);
             return Ok(());
         }
         if let JobResult::Cancelled { .. } = &outcome {
+            drop(outcome);
             return self.on_stopped(scene, job, analysis, out);
         }
+        drop(job);
         let Some(id) = self.close(ticket) else {
+            drop(outcome);
             return Ok(());
         };
         match finished_reply(self.alloc, id, outcome)? {

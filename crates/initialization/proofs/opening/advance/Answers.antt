@@ -1,8 +1,8 @@
 use Rattle.std.proofs.Common.{refl, sym, ap, ◌∙◌, subst}
 use Rattle.std.specs.Prelude.{None, Some}
-use Rattle.session_model.specs.Run.{Told, told_of}
-use Rattle.session_model.specs.declared.input.Event.TheVariants.{Lsp}
-use Rattle.session_model.specs.declared.input.Input.TheVariants.{Next}
+use Rattle.session_laws.specs.Run.{Told, told_of}
+use Rattle.session_laws.specs.Event.TheVariants.{Lsp}
+use Rattle.session_laws.specs.Input.TheVariants.{Next}
 use Rattle.session_laws.proofs.Courses.{message-takes}
 use Rattle.lsp_frame.specs.Reader.{Reader}
 use Rattle.initialization.specs.Talking.{Goes, Breaks, course_from}

@@ -1,5 +1,5 @@
 use Rattle.std.proofs.Common.{rules, arith, refl}
-use Rattle.session_model.specs.Run.{told_of}
+use Rattle.session_laws.specs.Run.{told_of}
 use Rattle.initialization.specs.Talking.{first_talk}
 use Rattle.initialization.proofs.Openings.{opens-begun, opens-left, opens-broken}
 use Rattle.initialization.proofs.Stretches.{stretch-none, stretch-on}

@@ -1,6 +1,6 @@
 use Rattle.std.proofs.Common.{◌≤◌, ◌≡◌, ◌<◌, ◌^◌, false}
 use Rattle.std.specs.FinMap as map
-use Rattle.session_model.specs.Run.{told_of, fed_bytes}
+use Rattle.session_laws.specs.Run.{told_of, fed_bytes}
 use Rattle.initialization.specs.Talking.{Stretch, IsInStep, first_talk, left_of}
 use Rattle.initialization.proofs.opening.talk_on.Given as goal
 

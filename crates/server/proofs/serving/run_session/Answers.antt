@@ -1,7 +1,7 @@
 use Rattle.std.proofs.Common.{refl}
 use Rattle.std.specs.Prelude.{Err}
 use Rattle.std.proofs.lemmas.Result.{err_from_is_err_and}
-use Rattle.session_model.specs.declared.fault.SessionError.TheVariants.{NoMemory}
+use Rattle.session.specs.SessionError.TheVariants.{NoMemory}
 use Rattle.server.proofs.Unstarted.{unstarted}
 use Rattle.server.proofs.serving.run_session.Goals as goal
 

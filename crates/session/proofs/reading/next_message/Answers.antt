@@ -1,5 +1,5 @@
 use Rattle.std.proofs.Common.{rules, ◌≡◌, ◌∙◌, true, false}
-use Rattle.session_model.specs.Course.{is_exit}
+use Rattle.session_laws.specs.Course.{is_exit}
 use Rattle.session_laws.proofs.Courses.{course-next, course-bad_frame, course-no_message, message-exit, message-takes}
 use Rattle.session.proofs.Feeding.{fed_same}
 use Rattle.session.proofs.reading.next_message.Goals as goal

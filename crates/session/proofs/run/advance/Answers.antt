@@ -1,7 +1,7 @@
 use Rattle.std.proofs.Common.{refl, inl, [], sym}
 use Rattle.std.proofs.lemmas.Result.{err_from_is_err_and}
-use Rattle.session_model.specs.declared.input.Event.TheVariants.{Lsp}
-use Rattle.session_model.specs.declared.input.Input.TheVariants.{Next}
+use Rattle.session_laws.specs.Event.TheVariants.{Lsp}
+use Rattle.session_laws.specs.Input.TheVariants.{Next}
 use Rattle.session_laws.proofs.Stretches.{telling-none}
 use Rattle.session.proofs.Endings.{breaks_at_once, ends-turn}
 use Rattle.session.proofs.Advancing.{brings, goes-turn}

@@ -1,6 +1,6 @@
 use Rattle.std.proofs.Common.{◌≤◌, ◌≡◌, false}
-use Rattle.desk.specs.Meaning.{meaning_of}
-use Rattle.session_model.specs.Run.{Stretch, told_of, fed_bytes}
+use Rattle.session_laws.specs.Meaning.{meaning_of}
+use Rattle.session_laws.specs.Run.{Stretch, told_of, fed_bytes}
 use Rattle.session.specs.Looping.{left_of}
 use Rattle.session.specs.Reading.{course_from}
 use Rattle.session.proofs.run.run_on.Given as goal

@@ -1,8 +1,8 @@
 use Rattle.std.proofs.Common.{rules, arith, refl, inr, sym, subst, ◌≡◌}
 use Rattle.std.proofs.lemmas.Grind.{common_steps}
 use Rattle.session_port.specs.Record.{AreRising, spawned}
-use Rattle.desk.specs.Meaning.{Meaning, meaning_of}
-use Rattle.session_model.specs.Run.{Turn, Steps, told_of}
+use Rattle.session_laws.specs.Meaning.{Meaning, meaning_of}
+use Rattle.session_laws.specs.Run.{Turn, Steps, told_of}
 use Rattle.session_laws.proofs.Rising.{steps-hand}
 use Rattle.session_laws.proofs.Stretches.{telling-turn}
 use Rattle.session.proofs.run.run_turn.Goals as goal

@@ -4,8 +4,8 @@ use Rattle.session_port.specs.Honest.{AreHonest}
 use Rattle.session_port.specs.Jobs.{after_batch}
 use Rattle.session_port.specs.Record.{added, after_event, gave}
 use Rattle.session_port.specs.declared.event.HostEvent.TheVariants.{Ended}
-use Rattle.desk.specs.Meaning.{meaning_of}
-use Rattle.session_model.specs.Run.{told_of}
+use Rattle.session_laws.specs.Meaning.{meaning_of}
+use Rattle.session_laws.specs.Run.{told_of}
 use Rattle.session_laws.proofs.Courses.{course-event, course-fed, course-waits}
 use Rattle.session_laws.proofs.Stretches.{telling-calls}
 use Rattle.session.proofs.Advancing.{advances-feed, advances-turn}

@@ -1,6 +1,6 @@
 use Rattle.std.proofs.Common.{rules}
 use Rattle.std.specs.Prelude.{Ok}
-use Rattle.client.specs.Steps.{folders_changed}
+use Rattle.session_model.specs.ClientSteps.{folders_changed}
 use Rattle.session_store.proofs.AtClient.{client_meets}
 use Rattle.session_notices.proofs.asking.change_folders.Goals as goal
 

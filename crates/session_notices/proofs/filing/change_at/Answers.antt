@@ -1,6 +1,6 @@
 use Rattle.std.proofs.Common.{rules}
 use Rattle.std.proofs.lemmas.Int.{to_z-of_z}
-use Rattle.session_files.specs.Steps.{changed}
+use Rattle.session_model.specs.FilesSteps.{changed}
 use Rattle.session_model.specs.State.{columns_in}
 use Rattle.session_store.proofs.AtFiles.{changed_as, files_meets}
 use Rattle.session_notices.proofs.filing.change_at.Goals as goal

@@ -1,6 +1,6 @@
 use Rattle.std.proofs.Common.{rules}
 use Rattle.std.specs.Prelude.{Ok}
-use Rattle.session_files.specs.Steps.{closed}
+use Rattle.session_model.specs.FilesSteps.{closed}
 use Rattle.session_store.proofs.AtFiles.{files_meets}
 use Rattle.session_notices.proofs.filing.close_at.Goals as goal
 

@@ -1,5 +1,5 @@
 use Rattle.std.proofs.Common.{rules}
-use Rattle.session_files.specs.Steps.{loaded}
+use Rattle.session_model.specs.FilesSteps.{loaded}
 use Rattle.session_store.proofs.AtFiles.{files_meets}
 use Rattle.session_notices.proofs.filing.load.Goals as goal
 

@@ -1,6 +1,6 @@
 use Rattle.std.proofs.Common.{rules}
 use Rattle.std.proofs.lemmas.Int.{to_z-of_z}
-use Rattle.session_files.specs.Steps.{opened}
+use Rattle.session_model.specs.FilesSteps.{opened}
 use Rattle.session_model.specs.State.{excludes_in}
 use Rattle.session_store.proofs.AtFiles.{files_meets, opened_as}
 use Rattle.session_notices.proofs.filing.open_at.Goals as goal

@@ -1,5 +1,5 @@
 use Rattle.std.proofs.Common.{rules}
-use Rattle.session_files.specs.Steps.{processed}
+use Rattle.session_model.specs.FilesSteps.{processed}
 use Rattle.session_store.proofs.AtFiles.{files_meets, processed_as}
 use Rattle.session_notices.proofs.filing.take_up.Goals as goal
 

@@ -1,5 +1,5 @@
 use Rattle.std.proofs.Common.{rules}
-use Rattle.desk.specs.Steps.{cancelled}
+use Rattle.session_model.specs.DeskSteps.{cancelled}
 use Rattle.session_store.proofs.AtDesk.{desk_gives}
 use Rattle.session_notices.proofs.notifications.on_cancel.Goals as goal
 

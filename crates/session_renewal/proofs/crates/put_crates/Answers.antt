@@ -1,5 +1,5 @@
 use Rattle.std.proofs.Common.{rules}
-use Rattle.session_files.specs.Steps.{crates_put}
+use Rattle.session_model.specs.FilesSteps.{crates_put}
 use Rattle.session_store.proofs.AtFiles.{files_meets}
 use Rattle.session_renewal.proofs.crates.put_crates.Goals as goal
 

@@ -1,6 +1,6 @@
 use Rattle.std.proofs.Common.{rules}
-use Rattle.desk.specs.Meaning.{meaning_of}
-use Rattle.desk.specs.Steps.{requested}
+use Rattle.session_model.specs.Meaning.{meaning_of}
+use Rattle.session_model.specs.DeskSteps.{requested}
 use Rattle.session_model.specs.State.{scene_of}
 use Rattle.session_store.proofs.AtDesk.{desk_meets}
 use Rattle.session_state.proofs.messages.ask.Goals as goal

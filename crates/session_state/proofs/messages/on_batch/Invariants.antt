@@ -1,7 +1,7 @@
 use Rattle.std.proofs.Common.{◌≡◌}
 use Rattle.std.specs.Vec.Iter.{into_iter_items}
 use Rattle.session_model.specs.Machine.{batched}
-use Rattle.desk.specs.Meaning.{meaning_of}
+use Rattle.session_model.specs.Meaning.{meaning_of}
 use Rattle.session_state.proofs.messages.on_batch.Given as goal
 
 abbrev pub invariant-loop-message : goal.invariant-loop-message

@@ -1,5 +1,5 @@
 use Rattle.std.proofs.Common.{rules}
-use Rattle.desk.specs.Steps.{counted as counted_at_desk}
+use Rattle.session_model.specs.DeskSteps.{counted as counted_at_desk}
 use Rattle.session_model.specs.Machine.{counted}
 use Rattle.session_store.proofs.AtDesk.{desk_meets}
 use Rattle.session_state.proofs.turns.count.Goals as goal

@@ -1,6 +1,6 @@
 use Rattle.std.proofs.Common.{rules}
 use Rattle.std.specs.Prelude.{Ok}
-use Rattle.desk.specs.Steps.{kept as kept_at_desk}
+use Rattle.session_model.specs.DeskSteps.{kept as kept_at_desk}
 use Rattle.session_model.specs.Machine.{kept}
 use Rattle.session_store.proofs.AtDesk.{desk_meets}
 use Rattle.session_state.proofs.turns.keep_jobs.Goals as goal

@@ -1,6 +1,6 @@
 use Rattle.std.proofs.Common.{rules}
 use Rattle.method_table.specs.declared.class.PoolClass.TheVariants.{Worker}
-use Rattle.desk.specs.Steps.{handed_over}
+use Rattle.session_model.specs.DeskSteps.{handed_over}
 use Rattle.session_model.specs.State.{snapshot_of}
 use Rattle.session_store.proofs.AtDesk.{desk_meets}
 use Rattle.session_store.proofs.state.Store.hand_over.Goals as goal

@@ -1,5 +1,5 @@
 use Rattle.std.proofs.Common.{rules}
-use Rattle.client.specs.Steps.{asked_for}
+use Rattle.session_model.specs.ClientSteps.{asked_for}
 use Rattle.session_store.proofs.AtClient.{client_meets}
 use Rattle.session_store.proofs.state.Store.send_request.Goals as goal
 

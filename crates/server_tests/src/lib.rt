@@ -1,0 +1,5 @@
+//! Tests of `server`: the statuses that a session ends with, over hosts and sinks in memory.
+#![tactic(auto)]
+
+#[cfg(test)]
+mod statuses;
