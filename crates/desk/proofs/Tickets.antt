@@ -16,7 +16,7 @@ use Rattle.desk.specs.Desk.{Desk}
 use Rattle.desk.specs.Meaning.{Meaning}
 use Rattle.desk.specs.Replies.{already_pending}
 use Rattle.desk.specs.Steps.{requested, admitted, noted}
-use Rattle.desk.specs.declared.scene.Scene.{Scene}
+use Rattle.desk.specs.Scene.{Scene}
 
 -- a request whose id waits
 pub requested_again : (meaning : Meaning) (scene : Scene) (r : Request) (state new : Desk) (out : Written) (other : ℕ) → Registers state.turns r.id state.pending new.pending (AlreadyPending other)

@@ -11,5 +11,5 @@ pub use replies::{
     already_pending, canceled_by_client, fault_reply, finished_reply, invalid_params, shut_already,
     stopped_reply, unknown_request,
 };
-pub use scene::Scene;
-pub use state::{BuildEnd, Desk, FetchEnd, LoadEnd};
+pub use scene::Present;
+pub use state::{BuildEnd, Desk, Ends, FetchEnd, LoadEnd};

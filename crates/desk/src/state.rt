@@ -13,6 +13,7 @@ ghost use Rattle.lsp_frame.specs.declared.message.Message.TheVariants.{Response 
 
 mod building;
 mod checking;
+mod ends;
 mod fetching;
 mod loading;
 mod pending;
@@ -20,6 +21,7 @@ mod requests;
 mod results;
 
 pub use building::BuildEnd;
+pub use ends::Ends;
 pub use fetching::FetchEnd;
 pub use loading::LoadEnd;
 use lsp_frame::{Incoming, Response};

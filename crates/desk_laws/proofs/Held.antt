@@ -21,7 +21,7 @@ use Rattle.desk.specs.Folds.{IsHeld, AreAnswers, AnswersOnce, closed_by, closed_
 use Rattle.desk.specs.Meaning.{Meaning}
 use Rattle.desk.specs.Reactions.{Reaction, silent, says, hands_over, new_row, request_row, cancel_row, ticket_row, final_row, fitting_row, message_row}
 use Rattle.desk.specs.Replies.{already_pending, canceled_by_client, finished_reply}
-use Rattle.desk.specs.declared.scene.Scene.{Scene}
+use Rattle.desk.specs.Scene.{Scene}
 use Rattle.desk_laws.specs.Invariant.{KeepsSound, Sound, desk_then}
 use Rattle.desk_laws.specs.Reacting.{Reacts}
 use Rattle.desk_laws.proofs.Appends.{with_jobs-append}

@@ -13,7 +13,7 @@ use Rattle.desk.specs.Desk.{Desk, waiting_for}
 use Rattle.desk.specs.Meaning.{Meaning}
 use Rattle.desk.specs.Reactions.{Reaction, silent, says, new_row, request_row, cancel_row, ticket_row, final_row, fitting_row, message_row}
 use Rattle.desk.specs.Replies.{canceled_by_client, finished_reply}
-use Rattle.desk.specs.declared.scene.Scene.{Scene}
+use Rattle.desk.specs.Scene.{Scene}
 use Rattle.desk_laws.specs.Numbers.{AreNumbered}
 use Rattle.desk_laws.specs.Reacting.{Reacts}
 use Rattle.desk_laws.proofs.Held.{has-ticket}

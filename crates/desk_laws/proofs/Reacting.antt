@@ -24,7 +24,7 @@ use Rattle.desk.specs.Desk.{Desk}
 use Rattle.desk.specs.Meaning.{Meaning, can_read}
 use Rattle.desk.specs.Reactions.{Reaction, says, if_read, state_row, planned_row, class_row, method_row, new_row, stopped_row, result_row}
 use Rattle.desk.specs.Replies.{shut_already, unknown_request, invalid_params, stopped_reply, finding_reply, finished_reply}
-use Rattle.desk.specs.declared.scene.Scene.{Scene}
+use Rattle.desk.specs.Scene.{Scene}
 use Rattle.desk_laws.specs.Reacting.{Reacts}
 use Rattle.desk_laws.proofs.Settling.{finding-id, finished-id, stopped-id}
 

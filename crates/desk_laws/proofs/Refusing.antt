@@ -28,7 +28,7 @@ use Rattle.desk.specs.Meaning.{Meaning, can_read}
 use Rattle.desk.specs.Reactions.{Reaction, says, hands_over, if_read, planned_row, class_row, method_row, shutdown_row, new_row, request_row, stopped_row, result_row, ticket_row, final_row, fitting_row, message_row}
 use Rattle.desk.specs.Replies.{already_pending, stopped_reply, finished_reply}
 use Rattle.desk.specs.Steps.{dispatched, submitted, planned, classed, asked, noted, shut_down, admitted, requested, counted, responded, stopped, settled, delivered, brought, ended, taken}
-use Rattle.desk.specs.declared.scene.Scene.{Scene}
+use Rattle.desk.specs.Scene.{Scene}
 use Rattle.desk_laws.proofs.Settling.{row-without, without}
 
 -- ---- parts that may be refused, one after another

@@ -45,7 +45,7 @@ use Rattle.desk.specs.Meaning.{Meaning, can_read}
 use Rattle.desk.specs.Reactions.{Reaction, silent, says, joined, hands_over, if_read, state_row, planned_row, class_row, method_row, shutdown_row, new_row, request_row, cancel_row, stopped_row, result_row, ticket_row, final_row, fitting_row, message_row}
 use Rattle.desk.specs.Replies.{already_pending, invalid_params, unknown_request, shut_already, canceled_by_client, stopped_reply, finding_reply, finished_reply}
 use Rattle.desk.specs.Steps.{answered, answered_if, responded, noted, dispatched, echoed, queried, submitted, stated, planned, classed, unknown, asked, shut_down, admitted, requested, cancelled, stopped, settled, delivered, brought, ended, taken}
-use Rattle.desk.specs.declared.scene.Scene.{Scene}
+use Rattle.desk.specs.Scene.{Scene}
 use Rattle.desk_laws.specs.Settled.{Settled}
 use Rattle.desk_laws.proofs.Appends.{closed_by-append, responses-append, passed-append, spawned-append, asked-append}
 use Rattle.desk_laws.proofs.Fitting.{after_message-none, after_message-some}

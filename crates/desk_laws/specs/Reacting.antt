@@ -6,7 +6,7 @@ use Rattle.lsp_frame.specs.declared.message.Response.{Response}
 use Rattle.method_table.specs.declared.class.PoolClass.{PoolClass}
 use Rattle.method_table.specs.declared.row_id.RowId.{RowId}
 use Rattle.desk.specs.Reactions.{Reaction, says, hands_over}
-use Rattle.desk.specs.declared.scene.Scene.{Scene}
+use Rattle.desk.specs.Scene.{Scene}
 
 -- one response to this id, or one job for this ticket on the present snapshot, behind so many that were handed over
 abbrev pub Reacts : Scene → ℕ → ℕ → RequestId → Reaction → Type 0

@@ -11,7 +11,7 @@ ghost use Rattle.desk.specs.Desk.{Desk, new_desk};
 ghost use Rattle.desk.specs.Meaning.{Meaning};
 ghost use Rattle.desk.specs.Reactions.{cancel_row, message_row, request_row};
 ghost use Rattle.desk.specs.Steps.{cancelled, requested, taken};
-ghost use Rattle.desk.specs.declared.scene.Scene.{Scene};
+ghost use Rattle.desk.specs.Scene.{Scene};
 ghost use Rattle.desk_laws.specs.Invariant.{KeepsSound, Sound};
 ghost use Rattle.desk_laws.specs.Reacting.{Reacts};
 ghost use Rattle.desk_laws.specs.Settled.{Settled};

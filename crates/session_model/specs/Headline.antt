@@ -38,7 +38,7 @@ use Rattle.desk.specs.Desk.{Desk, new_desk}
 use Rattle.desk.specs.Folds.{AreHeld, AnswersOnce, asked_among, desk_past, pending_after, shutdown_after}
 use Rattle.desk.specs.Meaning.{Meaning}
 use Rattle.desk.specs.Reactions.{Reaction, silent, joined, cancel_row, message_row, request_row}
-use Rattle.desk.specs.declared.scene.Scene.{Scene}
+use Rattle.desk.specs.Scene.{Scene}
 use Rattle.session_model.specs.Course.{Course, Stop as CourseStop, takes, stops, waits, exit, client_gone, bad_frame, bad_message, end_of}
 use Rattle.session_model.specs.Course.{session_course, bytes_in}
 use Rattle.session_model.specs.Inputs.{batch_of, cancelled_by, notice_in, request_in, response_in, turns_after}

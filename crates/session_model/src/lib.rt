@@ -10,7 +10,7 @@ mod input;
 
 pub use client::{Client, ReqHandler};
 pub use counters::Counters;
-pub use desk::{BuildEnd, Desk, FetchEnd, LoadEnd, Scene};
+pub use desk::{BuildEnd, Desk, Ends, FetchEnd, LoadEnd, Present};
 pub use facts::Facts;
 pub use fault::SessionError;
 pub use heard::Heard;

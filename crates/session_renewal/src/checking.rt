@@ -106,8 +106,13 @@ fn resume(store: &mut Store, task: DeferredTask, out: &mut TurnOut) -> Result<()
         DeferredTask::CheckIfIndexed(_) => Ok(()),
         DeferredTask::CheckProcMacroSources(files) => {
             let snapshot = store.snapshot()?;
-            let kind = check_kind(store.alloc, &snapshot, files.as_slice())?;
-            store.hand_over(kind, out)
+            match check_kind(store.alloc, &snapshot, files.as_slice()) {
+                Ok(kind) => store.hand_over_on(kind, snapshot, out),
+                Err(_) => {
+                    drop(snapshot);
+                    Err(TurnError::NoMemory)
+                }
+            }
         }
     }
 }

@@ -3,18 +3,15 @@ ghost use Rattle.std.specs.Prelude.{◌≡◌};
 ghost use Rattle.lsp_frame.specs.Pending.{IsAbove};
 ghost use Rattle.turn_parts.specs.Meets.{Meets};
 ghost use Rattle.session_model.specs.Meaning.{meaning_of};
-ghost use Rattle.session_model.specs.DeskSteps.{requested, taken as taken_at_desk};
 ghost use Rattle.session_model.specs.Building.{is_rebuild, rebuilds};
 ghost use Rattle.session_model.specs.Fetching.{is_reload, reloads};
-ghost use Rattle.session_model.specs.Machine.{asked, at_desk, batched, ends_taken, received, taken};
-ghost use Rattle.session_model.specs.State.{scene_of};
+ghost use Rattle.session_model.specs.Machine.{asked, batched, ends_taken, received, taken};
 
 use analysis_host::Analysis;
-use docs_vfs::VfsPath;
 use lsp_frame::{Message, Request};
 use method_table::{REBUILD_PROC_MACROS, RELOAD_WORKSPACE, RowId, row_of};
 use plain::Items;
-use session_model::{BuildEnd, FetchEnd, LoadEnd, TurnError};
+use session_model::{Ends, TurnError};
 use session_notices::{complete_request, on_notification};
 use session_port::TaskMsg;
 use session_renewal::{
@@ -42,20 +39,6 @@ fn is_rebuild(row: Option<RowId>) -> bool
         None => false,
         Some(row) => row == REBUILD_PROC_MACROS,
     }
-}
-
-// A request, at the desk.
-fn ask<A: Analysis>(
-    store: &mut Store,
-    request: Request,
-    analysis: &A,
-    out: &mut TurnOut,
-) -> Result<(), TurnError>
-    requires { IsAbove store.old.desk.turns store.old.desk.pending }
-    ensures { Meets result (at_desk (requested (meaning_of A.decodes A.answer) (scene_of store.old) request) (record { state = store.old; out = out.old })) store.new out.new }
-{
-    let scene = store.scene()?;
-    store.desk.on_request(&scene, request, analysis, out)
 }
 
 // Whether a request asks for the workspaces anew, and is taken.
@@ -88,7 +71,7 @@ fn on_request<A: Analysis>(
 {
     let reloads = reloads(store, &request);
     let rebuilds = rebuilds(store, &request);
-    ask(store, request, analysis, out)?;
+    store.ask(request, analysis, out)?;
     reload_if(store, reloads, out)?;
     rebuild_macros_if(store, rebuilds, out)
 }
@@ -110,37 +93,17 @@ pub(crate) fn on_message<A: Analysis>(
     }
 }
 
-// A message of a job, at the desk.
-fn bring<A: Analysis>(
-    store: &mut Store,
-    message: TaskMsg,
-    analysis: &A,
-    out: &mut TurnOut,
-) -> Result<(), TurnError>
-    ensures { Meets result (at_desk (taken_at_desk (meaning_of A.decodes A.answer) (scene_of store.old) message) (record { state = store.old; out = out.old })) store.new out.new }
-{
-    let scene = match store.scene() {
-        Ok(scene) => scene,
-        Err(_) => {
-            drop(message);
-            return Err(TurnError::NoMemory);
-        }
-    };
-    store.desk.on_task(&scene, message, analysis, out)
-}
-
 // What a message of a job ends is told to the workspaces.
 #[tactic(auto, unfolding(session_model::specs::Machine::ends_taken))]
-fn take_ends(
-    store: &mut Store,
-    fetched: Option<FetchEnd>,
-    built: Option<BuildEnd>,
-    checked: Option<Items<VfsPath>>,
-    loaded: Option<LoadEnd>,
-    out: &mut TurnOut,
-) -> Result<(), TurnError>
-    ensures { Meets result (ends_taken fetched built checked loaded (record { state = store.old; out = out.old })) store.new out.new }
+fn take_ends(store: &mut Store, ends: Ends, out: &mut TurnOut) -> Result<(), TurnError>
+    ensures { Meets result (ends_taken ends.fetched ends.built ends.checked ends.loaded (record { state = store.old; out = out.old })) store.new out.new }
 {
+    let Ends {
+        fetched,
+        built,
+        checked,
+        loaded,
+    } = ends;
     take_fetch(store, fetched, out)?;
     take_build(store, built, out)?;
     take_check(store, checked);
@@ -157,12 +120,14 @@ fn on_task<A: Analysis>(
 ) -> Result<(), TurnError>
     ensures { Meets result (taken (meaning_of A.decodes A.answer) message (record { state = store.old; out = out.old })) store.new out.new }
 {
-    let fetched = store.desk.fetch_end(&message)?;
-    let built = store.desk.build_end(&message)?;
-    let checked = store.desk.check_end(&message)?;
-    let loaded = store.desk.load_end(&message)?;
-    bring(store, message, analysis, out)?;
-    take_ends(store, fetched, built, checked, loaded, out)
+    let ends = store.desk.ends(&message)?;
+    match store.bring(message, analysis, out) {
+        Ok(()) => take_ends(store, ends, out),
+        Err(error) => {
+            drop(ends);
+            Err(error)
+        }
+    }
 }
 
 // The messages of a batch, one after another.

@@ -3,6 +3,7 @@
 
 mod asking;
 mod known;
+mod now;
 mod quiescence;
 mod settings;
 mod state;

@@ -1,29 +1,30 @@
 // The state of a session, and what its subjects share.
 ghost use Rattle.std.specs.Prelude.{◌≡◌, ◌≤◌, [], IfOk, Ok, OnOk, Some, is_some, not};
-ghost use Rattle.lsp_frame.specs.Pending.{id_of, is_pending};
+ghost use Rattle.lsp_frame.specs.Pending.{IsAbove, id_of, is_pending};
 ghost use Rattle.lsp_frame.specs.Written.{AreWritable};
 ghost use Rattle.lsp_frame.specs.declared.message.Message.TheVariants.{Response as ResponseMessage};
 ghost use Rattle.outgoing.specs.Outgoing.{number_limit};
 ghost use Rattle.turn_parts.specs.Meets.{Meets, Gives};
 ghost use Rattle.turn_parts.specs.Working.{ordered, logged};
 ghost use Rattle.session_model.specs.ClientSteps.{logged_if};
-ghost use Rattle.session_model.specs.DeskSteps.{responded, cancelled, handed_over};
+ghost use Rattle.session_model.specs.DeskSteps.{responded, cancelled, handed_over, requested, taken};
 ghost use Rattle.session_model.specs.Machine.{at_desk};
+ghost use Rattle.session_model.specs.Meaning.{meaning_of};
 ghost use Rattle.session_model.specs.State.{macros_loaded_in, scene_of, snapshot_of, first_status, fresh, fresh_at};
 ghost use Rattle.method_table.specs.declared.class.PoolClass.TheVariants.{Worker};
 
-use analysis_host::{GlobalStateSnapshot, SnapshotParts};
+use crate::now::{Now, are_macros_loaded};
+use analysis_host::{Analysis, GlobalStateSnapshot};
 use docs_vfs::SourceRoots;
-use lsp_frame::{RequestId, Response};
+use lsp_frame::{Request, RequestId, Response};
 use method_table::PoolClass;
 use plain::{Items, NoMemory, Text};
 use ra_config::Config;
-use session_model::{Client, Counters, Desk, Scene, SessionFiles, TurnError};
-use session_port::{Command, JobKind, LogCode};
+use session_model::{Client, Counters, Desk, Present, SessionFiles, TurnError};
+use session_port::{Command, JobKind, LogCode, TaskMsg};
 use status::{Health, Status};
 use std::alloc::{AllocError, Global};
 use std::marker::Model;
-use std::sync::Arc;
 use turn_parts::TurnOut;
 use workspaces::Workspaces;
 
@@ -133,34 +134,57 @@ impl Store {
     pub fn macros_loaded(&self) -> bool
         ensures { result ≡ macros_loaded_in self.now.client.settings self.now.workspaces }
     {
-        !self.loads_macros() || self.workspaces.are_macros_loaded()
+        are_macros_loaded(&self.client, &self.workspaces)
     }
 
     /// The snapshot of the present.
     pub fn snapshot(&self) -> Result<GlobalStateSnapshot, AllocError>
         ensures { IfOk result (λ snapshot. snapshot ≡ snapshot_of self.now) }
     {
-        Ok(GlobalStateSnapshot::new(SnapshotParts {
-            world: self.files.world()?,
-            file_ids: self.files.file_ids()?,
-            versions: self.files.versions()?,
-            config: Arc::try_clone(self.client.settings())?,
-            proc_macros_loaded: self.macros_loaded(),
-            workspaces: self.workspaces.share_present()?,
-            workspaces_version: self.workspaces.version(),
-            revision: self.files.revision(),
-        }))
+        let now = Now {
+            client: &self.client,
+            files: &self.files,
+            workspaces: &self.workspaces,
+        };
+        now.snapshot()
+    }
+}
+
+// Messages, at the desk.
+impl Store {
+    /// A request that this turn reads. After an `Err` the state is spent.
+    pub fn ask<A: Analysis>(
+        &mut self,
+        request: Request,
+        analysis: &A,
+        out: &mut TurnOut,
+    ) -> Result<(), TurnError>
+        requires { IsAbove self.old.desk.turns self.old.desk.pending }
+        ensures { Meets result (at_desk (requested (meaning_of A.decodes A.answer) (scene_of self.old) request) (record { state = self.old; out = out.old })) self.new out.new }
+    {
+        let now = Now {
+            client: &self.client,
+            files: &self.files,
+            workspaces: &self.workspaces,
+        };
+        self.desk.on_request(&now, request, analysis, out)
     }
 
-    /// What a request meets.
-    pub fn scene(&self) -> Result<Scene, AllocError>
-        ensures { IfOk result (λ scene. scene ≡ scene_of self.now) }
+    /// A message of a job. After an `Err` the state is spent.
+    pub fn bring<A: Analysis>(
+        &mut self,
+        message: TaskMsg,
+        analysis: &A,
+        out: &mut TurnOut,
+    ) -> Result<(), TurnError>
+        ensures { Meets result (at_desk (taken (meaning_of A.decodes A.answer) (scene_of self.old) message) (record { state = self.old; out = out.old })) self.new out.new }
     {
-        Ok(Scene {
-            snapshot: self.snapshot()?,
-            loading: self.files.is_loading(),
-            incomplete: self.workspaces.is_incomplete(),
-        })
+        let now = Now {
+            client: &self.client,
+            files: &self.files,
+            workspaces: &self.workspaces,
+        };
+        self.desk.on_task(&now, message, analysis, out)
     }
 }
 
@@ -236,11 +260,29 @@ impl Store {
         }
     }
 
-    /// Hands over a job of the session's own on the present snapshot.
+    /// Hands over a job of the session's own on a snapshot.
+    pub fn hand_over_on(
+        &mut self,
+        kind: JobKind,
+        snapshot: GlobalStateSnapshot,
+        out: &mut TurnOut,
+    ) -> Result<(), TurnError>
+        ensures { Meets result (at_desk (handed_over snapshot Worker kind) (record { state = self.old; out = out.old })) self.new out.new }
+    {
+        self.desk.hand_over(kind, PoolClass::Worker, snapshot, out)
+    }
+
+    /// The same on the present snapshot.
     pub fn hand_over(&mut self, kind: JobKind, out: &mut TurnOut) -> Result<(), TurnError>
         ensures { Meets result (at_desk (handed_over (snapshot_of self.old) Worker kind) (record { state = self.old; out = out.old })) self.new out.new }
     {
-        let snapshot = self.snapshot()?;
-        self.desk.hand_over(kind, PoolClass::Worker, snapshot, out)
+        let snapshot = match self.snapshot() {
+            Ok(snapshot) => snapshot,
+            Err(_) => {
+                drop(kind);
+                return Err(TurnError::NoMemory);
+            }
+        };
+        self.hand_over_on(kind, snapshot, out)
     }
 }

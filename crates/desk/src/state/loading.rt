@@ -1,11 +1,10 @@
 // Ends of loads of macros.
 ghost use Rattle.std.specs.Prelude.{◌≡◌, IfOk};
-ghost use Rattle.desk.specs.Loading.{load_end, load_ended, loaded_in};
+ghost use Rattle.desk.specs.Loading.{load_end, loaded_in};
 
-use crate::state::Desk;
 use plain::{Items, NoMemory, Text};
 use project_model::MacroState;
-use session_port::{JobKind, JobResult, JobValue, TaskBody, TaskMsg};
+use session_port::{JobResult, JobValue};
 use std::alloc::Global;
 
 /// What a load of macros came to: what became of those of each crate, by the crate's number; or why none were loaded at all.
@@ -26,7 +25,7 @@ fn loaded_in(value: &JobValue) -> Result<Option<LoadEnd>, NoMemory>
 }
 
 // What a load of macros came to.
-fn load_end(alloc: Global, outcome: &JobResult) -> Result<Option<LoadEnd>, NoMemory>
+pub(super) fn load_end(alloc: Global, outcome: &JobResult) -> Result<Option<LoadEnd>, NoMemory>
     ensures { IfOk result (λ end. end ≡ load_end outcome.now) }
 {
     match outcome {
@@ -34,24 +33,5 @@ fn load_end(alloc: Global, outcome: &JobResult) -> Result<Option<LoadEnd>, NoMem
         JobResult::Fault { message, .. } => Ok(Some(Err(message.clone()?))),
         JobResult::Cancelled { .. } => Ok(Some(Err(Text::from_str(alloc, "cancelled")?))),
         JobResult::NoMemory => Ok(Some(Err(Text::from_str(alloc, "out of memory")?))),
-    }
-}
-
-impl Desk {
-    /// What a message of a job says of a load of macros that is out: a copy of what it came to.
-    pub fn load_end(&self, message: &TaskMsg) -> Result<Option<LoadEnd>, NoMemory>
-        ensures { IfOk result (λ end. end ≡ load_ended message.now self.now.jobs) }
-    {
-        let Some(job) = self.fitting(message) else {
-            return Ok(None);
-        };
-        let TaskBody::Final(outcome) = &message.body;
-        match &job.kind {
-            JobKind::LoadProcMacros { .. } => load_end(self.alloc, outcome),
-            JobKind::Request { .. }
-            | JobKind::ProcMacroSources { .. }
-            | JobKind::FetchWorkspaces { .. }
-            | JobKind::FetchBuildData { .. } => Ok(None),
-        }
     }
 }

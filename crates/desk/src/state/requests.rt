@@ -17,7 +17,7 @@ ghost use Rattle.desk.specs.Replies.{already_pending, shut_already, unknown_requ
 ghost use Rattle.desk.specs.Steps.{requested, responded, admitted, shut_down, asked, unknown, classed, planned, stated, echoed, queried, submitted, dispatched, handed_over};
 
 use crate::replies::{already_pending, fault_reply, invalid_params, shut_already, unknown_request};
-use crate::scene::Scene;
+use crate::scene::Present;
 use crate::state::{Desk, next_number};
 use analysis_host::{Analysis, Answer, Ask, GlobalStateSnapshot, Never, Outcome, RowId};
 use dispatch::response_with;
@@ -125,24 +125,42 @@ impl Desk {
         self.answer_value(ticket, value, out)
     }
 
-    // Answers a request by a query on the present snapshot.
+    // Answers a request by a query on a snapshot.
     #[tactic(auto, unfolding(crate::specs::Steps::responded, crate::specs::Steps::answered_if, crate::specs::Steps::answered))]
-    fn answer_query<A: Analysis>(
+    fn answer_on<A: Analysis>(
         &mut self,
-        scene: &Scene,
+        snapshot: &GlobalStateSnapshot,
         ticket: u64,
         row: RowId,
         params: SharedJson,
         analysis: &A,
         out: &mut TurnOut,
     ) -> Result<(), TurnError>
-        ensures { Gives result (responded ticket (λ id. finding_reply id (A.answer scene.now.snapshot (RequestAsk row params))) (record { state = self.old; out = out.old })) self.new out.new }
+        ensures { Gives result (responded ticket (λ id. finding_reply id (A.answer snapshot.now (RequestAsk row params))) (record { state = self.old; out = out.old })) self.new out.new }
     {
         let Some(id) = self.close(ticket) else {
             return Ok(());
         };
-        let response = answer_now(&scene.snapshot, id, row, params, analysis)?;
+        let response = answer_now(snapshot, id, row, params, analysis)?;
         self.reply(response, out)
+    }
+
+    // Answers a request by a query on the present snapshot.
+    fn answer_query<P: Present, A: Analysis>(
+        &mut self,
+        scene: &P,
+        ticket: u64,
+        row: RowId,
+        params: SharedJson,
+        analysis: &A,
+        out: &mut TurnOut,
+    ) -> Result<(), TurnError>
+        ensures { Gives result (responded ticket (λ id. finding_reply id (A.answer (P.scene scene.now).snapshot (RequestAsk row params))) (record { state = self.old; out = out.old })) self.new out.new }
+    {
+        let snapshot = scene.snapshot()?;
+        let answered = self.answer_on(&snapshot, ticket, row, params, analysis, out);
+        drop(snapshot);
+        answered
     }
 }
 
@@ -179,23 +197,23 @@ impl Desk {
 
     // Hands over a request's job on the present snapshot.
     #[tactic(auto, unfolding(crate::specs::Steps::dispatched))]
-    fn dispatch(
+    fn dispatch<P: Present>(
         &mut self,
-        scene: &Scene,
+        scene: &P,
         class: PoolClass,
         ticket: u64,
         row: RowId,
         params: SharedJson,
         out: &mut TurnOut,
     ) -> Result<(), TurnError>
-        ensures { Meets result (dispatched scene.now class ticket row params (record { state = self.old; out = out.old })) self.new out.new }
+        ensures { Meets result (dispatched (P.scene scene.now) class ticket row params (record { state = self.old; out = out.old })) self.new out.new }
     {
+        let snapshot = scene.snapshot()?;
         let kind = JobKind::Request {
             ticket,
             row,
             params,
         };
-        let snapshot = scene.snapshot.clone()?;
         self.hand_over(kind, class, snapshot, out)
     }
 
@@ -221,9 +239,9 @@ impl Desk {
 
     // The same by a query on the present snapshot.
     #[tactic(auto, unfolding(crate::specs::Steps::queried))]
-    fn query<A: Analysis>(
+    fn query<P: Present, A: Analysis>(
         &mut self,
-        scene: &Scene,
+        scene: &P,
         ticket: u64,
         row: RowId,
         params: SharedJson,
@@ -231,7 +249,7 @@ impl Desk {
         out: &mut TurnOut,
     ) -> Result<(), TurnError>
         ensures { let meaning = meaning_of A.decodes A.answer in
-            Gives result (queried meaning scene.now (can_read meaning row params) ticket row params (record { state = self.old; out = out.old })) self.new out.new }
+            Gives result (queried meaning (P.scene scene.now) (can_read meaning row params) ticket row params (record { state = self.old; out = out.old })) self.new out.new }
     {
         if !params.as_json().is_plain() || !analysis.decodes(row, params.as_json()) {
             return self.refuse_params(ticket, out);
@@ -241,9 +259,9 @@ impl Desk {
 
     // The same by a job.
     #[tactic(auto, unfolding(crate::specs::Steps::submitted))]
-    fn submit<A: Analysis>(
+    fn submit<P: Present, A: Analysis>(
         &mut self,
-        scene: &Scene,
+        scene: &P,
         class: PoolClass,
         ticket: u64,
         row: RowId,
@@ -252,7 +270,7 @@ impl Desk {
         out: &mut TurnOut,
     ) -> Result<(), TurnError>
         ensures { let reads = can_read (meaning_of A.decodes A.answer) row params in
-            Meets result (submitted scene.now reads class ticket row params (record { state = self.old; out = out.old })) self.new out.new }
+            Meets result (submitted (P.scene scene.now) reads class ticket row params (record { state = self.old; out = out.old })) self.new out.new }
     {
         if !params.as_json().is_plain() || !analysis.decodes(row, params.as_json()) {
             return self.refuse_params(ticket, out);
@@ -279,9 +297,9 @@ impl Desk {
 
     // What is planned for a request of a row.
     #[tactic(auto, unfolding(crate::specs::Steps::planned))]
-    fn carry_out<A: Analysis>(
+    fn carry_out<P: Present, A: Analysis>(
         &mut self,
-        scene: &Scene,
+        scene: &P,
         plan: Plan,
         ticket: u64,
         row: RowId,
@@ -289,7 +307,7 @@ impl Desk {
         analysis: &A,
         out: &mut TurnOut,
     ) -> Result<(), TurnError>
-        ensures { Meets result (planned (meaning_of A.decodes A.answer) scene.now plan ticket row params (record { state = self.old; out = out.old })) self.new out.new }
+        ensures { Meets result (planned (meaning_of A.decodes A.answer) (P.scene scene.now) plan ticket row params (record { state = self.old; out = out.old })) self.new out.new }
     {
         match plan {
             Plan::Shutdown => self.on_state(ticket, row, &params, out),
@@ -305,18 +323,23 @@ impl Desk {
 
     // A request of a row.
     #[tactic(auto, unfolding(crate::specs::Steps::classed))]
-    pub(super) fn on_class<A: Analysis>(
+    pub(super) fn on_class<P: Present, A: Analysis>(
         &mut self,
-        scene: &Scene,
+        scene: &P,
         ticket: u64,
         row: RowId,
         params: SharedJson,
         analysis: &A,
         out: &mut TurnOut,
     ) -> Result<(), TurnError>
-        ensures { Meets result (classed (meaning_of A.decodes A.answer) scene.now ticket row params (record { state = self.old; out = out.old })) self.new out.new }
+        ensures { Meets result (classed (meaning_of A.decodes A.answer) (P.scene scene.now) ticket row params (record { state = self.old; out = out.old })) self.new out.new }
     {
-        let plan = plan(Some(row), scene.loading, scene.incomplete, self.shutdown);
+        let plan = plan(
+            Some(row),
+            scene.is_loading(),
+            scene.is_incomplete(),
+            self.shutdown,
+        );
         self.carry_out(scene, plan, ticket, row, params, analysis, out)
     }
 }
@@ -333,16 +356,16 @@ impl Desk {
 
     // A request that isn't `shutdown`.
     #[tactic(auto, unfolding(crate::specs::Steps::asked))]
-    fn on_row<A: Analysis>(
+    fn on_row<P: Present, A: Analysis>(
         &mut self,
-        scene: &Scene,
+        scene: &P,
         row: Option<RowId>,
         method: Text,
         params: Json,
         analysis: &A,
         out: &mut TurnOut,
     ) -> Result<(), TurnError>
-        ensures { Meets result (asked (meaning_of A.decodes A.answer) scene.now row method params (record { state = self.old; out = out.old })) self.new out.new }
+        ensures { Meets result (asked (meaning_of A.decodes A.answer) (P.scene scene.now) row method params (record { state = self.old; out = out.old })) self.new out.new }
     {
         let ticket = self.turns;
         match row {
@@ -370,15 +393,15 @@ impl Desk {
 
     // A request that waits now.
     #[tactic(auto, unfolding(crate::specs::Steps::admitted))]
-    fn admit<A: Analysis>(
+    fn admit<P: Present, A: Analysis>(
         &mut self,
-        scene: &Scene,
+        scene: &P,
         method: Text,
         params: Json,
         analysis: &A,
         out: &mut TurnOut,
     ) -> Result<(), TurnError>
-        ensures { Meets result (admitted (meaning_of A.decodes A.answer) scene.now method params (record { state = self.old; out = out.old })) self.new out.new }
+        ensures { Meets result (admitted (meaning_of A.decodes A.answer) (P.scene scene.now) method params (record { state = self.old; out = out.old })) self.new out.new }
     {
         let row = row_of(method.as_str());
         if is_shutdown(row) {
@@ -411,15 +434,15 @@ impl Desk {
 
     /// A request that this turn reads. After an `Err` the desk is spent.
     #[tactic(auto, using(crate::proofs::Tickets::requested_again, crate::proofs::Tickets::requested_new))]
-    pub fn on_request<A: Analysis>(
+    pub fn on_request<P: Present, A: Analysis>(
         &mut self,
-        scene: &Scene,
+        scene: &P,
         request: Request,
         analysis: &A,
         out: &mut TurnOut,
     ) -> Result<(), TurnError>
         requires { IsAbove self.old.turns self.old.pending }
-        ensures { Meets result (requested (meaning_of A.decodes A.answer) scene.now request (record { state = self.old; out = out.old })) self.new out.new }
+        ensures { Meets result (requested (meaning_of A.decodes A.answer) (P.scene scene.now) request (record { state = self.old; out = out.old })) self.new out.new }
     {
         let Request { id, method, params } = request;
         match self.note(id, &method)? {

@@ -11,7 +11,7 @@ ghost use Rattle.desk.specs.Replies.{stopped_reply};
 ghost use Rattle.desk.specs.Steps.{taken, delivered, stopped, responded};
 
 use crate::replies::{finished_reply, stopped_reply};
-use crate::scene::Scene;
+use crate::scene::Present;
 use crate::state::Desk;
 use analysis_host::{Analysis, RowId};
 use method_table::{class_of, retries};
@@ -39,17 +39,17 @@ impl Desk {
 
     // A job stopped whose request waits: it is refused, or taken as one that is read now, under the ticket that it has.
     #[tactic(auto, unfolding(crate::specs::Steps::stopped))]
-    fn on_stopped<A: Analysis>(
+    fn on_stopped<P: Present, A: Analysis>(
         &mut self,
-        scene: &Scene,
+        scene: &P,
         job: Job,
         analysis: &A,
         out: &mut TurnOut,
     ) -> Result<(), TurnError>
-        ensures { Meets result (stopped (meaning_of A.decodes A.answer) scene.now job.snapshot.revision job.kind (record { state = self.old; out = out.old })) self.new out.new }
+        ensures { Meets result (stopped (meaning_of A.decodes A.answer) (P.scene scene.now) job.snapshot.revision job.kind (record { state = self.old; out = out.old })) self.new out.new }
     {
         let Job { kind, snapshot, .. } = job;
-        let is_old = snapshot.revision() < scene.snapshot.revision();
+        let is_old = snapshot.revision() < scene.revision();
         drop(snapshot);
         match kind {
             JobKind::Request {
@@ -72,16 +72,16 @@ impl Desk {
 
     // A result, where its request still waits. A job of the host is for none.
     #[tactic(auto, unfolding(crate::specs::Steps::delivered, crate::specs::Steps::settled, crate::specs::Steps::answered))]
-    fn deliver<A: Analysis>(
+    fn deliver<P: Present, A: Analysis>(
         &mut self,
-        scene: &Scene,
+        scene: &P,
         job: Job,
         outcome: JobResult,
         analysis: &A,
         out: &mut TurnOut,
     ) -> Result<(), TurnError>
         requires { fits_kind job.kind outcome ≡ true }
-        ensures { Meets result (delivered (meaning_of A.decodes A.answer) scene.now (waiting_for job self.old) job outcome (record { state = self.old; out = out.old })) self.new out.new }
+        ensures { Meets result (delivered (meaning_of A.decodes A.answer) (P.scene scene.now) (waiting_for job self.old) job outcome (record { state = self.old; out = out.old })) self.new out.new }
     {
         let JobKind::Request { ticket, .. } = &job.kind else {
             drop(job);
@@ -132,14 +132,14 @@ impl Desk {
 
     /// A message of a job. After an `Err` the desk is spent.
     #[tactic(auto, unfolding(crate::specs::Steps::ended, crate::specs::Steps::brought))]
-    pub fn on_task<A: Analysis>(
+    pub fn on_task<P: Present, A: Analysis>(
         &mut self,
-        scene: &Scene,
+        scene: &P,
         message: TaskMsg,
         analysis: &A,
         out: &mut TurnOut,
     ) -> Result<(), TurnError>
-        ensures { Meets result (taken (meaning_of A.decodes A.answer) scene.now message (record { state = self.old; out = out.old })) self.new out.new }
+        ensures { Meets result (taken (meaning_of A.decodes A.answer) (P.scene scene.now) message (record { state = self.old; out = out.old })) self.new out.new }
     {
         match self.take_fitting(&message) {
             None => self.on_strange(message.job, out),
