@@ -24,6 +24,7 @@ pub use Rattle.client.specs.Steps as ClientSteps
 pub use Rattle.client.specs.contracts.handler.ReqHandler as HandlerCode
 pub use Rattle.desk.specs.Desk
 pub use Rattle.desk.specs.Meaning
+pub use Rattle.desk.specs.Scene
 pub use Rattle.desk.specs.Steps as DeskSteps
 pub use Rattle.session_files.specs.Folds as FilesFolds
 pub use Rattle.session_files.specs.SessionFiles

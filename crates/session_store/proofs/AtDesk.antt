@@ -7,9 +7,13 @@ use Rattle.turn_parts.specs.Working.{Working, within, put_back}
 use Rattle.turn_parts.specs.Written.{Written}
 use Rattle.turn_parts.specs.declared.fault.Counter.{Counter}
 use Rattle.turn_parts.specs.declared.fault.TurnError.{TurnError}
+use Rattle.session_model.specs.Client.{Client}
 use Rattle.session_model.specs.Desk.{Desk}
 use Rattle.session_model.specs.Machine.{at_desk, desk_in, with_desk}
-use Rattle.session_model.specs.State.{State}
+use Rattle.session_model.specs.Scene.{Scene}
+use Rattle.session_model.specs.SessionFiles.{SessionFiles}
+use Rattle.session_model.specs.State.{State, scene_in, scene_of}
+use Rattle.workspaces.specs.Workspaces.{Workspaces}
 
 pub desk_meets : {T : Type 0} (step : Working Desk → Result (Working Desk) Counter) (result : Result T TurnError) (before after : State) (desk desk_now : Desk) (out out_now : Written)
     → before.desk ≡ desk → after ≡ record before { desk = desk_now } → Meets result (step (record { state = desk; out = out })) desk_now out_now
@@ -28,3 +32,20 @@ desk_gives step before after desk desk_now out out_now was is h =
     ap (λ (d : Desk). put_back with_desk before (Ok (step (record { state = d; out = out })))) was
     ∙ ap (λ (w : Working Desk). put_back with_desk before (Ok w)) (sym h)
     ∙ ap (λ (s : State). Ok (record { state = s; out = out_now })) (sym is)
+
+-- the same of a step that meets the present
+scene_met : (state : State) (client : Client) (files : SessionFiles) (workspaces : Workspaces)
+    → state.client ≡ client → state.files ≡ files → state.workspaces ≡ workspaces → scene_in client files workspaces ≡ scene_of state
+scene_met state client files workspaces c f w =
+    ap (λ (x : Client). scene_in x files workspaces) (sym c)
+    ∙ ap (λ (x : SessionFiles). scene_in state.client x workspaces) (sym f)
+    ∙ ap (λ (x : Workspaces). scene_in state.client state.files x) (sym w)
+
+pub present_meets : {T : Type 0} (step : Scene → Working Desk → Result (Working Desk) Counter) (result : Result T TurnError) (before after : State)
+    (client : Client) (files : SessionFiles) (workspaces : Workspaces) (desk desk_now : Desk) (out out_now : Written)
+    → before.client ≡ client → before.files ≡ files → before.workspaces ≡ workspaces → before.desk ≡ desk → after ≡ record before { desk = desk_now }
+    → Meets result (step (scene_in client files workspaces) (record { state = desk; out = out })) desk_now out_now
+    → Meets result (at_desk (step (scene_of before)) (record { state = before; out = out })) after out_now
+present_meets step result before after client files workspaces desk desk_now out out_now c f w was is h =
+    desk_meets (step (scene_of before)) result before after desk desk_now out out_now was is
+    (subst (λ (x : Scene). Meets result (step x (record { state = desk; out = out })) desk_now out_now) (scene_met before client files workspaces c f w) h)
