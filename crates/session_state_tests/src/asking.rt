@@ -1,159 +1,162 @@
-// Sessions whose events are told in words, and what comes of the last of them. Each call answers none also where memory
-// runs out.
-use crate::words::{
-    cut, event_of, fault, fetch_text, graph_text, is_fault, root_text, settings_text, shown_text,
-    source_root_text, words,
-};
-use analysis_host::GlobalStateSnapshot;
+// Rows: some events in words, a `>`, and what comes of the last of them. Each call that answers an option answers none also where
+// memory runs out.
+use crate::clients::params_of;
 use docs_vfs::VfsPath;
-use plain::{Json, Text};
+use expectations::expect_text;
+use plain::Json;
 use ra_config::Config;
-use session_model::{Counters, Event, TurnError};
-use session_peers::NullAnalysis;
-use session_state::{GlobalState, TurnOut};
+use session_model::Counters;
+use session_state::GlobalState;
 use std::alloc::Global;
-use workspaces::FetchRequest;
+use std::test::Fail;
 
-/// The settings with the one workspace `/w`.
-fn settings(alloc: Global) -> Option<Config> {
-    Config::new(alloc, VfsPath::new(alloc, "/w").ok()??, 4).ok()
-}
-
-fn new_state(alloc: Global) -> Option<GlobalState> {
-    GlobalState::new(alloc, settings(alloc)?).ok()
-}
-
-/// A session that has used so many of each counter.
-fn state_at(alloc: Global, used: Counters) -> Option<GlobalState> {
-    if used.outgoing > 2_147_483_648 {
-        return None;
-    }
-    GlobalState::new_at(alloc, settings(alloc)?, used).ok()
-}
-
-fn take_in(
-    alloc: Global,
-    state: &mut GlobalState,
-    event: Event,
-    out: &mut TurnOut,
-) -> Result<(), TurnError> {
-    state.handle_event(event, &NullAnalysis(alloc), out)
-}
-
-/// One turn, in words.
-fn turn(alloc: Global, state: &mut GlobalState, event: Event) -> Option<String> {
-    let mut out = TurnOut::new(alloc);
-    match take_in(alloc, state, event, &mut out) {
-        Ok(()) => words(alloc, &mut out),
-        Err(error) => fault(alloc, error),
+/// What stands before the first mark in a text, and what stands behind it.
+pub fn cut<'a>(text: &'a str, mark: &str) -> (&'a str, &'a str) {
+    match text.split_once(mark) {
+        Some(parts) => parts,
+        None => (text, ""),
     }
 }
 
-/// What a snapshot shows.
-fn text_of(alloc: Global, snapshot: &GlobalStateSnapshot, asked: &str) -> Option<String> {
-    match asked {
-        "settings" => settings_text(alloc, snapshot.config()),
-        "at first" => root_text(alloc, snapshot.config(), 0),
-        "at second" => root_text(alloc, snapshot.config(), 1),
-        "root" => source_root_text(alloc, snapshot),
-        "shown" => shown_text(alloc, snapshot),
-        _ => graph_text(alloc, snapshot),
-    }
-}
-
-/// What a snapshot of the present shows.
-fn present(alloc: Global, state: &GlobalState, asked: &str) -> Option<String> {
-    let snapshot = state.snapshot().ok()?;
-    let text = text_of(alloc, &snapshot, asked);
-    drop(snapshot);
-    text
-}
-
-fn dequeue_fetch(state: &mut GlobalState) -> Option<(Text, FetchRequest)> {
-    state.dequeue_fetch(true)
-}
-
-/// The fetch that waits in the queue, in words.
-fn cause(alloc: Global, state: &mut GlobalState) -> Option<String> {
-    fetch_text(alloc, dequeue_fetch(state))
-}
-
-/// Turn 0, in words.
-fn start(alloc: Global, state: &mut GlobalState) -> Option<String> {
-    let mut out = TurnOut::new(alloc);
-    match state.start(&mut out) {
-        Ok(()) => words(alloc, &mut out),
-        Err(error) => fault(alloc, error),
-    }
-}
-
-/// What comes of an event. The words `settings`, `at first`, `at second`, `root`, `shown`, `graph`, `cause` and `start` are none: they ask
-/// for the settings, for those of the first and of the second root, for the root of a file, for the workspaces and the crate graph
-/// that are shown, for the fetch that waits in the queue, and for turn 0.
-fn outcome(alloc: Global, state: &mut GlobalState, event: &str) -> Option<String> {
-    match event {
-        "settings" | "at first" | "at second" | "root" | "shown" | "graph" => {
-            present(alloc, state, event)
-        }
-        "cause" => cause(alloc, state),
-        "start" => start(alloc, state),
-        _ => turn(alloc, state, event_of(alloc, event)?),
-    }
+/// What is told of events in words: a session. To what is generic over it it has no fields, so that its owner is quick to prove.
+pub trait Told: Drop {
+    /// What comes of an event, in words; none where these are the words of none.
+    fn told(&mut self, alloc: Global, event: &str) -> Option<String>;
 }
 
 /// What comes of the last of some events. A turn that is broken off is the last.
-fn last_of(alloc: Global, state: &mut GlobalState, events: &str) -> Option<String> {
+fn last_of<S: Told>(alloc: Global, session: &mut S, events: &str) -> Option<String> {
     let mut last = String::new(alloc);
     for event in events.split(" then ") {
-        last = outcome(alloc, state, event)?;
-        if is_fault(last.as_str()) {
+        last = session.told(alloc, event)?;
+        if last.as_str().starts_with("no more ") {
             return Some(last);
         }
     }
     Some(last)
 }
 
-/// The one function that owns a session. Dropped by a call, a session is not spelled out here: that is what the proof of
-/// this function would cost.
-fn last_in(alloc: Global, mut state: GlobalState, events: &str) -> Option<String> {
-    let last = last_of(alloc, &mut state, events);
-    drop(state);
+/// What a session, if it was made, does at the last of some events.
+fn played<S: Told, E: Drop>(alloc: Global, made: Result<S, E>, events: &str) -> Option<String> {
+    let mut session = made.ok()?;
+    let last = last_of(alloc, &mut session, events);
+    drop(session);
     last
 }
 
-/// What a new session does at the last of some events.
-pub fn done(alloc: Global, events: &str) -> Option<String> {
-    last_in(alloc, new_state(alloc)?, events)
-}
-
-/// What a session that has used so many of each counter does at the last of some events.
-pub fn done_at(alloc: Global, used: Counters, events: &str) -> Option<String> {
-    last_in(alloc, state_at(alloc, used)?, events)
+/// A value of which both what reads and what is read may fail.
+fn both_well<T: Drop, E: Drop, F: Drop>(made: Result<Result<T, E>, F>) -> Option<T> {
+    made.ok()?.ok()
 }
 
 /// The settings of a client with these params of `initialize`.
 fn settings_by(alloc: Global, params: &str) -> Option<Config> {
     let params = Json::read(alloc, params.as_bytes()).ok()??;
-    Config::from_initialize(alloc, &params, 4).ok()?.ok()
+    let made = Config::from_initialize(alloc, &params, 4);
+    drop(params);
+    both_well(made)
 }
 
-/// What a new session with such a client does at the last of some events.
-pub fn done_by(alloc: Global, params: &str, events: &str) -> Option<String> {
-    let state = GlobalState::new(alloc, settings_by(alloc, params)?).ok()?;
-    last_in(alloc, state, events)
+/// The settings of the client of this name; without one those with the one workspace `/w`.
+fn settings(alloc: Global, client: &str) -> Option<Config> {
+    match client {
+        "" => Config::new(alloc, VfsPath::new(alloc, "/w").ok()??, 4).ok(),
+        client => settings_by(alloc, params_of(client)),
+    }
 }
 
-/// The same, where so many of each counter were used.
-pub fn done_by_at(alloc: Global, params: &str, used: Counters, events: &str) -> Option<String> {
+const NONE_USED: Counters = Counters {
+    turns: 0,
+    jobs: 0,
+    revisions: 0,
+    outgoing: 0,
+    files: 0,
+    loader_settings: 0,
+};
+
+/// The counters of which all is left, or of which one or none is left of the one that is named: `all`, `one of jobs`, `none of jobs`.
+fn counters(left: &str) -> Option<Counters> {
+    let (amount, counter) = cut(left, " of ");
+    let (long, outgoing, short) = match amount {
+        "all" => (0, 0, 0),
+        "one" => (18_446_744_073_709_551_614, 2_147_483_647, 4_294_967_294),
+        "none" => (18_446_744_073_709_551_615, 2_147_483_648, 4_294_967_295),
+        _ => return None,
+    };
+    match counter {
+        "" => Some(NONE_USED),
+        "turns" => Some(Counters {
+            turns: long,
+            ..NONE_USED
+        }),
+        "jobs" => Some(Counters {
+            jobs: long,
+            ..NONE_USED
+        }),
+        "revisions" => Some(Counters {
+            revisions: long,
+            ..NONE_USED
+        }),
+        "outgoing" => Some(Counters {
+            outgoing,
+            ..NONE_USED
+        }),
+        "files" => Some(Counters {
+            files: short,
+            ..NONE_USED
+        }),
+        "loader settings" => Some(Counters {
+            loader_settings: short,
+            ..NONE_USED
+        }),
+        _ => None,
+    }
+}
+
+/// What stands behind a word with which events begin, and the events behind it.
+fn opening<'a>(events: &'a str, word: &str) -> (&'a str, &'a str) {
+    match events.strip_prefix(word) {
+        Some(rest) => cut(rest, " then "),
+        None => ("", events),
+    }
+}
+
+/// What a new session does at the last of some events. Before them may stand `as` with the name of its client, and then `left` with
+/// what is left of the counters.
+fn done(alloc: Global, words: &str) -> Option<String> {
+    let (client, rest) = opening(words, "as ");
+    let (left, events) = opening(rest, "left ");
+    if left.is_empty() {
+        return played(
+            alloc,
+            GlobalState::new(alloc, settings(alloc, client)?),
+            events,
+        );
+    }
+    let used = counters(left)?;
     if used.outgoing > 2_147_483_648 {
         return None;
     }
-    let state = GlobalState::new_at(alloc, settings_by(alloc, params)?, used).ok()?;
-    last_in(alloc, state, events)
+    played(
+        alloc,
+        GlobalState::new_at(alloc, settings(alloc, client)?, used),
+        events,
+    )
 }
 
-/// Whether a new session does at the last of some events what stands behind the `>`.
-pub fn agrees(alloc: Global, line: &str) -> Option<bool> {
-    let (events, wanted) = cut(line, " > ");
-    Some(done(alloc, events)?.as_str() == wanted)
+/// That a new session does this at the last of some events.
+pub fn comes_to(alloc: Global, events: &str, wanted: &str) -> Result<(), Fail> {
+    match done(alloc, events) {
+        Some(found) => expect_text(events, found.as_str(), wanted),
+        None => expect_text(events, "no such words, or no memory", wanted),
+    }
+}
+
+/// That the last events of each row come to what stands behind its `>`, or to nothing where it has none.
+pub fn agree(alloc: Global, rows: &str) -> Result<(), Fail> {
+    for row in rows.lines() {
+        let (events, wanted) = cut(row, " > ");
+        comes_to(alloc, events, wanted)?;
+    }
+    Ok(())
 }

@@ -1,5 +1,6 @@
 // Crate data behind a switch: it asks for the root files of the crates, and goes into the world, at once or with its macros.
-use crate::asking::agrees;
+use crate::asking::agree;
+use std::test::Fail;
 
 // Where one of them isn't known the diagnostics of a document are those of the default, until crate data is built anew; that of the
 // same workspaces is built where a fetch is forced.
@@ -38,29 +39,9 @@ start then brought /w/Cargo.toml then ask rust-analyzer/reloadWorkspace null the
 start then tell workspace/didChangeConfiguration {} then answer [{"procMacro":{"enable":false}}] then brought /w/Cargo.toml then builds second > Content-Length: 201\r\n\r\n{"jsonrpc":"2.0","method":"window/showMessage","params":{"message":"Failed to run build scripts of some packages.\n\nPlease refer to the language server logs for more details on the errors.","type":2}}build errorload anewrevise"#;
 
 #[test]
-fn crate_data_goes_into_the_world(rt: HostRuntime) {
-    for line in GRAPHS.lines() {
-        assert!(rt; agrees(rt.alloc(), line) == Some(true), "at {line}");
-    }
-}
-
-#[test]
-fn crate_data_waits_for_its_macros(rt: HostRuntime) {
-    for line in LOADS.lines() {
-        assert!(rt; agrees(rt.alloc(), line) == Some(true), "at {line}");
-    }
-}
-
-#[test]
-fn crate_graphs_may_be_incomplete(rt: HostRuntime) {
-    for line in INCOMPLETE.lines() {
-        assert!(rt; agrees(rt.alloc(), line) == Some(true), "at {line}");
-    }
-}
-
-#[test]
-fn crate_data_forces_fetches(rt: HostRuntime) {
-    for line in FORCED.lines() {
-        assert!(rt; agrees(rt.alloc(), line) == Some(true), "at {line}");
-    }
+fn crate_data_goes_into_the_world(rt: HostRuntime) -> Result<(), Fail> {
+    agree(rt.alloc(), GRAPHS)?;
+    agree(rt.alloc(), LOADS)?;
+    agree(rt.alloc(), INCOMPLETE)?;
+    agree(rt.alloc(), FORCED)
 }

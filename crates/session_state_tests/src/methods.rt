@@ -1,15 +1,14 @@
 // Each method of the table, at each place.
-use crate::asking::done;
+use crate::asking::comes_to;
 use method_table::{Class, DefaultValue, Facts, table};
 use std::alloc::Global;
+use std::test::Fail;
 
 // How a request is told in words at each place.
-const PLACES: [&str; 4] = [
-    "ask ",
-    "loading then ask ",
-    "shutdown then ask ",
-    "loading then shutdown then ask ",
-];
+const PLACES: &str = "ask METHOD {}
+loading then ask METHOD {}
+shutdown then ask METHOD {}
+loading then shutdown then ask METHOD {}";
 
 const REFUSED: &str =
     r#"Content-Length: 88\r\n\r\n{"error":{"code":-32600,"message":"Shutdown already requested."},"id":5,"jsonrpc":"2.0"}"#;
@@ -71,34 +70,24 @@ fn answer_to(facts: &Facts, place: &str) -> &'static str {
     }
 }
 
-// The words that ask with the params `{}`.
-fn asking(alloc: Global, method: &str, place: &str) -> Option<String> {
-    let mut words = String::from_str(alloc, place).ok()?;
-    words.push_str(method).ok()?;
-    words.push_str(" {}").ok()?;
-    Some(words)
+// That a method is answered so at a place.
+fn is_answered(alloc: Global, facts: &Facts, place: &str) -> Result<(), Fail> {
+    let events = place.replace(alloc, "METHOD", facts.method)?;
+    comes_to(alloc, events.as_str(), answer_to(facts, place))
 }
 
-fn asked(alloc: Global, method: &str, place: &str) -> Option<String> {
-    done(alloc, asking(alloc, method, place)?.as_str())
-}
-
-fn is_answered(alloc: Global, facts: &Facts, place: &str) -> Option<bool> {
-    Some(asked(alloc, facts.method, place)?.as_str() == answer_to(facts, place))
-}
-
-fn all_are(alloc: Global, place: &str) -> Option<bool> {
+// That each method is.
+fn all_are(alloc: Global, place: &str) -> Result<(), Fail> {
     for facts in table() {
-        if !is_answered(alloc, facts, place)? {
-            return Some(false);
-        }
+        is_answered(alloc, facts, place)?;
     }
-    Some(true)
+    Ok(())
 }
 
 #[test]
-fn every_method_is_answered_by_its_class(rt: HostRuntime) {
-    for place in PLACES {
-        assert!(rt; all_are(rt.alloc(), place) == Some(true), "{place}");
+fn every_method_is_answered_by_its_class(rt: HostRuntime) -> Result<(), Fail> {
+    for place in PLACES.lines() {
+        all_are(rt.alloc(), place)?;
     }
+    Ok(())
 }

@@ -1,5 +1,6 @@
 // Single requests while files are loading, and results of jobs.
-use crate::asking::agrees;
+use crate::asking::agree;
+use std::test::Fail;
 
 // What a request of a method is answered, or the class of its job.
 const ASKED: &str =
@@ -11,13 +12,6 @@ ask textDocument/hover 1.5 > Content-Length: 75\r\n\r\n{"error":{"code":-32602,"
 loading then ask x/y null > Content-Length: 76\r\n\r\n{"error":{"code":-32601,"message":"unknown request"},"id":5,"jsonrpc":"2.0"}log
 ask experimental/runTest [] > Content-Length: 75\r\n\r\n{"error":{"code":-32602,"message":"invalid params"},"id":5,"jsonrpc":"2.0"}
 loading then ask rust-analyzer/reloadWorkspace [] > Content-Length: 38\r\n\r\n{"id":5,"jsonrpc":"2.0","result":null}Worker"#;
-
-#[test]
-fn requests_while_files_are_loading_and_not(rt: HostRuntime) {
-    for line in ASKED.lines() {
-        assert!(rt; agrees(rt.alloc(), line) == Some(true), "at {line}");
-    }
-}
 
 // What the last of some events comes to. A row of the table that is tried again, one that isn't, and one whose client is
 // to ask again; where the texts stayed, it is tried again. A value of builds fits no request's job. Nothing is done for timers that nothing waits for, nor for deferred tasks.
@@ -32,8 +26,7 @@ deferred then timer then ask textDocument/hover {"a":1} then null > Content-Leng
 ask textDocument/hover {"a":1} then timer then deferred > "#;
 
 #[test]
-fn results_of_jobs(rt: HostRuntime) {
-    for line in RESULTS.lines() {
-        assert!(rt; agrees(rt.alloc(), line) == Some(true), "at {line}");
-    }
+fn requests_and_results_of_jobs(rt: HostRuntime) -> Result<(), Fail> {
+    agree(rt.alloc(), ASKED)?;
+    agree(rt.alloc(), RESULTS)
 }

@@ -1,5 +1,6 @@
 // Settings files that change, and the roots that their settings are of.
-use crate::asking::agrees;
+use crate::asking::agree;
+use std::test::Fail;
 
 // A file at the root of a workspace may turn checks off, and any other in a local root diagnostics; one in no root says nothing. One
 // that is deleted says nothing more, and no file says anything while others are loading. What no root is asked for stays.
@@ -47,29 +48,13 @@ start then brought /w/Cargo.toml then loading then file /x/b.rs a then root > no
 start then brought /w/Cargo.toml then loading then file /x/b.rs a then loaded then root > first root"#;
 
 #[test]
-fn worlds_get_their_roots(rt: HostRuntime) {
-    for line in WORLDS.lines() {
-        assert!(rt; agrees(rt.alloc(), line) == Some(true), "at {line}");
-    }
+fn settings_files_change_settings(rt: HostRuntime) -> Result<(), Fail> {
+    agree(rt.alloc(), FILES)?;
+    agree(rt.alloc(), ROOTS)?;
+    agree(rt.alloc(), FURTHER)
 }
 
 #[test]
-fn settings_files_change_settings(rt: HostRuntime) {
-    for line in FILES.lines() {
-        assert!(rt; agrees(rt.alloc(), line) == Some(true), "at {line}");
-    }
-}
-
-#[test]
-fn roots_have_the_settings_of_those_above(rt: HostRuntime) {
-    for line in ROOTS.lines() {
-        assert!(rt; agrees(rt.alloc(), line) == Some(true), "at {line}");
-    }
-}
-
-#[test]
-fn further_settings_files_are_logged(rt: HostRuntime) {
-    for line in FURTHER.lines() {
-        assert!(rt; agrees(rt.alloc(), line) == Some(true), "at {line}");
-    }
+fn worlds_get_their_roots(rt: HostRuntime) -> Result<(), Fail> {
+    agree(rt.alloc(), WORLDS)
 }

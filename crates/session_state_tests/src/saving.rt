@@ -1,5 +1,6 @@
 // Documents that the client saves.
-use crate::asking::agrees;
+use crate::asking::agree;
+use std::test::Fail;
 
 // A file that the table doesn't know is logged, and an excluded one asks for nothing. A manifest asks for a fetch, so does a name that is
 // watched, and a file that is a workspace by itself; a source doesn't, nor a file of another name.
@@ -21,8 +22,6 @@ start then alone /w/b.rs then open then save /w/a.rs
 start then brought /w/a.rs then open then save /w/a.rs"#;
 
 #[test]
-fn saved_documents_ask_for_fetches(rt: HostRuntime) {
-    for line in SAVES.lines() {
-        assert!(rt; agrees(rt.alloc(), line) == Some(true), "at {line}");
-    }
+fn saved_documents_ask_for_fetches(rt: HostRuntime) -> Result<(), Fail> {
+    agree(rt.alloc(), SAVES)
 }

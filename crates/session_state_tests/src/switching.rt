@@ -1,5 +1,6 @@
 // Switches to workspaces that a fetch brought: the next snapshot shows them, and the host is to load their files and to run their build scripts.
-use crate::asking::agrees;
+use crate::asking::agree;
+use std::test::Fail;
 
 // A fetch that brings the same ones changes nothing. Other ones wait for their build data where build scripts are run,
 // unless there were none before. While files are loading, a switch waits.
@@ -19,8 +20,6 @@ start then brought /w/Cargo.toml 1.77.2 > Content-Length: 331\r\n\r\n{"jsonrpc":
 start then brought /w/Cargo.toml 1.78.0 > loadWorkerrevise"#;
 
 #[test]
-fn fetched_workspaces_are_switched_to(rt: HostRuntime) {
-    for line in SWITCHES.lines() {
-        assert!(rt; agrees(rt.alloc(), line) == Some(true), "at {line}");
-    }
+fn fetched_workspaces_are_switched_to(rt: HostRuntime) -> Result<(), Fail> {
+    agree(rt.alloc(), SWITCHES)
 }

@@ -1,5 +1,6 @@
 // Fetches that changed files ask for, and the timers that they wait for.
-use crate::asking::agrees;
+use crate::asking::agree;
+use std::test::Fail;
 
 // A file that is created or deleted asks for a fetch, and a manifest that changes; a source that changes asks for none. While files
 // are loading none is asked for.
@@ -33,15 +34,7 @@ tell workspace/didChangeConfiguration {} then answer [{"cargo":{"autoreload":fal
 tell workspace/didChangeConfiguration {} then answer [{"cargo":{"autoreload":false}}] then open then timer 3 then file /w/b.rs a > deferrevise"#;
 
 #[test]
-fn changed_files_ask_for_fetches(rt: HostRuntime) {
-    for line in CHANGES.lines() {
-        assert!(rt; agrees(rt.alloc(), line) == Some(true), "at {line}");
-    }
-}
-
-#[test]
-fn fetches_wait_for_their_timers(rt: HostRuntime) {
-    for line in TIMERS.lines() {
-        assert!(rt; agrees(rt.alloc(), line) == Some(true), "at {line}");
-    }
+fn changed_files_ask_for_fetches(rt: HostRuntime) -> Result<(), Fail> {
+    agree(rt.alloc(), CHANGES)?;
+    agree(rt.alloc(), TIMERS)
 }

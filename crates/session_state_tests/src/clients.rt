@@ -1,0 +1,39 @@
+// Clients by their names.
+
+/// The params of `initialize` of a client; nothing where none has this name. `refreshes` can be asked for all that is shown, `hints` for
+/// hints alone, and `none` for nothing; `saves` can be asked to tell of saved documents, `discovers` too, and its projects are
+/// discovered; `watches` can be asked to watch files, and `watches below` takes patterns below a folder; `takes` takes statuses,
+/// `shows` shows texts, and `logs` opens the logs too; fetches of `by hand` start only by hand, so that they stay on the queue.
+pub fn params_of(client: &str) -> &'static str {
+    match client {
+        "refreshes" => {
+            r#"{"rootUri":"file:///w","capabilities":{"workspace":{"codeLens":{"refreshSupport":true},"diagnostics":{"refreshSupport":true},"inlayHint":{"refreshSupport":true},"semanticTokens":{"refreshSupport":true}}}}"#
+        }
+        "hints" => {
+            r#"{"rootUri":"file:///w","capabilities":{"workspace":{"inlayHint":{"refreshSupport":true}}}}"#
+        }
+        "none" | "shows" => r#"{"rootUri":"file:///w"}"#,
+        "saves" => {
+            r#"{"rootUri":"file:///w","capabilities":{"textDocument":{"synchronization":{"dynamicRegistration":true}}}}"#
+        }
+        "discovers" => {
+            r#"{"rootUri":"file:///w","capabilities":{"textDocument":{"synchronization":{"dynamicRegistration":true}}},"initializationOptions":{"workspace":{"discoverConfig":{"command":["x"],"filesToWatch":["BUCK","TARGETS"],"progressLabel":"x"}}}}"#
+        }
+        "watches" => {
+            r#"{"rootUri":"file:///w","capabilities":{"workspace":{"didChangeWatchedFiles":{"dynamicRegistration":true}}}}"#
+        }
+        "watches below" => {
+            r#"{"rootUri":"file:///w","capabilities":{"workspace":{"didChangeWatchedFiles":{"dynamicRegistration":true,"relativePatternSupport":true}}}}"#
+        }
+        "takes" => {
+            r#"{"rootUri":"file:///w","capabilities":{"experimental":{"serverStatusNotification":true}}}"#
+        }
+        "logs" => {
+            r#"{"rootUri":"file:///w","capabilities":{"experimental":{"openServerLogs":true}}}"#
+        }
+        "by hand" => {
+            r#"{"rootUri":"file:///w","initializationOptions":{"cargo":{"autoreload":false}}}"#
+        }
+        _ => "",
+    }
+}

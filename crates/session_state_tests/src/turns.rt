@@ -1,0 +1,58 @@
+// A session that is told of events in words.
+use crate::asking::Told;
+use crate::events::event_of;
+use crate::words::{fetch_text, shown, words};
+use session_peers::NullAnalysis;
+use session_state::{GlobalState, TurnOut};
+use std::alloc::Global;
+
+/// One turn, in words.
+fn turn(alloc: Global, state: &mut GlobalState, event: &str) -> Option<String> {
+    let event = event_of(alloc, event)?;
+    let mut out = TurnOut::new(alloc);
+    let done = state.handle_event(event, &NullAnalysis(alloc), &mut out);
+    let text = words(alloc, &mut out, done);
+    drop(out);
+    text
+}
+
+/// Turn 0, in words.
+fn start(alloc: Global, state: &mut GlobalState) -> Option<String> {
+    let mut out = TurnOut::new(alloc);
+    let done = state.start(&mut out);
+    let text = words(alloc, &mut out, done);
+    drop(out);
+    text
+}
+
+/// What a snapshot of the present shows.
+fn present(alloc: Global, state: &GlobalState, asked: &str) -> Option<String> {
+    let snapshot = state.snapshot().ok()?;
+    let text = shown(alloc, &snapshot, asked);
+    drop(snapshot);
+    text
+}
+
+/// The fetch that waits in the queue, in words.
+fn cause(alloc: Global, state: &mut GlobalState) -> Option<String> {
+    let fetch = state.dequeue_fetch(true);
+    let text = fetch_text(alloc, &fetch);
+    drop(fetch);
+    text
+}
+
+impl Told for GlobalState {
+    /// The words `settings`, `at first`, `at second`, `root`, `shown`, `graph`, `cause` and `start` are no events: they ask for the
+    /// settings, for those of the first and of the second root, for the root of a file, for the workspaces and the crate graph that are
+    /// shown, for the fetch that waits in the queue, and for turn 0.
+    fn told(&mut self, alloc: Global, event: &str) -> Option<String> {
+        match event {
+            "settings" | "at first" | "at second" | "root" | "shown" | "graph" => {
+                present(alloc, self, event)
+            }
+            "cause" => cause(alloc, self),
+            "start" => start(alloc, self),
+            _ => turn(alloc, self, event),
+        }
+    }
+}
