@@ -11,19 +11,29 @@ use session_state::TurnOut;
 use std::alloc::Global;
 use workspaces::FetchRequest;
 
-// The class of a job; a fetch that is forced has a name of its own, and so has a check of sources, by the numbers of the files that it
-// asks for.
+// The name of a check of sources, by the numbers of the files that it asks for.
+fn check_name(files: &[FileId]) -> &'static str {
+    match files {
+        [] => "check",
+        [file] if *file == FileId(0) => "check 0",
+        _ => "another check",
+    }
+}
+
+fn class_name(class: PoolClass) -> &'static str {
+    match class {
+        PoolClass::Worker => "Worker",
+        PoolClass::Latency => "Latency",
+        PoolClass::Formatting => "Formatting",
+    }
+}
+
+// The class of a job; a fetch that is forced has a name of its own, and so has a check of sources.
 fn job_name(job: &Job) -> &'static str {
-    match (&job.kind, job.class) {
-        (JobKind::FetchWorkspaces { force: true, .. }, _) => "forced",
-        (JobKind::ProcMacroSources { files }, _) => match files.as_slice() {
-            [] => "check",
-            [FileId(0)] => "check 0",
-            _ => "another check",
-        },
-        (_, PoolClass::Worker) => "Worker",
-        (_, PoolClass::Latency) => "Latency",
-        (_, PoolClass::Formatting) => "Formatting",
+    match &job.kind {
+        JobKind::FetchWorkspaces { force: true, .. } => "forced",
+        JobKind::ProcMacroSources { files } => check_name(files.as_slice()),
+        _ => class_name(job.class),
     }
 }
 
