@@ -1,85 +1,122 @@
-use crate::calls::path_at;
+use crate::calls::{cut, path_at};
 use docs_vfs::{DocumentData, MemDocs, VfsPath};
+use expectations::expect_text;
 use plain::Text;
 use std::alloc::Global;
+use std::mem;
 use std::test::Fail;
 
-/// Puts a document, and answers whether none was there.
-fn put(alloc: Global, docs: &mut MemDocs, path: &str, version: i32) -> Result<bool, Fail> {
-    let text = Text::from_str(alloc, path)?;
-    let path = path_at(alloc, path)?;
-    Ok(docs.insert(path, DocumentData { version, text })?.is_ok())
-}
+/// Calls of one table of documents, each with a path and a version, and their answers: a version, 1 for yes and 0 for no.
+/// `put` answers whether no document was there, `changes` whether documents came or went. A copy is made and stays.
+const CALLS: &str = "put > /b > 1 > 1
+put > /a > 1 > 1
+paths > /a/b
+copy
+set > /a > 7 > 7
+version > /a > - > 7
+version in the copy > /a > - > 1
+changes > / > - > 1
+set > /a > 8 > 8
+changes > / > - > 0
+remove > /a > - > 1
+changes > / > - > 1
+set > /a > 1 > none
+put > /a > 1 > 1
+put > /a > 2 > 0
+version > /a > - > 2
+remove > /a > - > 1
+remove > /a > - > 0
+has > /a > - > 0";
 
-/// Whether a document has this version.
-fn has_version(docs: &MemDocs, path: &VfsPath, version: i32) -> bool {
-    match docs.get(path) {
-        Some(document) => document.version == version,
-        None => false,
-    }
+/// Puts a document, and answers whether none was there.
+fn put(alloc: Global, docs: &mut MemDocs, path: &VfsPath, version: i32) -> Option<bool> {
+    let text = Text::from_str(alloc, path.as_str()).ok()?;
+    let path = path.clone().ok()?;
+    Some(
+        docs.insert(path, DocumentData { version, text })
+            .ok()?
+            .is_ok(),
+    )
 }
 
 /// Sets a document's version in its place.
-fn set_version(docs: &mut MemDocs, path: &VfsPath, version: i32) -> bool {
-    match docs.get_mut(path) {
-        Some(document) => {
-            document.version = version;
-            true
-        }
-        None => false,
+fn set(docs: &mut MemDocs, path: &VfsPath, version: i32) -> Option<i32> {
+    let document = docs.get_mut(path)?;
+    document.version = version;
+    Some(version)
+}
+
+/// What a call answers.
+fn answer(
+    alloc: Global,
+    docs: &mut MemDocs,
+    call: &str,
+    path: &VfsPath,
+    version: i32,
+) -> Option<i32> {
+    match call {
+        "put" => Some(i32::from(put(alloc, docs, path, version)?)),
+        "set" => set(docs, path, version),
+        "has" => Some(i32::from(docs.contains(path))),
+        "remove" => Some(i32::from(docs.remove(path).is_ok())),
+        "changes" => Some(i32::from(docs.take_changes())),
+        _ => Some(docs.get(path)?.version),
     }
 }
 
 /// Whether these are the paths of documents, one after another.
-fn has_paths(alloc: Global, docs: &MemDocs, paths: &str) -> Result<bool, Fail> {
+fn has_paths(alloc: Global, docs: &MemDocs, paths: &str) -> Option<bool> {
     let mut text = Text::new(alloc);
     for path in docs.iter() {
-        text.push_str(path.as_str())?;
+        text.push_str(path.as_str()).ok()?;
     }
-    Ok(text.as_str() == paths)
+    Some(text.is(paths))
 }
 
-/// Whether a copy stays as it is where the documents change.
-fn is_apart(docs: &mut MemDocs, path: &VfsPath) -> Result<bool, Fail> {
-    let copy = docs.clone()?;
-    Ok(set_version(docs, path, 7) && has_version(docs, path, 7) && has_version(&copy, path, 1))
+/// Whether the call of a line gives its answer.
+fn agrees(alloc: Global, docs: &mut MemDocs, copy: &mut MemDocs, line: &str) -> Option<bool> {
+    let (call, rest) = cut(line, " > ");
+    if call == "copy" {
+        drop(mem::replace(copy, docs.clone().ok()?));
+        return Some(true);
+    }
+    if call == "paths" {
+        return has_paths(alloc, docs, rest);
+    }
+    let (name, rest) = cut(rest, " > ");
+    let (version, want) = cut(rest, " > ");
+    let on = if call.ends_with("in the copy") {
+        copy
+    } else {
+        docs
+    };
+    let path = path_at(alloc, name)?;
+    let found = answer(alloc, on, call, &path, version.parse().unwrap_or(0));
+    drop(path);
+    Some(found == want.parse().ok())
 }
 
-/// Whether a change is told after documents came and went, and not after one was changed in its place.
-fn tells_changes(docs: &mut MemDocs, path: &VfsPath) -> bool {
-    let came = docs.take_changes();
-    let is_set = set_version(docs, path, 8);
-    let is_quiet = !docs.take_changes();
-    let went = docs.remove(path).is_ok() && docs.take_changes();
-    came && is_set && is_quiet && went
-}
-
-/// Whether a document that isn't there comes, is replaced, and goes.
-fn comes_and_goes(alloc: Global, docs: &mut MemDocs, path: &VfsPath) -> Result<bool, Fail> {
-    let is_made = set_version(docs, path, 1);
-    let is_new = put(alloc, docs, path.as_str(), 1)?;
-    let is_replaced = !put(alloc, docs, path.as_str(), 2)?;
-    let is_second = has_version(docs, path, 2);
-    let is_gone = docs.remove(path).is_ok() && docs.remove(path).is_err();
-    Ok(!is_made && is_new && is_replaced && is_second && is_gone && !docs.contains(path))
-}
-
-/// Whether two documents come in the order of their paths, are copied, tell of changes, come and go.
-fn agree(alloc: Global, docs: &mut MemDocs, path: &VfsPath) -> Result<bool, Fail> {
-    put(alloc, docs, "/b", 1)?;
-    put(alloc, docs, "/a", 1)?;
-    Ok(
-        has_paths(alloc, docs, "/a/b")?
-            && is_apart(docs, path)?
-            && tells_changes(docs, path)
-            && comes_and_goes(alloc, docs, path)?,
-    )
+/// The first line whose call gives another answer, or an empty text.
+fn first_wrong<'a>(
+    alloc: Global,
+    docs: &mut MemDocs,
+    copy: &mut MemDocs,
+    lines: &'a str,
+) -> &'a str {
+    for line in lines.lines() {
+        if agrees(alloc, docs, copy, line) != Some(true) {
+            return line;
+        }
+    }
+    ""
 }
 
 #[test]
 fn documents(rt: HostRuntime) -> Result<(), Fail> {
-    let path = path_at(rt.alloc(), "/a")?;
     let mut docs = MemDocs::new(rt.alloc());
-    assert!(rt; agree(rt.alloc(), &mut docs, &path)?);
-    Ok(())
+    let mut copy = MemDocs::new(rt.alloc());
+    let wrong = first_wrong(rt.alloc(), &mut docs, &mut copy, CALLS);
+    drop(docs);
+    drop(copy);
+    expect_text("the first call that answers otherwise", wrong, "")
 }

@@ -1,14 +1,16 @@
 use crate::calls::path_at;
 use docs_vfs::{ByPath, VfsPath};
+use expectations::expect;
 use plain::Text;
 use std::alloc::Global;
 use std::test::Fail;
 
 /// Puts a text at a path.
-fn put(alloc: Global, map: &mut ByPath<Text>, path: &str, text: &str) -> Result<(), Fail> {
-    let path = path_at(alloc, path)?;
-    map.insert(path, Text::from_str(alloc, text)?)?;
-    Ok(())
+fn put(alloc: Global, map: &mut ByPath<Text>, path: &str, text: &str) -> Option<()> {
+    let text = Text::from_str(alloc, text).ok()?;
+    let old = map.insert(path_at(alloc, path)?, text).ok()?;
+    drop(old);
+    Some(())
 }
 
 /// Takes the first path out, and answers whether it is this one.
@@ -19,43 +21,30 @@ fn begins_with(map: &mut ByPath<Text>, text: &str) -> bool {
     }
 }
 
-/// Takes a path out, and answers whether its text was this one.
-fn removes(map: &mut ByPath<Text>, path: &VfsPath, text: &str) -> bool {
-    match map.remove(path) {
-        Some(removed) => removed.as_str() == text,
-        None => false,
-    }
-}
-
-/// Whether the text at a path is this one.
-fn has(map: &ByPath<Text>, path: &VfsPath, text: &str) -> bool {
-    match map.get(path) {
-        Some(found) => found.as_str() == text,
-        None => false,
-    }
-}
-
-/// Whether a copy changes alone.
-fn is_apart(map: &ByPath<Text>, path: &VfsPath) -> Result<bool, Fail> {
-    let mut copy = map.clone()?;
-    Ok(removes(&mut copy, path, "two") && copy.len() == 1 && has(map, path, "two"))
+/// Whether a text goes out of a copy of two, and stays in the map.
+fn is_apart(map: &ByPath<Text>, path: &VfsPath) -> Option<bool> {
+    let mut copy = map.clone().ok()?;
+    let removed = copy.remove(path);
+    let len = copy.len();
+    drop(copy);
+    let is_removed = removed?.is("two");
+    Some(is_removed && len == 1 && map.get(path)?.is("two"))
 }
 
 /// Whether two texts come in the order of their paths, whatever the order in which they were put.
-fn are_in_order(alloc: Global, map: &mut ByPath<Text>) -> Result<bool, Fail> {
+fn are_in_order(alloc: Global, map: &mut ByPath<Text>) -> Option<bool> {
     put(alloc, map, "/b", "two")?;
     put(alloc, map, "/a", "one")?;
-    Ok(
-        is_apart(map, &path_at(alloc, "/b")?)?
-            && begins_with(map, "/a")
-            && begins_with(map, "/b")
-            && map.is_empty(),
-    )
+    let path = path_at(alloc, "/b")?;
+    let is_apart = is_apart(map, &path);
+    drop(path);
+    Some(is_apart? && begins_with(map, "/a") && begins_with(map, "/b") && map.is_empty())
 }
 
 #[test]
 fn maps(rt: HostRuntime) -> Result<(), Fail> {
     let mut map = ByPath::new(rt.alloc());
-    assert!(rt; are_in_order(rt.alloc(), &mut map)?);
-    Ok(())
+    let are_in_order = are_in_order(rt.alloc(), &mut map);
+    drop(map);
+    expect("a map", are_in_order == Some(true))
 }

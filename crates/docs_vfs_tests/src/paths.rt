@@ -1,5 +1,6 @@
 use crate::calls::{cut, path_at};
 use docs_vfs::{EmptySegments, VfsPath};
+use expectations::expect;
 use std::alloc::Global;
 use std::collections::HashMap;
 use std::test::Fail;
@@ -83,37 +84,29 @@ is less > /a > /a > false
 is found > /a > - > true";
 
 /// The path that a call answers. A text that may not be one segment is not joined.
-fn path_of(alloc: Global, call: &str, path: &VfsPath, text: &str) -> Result<Option<VfsPath>, Fail> {
-    Ok(match call {
-        "new" => VfsPath::new(alloc, text)?,
-        "root" => Some(VfsPath::root(alloc)?),
-        "parent" => path.parent(alloc)?,
-        "copy" => Some(path.clone()?),
-        "resolve" => path.resolve(text, EmptySegments::Refused)?,
-        "resolve loosely" => path.resolve(text, EmptySegments::Dropped)?,
+fn path_of(alloc: Global, call: &str, path: &VfsPath, text: &str) -> Option<Option<VfsPath>> {
+    match call {
+        "new" => VfsPath::new(alloc, text).ok(),
+        "root" => Some(Some(VfsPath::root(alloc).ok()?)),
+        "parent" => path.parent(alloc).ok(),
+        "copy" => Some(Some(path.clone().ok()?)),
+        "resolve" => path.resolve(text, EmptySegments::Refused).ok(),
+        "resolve loosely" => path.resolve(text, EmptySegments::Dropped).ok(),
         _ => {
             if VfsPath::is_name(text) {
-                Some(path.join(text)?)
+                Some(Some(path.join(text).ok()?))
             } else {
-                None
+                Some(None)
             }
         }
-    })
-}
-
-/// Whether this is the text of a path, or `none` where there is none.
-fn is_text(path: Option<VfsPath>, text: &str) -> bool {
-    match path {
-        Some(path) => path.as_str() == text,
-        None => text == "none",
     }
 }
 
 /// Whether a path is found by its hash.
-fn is_found(alloc: Global, path: &VfsPath) -> Result<bool, Fail> {
+fn is_found(alloc: Global, path: &VfsPath) -> Option<bool> {
     let mut versions = HashMap::new(alloc);
-    versions.insert(path.clone()?, 1u32)?;
-    Ok(versions.get(path) == Some(&1))
+    versions.insert(path.clone().ok()?, 1u32).ok()?;
+    Some(versions.get(path) == Some(&1))
 }
 
 /// What a call of two paths answers.
@@ -126,37 +119,36 @@ fn compares(call: &str, path: &VfsPath, other: &VfsPath) -> bool {
 }
 
 /// Whether a call of a path gives this answer.
-fn answers(
-    alloc: Global,
-    call: &str,
-    path: &VfsPath,
-    text: &str,
-    answer: &str,
-) -> Result<bool, Fail> {
-    Ok(match call {
-        "name" => path.file_name().unwrap_or("none") == answer,
-        "extension" => path.extension().unwrap_or("none") == answer,
-        "is found" => is_found(alloc, path)?,
+fn answers(alloc: Global, call: &str, path: &VfsPath, text: &str, answer: &str) -> Option<bool> {
+    match call {
+        "name" => Some(path.file_name().unwrap_or("none") == answer),
+        "extension" => Some(path.extension().unwrap_or("none") == answer),
+        "is found" => is_found(alloc, path),
         "is within" | "is equal" | "is less" => {
-            compares(call, path, &path_at(alloc, text)?) == (answer == "true")
+            Some(compares(call, path, &path_at(alloc, text)?) == (answer == "true"))
         }
-        _ => is_text(path_of(alloc, call, path, text)?, answer),
-    })
+        _ => match path_of(alloc, call, path, text)? {
+            Some(found) => Some(found.as_str() == answer),
+            None => Some(answer == "none"),
+        },
+    }
 }
 
 /// Whether the call of a line gives its answer.
-fn agrees(alloc: Global, line: &str) -> Result<bool, Fail> {
+fn agrees(alloc: Global, line: &str) -> Option<bool> {
     let (call, rest) = cut(line, " > ");
     let (path, rest) = cut(rest, " > ");
     let (text, answer) = cut(rest, " > ");
     let path = path_at(alloc, path)?;
-    answers(alloc, call, &path, text, answer)
+    let found = answers(alloc, call, &path, text, answer);
+    drop(path);
+    found
 }
 
 #[test]
 fn paths(rt: HostRuntime) -> Result<(), Fail> {
     for line in CALLS.lines() {
-        assert!(rt; agrees(rt.alloc(), line)?, "at {line:?}");
+        expect(line, agrees(rt.alloc(), line) == Some(true))?;
     }
     Ok(())
 }

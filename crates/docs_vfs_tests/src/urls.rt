@@ -1,5 +1,6 @@
 use crate::calls::{cut, path_at};
 use docs_vfs::{UrlFault, path_of_url, url_of_path};
+use expectations::expect;
 use std::alloc::Global;
 use std::test::Fail;
 use url::{ParseError, Url};
@@ -42,67 +43,54 @@ parse > file://[::g]/a > IPv6
 parse > x://a b/ > character
 parse > /w/a.rs > relative";
 
-/// The fault's name in the lines.
-fn fault_name(fault: UrlFault) -> &'static str {
-    match fault {
-        UrlFault::NotFile => "not a file",
-        UrlFault::HasHost => "a host",
-        UrlFault::NotText => "not text",
-        _ => "no memory",
-    }
-}
-
 /// Whether a URL names this path, or is refused for this reason.
 fn is_named(alloc: Global, url: &str, text: &str) -> bool {
     match path_of_url(alloc, url) {
         Ok(path) => path.as_str() == text,
-        Err(fault) => fault_name(fault) == text,
-    }
-}
-
-/// Whether this is the URL of a path, and names it.
-fn goes_both_ways(alloc: Global, text: &str, url: &str) -> Result<bool, Fail> {
-    let made = url_of_path(alloc, &path_at(alloc, text)?)?;
-    Ok(made.as_str() == url && is_named(alloc, url, text))
-}
-
-/// The name of the parser's fault in the lines.
-fn error_name(error: ParseError) -> &'static str {
-    match error {
-        ParseError::EmptyHost => "empty host",
-        ParseError::IdnaError => "IDNA",
-        ParseError::InvalidPort => "port",
-        ParseError::InvalidIpv4Address => "IPv4",
-        ParseError::InvalidIpv6Address => "IPv6",
-        ParseError::InvalidDomainCharacter => "character",
-        ParseError::RelativeUrlWithoutBase => "relative",
-        _ => "another",
+        Err(UrlFault::NotFile) => text == "not a file",
+        Err(UrlFault::HasHost) => text == "a host",
+        Err(UrlFault::NotText) => text == "not text",
+        Err(_) => false,
     }
 }
 
 /// Whether the parser of URLs refuses a text for this reason.
 fn has_error(alloc: Global, text: &str, name: &str) -> bool {
-    match Url::parse(alloc, text) {
-        Ok(_) => false,
-        Err(error) => error_name(error) == name,
+    match Url::parse(alloc, text).err() {
+        Some(ParseError::EmptyHost) => name == "empty host",
+        Some(ParseError::IdnaError) => name == "IDNA",
+        Some(ParseError::InvalidPort) => name == "port",
+        Some(ParseError::InvalidIpv4Address) => name == "IPv4",
+        Some(ParseError::InvalidIpv6Address) => name == "IPv6",
+        Some(ParseError::InvalidDomainCharacter) => name == "character",
+        Some(ParseError::RelativeUrlWithoutBase) => name == "relative",
+        _ => false,
     }
 }
 
+/// Whether this is the URL of a path.
+fn is_url(alloc: Global, text: &str, url: &str) -> Option<bool> {
+    let path = path_at(alloc, text)?;
+    let made = url_of_path(alloc, &path).ok();
+    drop(path);
+    Some(made?.as_str() == url)
+}
+
 /// Whether a line is right.
-fn agrees(alloc: Global, line: &str) -> Result<bool, Fail> {
+fn agrees(alloc: Global, line: &str) -> bool {
     let (call, rest) = cut(line, " > ");
     let (text, answer) = cut(rest, " > ");
     match call {
-        "path" => Ok(is_named(alloc, text, answer)),
-        "URL" => goes_both_ways(alloc, text, answer),
-        _ => Ok(has_error(alloc, text, answer) && is_named(alloc, text, "not a file")),
+        "path" => is_named(alloc, text, answer),
+        "URL" => is_url(alloc, text, answer) == Some(true) && is_named(alloc, answer, text),
+        _ => has_error(alloc, text, answer) && is_named(alloc, text, "not a file"),
     }
 }
 
 #[test]
 fn urls(rt: HostRuntime) -> Result<(), Fail> {
     for line in CALLS.lines() {
-        assert!(rt; agrees(rt.alloc(), line)?, "at {line:?}");
+        expect(line, agrees(rt.alloc(), line))?;
     }
     Ok(())
 }
