@@ -1,76 +1,71 @@
 // Ends of lines.
+use crate::support::cut;
+use expectations::expect;
 use plain::{ArcText, Text};
 use std::alloc::Global;
 use std::test::Fail;
 use text_core::{LineEndings, TextIndex};
 
+/// Texts, their normal forms, and how their lines end.
+const ENDINGS: &str = "a\nb\nc\n\n\n\n > a\nb\nc\n\n\n\n > LF;
+abc > abc > LF;
+ >  > LF;
+a\rb\r > a\rb\r > LF;
+é\n > é\n > LF;
+a\r\nb > a\nb > CR LF;
+a\r\nb\r\nc\r\n\n\r\n\n > a\nb\nc\n\n\n\n > CR LF;
+\r\r\n > \r\n > CR LF;
+\r\na\r\n\r\nb\r\nc\r\n\r\n\r\n\r\n > \na\n\nb\nc\n\n\n\n > CR LF;
+é\r\n😀\r\n > é\n😀\n > CR LF";
+
 /// Whether a text has this normal form and these endings.
-fn normalizes(alloc: Global, src: &str, text: &str, endings: LineEndings) -> Result<bool, Fail> {
-    let (found, kind) = LineEndings::normalize(Text::from_str(alloc, src)?);
-    Ok(found.is(text) && kind == endings)
+fn normalizes(alloc: Global, src: &str, text: &str, endings: LineEndings) -> Option<bool> {
+    let (found, kind) = LineEndings::normalize(Text::from_str(alloc, src).ok()?);
+    Some(found.is(text) && kind == endings)
 }
 
 /// The same of a text that others share, which stays as it was.
 fn normalizes_shared(
     alloc: Global,
+    shared: &ArcText,
     src: &str,
     text: &str,
     endings: LineEndings,
-) -> Result<bool, Fail> {
-    let shared = ArcText::new(alloc, Text::from_str(alloc, src)?)?;
-    let (found, kind) = LineEndings::normalize_shared(alloc, shared.clone()?)?;
-    Ok(found.as_str() == text && kind == endings && shared.as_str() == src)
+) -> Option<bool> {
+    let (found, kind) = LineEndings::normalize_shared(alloc, shared.clone().ok()?).ok()?;
+    Some(found.as_str() == text && kind == endings && shared.as_str() == src)
 }
 
-#[test]
-fn unix_texts(rt: HostRuntime) -> Result<(), Fail> {
-    for text in ["a\nb\nc\n\n\n\n", "abc", "", "a\rb\r"] {
-        assert!(rt;
-            normalizes(rt.alloc(), text, text, LineEndings::Unix)?,
-            "{text:?}"
-        );
-        assert!(rt;
-            normalizes_shared(rt.alloc(), text, text, LineEndings::Unix)?,
-            "{text:?}"
-        );
-    }
-    Ok(())
-}
-
-#[test]
-fn dos_texts(rt: HostRuntime) -> Result<(), Fail> {
-    for (src, text) in [
-        ("a\r\nb\r\nc\r\n\n\r\n\n", "a\nb\nc\n\n\n\n"),
-        ("\r\r\n", "\r\n"),
-        ("\r\na\r\n\r\nb\r\nc\r\n\r\n\r\n\r\n", "\na\n\nb\nc\n\n\n\n"),
-        ("é\r\n😀\r\n", "é\n😀\n"),
-    ] {
-        assert!(rt;
-            normalizes(rt.alloc(), src, text, LineEndings::Dos)?,
-            "{src:?}"
-        );
-        assert!(rt;
-            normalizes_shared(rt.alloc(), src, text, LineEndings::Dos)?,
-            "{src:?}"
-        );
-    }
-    Ok(())
-}
-
-/// An index of a text that others share, and the text that it shares.
-fn is_indexed(alloc: Global, text: &str) -> Result<bool, Fail> {
-    let shared = ArcText::new(alloc, Text::from_str(alloc, text)?)?;
+/// Whether a text that others share is the text of its index, and is shared by it.
+fn is_indexed(alloc: Global, shared: &ArcText, text: &str) -> Option<bool> {
+    let shared = shared.clone().ok()?;
     if shared.len() > 100 {
-        return Ok(false);
+        return None;
     }
-    let index = TextIndex::from_shared(alloc, shared)?;
-    Ok(index.text() == text && index.share_text()?.as_str() == text)
+    let index = TextIndex::from_shared(alloc, shared).ok()?;
+    Some(index.text() == text && index.share_text().ok()?.as_str() == text)
+}
+
+/// Whether a row is right.
+fn agrees(alloc: Global, row: &str) -> Option<bool> {
+    let (src, rest) = cut(row, " > ");
+    let (text, kind) = cut(rest, " > ");
+    let endings = if kind == "LF" {
+        LineEndings::Unix
+    } else {
+        LineEndings::Dos
+    };
+    let shared = ArcText::new(alloc, Text::from_str(alloc, src).ok()?).ok()?;
+    let is_normal = normalizes_shared(alloc, &shared, src, text, endings) == Some(true)
+        && is_indexed(alloc, &shared, src) == Some(true);
+    drop(shared);
+    Some(is_normal && normalizes(alloc, src, text, endings)?)
 }
 
 #[test]
-fn shared_texts_are_indexed(rt: HostRuntime) -> Result<(), Fail> {
-    for text in ["", "a\r\nb", "é\n"] {
-        assert!(rt; is_indexed(rt.alloc(), text)?, "{text:?}");
+fn endings(rt: HostRuntime) -> Result<(), Fail> {
+    for row in ENDINGS.split(";\n") {
+        expect(row, agrees(rt.alloc(), row) == Some(true))?;
     }
     Ok(())
 }

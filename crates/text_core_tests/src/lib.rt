@@ -1,15 +1,15 @@
-//! Tests of `text_core`. Calls with large contracts go through wrappers that claim nothing, so that a test stays quick to
-//! prove.
+//! Tests of `text_core`: tables of rows, each a text, calls and what they answer. Calls with large contracts go through
+//! wrappers that claim nothing, so that a test stays quick to prove.
 #![tactic(auto)]
 
 #[cfg(test)]
-mod changes;
-#[cfg(test)]
 mod completions;
 #[cfg(test)]
-mod documents;
+mod edits;
 #[cfg(test)]
 mod endings;
+#[cfg(test)]
+mod examples;
 #[cfg(test)]
 mod places;
 #[cfg(test)]

@@ -1,14 +1,6 @@
 // The same edits by a plain program, which walks over the whole text for each position.
-use plain::Text;
-use std::alloc::{AllocError, Global};
+use std::alloc::Global;
 use text_core::{ContentChange, Position, PositionEncoding, Range};
-
-fn units(encoding: PositionEncoding, character: char) -> u32 {
-    match encoding {
-        PositionEncoding::Utf8 => character.len_utf8() as u32,
-        PositionEncoding::Wide(_) => character.len_utf16() as u32,
-    }
-}
 
 fn place(encoding: PositionEncoding, text: &str, position: Position) -> Option<usize> {
     let mut line = 0u32;
@@ -21,7 +13,11 @@ fn place(encoding: PositionEncoding, text: &str, position: Position) -> Option<u
                 None
             };
         }
-        column = column.wrapping_add(units(encoding, character));
+        let units = match encoding {
+            PositionEncoding::Utf8 => character.len_utf8(),
+            PositionEncoding::Wide(_) => character.len_utf16(),
+        };
+        column = column.wrapping_add(units as u32);
         if character == '\n' {
             if line == position.line && column <= position.character {
                 return Some(at.wrapping_add(1));
@@ -37,34 +33,22 @@ fn place(encoding: PositionEncoding, text: &str, position: Position) -> Option<u
     }
 }
 
-fn places(encoding: PositionEncoding, text: &str, range: Range) -> Option<(usize, usize)> {
+/// What stands before a range, and what stands behind it. None where the range has no place or is reversed.
+fn around(encoding: PositionEncoding, text: &str, range: Range) -> Option<(&str, &str)> {
     let start = place(encoding, text, range.start)?;
     let end = place(encoding, text, range.end)?;
     if start <= end {
-        Some((start, end))
+        Some((text.get(..start)?, text.get(end..)?))
     } else {
         None
     }
 }
 
-/// The text with another in the place of a range.
-fn replaced(
-    alloc: Global,
-    encoding: PositionEncoding,
-    text: &str,
-    range: Range,
-    new: &str,
-) -> Result<Option<String>, AllocError> {
-    let Some((start, end)) = places(encoding, text, range) else {
-        return Ok(None);
-    };
-    let (Some(front), Some(back)) = (text.get(..start), text.get(end..)) else {
-        return Ok(None);
-    };
-    let mut joined = String::from_str(alloc, front)?;
-    joined.push_str(new)?;
-    joined.push_str(back)?;
-    Ok(Some(joined))
+fn joined(alloc: Global, front: &str, new: &str, back: &str) -> Option<String> {
+    let mut joined = String::from_str(alloc, front).ok()?;
+    joined.push_str(new).ok()?;
+    joined.push_str(back).ok()?;
+    Some(joined)
 }
 
 pub(crate) fn apply(
@@ -73,22 +57,20 @@ pub(crate) fn apply(
     text: &str,
     changes: &[ContentChange],
     limit: usize,
-) -> Result<Text, AllocError> {
-    let mut text = String::from_str(alloc, text)?;
+) -> Option<String> {
+    let mut text = String::from_str(alloc, text).ok()?;
     for change in changes {
         let new = change.text.as_str();
-        if new.len() > limit {
-            continue;
-        }
-        let next = match change.range {
-            None => Some(String::from_str(alloc, new)?),
-            Some(range) => replaced(alloc, encoding, text.as_str(), range, new)?,
+        let parts = match change.range {
+            None => Some(("", "")),
+            Some(range) => around(encoding, text.as_str(), range),
         };
-        if let Some(next) = next {
-            if next.len() <= limit {
+        if let Some((front, back)) = parts {
+            let next = joined(alloc, front, new, back)?;
+            if new.len() <= limit && next.len() <= limit {
                 text = next;
             }
         }
     }
-    Ok(Text::from_string(text))
+    Some(text)
 }
