@@ -1,20 +1,17 @@
 // Which changes of files refresh, how far work is, and names that are alike.
-use crate::made::{cut, path_at, text_of};
+use crate::made::{all_agree, cut, path_at, push, text_of};
 use docs_vfs::{ChangeKind, VfsPath};
 use plain::{Items, Text};
 use reload::{Progress, eq_ignore_underscore, should_refresh_for_change};
 use std::alloc::Global;
+use std::test::Fail;
 
-fn refreshes(path: &VfsPath, kind: ChangeKind, additional: &[Text]) -> bool {
-    should_refresh_for_change(path, kind, additional)
-}
-
-/// When a change of a path refreshes, in a word.
-fn word(path: &VfsPath, additional: &[Text]) -> &'static str {
+/// When a change of a path refreshes, in words.
+fn refreshing(path: &VfsPath, additional: &[Text]) -> &'static str {
     match (
-        refreshes(path, ChangeKind::Create, additional),
-        refreshes(path, ChangeKind::Modify, additional),
-        refreshes(path, ChangeKind::Delete, additional),
+        should_refresh_for_change(path, ChangeKind::Create, additional),
+        should_refresh_for_change(path, ChangeKind::Modify, additional),
+        should_refresh_for_change(path, ChangeKind::Delete, additional),
     ) {
         (true, true, true) => "always",
         (true, false, true) => "where it comes or goes",
@@ -54,35 +51,26 @@ const PATHS: &str = "/w/mysrc/lib.rs > where it comes or goes
 /w/tests/one.txt > never
 / > never";
 
-fn additional(alloc: Global) -> Option<Items<Text>> {
-    let mut texts = Items::new(alloc);
-    texts.push(text_of(alloc, "rust-project.json")?).ok()?;
-    Some(texts)
-}
-
-fn agrees(alloc: Global, line: &str) -> Option<bool> {
+fn path_agrees(alloc: Global, line: &str) -> bool {
     let (path, want) = cut(line, " > ");
-    let additional = additional(alloc)?;
-    Some(word(&path_at(alloc, path)?, additional.as_slice()) == want)
+    let mut additional = Items::new(alloc);
+    push(&mut additional, text_of(alloc, "rust-project.json"));
+    let path = path_at(alloc, path);
+    let found = match &path {
+        Some(path) => refreshing(path, additional.as_slice()),
+        None => "no path",
+    };
+    drop(path);
+    drop(additional);
+    found == want
 }
 
 #[test]
-fn paths_refresh(rt: HostRuntime) {
-    for line in PATHS.lines() {
-        assert!(rt; agrees(rt.alloc(), line) == Some(true), "at {line}");
-    }
+fn paths_refresh(rt: HostRuntime) -> Result<(), Fail> {
+    all_agree(rt.alloc(), PATHS, "\n", path_agrees)
 }
 
-/// How far a piece of work is; what is done beyond the total doesn't count.
-fn fraction(done: u64, total: u64) -> u32 {
-    if done <= total {
-        Progress::fraction(done, total)
-    } else {
-        100
-    }
-}
-
-/// What is done, of how much, and how many hundredths that is.
+/// What is done, of how much, and how many hundredths that is. What is done beyond the total doesn't count.
 const FRACTIONS: &str = "29 100 29
 0 0 0
 1 3 33
@@ -91,17 +79,25 @@ const FRACTIONS: &str = "29 100 29
 18446744073709551614 18446744073709551615 99
 18446744073709551615 18446744073709551615 100";
 
-fn is_fraction(line: &str) -> Option<bool> {
+fn fraction_agrees(_alloc: Global, line: &str) -> bool {
     let (done, rest) = cut(line, " ");
     let (total, want) = cut(rest, " ");
-    Some(fraction(done.parse().ok()?, total.parse().ok()?) == want.parse().ok()?)
+    let done = done.parse::<u64>();
+    let total = total.parse::<u64>();
+    let (Ok(done), Ok(total)) = (done, total) else {
+        return false;
+    };
+    let found = if done <= total {
+        Progress::fraction(done, total)
+    } else {
+        100
+    };
+    Ok(found) == want.parse()
 }
 
 #[test]
-fn fractions_are_whole_hundredths(rt: HostRuntime) {
-    for line in FRACTIONS.lines() {
-        assert!(rt; is_fraction(line) == Some(true), "at {line}");
-    }
+fn fractions_are_whole_hundredths(rt: HostRuntime) -> Result<(), Fail> {
+    all_agree(rt.alloc(), FRACTIONS, "\n", fraction_agrees)
 }
 
 /// Two names, and whether they are alike.
@@ -113,15 +109,13 @@ a-b a+b other
 a-b a_ other
 A-b a-b other";
 
-fn are_alike(line: &str) -> bool {
+fn names_agree(_alloc: Global, line: &str) -> bool {
     let (one, rest) = cut(line, " ");
     let (two, want) = cut(rest, " ");
     eq_ignore_underscore(one, two) == (want == "alike")
 }
 
 #[test]
-fn dashes_and_underscores_are_alike(rt: HostRuntime) {
-    for line in NAMES.lines() {
-        assert!(rt; are_alike(line), "at {line}");
-    }
+fn dashes_and_underscores_are_alike(rt: HostRuntime) -> Result<(), Fail> {
+    all_agree(rt.alloc(), NAMES, "\n", names_agree)
 }

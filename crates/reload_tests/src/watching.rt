@@ -1,72 +1,56 @@
 // What is watched for workspaces.
-use crate::made::{cut, path_at, push, text_of, workspace};
-use docs_vfs::{Root, VfsPath};
-use plain::{Items, Text};
+use crate::made::{add, all_agree, cut, path_at, push, text_of, workspace};
+use docs_vfs::Root;
+use plain::Items;
 use project_model::{ProjectWorkspace, WorkspaceKind};
 use reload::{Watcher, watchers};
 use std::alloc::Global;
-
-fn one_path(alloc: Global, path: VfsPath) -> Option<Items<VfsPath>> {
-    let mut paths = Items::new(alloc);
-    paths.push(path).ok()?;
-    Some(paths)
-}
+use std::test::Fail;
 
 /// A root of one folder.
 fn root_at(alloc: Global, text: &str, is_local: bool) -> Option<Root> {
+    let mut include = Items::new(alloc);
+    push(&mut include, path_at(alloc, text));
     Some(Root {
-        include: one_path(alloc, path_at(alloc, text)?)?,
+        include,
         exclude: Items::new(alloc),
         is_local,
     })
 }
 
-/// Adds a local root and one that isn't.
-fn push_roots(alloc: Global, roots: &mut Items<Root>, local: &str) -> Option<()> {
-    roots.push(root_at(alloc, "/sysroot", false)?).ok()?;
-    roots.push(root_at(alloc, local, true)?).ok()
-}
-
-fn push_text(alloc: Global, texts: &mut Items<Text>, text: &str) -> Option<()> {
-    texts.push(text_of(alloc, text)?).ok()
-}
-
-/// A workspace with a local root and one that isn't, with a manifest and a build file.
-fn with_roots(alloc: Global, kind: WorkspaceKind, root: &str) -> Option<ProjectWorkspace> {
-    let mut made = workspace(alloc, kind, root)?;
-    push_roots(alloc, &mut made.roots, root)?;
-    push_text(alloc, &mut made.build_files, "/w/BUCK")?;
-    made.manifest = Some(path_at(alloc, "/w/Cargo.toml")?);
-    Some(made)
-}
-
-fn push_watcher(out: &mut String, watcher: &Watcher) -> Option<()> {
-    match watcher {
-        Watcher::Relative { base_uri, pattern } => {
-            push(out, base_uri.as_str())?;
-            push(out, " below ")?;
-            push(out, pattern.as_str())?;
-        }
-        Watcher::Text(pattern) => push(out, pattern.as_str())?,
+/// Gives a workspace a local root and one that isn't, a manifest and a build file.
+fn furnish(alloc: Global, made: &mut ProjectWorkspace, local: &str) {
+    push(&mut made.roots, root_at(alloc, "/sysroot", false));
+    push(&mut made.roots, root_at(alloc, local, true));
+    push(&mut made.build_files, text_of(alloc, "/w/BUCK"));
+    if let Some(manifest) = path_at(alloc, "/w/Cargo.toml") {
+        drop(made.manifest.replace(manifest));
     }
-    push(out, "; ")
 }
 
-fn watched(alloc: Global, workspace: ProjectWorkspace, relative: bool) -> Option<Items<Watcher>> {
-    watchers(alloc, &[workspace], relative).ok()
+/// A list of such a workspace alone.
+fn furnished(alloc: Global, kind: WorkspaceKind, root: &str) -> Items<ProjectWorkspace> {
+    let mut made = workspace(alloc, kind, root);
+    if let Some(made) = &mut made {
+        furnish(alloc, made, root);
+    }
+    let mut list = Items::new(alloc);
+    push(&mut list, made);
+    list
 }
 
-fn push_watchers(out: &mut String, watchers: &[Watcher]) -> Option<()> {
+fn add_watchers(out: &mut String, watchers: &[Watcher]) {
     for watcher in watchers {
-        push_watcher(out, watcher)?;
+        match watcher {
+            Watcher::Relative { base_uri, pattern } => {
+                add(out, base_uri.as_str());
+                add(out, " below ");
+                add(out, pattern.as_str());
+            }
+            Watcher::Text(pattern) => add(out, pattern.as_str()),
+        }
+        add(out, "; ");
     }
-    Some(())
-}
-
-fn are(alloc: Global, watchers: &[Watcher], want: &str) -> Option<bool> {
-    let mut out = String::new(alloc);
-    push_watchers(&mut out, watchers)?;
-    Some(out.as_str().trim_ascii() == want)
 }
 
 fn kind_of(word: &str) -> WorkspaceKind {
@@ -79,23 +63,27 @@ fn kind_of(word: &str) -> WorkspaceKind {
 
 /// The kind of a workspace, its root, whether patterns may be relative, and what is watched.
 const WATCHED: &str =
-    "json > /a b > relative > file:///a%20b below **/*.rs; file:///a%20b below **/Cargo.{lock,toml}; file:///a%20b below **/rust-analyzer.toml; /w/BUCK; /w/Cargo.toml;
-json > /a b > whole > /a b/**/*.rs; /a b/**/Cargo.{toml,lock}; /a b/**/rust-analyzer.toml; /w/BUCK; /w/Cargo.toml;
-cargo > /w > whole > /w/**/*.rs; /w/**/Cargo.{toml,lock}; /w/**/rust-analyzer.toml; /w/Cargo.toml;
-file > /w > whole > /w/**/*.rs; /w/**/Cargo.{toml,lock}; /w/**/rust-analyzer.toml; /w/Cargo.toml;";
+    "json > /a b > relative > file:///a%20b below **/*.rs; file:///a%20b below **/Cargo.{lock,toml}; file:///a%20b below **/rust-analyzer.toml; /w/BUCK; /w/Cargo.toml; 
+json > /a b > whole > /a b/**/*.rs; /a b/**/Cargo.{toml,lock}; /a b/**/rust-analyzer.toml; /w/BUCK; /w/Cargo.toml; 
+cargo > /w > whole > /w/**/*.rs; /w/**/Cargo.{toml,lock}; /w/**/rust-analyzer.toml; /w/Cargo.toml; 
+file > /w > whole > /w/**/*.rs; /w/**/Cargo.{toml,lock}; /w/**/rust-analyzer.toml; /w/Cargo.toml; ";
 
-fn agrees(alloc: Global, line: &str) -> Option<bool> {
+fn agrees(alloc: Global, line: &str) -> bool {
     let (kind, rest) = cut(line, " > ");
     let (root, rest) = cut(rest, " > ");
     let (relative, want) = cut(rest, " > ");
-    let workspace = with_roots(alloc, kind_of(kind), root)?;
-    let watchers = watched(alloc, workspace, relative == "relative")?;
-    are(alloc, watchers.as_slice(), want)
+    let mut out = String::new(alloc);
+    let list = furnished(alloc, kind_of(kind), root);
+    let watched = watchers(alloc, list.as_slice(), relative == "relative");
+    drop(list);
+    if let Ok(watched) = &watched {
+        add_watchers(&mut out, watched.as_slice());
+    }
+    drop(watched);
+    out.as_str() == want
 }
 
 #[test]
-fn local_roots_build_files_and_manifests_are_watched(rt: HostRuntime) {
-    for line in WATCHED.lines() {
-        assert!(rt; agrees(rt.alloc(), line) == Some(true), "at {line}");
-    }
+fn local_roots_build_files_and_manifests_are_watched(rt: HostRuntime) -> Result<(), Fail> {
+    all_agree(rt.alloc(), WATCHED, "\n", agrees)
 }
