@@ -11,20 +11,12 @@ pub(crate) fn json(alloc: Global, text: &str) -> Option<Json> {
     Json::read(alloc, text.as_bytes()).ok()?
 }
 
-/// Writes a value without a float.
-fn write(json: &Json, into: &mut Vec<u8>) -> Option<()> {
-    if json.is_plain() {
-        json.write(into).ok()
-    } else {
-        None
-    }
-}
-
 /// Whether a value without a float is written as this text.
-pub(crate) fn is_written(alloc: Global, json: &Json, want: &str) -> Option<bool> {
+pub(crate) fn is_written(alloc: Global, json: &Json, want: &str) -> bool {
     let mut bytes = Vec::new(alloc);
-    write(json, &mut bytes)?;
-    Some(bytes.as_slice() == want.as_bytes())
+    let is_plain = json.is_plain();
+    let is_made = is_plain && json.write(&mut bytes).is_ok();
+    is_made && bytes.as_slice() == want.as_bytes()
 }
 
 /// What stands before the first mark in a text, and what stands behind it.
@@ -38,14 +30,4 @@ pub(crate) fn cut<'a>(text: &'a str, mark: &str) -> (&'a str, &'a str) {
 /// The number that a word is, or none.
 pub(crate) fn number(word: &str) -> Option<u32> {
     word.parse().ok()
-}
-
-/// 1 where it holds, else 0.
-pub(crate) fn bit(holds: bool) -> Option<u32> {
-    Some(u32::from(holds))
-}
-
-/// A number of items.
-pub(crate) fn count(items: usize) -> Option<u32> {
-    u32::try_from(items).ok()
 }

@@ -1,7 +1,10 @@
 // Values by number and by text.
-use crate::calls::{bit, count, cut, number, text};
+use crate::calls::{cut, number, text};
+use expectations::expect_text;
 use plain::{ByNumber, ByText, Text};
 use std::alloc::Global;
+use std::mem;
+use std::test::Fail;
 
 /// Adds to the value at a number.
 fn add(map: &mut ByNumber<u32>, key: u64, more: u32) -> Option<u32> {
@@ -10,48 +13,34 @@ fn add(map: &mut ByNumber<u32>, key: u64, more: u32) -> Option<u32> {
     Some(*value)
 }
 
-/// The keys of one figure, one after another.
-fn keys(map: &ByNumber<u32>) -> u64 {
-    let mut keys = 0u64;
+/// The keys of one figure, one after another, and then the values.
+fn figures(map: &ByNumber<u32>) -> u64 {
+    let mut figures = 0u64;
     for key in map.keys() {
-        keys = keys.wrapping_mul(10).wrapping_add(*key);
+        figures = figures.wrapping_mul(10).wrapping_add(*key);
     }
-    keys
-}
-
-/// The values of one figure, one after another.
-fn values(map: &ByNumber<u32>) -> u32 {
-    let mut values = 0u32;
     for value in map.values() {
-        values = values.wrapping_mul(10).wrapping_add(*value);
+        figures = figures.wrapping_mul(10).wrapping_add(u64::from(*value));
     }
-    values
-}
-
-/// What a call answers that changes a map: the number that it gives.
-fn change(map: &mut ByNumber<u32>, call: &str, key: u64, value: u32) -> Option<u32> {
-    match call {
-        "put" => map.insert(key, value).ok()?,
-        "add" => add(map, key, value),
-        "remove" => map.remove(key),
-        _ => Some(map.pop_first()?.1),
-    }
+    figures
 }
 
 /// What a call of a map answers.
 fn answer(map: &mut ByNumber<u32>, call: &str, key: u64, value: u32) -> Option<u32> {
     match call {
-        "get" => map.get(key).copied(),
-        "has" => bit(map.contains(key)),
-        "is empty" => bit(map.is_empty()),
-        "keys" => u32::try_from(keys(map)).ok(),
-        "values" => Some(values(map)),
-        "len" => count(map.len()),
-        _ => change(map, call, key, value),
+        "put" => map.insert(key, value).ok()?,
+        "add" => add(map, key, value),
+        "remove" => map.remove(key),
+        "first" => Some(map.pop_first()?.1),
+        "has" => Some(u32::from(map.contains(key))),
+        "is empty" => Some(u32::from(map.is_empty())),
+        "figures" => u32::try_from(figures(map)).ok(),
+        "len" => u32::try_from(map.len()).ok(),
+        _ => map.get(key).copied(),
     }
 }
 
-/// Calls of one map, each with a key and a value, and their answers.
+/// Calls of one map, each with a key and a value, and their answers. A copy is made and stays.
 const BY_NUMBER: &str = "is empty,0,0 > 1
 put,7,1 > none
 put,2,5 > none
@@ -63,8 +52,7 @@ has,2,0 > 1
 has,3,0 > 0
 len,0,0 > 2
 is empty,0,0 > 0
-keys,0,0 > 27
-values,0,0 > 59
+figures,0,0 > 2759
 add,2,1 > 6
 add,3,1 > none
 get,7,0 > 9
@@ -75,35 +63,56 @@ put,1,4 > none
 first,0,0 > 4
 first,0,0 > 6
 first,0,0 > none
-is empty,0,0 > 1";
+is empty,0,0 > 1
+put,7,1 > none
+copy,0,0 > none
+put,7,2 > 1
+get,7,0 > 2
+get in the copy,7,0 > 1";
 
-fn agrees(map: &mut ByNumber<u32>, line: &str) -> bool {
+/// Whether the call of a line gives its answer.
+fn agrees(map: &mut ByNumber<u32>, copy: &mut ByNumber<u32>, line: &str) -> bool {
     let (call, rest) = cut(line, ",");
     let (key, rest) = cut(rest, ",");
     let (value, want) = cut(rest, " > ");
-    let key = u64::from(number(key).unwrap_or(0));
-    answer(map, call, key, number(value).unwrap_or(0)) == number(want)
-}
-
-#[test]
-fn values_by_number(rt: HostRuntime) {
-    let mut map = ByNumber::new(rt.alloc());
-    for line in BY_NUMBER.lines() {
-        assert!(rt; agrees(&mut map, line), "at {line}");
+    let (Some(key), Some(value)) = (number(key), number(value)) else {
+        return false;
+    };
+    if call == "copy" {
+        return match map.clone() {
+            Ok(made) => {
+                drop(mem::replace(copy, made));
+                true
+            }
+            Err(_) => false,
+        };
     }
+    let on = if call.ends_with("in the copy") {
+        copy
+    } else {
+        map
+    };
+    answer(on, call, u64::from(key), value) == number(want)
 }
 
-/// Whether a copy of a map stays as it is where the map changes.
-fn is_apart(map: &mut ByNumber<u32>) -> Option<bool> {
-    map.insert(7, 1).ok()?;
-    let copy = map.clone().ok()?;
-    map.insert(7, 2).ok()?;
-    Some(map.get(7) == Some(&2) && copy.get(7) == Some(&1))
+/// The first line whose call gives another answer, or an empty text.
+fn first_wrong(map: &mut ByNumber<u32>, copy: &mut ByNumber<u32>) -> &'static str {
+    for line in BY_NUMBER.lines() {
+        if !agrees(map, copy, line) {
+            return line;
+        }
+    }
+    ""
 }
 
 #[test]
-fn copies_by_number(rt: HostRuntime) {
-    assert!(rt; is_apart(&mut ByNumber::new(rt.alloc())) == Some(true));
+fn values_by_number(rt: HostRuntime) -> Result<(), Fail> {
+    let mut map = ByNumber::new(rt.alloc());
+    let mut copy = ByNumber::new(rt.alloc());
+    let wrong = first_wrong(&mut map, &mut copy);
+    drop(map);
+    drop(copy);
+    expect_text("the first call that answers otherwise", wrong, "")
 }
 
 type Texts = ByText<Option<Text>, u32>;
@@ -123,59 +132,42 @@ fn add_at(map: &mut Texts, key: &Option<Text>, more: u32) -> Option<u32> {
     Some(*value)
 }
 
-/// Puts a value at a key that has none, and counts the keys.
-fn put_new(map: &mut Texts, key: Option<Text>, value: u32) -> Option<u32> {
-    map.insert_new(key, value).ok()?;
-    count(map.len())
-}
-
-/// The length of the last key.
-fn last_len(map: &Texts) -> Option<u32> {
-    let mut len = 0;
+/// The lengths of the keys and then the values, each of one figure, one after another.
+fn figures_of(map: &Texts) -> u64 {
+    let mut figures = 0u64;
     for key in map.keys() {
-        len = key.as_ref().map_or(0, |key| key.len());
+        let len = match key {
+            Some(key) => key.len() as u64,
+            None => 0,
+        };
+        figures = figures.wrapping_mul(10).wrapping_add(len);
     }
-    count(len)
-}
-
-/// The values of one figure, one after another.
-fn values_by_key(map: &Texts) -> u32 {
-    let mut values = 0u32;
     for value in map.values() {
-        values = values.wrapping_mul(10).wrapping_add(*value);
+        figures = figures.wrapping_mul(10).wrapping_add(u64::from(*value));
     }
-    values
+    figures
 }
 
-fn first(map: &mut Texts) -> Option<u32> {
-    Some(map.pop_first()?.1)
-}
-
-/// What a call of a map by text answers, where it changes nothing.
-fn read(map: &Texts, call: &str, key: &Option<Text>) -> Option<u32> {
-    match call {
-        "get" => map.get(key).copied(),
-        "has" => bit(map.contains(key)),
-        "is empty" => bit(map.is_empty()),
-        "last" => last_len(map),
-        "values" => Some(values_by_key(map)),
-        _ => count(map.len()),
-    }
-}
-
-/// What a call of a map by text answers.
+/// What a call of a map by text answers. `put new` puts a value at a key that has none, and counts the keys.
 fn answer_at(map: &mut Texts, call: &str, key: Option<Text>, value: u32) -> Option<u32> {
     match call {
         "put" => map.insert(key, value).ok()?,
+        "put new" => {
+            map.insert_new(key, value).ok()?;
+            u32::try_from(map.len()).ok()
+        }
         "add" => add_at(map, &key, value),
-        "put new" => put_new(map, key, value),
         "remove" => map.remove(&key),
-        "first" => first(map),
-        _ => read(map, call, &key),
+        "first" => Some(map.pop_first()?.1),
+        "has" => Some(u32::from(map.contains(&key))),
+        "is empty" => Some(u32::from(map.is_empty())),
+        "figures" => u32::try_from(figures_of(map)).ok(),
+        "len" => u32::try_from(map.len()).ok(),
+        _ => map.get(&key).copied(),
     }
 }
 
-/// Calls of one map by text, each with a key and a value, and their answers.
+/// Calls of one map by text, each with a key and a value, and their answers. A copy is made and stays.
 const BY_TEXT: &str = "is empty,,0 > 1
 put,bb,2 > none
 put,a,1 > none
@@ -187,8 +179,7 @@ get,c,0 > none
 has,bb,0 > 1
 has,b,0 > 0
 len,,0 > 3
-last,,0 > 2
-values,,0 > 342
+figures,,0 > 12342
 add,bb,5 > 7
 add,b,5 > none
 put new,d,6 > 4
@@ -199,36 +190,47 @@ remove,a,0 > 4
 first,,0 > 3
 first,,0 > 7
 first,,0 > none
-is empty,,0 > 1";
+is empty,,0 > 1
+put,,1 > none
+copy,,0 > none
+remove,,0 > 1
+is empty,,0 > 1
+get in the copy,,0 > 1";
 
-fn agrees_by_text(alloc: Global, map: &mut Texts, line: &str) -> Option<bool> {
+/// Whether the call of a line gives its answer.
+fn agrees_at(alloc: Global, map: &mut Texts, copy: &mut Texts, line: &str) -> Option<bool> {
     let (call, rest) = cut(line, ",");
     let (word, rest) = cut(rest, ",");
     let (value, want) = cut(rest, " > ");
-    let key = key_of(alloc, word)?;
-    Some(answer_at(map, call, key, number(value)?) == number(want))
-}
-
-#[test]
-fn values_by_text(rt: HostRuntime) {
-    let mut map = ByText::new(rt.alloc());
-    for line in BY_TEXT.lines() {
-        assert!(rt;
-            agrees_by_text(rt.alloc(), &mut map, line) == Some(true),
-            "at {line}"
-        );
+    let value = number(value)?;
+    if call == "copy" {
+        drop(mem::replace(copy, map.clone().ok()?));
+        return Some(true);
     }
+    let on = if call.ends_with("in the copy") {
+        copy
+    } else {
+        map
+    };
+    Some(answer_at(on, call, key_of(alloc, word)?, value) == number(want))
 }
 
-/// Whether a copy of a map stays as it is where the map changes.
-fn is_apart_by_text(map: &mut Texts) -> Option<bool> {
-    map.insert(None, 1).ok()?;
-    let copy = map.clone().ok()?;
-    map.remove(&None)?;
-    Some(map.is_empty() && copy.get(&None) == Some(&1))
+/// The first line whose call gives another answer, or an empty text.
+fn first_wrong_at(alloc: Global, map: &mut Texts, copy: &mut Texts) -> &'static str {
+    for line in BY_TEXT.lines() {
+        if agrees_at(alloc, map, copy, line) != Some(true) {
+            return line;
+        }
+    }
+    ""
 }
 
 #[test]
-fn copies_by_text(rt: HostRuntime) {
-    assert!(rt; is_apart_by_text(&mut ByText::new(rt.alloc())) == Some(true));
+fn values_by_text(rt: HostRuntime) -> Result<(), Fail> {
+    let mut map = ByText::new(rt.alloc());
+    let mut copy = ByText::new(rt.alloc());
+    let wrong = first_wrong_at(rt.alloc(), &mut map, &mut copy);
+    drop(map);
+    drop(copy);
+    expect_text("the first call that answers otherwise", wrong, "")
 }

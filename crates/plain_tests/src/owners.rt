@@ -1,40 +1,33 @@
 // Texts, bytes and lists.
-use crate::calls::{bit, count, cut, number, text};
+use crate::calls::{cut, number, text};
+use expectations::{expect, expect_text};
 use plain::{ArcText, Bytes, Items, Text};
 use std::alloc::Global;
+use std::test::Fail;
 
-/// A text that grew.
-fn grown(alloc: Global) -> Option<Text> {
-    let mut grown = Text::from_string(String::from_str(alloc, "frère").ok()?);
-    grown.push_str(" jacques").ok()?;
-    Some(grown)
-}
-
-fn is_shown(alloc: Global, text: &Text, want: &str) -> Option<bool> {
-    Some(format!(in alloc; "{text}").ok()?.as_str() == want)
-}
-
-/// Whether a text is this one, of so many bytes.
-fn is_text(text: &Text, want: &str, len: usize) -> bool {
-    text.is(want) && text.as_str() == want && text.len() == len && !text.is_empty()
+/// Whether a text is this one, of so many bytes, and is shown so.
+fn is_text(alloc: Global, text: &Text, want: &str, len: usize) -> bool {
+    match format!(in alloc; "{text}") {
+        Ok(shown) => {
+            shown.as_str() == want
+                && text.is(want)
+                && text.as_str() == want
+                && text.len() == len
+                && !text.is_empty()
+        }
+        Err(_) => false,
+    }
 }
 
 /// Whether a text that grew is what its pieces are, and so its copy.
 fn grows(alloc: Global) -> Option<bool> {
-    let text = grown(alloc)?;
+    let mut text = Text::from_string(String::from_str(alloc, "frère").ok()?);
+    let is_grown = text.push_str(" jacques").is_ok();
+    let is_right = is_text(alloc, &text, "frère jacques", 14);
     let copy = text.clone().ok()?;
-    let agrees = is_text(&text, "frère jacques", 14) && copy == text;
-    Some(
-        agrees
-            && is_shown(alloc, &text, "frère jacques")?
-            && copy.into_string().as_str() == "frère jacques",
-    )
-}
-
-#[test]
-fn a_text_grows(rt: HostRuntime) {
-    assert!(rt; grows(rt.alloc()) == Some(true));
-    assert!(rt; Text::new(rt.alloc()).is_empty());
+    let is_same = copy == text;
+    drop(text);
+    Some(is_grown && is_right && is_same && copy.into_string().as_str() == "frère jacques")
 }
 
 /// Whether a shared text is what it was made of, and so the text that is taken out where nothing else shares it and where a clone does.
@@ -42,13 +35,9 @@ fn is_shared(alloc: Global) -> Option<bool> {
     let one = ArcText::new(alloc, text(alloc, "frère")?).ok()?;
     let other = one.clone().ok()?;
     let agrees = one.as_str() == "frère" && one.len() == 6 && !one.is_empty();
-    let copied = one.into_text().ok()?;
-    Some(agrees && copied.is("frère") && other.into_text().ok()?.is("frère"))
-}
-
-#[test]
-fn a_text_is_shared(rt: HostRuntime) {
-    assert!(rt; is_shared(rt.alloc()) == Some(true));
+    let copied = one.into_text().ok();
+    let last = other.into_text().ok();
+    Some(agrees && copied?.is("frère") && last?.is("frère"))
 }
 
 /// Pairs of texts in their order: a text that another begins with comes first, and `é` comes after `b`.
@@ -57,48 +46,42 @@ b,é
 ,a
 a,ab";
 
+/// Whether the first text of a line comes before the second.
 fn is_less(alloc: Global, line: &str) -> Option<bool> {
     let (one, other) = cut(line, ",");
-    let (one, other) = (text(alloc, one)?, text(alloc, other)?);
-    Some(one < other)
+    let one = text(alloc, one);
+    let other = text(alloc, other);
+    Some(one? < other?)
 }
 
 #[test]
-fn texts_in_order(rt: HostRuntime) {
+fn texts(rt: HostRuntime) -> Result<(), Fail> {
     for line in RISING.lines() {
-        assert!(rt; is_less(rt.alloc(), line) == Some(true), "at {line}");
+        expect(line, is_less(rt.alloc(), line) == Some(true))?;
     }
+    expect("a text grows", grows(rt.alloc()) == Some(true))?;
+    expect("a new text is empty", Text::new(rt.alloc()).is_empty())?;
+    expect("a text is shared", is_shared(rt.alloc()) == Some(true))
 }
 
 /// Whether bytes that grew are what was put, and so a copy.
-fn are_grown(bytes: &mut Bytes) -> Option<bool> {
-    bytes.push(b'c').ok()?;
+fn are_grown(alloc: Global) -> Option<bool> {
+    let mut bytes = Bytes::from_slice(alloc, b"ab").ok()?;
+    let is_pushed = bytes.push(b'c').is_ok();
     let copy = bytes.clone().ok()?;
-    let agrees = copy == *bytes && copy.len() == 3 && !copy.is_empty();
-    Some(
-        agrees
-            && copy.into_vec().as_slice() == b"abc".as_slice()
-            && bytes.as_slice() == b"abc".as_slice(),
-    )
-}
-
-fn bytes_are_grown(alloc: Global) -> Option<bool> {
-    are_grown(&mut Bytes::from_slice(alloc, b"ab").ok()?)
+    let is_same = copy == bytes && copy.len() == 3 && !copy.is_empty();
+    let is_right = bytes.as_slice() == b"abc".as_slice();
+    drop(bytes);
+    Some(is_pushed && is_same && is_right && copy.into_vec().as_slice() == b"abc".as_slice())
 }
 
 #[test]
-fn bytes_grow(rt: HostRuntime) {
-    assert!(rt; bytes_are_grown(rt.alloc()) == Some(true));
-    assert!(rt; Bytes::from_vec(Vec::new(rt.alloc())).is_empty());
-}
-
-/// Takes the item at a place out, if there is one.
-fn remove(items: &mut Items<u32>, at: usize) -> Option<u32> {
-    if at < items.len() {
-        Some(items.remove(at))
-    } else {
-        None
-    }
+fn bytes_grow(rt: HostRuntime) -> Result<(), Fail> {
+    expect("bytes grow", are_grown(rt.alloc()) == Some(true))?;
+    expect(
+        "bytes of an empty list are empty",
+        Bytes::from_vec(Vec::new(rt.alloc())).is_empty(),
+    )
 }
 
 /// The items of one figure, one after another.
@@ -110,28 +93,41 @@ fn figures(items: &Items<u32>) -> u32 {
     figures
 }
 
-fn push(items: &mut Items<u32>, item: u32) -> Option<u32> {
-    items.push(item).ok()?;
-    items.as_slice().last().copied()
-}
-
-fn clear(items: &mut Items<u32>) -> Option<u32> {
-    items.clear();
-    count(items.len())
+/// Whether a list and its copy are the same, and stay apart where the list grows by 2.
+fn is_apart(items: &mut Items<u32>) -> Option<bool> {
+    let copy = items.clone().ok()?;
+    let are_same = copy.is_same(items) && copy == *items;
+    let is_pushed = items.push(2).is_ok();
+    let is_other = !copy.is_same(items);
+    let is_one = Items::from_vec(copy.into_vec()).len() == 1;
+    Some(are_same && is_pushed && is_other && is_one)
 }
 
 /// What a call of a list with a number answers.
 fn answer(items: &mut Items<u32>, call: &str, number: u32) -> Option<u32> {
     match call {
-        "push" => push(items, number),
+        "push" => {
+            items.push(number).ok()?;
+            items.as_slice().last().copied()
+        }
         "pop" => items.pop(),
-        "remove" => remove(items, number as usize),
+        "remove" => {
+            if (number as usize) < items.len() {
+                Some(items.remove(number as usize))
+            } else {
+                None
+            }
+        }
         "get" => items.get(number as usize).copied(),
-        "clear" => clear(items),
+        "clear" => {
+            items.clear();
+            u32::try_from(items.len()).ok()
+        }
         "all" => Some(figures(items)),
         "greatest" => items.iter().copied().max(),
-        "is empty" => bit(items.is_empty()),
-        _ => count(items.len()),
+        "is empty" => Some(u32::from(items.is_empty())),
+        "is apart" => Some(u32::from(is_apart(items)?)),
+        _ => u32::try_from(items.len()).ok(),
     }
 }
 
@@ -154,32 +150,27 @@ pop,0 > none
 push,1 > 1
 clear,0 > 0
 is empty,0 > 1
-greatest,0 > none";
+greatest,0 > none
+push,1 > 1
+is apart,0 > 1
+all,0 > 12";
 
-fn agrees(items: &mut Items<u32>, line: &str) -> bool {
-    let (call, rest) = cut(line, ",");
-    let (argument, want) = cut(rest, " > ");
-    answer(items, call, number(argument).unwrap_or(0)) == number(want)
-}
-
-#[test]
-fn items_come_and_go(rt: HostRuntime) {
-    let mut items = Items::new(rt.alloc());
+/// The first line whose call gives another answer, or an empty text.
+fn first_wrong(items: &mut Items<u32>) -> &'static str {
     for line in CALLS.lines() {
-        assert!(rt; agrees(&mut items, line), "at {line}");
+        let (call, rest) = cut(line, ",");
+        let (argument, want) = cut(rest, " > ");
+        if answer(items, call, number(argument).unwrap_or(9)) != number(want) {
+            return line;
+        }
     }
-}
-
-/// Whether a list and its copy are the same, and stay apart.
-fn is_apart(items: &mut Items<u32>) -> Option<bool> {
-    items.push(1).ok()?;
-    let copy = items.clone().ok()?;
-    let are_same = copy.is_same(items) && copy == *items;
-    items.push(2).ok()?;
-    Some(are_same && !copy.is_same(items) && Items::from_vec(copy.into_vec()).len() == 1)
+    ""
 }
 
 #[test]
-fn copies_of_items(rt: HostRuntime) {
-    assert!(rt; is_apart(&mut Items::new(rt.alloc())) == Some(true));
+fn items_come_and_go(rt: HostRuntime) -> Result<(), Fail> {
+    let mut items = Items::new(rt.alloc());
+    let wrong = first_wrong(&mut items);
+    drop(items);
+    expect_text("the first call that answers otherwise", wrong, "")
 }
