@@ -3,6 +3,7 @@ ghost use Rattle.std.specs.Prelude.{◌≡◌, ℕ, [], ◌∷◌, ◌++◌, Non
 ghost use Rattle.session_port.specs.Events.{job_of as job_in};
 ghost use Rattle.session_port.specs.Record.{AreRising, spawned};
 
+use crate::words::number;
 use analysis_host::{GlobalStateSnapshot, RowId, SnapshotParts, Versions, World};
 use docs_vfs::{FileId, VfsPath};
 use file_ids::FileIds;
@@ -11,12 +12,12 @@ use plain::{Items, Json, SharedJson};
 use project_model::ProjectWorkspace;
 use ra_config::Config;
 use ra_settings::LinkedProject;
-use session_port::{Command, DeferredTask, Job, JobKind};
+use session_port::{Command, DeferredTask, Job, JobKind, JobResult, JobValue};
 use small_project::workspaces_of;
 use std::alloc::Global;
 use std::sync::Arc;
 
-fn path(alloc: Global, text: &str) -> Option<VfsPath> {
+pub fn path(alloc: Global, text: &str) -> Option<VfsPath> {
     VfsPath::new(alloc, text).ok()?
 }
 
@@ -101,6 +102,21 @@ pub fn kind_of(alloc: Global, word: &str) -> Option<JobKind> {
     }
 }
 
+/// An end of a job: its value, that it stopped before the first revision or at it, else that it had no memory.
+pub fn end_of(alloc: Global, word: &str) -> JobResult {
+    match word {
+        "json" => JobResult::Value(JobValue::Json(Json::null())),
+        "roots" => JobResult::Value(JobValue::Roots(Items::new(alloc))),
+        "primed" => JobResult::Value(JobValue::Primed),
+        "workspaces" => JobResult::Value(JobValue::Workspaces(Items::new(alloc))),
+        "builds" => JobResult::Value(JobValue::BuildData(Items::new(alloc))),
+        "macros" => JobResult::Value(JobValue::ProcMacros(Items::new(alloc))),
+        "early" => JobResult::Cancelled { saw: 0 },
+        "late" => JobResult::Cancelled { saw: 1 },
+        _ => JobResult::NoMemory,
+    }
+}
+
 /// A job of this kind on the first revision.
 pub fn job_with(alloc: Global, number: u64, word: &str) -> Option<Job>
     ensures { IfSome result (λ job. job.number ≡ number) }
@@ -135,29 +151,21 @@ fn add_jobs(alloc: Global, commands: &mut Items<Command>, word: &str) -> Option<
     Some(())
 }
 
-/// These commands alone.
-fn two_jobs(alloc: Global, word: &str) -> Option<Items<Command>>
+/// No command for `nothing` and `-`, else the commands to do the jobs 7, a request's, and 9: a request's too for `jobs`, a check for `check`,
+/// and the host's own for `builds`, `workspaces` and `macros`.
+pub fn commands_of(alloc: Global, word: &str) -> Option<Items<Command>>
     ensures { IfSome result (λ commands. AreRising 0 (spawned commands)) }
 {
     let mut commands = Items::new(alloc);
+    if word == "nothing" || word == "-" {
+        return Some(commands);
+    }
     match add_jobs(alloc, &mut commands, word) {
         Some(()) => Some(commands),
         None => {
             drop(commands);
             None
         }
-    }
-}
-
-/// `jobs` for the commands to do the requests' jobs 7 and 9, `check` for the same where 9 is a check, `builds`, `workspaces` or `macros`
-/// where it is the host's own, else no command.
-pub fn commands_of(alloc: Global, word: &str) -> Option<Items<Command>>
-    ensures { IfSome result (λ commands. AreRising 0 (spawned commands)) }
-{
-    match word {
-        "jobs" => two_jobs(alloc, "request"),
-        "check" | "builds" | "workspaces" | "macros" => two_jobs(alloc, word),
-        _ => Some(Items::new(alloc)),
     }
 }
 
@@ -174,7 +182,7 @@ fn command_of(alloc: Global, word: &str) -> Command
         };
     }
     if let Some(ticket) = word.strip_prefix("t") {
-        return Command::Timer(ticket.parse::<u64>().unwrap_or(u64::MAX));
+        return Command::Timer(number(ticket));
     }
     Command::Defer(DeferredTask::CheckProcMacroSources(Items::new(alloc)))
 }

@@ -5,10 +5,12 @@ ghost use Rattle.session_port.specs.Record.{AreRising, spawned};
 use crate::fixtures::{commands_of, order_of};
 use crate::memory::{Small, source};
 use crate::words::{add, add_given, add_number, cut};
+use expectations::expect_text;
 use plain::Items;
 use session_peers::{InlineHost, NullAnalysis};
 use session_port::{Command, Host, HostError, HostEvent};
 use std::alloc::Global;
+use std::test::Fail;
 
 /// The next event. The call claims only that one more may be made after it.
 fn next_of(host: &mut InlineHost<'_, Small, NullAnalysis>) -> Result<HostEvent, HostError>
@@ -90,29 +92,7 @@ fn do_words(
     }
 }
 
-/// Adds what a host does behind its first commands, and how many calls are recorded, if a record is kept.
-fn run(
-    alloc: Global,
-    text: &mut String,
-    host: &mut InlineHost<'_, Small, NullAnalysis>,
-    commands: Items<Command>,
-    words: &str,
-)
-    requires fresh { host.old.spent ≡ false }
-    requires rising { AreRising host.old.handed (spawned commands) }
-{
-    if begin(host, commands).is_none() {
-        return;
-    }
-    do_words(alloc, text, host, words);
-    add(text, " > ");
-    match host.calls() {
-        Some(calls) => add_number(alloc, text, calls.len() as u64),
-        None => add(text, "no record"),
-    }
-}
-
-/// The one function that owns a host.
+/// Adds what a host does behind its first commands, and how many calls are recorded, if a record is kept. The one function that owns a host.
 fn run_on(
     alloc: Global,
     text: &mut String,
@@ -131,78 +111,74 @@ fn run_on(
             return;
         }
     };
-    run(alloc, text, &mut host, commands, words);
+    match begin(&mut host, commands) {
+        Some(()) => {
+            do_words(alloc, text, &mut host, words);
+            add(text, " > ");
+            match host.calls() {
+                Some(calls) => add_number(alloc, text, calls.len() as u64),
+                None => add(text, "no record"),
+            }
+        }
+        None => {}
+    }
     drop(host);
 }
 
-/// What a host does on a stream whose reads with these numbers fail, behind its first commands.
-fn told(alloc: Global, stream: &str, fails: &str, orders: &str, keep: bool, words: &str) -> String {
-    let mut text = String::new(alloc);
+/// Adds what a host does on a stream whose reads with these numbers fail, behind its first commands.
+fn add_run(
+    alloc: Global,
+    text: &mut String,
+    stream: &str,
+    fails: &str,
+    orders: &str,
+    keep: bool,
+    words: &str,
+) {
     let Some(source) = source(alloc, stream, fails) else {
-        return text;
+        return;
     };
-    let Some(commands) = commands_of(alloc, orders) else {
-        drop(source);
-        return text;
-    };
-    run_on(alloc, &mut text, source, commands, keep, words);
-    text
-}
-
-/// The bytes of a stream; the number of the read that fails, or 0; whether the host has the jobs 7 and 9; a
-/// `=` for each event that is asked for. Then the events, each before a `|`, and how many calls were recorded. A `~` stands between two
-/// cases.
-///
-/// Two frames, of 48 bytes that come in three pieces; a bad header; half a frame. In the last four, results come before
-/// bytes, and before any read, of which the first fails in the last but two; a check ends too, and a job of the host's own.
-const STREAMS: &str =
-    "Content-Length: 2\r\n\r\n{}Content-Length: 4\r\n\r\nnull > 0 > idle > = = = > \
-    Content-Length: 2\r\n\r\n{}|Content-Length: 4\r\n\r\nnull|ended| > no record~\
-    Content-Length: x\r\n\r\n{} > 0 > idle > = = > Content-Length: x\r\n\r\n{}|ended| > no record~\
-    Content-Length: 20\r\n\r\n{} > 0 > idle > = = > Content-Length: 20\r\n\r\n{}|ended| > no record~\
-    Content-Length: 2\r\n\r\n{} > 0 > jobs > = = = > 7: null;9: null;|Content-Length: 2\r\n\r\n{}|ended| > 4~\
-    Content-Length: 2\r\n\r\n{} > 1 > jobs > = = = > 7: null;9: null;|failed| > 2~\
-    Content-Length: 2\r\n\r\n{} > 0 > check > = = > 7: null;9: roots;|Content-Length: 2\r\n\r\n{}| > 3~\
-    Content-Length: 2\r\n\r\n{} > 0 > builds > = = > 7: null;9: build data 1;|Content-Length: 2\r\n\r\n{}| > 3";
-
-/// A host keeps a record where it has commands.
-fn agrees(alloc: Global, line: &str) -> bool {
-    let (stream, rest) = cut(line, " > ");
-    let (fails, rest) = cut(rest, " > ");
-    let (orders, rest) = cut(rest, " > ");
-    let (words, wanted) = cut(rest, " > ");
-    told(alloc, stream, fails, orders, orders != "idle", words).as_str() == wanted
-}
-
-/// Whether the host has the jobs 7 and 9, of which 9 may be its own; its orders, one a turn, and a `=` for each event that is asked for;
-/// the events, each before a `|`. Its source has one frame, in the words `{}`.
-///
-/// Results come first, then the answers to the settings of a loader, one by one, then all deferred tasks, then the newest timer, then bytes.
-/// The order starts anew at each event. A timer that was given is gone.
-const ORDERS: &str = "workspaces > t3 d v1 t4 d v2 = = = = = = = > \
-    7: null;9: workspaces 1;|1: finished of 0;|2: finished of 0;|deferred 2|4|{}|ended|
-none > t3 d = t4 v1 = = = > deferred 1|1: finished of 0;|4|{}|
-none > v1 = v1 d = d = t1 = t1 = = > 1: finished of 0;|1: finished of 0;|deferred 2|1|1|{}|
-none > = v1 t1 = = = > {}|1: finished of 0;|1|ended|
-macros > v1 = = = > 7: null;9: proc macros;|1: finished of 0;|{}|";
-
-fn answers_agree(alloc: Global, line: &str) -> bool {
-    let (orders, rest) = cut(line, " > ");
-    let (words, wanted) = cut(rest, " > ");
-    let told = told(alloc, "{}", "-", orders, false, words);
-    told.as_str().strip_suffix(" > no record") == Some(wanted)
-}
-
-#[test]
-fn orders_are_answered_in_order(rt: HostRuntime) {
-    for line in ORDERS.lines() {
-        assert!(rt; answers_agree(rt.alloc(), line), "at {line}");
+    match commands_of(alloc, orders) {
+        Some(commands) => run_on(alloc, text, source, commands, keep, words),
+        None => drop(source),
     }
 }
 
+/// The bytes of a stream, the numbers of the reads that fail, the host's first commands, whether it keeps a record, and a `=` for each event
+/// that is asked for, among the host's orders, one a turn. Then the events, each before a `|`, and how many calls were recorded. A `~` stands
+/// between two cases.
+///
+/// First two frames, of 48 bytes that come in three pieces; a bad header; half a frame. In the next four, results come before bytes, and
+/// before any read, of which the first fails in the second of them; a check ends too, and a job of the host's own.
+///
+/// In the others the stream has no frame. Results come first, then the answers to the settings of a loader, one by one, then all deferred
+/// tasks, then the newest timer, then bytes. The order starts anew at each event. A timer that was given is gone.
+const CASES: &str =
+    "Content-Length: 2\r\n\r\n{}Content-Length: 4\r\n\r\nnull > 0 > nothing > - > = = = > Content-Length: 2\r\n\r\n{}|Content-Length: 4\r\n\r\nnull|ended| > no record~\
+    Content-Length: x\r\n\r\n{} > 0 > nothing > - > = = > Content-Length: x\r\n\r\n{}|ended| > no record~\
+    Content-Length: 20\r\n\r\n{} > 0 > nothing > - > = = > Content-Length: 20\r\n\r\n{}|ended| > no record~\
+    Content-Length: 2\r\n\r\n{} > 0 > jobs > recorded > = = = > 7: null;9: null;|Content-Length: 2\r\n\r\n{}|ended| > 4~\
+    Content-Length: 2\r\n\r\n{} > 1 > jobs > recorded > = = = > 7: null;9: null;|failed| > 2~\
+    Content-Length: 2\r\n\r\n{} > 0 > check > recorded > = = > 7: null;9: roots;|Content-Length: 2\r\n\r\n{}| > 3~\
+    Content-Length: 2\r\n\r\n{} > 0 > builds > recorded > = = > 7: null;9: build data 1;|Content-Length: 2\r\n\r\n{}| > 3~\
+    {} > - > workspaces > - > t3 d v1 t4 d v2 = = = = = = = > 7: null;9: workspaces 1;|1: finished of 0;|2: finished of 0;|deferred 2|4|{}|ended| > no record~\
+    {} > - > nothing > - > t3 d = t4 v1 = = = > deferred 1|1: finished of 0;|4|{}| > no record~\
+    {} > - > nothing > - > v1 = v1 d = d = t1 = t1 = = > 1: finished of 0;|1: finished of 0;|deferred 2|1|1|{}| > no record~\
+    {} > - > nothing > - > = v1 t1 = = = > {}|1: finished of 0;|1|ended| > no record~\
+    {} > - > macros > - > v1 = = = > 7: null;9: proc macros;|1: finished of 0;|{}| > no record";
+
 #[test]
-fn events_of_a_stream(rt: HostRuntime) {
-    for line in STREAMS.split('~') {
-        assert!(rt; agrees(rt.alloc(), line), "at {line}");
+fn events_of_a_host_on_one_thread(rt: HostRuntime) -> Result<(), Fail> {
+    for line in CASES.split('~') {
+        let (stream, rest) = cut(line, " > ");
+        let (fails, rest) = cut(rest, " > ");
+        let (orders, rest) = cut(rest, " > ");
+        let (keep, rest) = cut(rest, " > ");
+        let (words, wanted) = cut(rest, " > ");
+        let keep = keep == "recorded";
+        let mut text = String::new(rt.alloc());
+        add_run(rt.alloc(), &mut text, stream, fails, orders, keep, words);
+        expect_text(line, text.as_str(), wanted)?;
     }
+    Ok(())
 }

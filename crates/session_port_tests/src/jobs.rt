@@ -1,12 +1,12 @@
-// Jobs that run, and what crosses threads.
-use crate::fixtures::{job_with, kind_of};
-use crate::words::{add, cut, result_text};
+// Jobs that run, and the ends that fit them.
+use crate::fixtures::{end_of, job_with, kind_of};
+use crate::words::{add, cut, number, result_text};
 use analysis_host::{Cancel, Never};
-use plain::{Items, Json};
+use expectations::expect_text;
 use session_peers::NullAnalysis;
-use session_port::{HostEvent, Job, JobKind, JobResult, JobValue, TaskBody, TaskMsg, run_job};
+use session_port::{Job, run_job};
 use std::alloc::Global;
-use std::process::Abort;
+use std::test::Fail;
 
 /// Tells that revision 3 is there, from the poll with this number on.
 #[derive(Drop)]
@@ -44,78 +44,43 @@ impl Cancel for Third {
     }
 }
 
-// These calls claim nothing here. They run only a job on the first revision for which the analysis is asked.
-
-/// What a job comes to that no later revision stops.
-fn lasting(alloc: Global, job: &Job) -> &'static str {
+/// What a job comes to where the poll with this number, and each after it, tells of a later revision. No poll has the number 0: then
+/// no revision stops the job. The call claims nothing here, and runs only a job on the first revision for which the analysis is asked.
+fn outcome_of(alloc: Global, job: &Job, from: u64) -> &'static str {
     if !job.kind.asks_analysis() || job.snapshot.revision() != 0 {
         return "none";
     }
-    let outcome = run_job(job, &NullAnalysis(alloc), &mut Never::new());
-    let told = result_text(&outcome);
-    drop(outcome);
-    told
-}
-
-/// What a job comes to where the poll with this number, and each after it, tells of a later revision.
-fn stopped(alloc: Global, job: &Job, from: u64) -> &'static str {
-    if !job.kind.asks_analysis() || job.snapshot.revision() != 0 {
-        return "none";
-    }
-    let mut third = Third {
-        from,
-        seen: false,
-        polls: 0,
+    let outcome = if from == 0 {
+        run_job(job, &NullAnalysis(alloc), &mut Never::new())
+    } else {
+        let mut third = Third {
+            from,
+            seen: false,
+            polls: 0,
+        };
+        run_job(job, &NullAnalysis(alloc), &mut third)
     };
-    let outcome = run_job(job, &NullAnalysis(alloc), &mut third);
     let told = result_text(&outcome);
     drop(outcome);
     told
 }
 
-/// What a job of this kind comes to, in words. No poll has the number 0: then no revision stops the job. The one function
-/// that owns a job.
-fn run_told(alloc: Global, word: &str, from: u64) -> &'static str {
+/// The same of a job of this kind. The one function that owns a job.
+fn told_of(alloc: Global, word: &str, from: u64) -> &'static str {
     let Some(job) = job_with(alloc, 7, word) else {
         return "no job";
     };
-    let told = if from == 0 {
-        lasting(alloc, &job)
-    } else {
-        stopped(alloc, &job, from)
-    };
+    let told = outcome_of(alloc, &job, from);
     drop(job);
     told
 }
 
-fn runs_as(alloc: Global, line: &str) -> bool {
-    let (word, rest) = cut(line, ", ");
-    let (from, wanted) = cut(rest, " > ");
-    match from.parse::<u64>() {
-        Ok(from) => run_told(alloc, word, from) == wanted,
-        Err(_) => false,
-    }
-}
-
-/// Asserts of each line of a table that its job comes to what stands behind the `>`.
-fn check_runs(rt: &impl Abort, alloc: Global, table: &str) {
-    for line in table.lines() {
-        assert!(rt; runs_as(alloc, line), "at {line}");
-    }
-}
-
-/// Kinds of jobs, the polls from which on they are stopped, and what they come to.
-const REQUESTS: &str = "request, 0 > null
+/// Kinds of jobs, the polls from which on they are stopped, and what they come to. A check polls once itself. For each file the question
+/// polls once, and the check behind it once more.
+const JOBS: &str = "request, 0 > null
 request, 1 > cancelled
-request, 2 > null";
-
-#[test]
-fn jobs_run(rt: HostRuntime) {
-    check_runs(&rt, rt.alloc(), REQUESTS);
-}
-
-/// A check polls once itself. For each file the question polls once, and the check behind it once more.
-const CHECKS: &str = "check, 0 > roots
+request, 2 > null
+check, 0 > roots
 check, 1 > cancelled
 check, 2 > cancelled
 check, 3 > cancelled
@@ -127,56 +92,30 @@ no check, 1 > cancelled
 no check, 2 > roots";
 
 #[test]
-fn checks_run(rt: HostRuntime) {
-    check_runs(&rt, rt.alloc(), CHECKS);
-}
-
-/// An end of a job: its value, or a word for an end without one.
-fn end(alloc: Global, word: &str) -> JobResult {
-    match word {
-        "json" => JobResult::Value(JobValue::Json(Json::null())),
-        "roots" => JobResult::Value(JobValue::Roots(Items::new(alloc))),
-        "primed" => JobResult::Value(JobValue::Primed),
-        "workspaces" => JobResult::Value(JobValue::Workspaces(Items::new(alloc))),
-        "builds" => JobResult::Value(JobValue::BuildData(Items::new(alloc))),
-        "macros" => JobResult::Value(JobValue::ProcMacros(Items::new(alloc))),
-        "stopped" => JobResult::Cancelled { saw: 1 },
-        _ => JobResult::NoMemory,
+fn jobs_run(rt: HostRuntime) -> Result<(), Fail> {
+    for line in JOBS.lines() {
+        let (word, rest) = cut(line, ", ");
+        let (from, wanted) = cut(rest, " > ");
+        expect_text(line, told_of(rt.alloc(), word, number(from)), wanted)?;
     }
-}
-
-/// Whether a job of this kind may have this end.
-fn end_fits(alloc: Global, word: &str, kind: &JobKind) -> bool {
-    let outcome = end(alloc, word);
-    let fits = outcome.fits(kind);
-    drop(outcome);
-    fits
+    Ok(())
 }
 
 /// All ends.
-const ENDS: &str = "json roots primed workspaces builds macros stopped full";
+const ENDS: &str = "json roots primed workspaces builds macros late full";
 
-/// Which of these ends a job of this kind may have, each in a letter.
-fn fitting(alloc: Global, kind: &JobKind) -> String {
-    let mut text = String::new(alloc);
-    for word in ENDS.split(' ') {
-        if end_fits(alloc, word, kind) {
-            add(&mut text, "y");
-        } else {
-            add(&mut text, "n");
-        }
-    }
-    text
-}
-
-fn fits_as(alloc: Global, line: &str) -> bool {
-    let (word, wanted) = cut(line, " > ");
+/// Adds which of these ends a job of this kind may have, each in a letter.
+fn add_fitting(alloc: Global, text: &mut String, word: &str) {
     let Some(kind) = kind_of(alloc, word) else {
-        return false;
+        return;
     };
-    let text = fitting(alloc, &kind);
+    for end in ENDS.split(' ') {
+        let outcome = end_of(alloc, end);
+        let fits = outcome.fits(&kind);
+        drop(outcome);
+        add(text, if fits { "y" } else { "n" });
+    }
     drop(kind);
-    text.as_str() == wanted
 }
 
 /// Kinds of jobs, and which of all ends they may have.
@@ -187,22 +126,12 @@ builds > nnnnynyy
 macros > nnnnnyyy";
 
 #[test]
-fn values_fit_their_kinds(rt: HostRuntime) {
+fn values_fit_their_kinds(rt: HostRuntime) -> Result<(), Fail> {
     for line in FITTING.lines() {
-        assert!(rt; fits_as(rt.alloc(), line), "at {line}");
+        let (word, wanted) = cut(line, " > ");
+        let mut text = String::new(rt.alloc());
+        add_fitting(rt.alloc(), &mut text, word);
+        expect_text(word, text.as_str(), wanted)?;
     }
-}
-
-fn sends<T: Send + Drop>(x: T) {
-    drop(x)
-}
-
-#[test]
-fn events_and_results_are_sent() {
-    sends(HostEvent::Ended);
-    sends(TaskMsg {
-        job: 1,
-        body: TaskBody::Final(JobResult::NoMemory),
-    });
-    sends(JobResult::Value(JobValue::Json(Json::null())));
+    Ok(())
 }

@@ -1,11 +1,14 @@
-// Peers in memory that fail at listed calls.
+// Peers in memory that fail at listed calls, and peers that are lent.
 ghost use Rattle.std.specs.Prelude.{◌≡◌, false};
 
-use crate::words::{cut, numbers};
+use crate::scripts::steps;
+use crate::words::{add, add_bytes, add_calls, add_event, add_number, numbers};
+use expectations::expect_text;
 use plain::{Bytes, Items};
-use session_peers::{MemorySink, MemorySource};
-use session_port::{HostError, Sink, Source};
+use session_peers::{MemorySink, MemorySource, NullAnalysis, ScriptHost};
+use session_port::{Host, HostError, HostEvent, Sink, Source};
 use std::alloc::Global;
+use std::test::Fail;
 
 /// Gives at most 16 bytes at once.
 #[derive(Drop)]
@@ -35,100 +38,57 @@ pub fn source(alloc: Global, text: &str, fails: &str) -> Option<Small> {
     })
 }
 
-// These calls claim nothing here.
-
-/// Whether a turn was written, in a word.
-fn put(sink: &mut MemorySink, bytes: &[u8]) -> &'static str {
-    if sink.put_turn(bytes).is_ok() {
-        "written"
-    } else {
-        "failed"
+/// Adds whether each of three turns is written, and then the turns that are kept.
+fn add_turns(text: &mut String, sink: &mut MemorySink) {
+    for turn in "ab cd ef".split(' ') {
+        let is_written = sink.put_turn(turn.as_bytes()).is_ok();
+        add(text, if is_written { "written " } else { "failed " });
+    }
+    for turn in sink.turns() {
+        add(text, " ");
+        add_bytes(text, turn.as_slice());
     }
 }
 
-/// How long the next piece of two bytes at most is, or none where the read fails.
-fn read(small: &mut Small) -> Option<usize> {
-    match small.read_piece(2) {
-        Ok(Some(piece)) => Some(piece.len()),
-        Ok(None) => Some(0),
-        Err(_) => None,
-    }
-}
-
-fn left_in(small: &Small) -> usize {
-    small.source.left().len()
-}
-
-/// Turns, and what comes of each where the second call fails.
-const TURNS: &str = "ab > written
-cd > failed
-ef > written";
-
-fn put_agree(sink: &mut MemorySink) -> bool {
-    for line in TURNS.lines() {
-        let (turn, wanted) = cut(line, " > ");
-        if put(sink, turn.as_bytes()) != wanted {
-            return false;
-        }
-    }
-    true
-}
-
-/// Whether two turns are kept, of which the second is `ef`.
-fn are_kept(turns: &[Bytes]) -> bool {
-    turns.len() == 2 && turns[1].as_slice() == b"ef".as_slice()
-}
-
-/// The one function that owns this sink.
-fn fails_as_listed(alloc: Global) -> bool {
-    let mut sink = MemorySink::new(alloc, numbers(alloc, "2"));
-    let fails = put_agree(&mut sink) && are_kept(sink.turns());
+#[test]
+fn a_sink_fails_at_listed_calls(rt: HostRuntime) -> Result<(), Fail> {
+    let mut sink = MemorySink::new(rt.alloc(), numbers(rt.alloc(), "2"));
+    let mut text = String::new(rt.alloc());
+    add_turns(&mut text, &mut sink);
     drop(sink);
-    fails
+    expect_text("turns", text.as_str(), "written failed written  ab ef")
 }
 
-#[test]
-fn a_sink_fails_at_listed_calls(rt: HostRuntime) {
-    assert!(rt; fails_as_listed(rt.alloc()));
-}
-
-/// How long each piece of `abc` is where the first read fails, and how much is left then.
-const PIECES: &str = "none > 3
-2 > 1
-1 > 0
-0 > 0";
-
-fn reads_as(small: &mut Small, line: &str) -> bool {
-    let (piece, rest) = cut(line, " > ");
-    read(small) == piece.parse::<usize>().ok() && rest.parse::<usize>().ok() == Some(left_in(small))
-}
-
-fn all_read_as(small: &mut Small) -> bool {
-    for line in PIECES.lines() {
-        if !reads_as(small, line) {
-            return false;
+/// Adds of four pieces of two bytes at most how long each is, or that the read fails, and how much is left then.
+fn add_pieces(alloc: Global, text: &mut String, small: &mut Small) {
+    for _ in 0..4 {
+        match small.read_piece(2) {
+            Ok(Some(piece)) => add_number(alloc, text, piece.len() as u64),
+            Ok(None) => add(text, "end"),
+            Err(_) => add(text, "failed"),
         }
+        add(text, " of ");
+        add_number(alloc, text, small.source.left().len() as u64);
+        add(text, ";");
     }
-    true
-}
-
-/// The one function that owns this source.
-fn source_agrees(alloc: Global) -> bool {
-    let Some(mut small) = source(alloc, "abc", "1") else {
-        return false;
-    };
-    let agrees = all_read_as(&mut small);
-    drop(small);
-    agrees
 }
 
 #[test]
-fn a_source_fails_at_listed_calls(rt: HostRuntime) {
-    assert!(rt; source_agrees(rt.alloc()));
+fn a_source_fails_at_listed_calls(rt: HostRuntime) -> Result<(), Fail> {
+    let mut text = String::new(rt.alloc());
+    if let Some(mut small) = source(rt.alloc(), "abc", "1") {
+        add_pieces(rt.alloc(), &mut text, &mut small);
+        drop(small);
+    }
+    expect_text(
+        "pieces",
+        text.as_str(),
+        "failed of 3;2 of 1;1 of 0;end of 0;",
+    )
 }
 
 /// Whether a sink that is handed over takes a turn.
-fn put_to<S: Sink + Drop>(mut sink: S, bytes: &[u8]) -> bool
+fn takes<S: Sink + Drop>(mut sink: S, bytes: &[u8]) -> bool
     requires { S.spent sink ≡ false }
 {
     sink.put_turn(bytes).is_ok()
@@ -141,23 +101,49 @@ fn gives<S: Source>(mut source: S) -> bool
     matches!(source.read_piece(2), Ok(Some(_)))
 }
 
-fn lent_sink_takes(alloc: Global) -> bool {
-    let mut sink = MemorySink::new(alloc, Items::new(alloc));
-    let takes = put_to(&mut sink, b"ab") && sink.turns().len() == 1;
-    drop(sink);
-    takes
+/// The next event of a host that is handed over.
+fn next_of<H: Host<NullAnalysis> + Drop>(mut host: H) -> Result<HostEvent, HostError>
+    requires { H.spent host ≡ false }
+{
+    host.next()
 }
 
-fn lent_source_gives(alloc: Global) -> bool {
-    let Some(mut small) = source(alloc, "abc", "-") else {
-        return false;
-    };
-    let gives = gives(&mut small) && left_in(&small) == 1;
-    drop(small);
-    gives
+/// Adds what a source and a sink that are lent do, and what is left in them.
+fn add_lent_peers(alloc: Global, text: &mut String) {
+    if let Some(mut small) = source(alloc, "abc", "-") {
+        let gives = gives(&mut small);
+        add(text, if gives { "gives " } else { "gives not " });
+        add_number(alloc, text, small.source.left().len() as u64);
+        drop(small);
+    }
+    let mut sink = MemorySink::new(alloc, Items::new(alloc));
+    let takes = takes(&mut sink, b"ab");
+    add(text, if takes { " takes " } else { " takes not " });
+    add_number(alloc, text, sink.turns().len() as u64);
+    drop(sink);
 }
 
 #[test]
-fn lent_peers_are_peers(rt: HostRuntime) {
-    assert!(rt; lent_source_gives(rt.alloc()) && lent_sink_takes(rt.alloc()));
+fn lent_peers_are_peers(rt: HostRuntime) -> Result<(), Fail> {
+    let mut text = String::new(rt.alloc());
+    add_lent_peers(rt.alloc(), &mut text);
+    expect_text("peers", text.as_str(), "gives 1 takes 1")
+}
+
+/// Adds the first event of a host that is lent, and its calls.
+fn add_lent_host(alloc: Global, text: &mut String) {
+    let steps = steps(alloc, "bytes ab, finish 9 8 9, finish 9, end, finish 9 7");
+    let analysis = NullAnalysis(alloc);
+    if let Ok(mut host) = ScriptHost::new(alloc, &analysis, steps, Items::new(alloc)) {
+        add_event(alloc, text, next_of(&mut host));
+        add_calls(alloc, text, host.calls());
+        drop(host);
+    }
+}
+
+#[test]
+fn a_lent_host_is_one(rt: HostRuntime) -> Result<(), Fail> {
+    let mut text = String::new(rt.alloc());
+    add_lent_host(rt.alloc(), &mut text);
+    expect_text("a host", text.as_str(), "ab|event|")
 }

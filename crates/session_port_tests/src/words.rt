@@ -13,9 +13,15 @@ pub fn cut<'a>(text: &'a str, mark: &str) -> (&'a str, &'a str) {
     }
 }
 
-fn push_number(numbers: &mut Items<u64>, word: &str) {
-    if let Ok(number) = word.parse::<u64>() {
-        let _ = numbers.push(number);
+/// The number that a word is, or the greatest one.
+pub fn number(word: &str) -> u64 {
+    word.parse::<u64>().unwrap_or(u64::MAX)
+}
+
+/// Adds an item to a list, if there is one.
+pub fn push<T: Drop>(list: &mut Items<T>, item: Option<T>) {
+    if let Some(item) = item {
+        let _ = list.push(item);
     }
 }
 
@@ -23,7 +29,7 @@ fn push_number(numbers: &mut Items<u64>, word: &str) {
 pub fn numbers(alloc: Global, words: &str) -> Items<u64> {
     let mut numbers = Items::new(alloc);
     for word in words.split(' ') {
-        push_number(&mut numbers, word);
+        push(&mut numbers, word.parse::<u64>().ok());
     }
     numbers
 }
@@ -63,29 +69,25 @@ pub fn result_text(outcome: &JobResult) -> &'static str {
     }
 }
 
-/// Adds of how many workspaces or builds a result tells.
-fn add_count(alloc: Global, text: &mut String, outcome: &JobResult) {
-    let count = match outcome {
-        JobResult::Value(JobValue::Workspaces(workspaces)) => workspaces.len(),
-        JobResult::Value(JobValue::BuildData(builds)) => builds.len(),
-        _ => return,
-    };
-    add(text, " ");
-    add_number(alloc, text, count as u64);
-}
-
-fn add_message(alloc: Global, text: &mut String, message: &TaskMsg) {
-    let TaskBody::Final(outcome) = &message.body;
-    add_number(alloc, text, message.job);
-    add(text, ": ");
-    add(text, result_text(outcome));
-    add_count(alloc, text, outcome);
-    add(text, ";");
-}
-
+/// Adds results, and of how many workspaces or builds each tells.
 fn add_batch(alloc: Global, text: &mut String, batch: &[TaskMsg]) {
     for message in batch {
-        add_message(alloc, text, message);
+        let TaskBody::Final(outcome) = &message.body;
+        add_number(alloc, text, message.job);
+        add(text, ": ");
+        add(text, result_text(outcome));
+        match outcome {
+            JobResult::Value(JobValue::Workspaces(workspaces)) => {
+                add(text, " ");
+                add_number(alloc, text, workspaces.len() as u64);
+            }
+            JobResult::Value(JobValue::BuildData(builds)) => {
+                add(text, " ");
+                add_number(alloc, text, builds.len() as u64);
+            }
+            _ => {}
+        }
+        add(text, ";");
     }
 }
 
@@ -104,7 +106,7 @@ pub fn add_given(alloc: Global, text: &mut String, event: &HostEvent) {
     }
 }
 
-/// Adds what a call gave, or that it failed. The one function that owns an event.
+/// Adds what a call gave, or that it failed. The one function that owns an event which a host gave.
 pub fn add_event(alloc: Global, text: &mut String, event: Result<HostEvent, HostError>) {
     match &event {
         Ok(event) => add_given(alloc, text, event),
@@ -114,37 +116,26 @@ pub fn add_event(alloc: Global, text: &mut String, event: Result<HostEvent, Host
     add(text, "|");
 }
 
-fn add_call(alloc: Global, text: &mut String, call: &RecordedCall) {
-    match call.commands() {
-        Some(commands) => add_number(alloc, text, commands.len() as u64),
-        None => add(text, "event"),
-    }
-    add(text, "|");
-}
-
 /// Adds of each call that it gave an event, or how many commands it took.
-fn add_calls(alloc: Global, text: &mut String, calls: &[RecordedCall]) {
+pub fn add_calls(alloc: Global, text: &mut String, calls: &[RecordedCall]) {
     for call in calls {
-        add_call(alloc, text, call);
+        match call.commands() {
+            Some(commands) => add_number(alloc, text, commands.len() as u64),
+            None => add(text, "event"),
+        }
+        add(text, "|");
     }
 }
 
-/// A host that may be called again after it failed and after the end. The calls claim nothing here.
+/// A host that may be called again after it failed and after the end. The call claims nothing here.
 pub trait Tireless {
     /// Adds the next event, or that the call failed.
     fn add_next(&mut self, alloc: Global, text: &mut String);
-
-    /// Adds the calls so far.
-    fn add_record(&self, alloc: Global, text: &mut String);
 }
 
 impl Tireless for ScriptHost<'_, NullAnalysis> {
     fn add_next(&mut self, alloc: Global, text: &mut String) {
         add_event(alloc, text, self.next());
-    }
-
-    fn add_record(&self, alloc: Global, text: &mut String) {
-        add_calls(alloc, text, self.calls());
     }
 }
 
@@ -152,17 +143,12 @@ impl Tireless for HostileHost {
     fn add_next(&mut self, alloc: Global, text: &mut String) {
         add_event(alloc, text, Host::<NullAnalysis>::next(self));
     }
-
-    fn add_record(&self, alloc: Global, text: &mut String) {
-        add_calls(alloc, text, self.calls());
-    }
 }
 
-/// Adds so many events of a host, and its calls behind a ` > `.
-pub fn add_run<H: Tireless>(alloc: Global, text: &mut String, host: &mut H, count: u32) {
+/// Adds so many events of a host, and a ` > ` behind them.
+pub fn add_events<H: Tireless>(alloc: Global, text: &mut String, host: &mut H, count: u64) {
     for _ in 0..count {
         host.add_next(alloc, text);
     }
     add(text, " > ");
-    host.add_record(alloc, text);
 }
