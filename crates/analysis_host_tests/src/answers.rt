@@ -1,6 +1,7 @@
 // What a snapshot answers. `/w/a.rs` has number 0 and the text `mod b;`, `/w/x.rs` 1, and is excluded, `/w/t.rs` 2, without a
 // text, and `/r.rs` 3. The first three have version 3.
 use crate::questions::check_answers;
+use std::test::Fail;
 
 /// The numbers of paths.
 const PATHS: &str = "path /w/a.rs > 0
@@ -44,13 +45,6 @@ beside ../../b.rs > none
 beside /.. > none
 beside b\0 > none";
 
-#[test]
-fn files_and_their_numbers(rt: HostRuntime) {
-    for table in [PATHS, URLS, FILES, VERSIONS, NAMES, BESIDE] {
-        check_answers(&rt, rt.alloc(), "plain", table);
-    }
-}
-
 /// The places of positions, by lines and columns.
 const PLACES: &str = "place file:///w/a.rs 0 0 > 0 0
 place file:///w/a.rs 0 4 > 0 4
@@ -84,13 +78,6 @@ lens file:///w/t.rs 3 9 9 > NotFound
 lens file:///w/b.rs 3 0 0 > none
 lens x 3 0 0 > none";
 
-#[test]
-fn places_and_lenses(rt: HostRuntime) {
-    for table in [PLACES, RANGES, LENSES] {
-        check_answers(&rt, rt.alloc(), "plain", table);
-    }
-}
-
 /// The number of lines, their endings, and what a column counts, where lines ended by a line feed.
 const UNIX: &str = "lines 0 > 2 Unix units
 lines 2 > none
@@ -101,12 +88,6 @@ const DOS: &str = "lines 0 > 2 Dos units
 lines 2 > none
 lines 7 > none";
 
-#[test]
-fn line_endings(rt: HostRuntime) {
-    check_answers(&rt, rt.alloc(), "Unix", UNIX);
-    check_answers(&rt, rt.alloc(), "Dos", DOS);
-}
-
 /// The label and the root of the project of a target, the first dependency of a package, and the number of workspaces with
 /// their version and whether proc macros are loaded.
 const PROJECTS: &str = "spec /w/a.rs > p /w
@@ -115,16 +96,23 @@ deps p > b
 deps q > none
 project > 1 5 loaded";
 
-#[test]
-fn workspaces_of_a_snapshot(rt: HostRuntime) {
-    check_answers(&rt, rt.alloc(), "plain", PROJECTS);
-}
-
 /// The text and the version of the file, the threads, and the revision; then as above.
 const COPIED: &str = "parts 0 > mod b; 3 4 9
 project > 1 5 loaded";
 
 #[test]
-fn copied_snapshot(rt: HostRuntime) {
-    check_answers(&rt, rt.alloc(), "copied", COPIED);
+fn answers_of_snapshots(rt: HostRuntime) -> Result<(), Fail> {
+    check_answers(rt.alloc(), "plain", PATHS)?;
+    check_answers(rt.alloc(), "plain", URLS)?;
+    check_answers(rt.alloc(), "plain", FILES)?;
+    check_answers(rt.alloc(), "plain", VERSIONS)?;
+    check_answers(rt.alloc(), "plain", NAMES)?;
+    check_answers(rt.alloc(), "plain", BESIDE)?;
+    check_answers(rt.alloc(), "plain", PLACES)?;
+    check_answers(rt.alloc(), "plain", RANGES)?;
+    check_answers(rt.alloc(), "plain", LENSES)?;
+    check_answers(rt.alloc(), "plain", PROJECTS)?;
+    check_answers(rt.alloc(), "copied", COPIED)?;
+    check_answers(rt.alloc(), "Unix", UNIX)?;
+    check_answers(rt.alloc(), "Dos", DOS)
 }

@@ -1,6 +1,5 @@
 // Files, changes and hosts that the tests stand on. Nothing is claimed of them. Where memory runs out, there is none, or less
 // than a test wants.
-use crate::words::{add, add_number};
 use analysis_host::{AnalysisHost, Change, FileChange, SharedText, TextEntry, World, WorldFault};
 use docs_vfs::VfsPath;
 use plain::{Items, Text};
@@ -18,8 +17,11 @@ pub fn path_at(alloc: Global, text: &str) -> Option<VfsPath> {
     VfsPath::new(alloc, text).ok()?
 }
 
-/// What worlds keep of a file, or none where its text is too long for one.
+/// What worlds keep of a file, or none where its text is `-`, or too long for one.
 pub fn entry_of(alloc: Global, text: &str, endings: LineEndings) -> Option<TextEntry> {
+    if text == "-" {
+        return None;
+    }
     let text = Text::from_str(alloc, text).ok()?;
     if text.len() > u32::MAX as usize {
         return None;
@@ -28,33 +30,17 @@ pub fn entry_of(alloc: Global, text: &str, endings: LineEndings) -> Option<TextE
     Some(TextEntry { text, endings })
 }
 
-/// A file with what is kept of it, if anything is.
-fn add_file(files: &mut Items<FileChange>, path: Option<VfsPath>, entry: Option<TextEntry>) {
-    if let Some(path) = path {
-        let _ = files.push(FileChange { path, entry });
-    }
-}
-
-/// A file that loses its text, in a list.
-pub fn files_without(alloc: Global, path: &str) -> Items<FileChange> {
-    let mut files = Items::new(alloc);
-    add_file(&mut files, path_at(alloc, path), None);
-    files
-}
-
-/// A file with one text after another. A `|` stands between two.
-fn files_with(alloc: Global, path: &str, texts: &str, endings: LineEndings) -> Items<FileChange> {
+/// The change that sets a path to one text after another. A `|` stands between two, and a `-` where the path loses its text. No file
+/// changes where the path is `-`.
+pub fn change_with(alloc: Global, path: &str, texts: &str, endings: LineEndings) -> Change {
     let mut files = Items::new(alloc);
     for text in texts.split('|') {
-        let entry = entry_of(alloc, text, endings);
-        add_file(&mut files, path_at(alloc, path), entry);
+        if let Some(path) = path_at(alloc, path) {
+            let entry = entry_of(alloc, text, endings);
+            let _ = files.push(FileChange { path, entry });
+        }
     }
-    files
-}
-
-/// The change that sets a path to one text after another. A `|` stands between two.
-pub fn change_with(alloc: Global, path: &str, texts: &str, endings: LineEndings) -> Change {
-    Change::files_only(files_with(alloc, path, texts, endings))
+    Change::files_only(files)
 }
 
 /// What a change is answered.
@@ -64,13 +50,6 @@ pub fn apply(host: &mut AnalysisHost, change: Change) -> &'static str {
         Err(WorldFault::Exhausted) => "exhausted",
         Err(WorldFault::NoMemory) => "no memory",
     }
-}
-
-/// Adds the present text of a path, or `none`, and the revision.
-pub fn add_present(alloc: Global, text: &mut String, host: &AnalysisHost, path: &VfsPath) {
-    add(text, host.text(path).unwrap_or("none"));
-    add(text, " > ");
-    add_number(alloc, text, host.revision());
 }
 
 /// The world with one text after another at `/w/a.rs`. A `|` stands between two.

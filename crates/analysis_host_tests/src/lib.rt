@@ -6,11 +6,7 @@
 #[cfg(test)]
 mod answers;
 #[cfg(test)]
-mod endings;
-#[cfg(test)]
 mod files;
-#[cfg(test)]
-mod lenses;
 #[cfg(test)]
 mod numbers;
 #[cfg(test)]
@@ -21,8 +17,6 @@ mod polls;
 mod projects;
 #[cfg(test)]
 mod questions;
-#[cfg(test)]
-mod roots;
 #[cfg(test)]
 mod snapshots;
 #[cfg(test)]

@@ -1,8 +1,18 @@
-// The places that positions and ranges of a client name, in words, and the kinds of code actions.
-use crate::words::{add_numbers, cut, found_in, number, position};
-use analysis_host::{AssistKind, GlobalStateSnapshot, assist_kind, file_position, file_range};
+// The places that positions and ranges of a client name, code lenses once they are resolved, in words, and the kinds of code actions.
+use crate::words::{add, add_number, cut, found_in, number};
+use analysis_host::{
+    AssistKind, GlobalStateSnapshot, LensKind, LensResolve, annotation, assist_kind, file_position,
+    file_range,
+};
+use expectations::expect_text;
+use plain::Text;
 use std::alloc::Global;
-use text_core::Range;
+use std::test::Fail;
+use text_core::{Position, Range};
+
+fn position(line: u32, character: u32) -> Position {
+    Position { line, character }
+}
 
 /// Adds the byte of a position in a file, by the file's URL, the line and the column.
 pub fn add_place(alloc: Global, text: &mut String, snapshot: &GlobalStateSnapshot, words: &str) {
@@ -11,7 +21,8 @@ pub fn add_place(alloc: Global, text: &mut String, snapshot: &GlobalStateSnapsho
     let position = position(number(line), number(character));
     let found = file_position(alloc, snapshot, url, position);
     if let Some(place) = found_in(text, found, "excluded") {
-        add_numbers(alloc, text, &[place.file.0, place.offset]);
+        add_number(alloc, text, u64::from(place.file.0), " ");
+        add_number(alloc, text, u64::from(place.offset), "");
     }
 }
 
@@ -25,7 +36,39 @@ pub fn add_places(alloc: Global, text: &mut String, snapshot: &GlobalStateSnapsh
     };
     let found = file_range(alloc, snapshot, url, range);
     if let Some(places) = found_in(text, found, "excluded") {
-        add_numbers(alloc, text, &[places.file.0, places.start, places.end]);
+        add_number(alloc, text, u64::from(places.file.0), " ");
+        add_number(alloc, text, u64::from(places.start), " ");
+        add_number(alloc, text, u64::from(places.end), "");
+    }
+}
+
+/// Adds what a lens shows, by its URL, its version, the line of its position, and the line to which its range goes from the
+/// front of the file.
+pub fn add_lens(alloc: Global, text: &mut String, snapshot: &GlobalStateSnapshot, words: &str) {
+    let (url, rest) = cut(words, " ");
+    let (version, rest) = cut(rest, " ");
+    let (line, end) = cut(rest, " ");
+    let range = Range {
+        start: position(0, 0),
+        end: position(number(end), 3),
+    };
+    let lens = LensResolve {
+        version: version.parse::<i32>().unwrap_or(i32::MAX),
+        kind: LensKind::References,
+        url: Text::from_str(alloc, url).unwrap_or(Text::new(alloc)),
+        position: position(number(line), 4),
+    };
+    let found = annotation(alloc, snapshot, range, &lens);
+    drop(lens);
+    if let Some(found) = found_in(text, found, "none") {
+        add_number(alloc, text, u64::from(found.start), "..");
+        add_number(alloc, text, u64::from(found.end), " ");
+        match found.kind {
+            LensKind::Impls => add(text, "Impls "),
+            LensKind::References => add(text, "References "),
+        }
+        add_number(alloc, text, u64::from(found.pos.file.0), " ");
+        add_number(alloc, text, u64::from(found.pos.offset), "");
     }
 }
 
@@ -46,14 +89,11 @@ const KINDS: &str = " > Generate
 refactor.inline > RefactorInline
 source > none";
 
-fn agrees(line: &str) -> bool {
-    let (kind, want) = cut(line, " > ");
-    kind_name(assist_kind(kind)) == want
-}
-
 #[test]
-fn kinds_of_code_actions(rt: HostRuntime) {
+fn kinds_of_code_actions() -> Result<(), Fail> {
     for line in KINDS.lines() {
-        assert!(rt; agrees(line), "at {line}");
+        let (kind, want) = cut(line, " > ");
+        expect_text(kind, kind_name(assist_kind(kind)), want)?;
     }
+    Ok(())
 }

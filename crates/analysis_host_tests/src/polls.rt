@@ -1,26 +1,20 @@
 // What never stops a query.
 use analysis_host::{Cancel, Never};
+use expectations::expect;
+use std::test::Fail;
 
-/// Whether none of so many polls tells to stop.
+/// Whether none of so many polls tells to stop, and none has told so.
 fn goes_on<C: Cancel>(cancel: &mut C, polls: u32) -> bool {
     for _ in 0..polls {
         if cancel.poll().is_some() {
             return false;
         }
     }
-    true
-}
-
-fn last_seen<C: Cancel>(cancel: &C) -> Option<u64> {
-    cancel.held()
-}
-
-fn never_stops(polls: u32) -> bool {
-    let mut never = Never::new();
-    goes_on(&mut never, polls) && last_seen(&never).is_none()
+    cancel.held().is_none()
 }
 
 #[test]
-fn polls_that_never_stop(rt: HostRuntime) {
-    assert!(rt; never_stops(3));
+fn polls_that_never_stop() -> Result<(), Fail> {
+    let mut never = Never::new();
+    expect("no poll stops it", goes_on(&mut never, 3))
 }

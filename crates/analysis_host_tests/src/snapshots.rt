@@ -2,8 +2,9 @@
 ghost use Rattle.std.specs.Prelude.{◌≡◌, true, Some};
 ghost use Rattle.file_ids.specs.Numbers.{IsFree};
 
-use crate::files::{path_at, world_of};
+use crate::files::{copied, path_at, world_of};
 use crate::projects::workspaces;
+use crate::words::{cut, number};
 use analysis_host::{GlobalStateSnapshot, SnapshotParts, Versions, World};
 use docs_vfs::{FileExcluded, FileId, VfsPath};
 use file_ids::FileIds;
@@ -28,58 +29,40 @@ fn is_free(ids: &FileIds, path: &VfsPath, file: FileId) -> bool
     }
 }
 
-/// Sets the number of a path, unless another path has it.
-fn set_number(ids: &mut FileIds, path: Option<VfsPath>, file: FileId, excluded: FileExcluded) {
-    if let Some(path) = path {
-        if is_free(ids, &path, file) {
-            let _ = ids.put(path, Some((file, excluded)));
-        }
-    }
-}
-
 /// `/w/a.rs` with number 0, `/w/x.rs` with 1, which is excluded, `/w/t.rs` with 2, and `/r.rs` with 3.
 fn numbers(alloc: Global) -> FileIds {
     let mut ids = FileIds::new(alloc);
-    set_number(
-        &mut ids,
-        path_at(alloc, "/w/a.rs"),
-        FileId(0),
-        FileExcluded::No,
-    );
-    set_number(
-        &mut ids,
-        path_at(alloc, "/w/x.rs"),
-        FileId(1),
-        FileExcluded::Yes,
-    );
-    set_number(
-        &mut ids,
-        path_at(alloc, "/w/t.rs"),
-        FileId(2),
-        FileExcluded::No,
-    );
-    set_number(
-        &mut ids,
-        path_at(alloc, "/r.rs"),
-        FileId(3),
-        FileExcluded::No,
-    );
+    for line in "0 /w/a.rs No\n1 /w/x.rs Yes\n2 /w/t.rs No\n3 /r.rs No".lines() {
+        let (file, rest) = cut(line, " ");
+        let (path, excluded) = cut(rest, " ");
+        let file = FileId(number(file));
+        let excluded = if excluded == "Yes" {
+            FileExcluded::Yes
+        } else {
+            FileExcluded::No
+        };
+        if let Some(path) = path_at(alloc, path) {
+            if is_free(&ids, &path, file) {
+                let _ = ids.put(path, Some((file, excluded)));
+            }
+        }
+    }
     ids
 }
 
-/// Sets the version of a path to 3.
-fn set_third(versions: &mut Versions, path: Option<VfsPath>) {
-    if let Some(path) = path {
-        let _ = versions.put(path, Some(3));
+/// Sets the versions of three paths to 3.
+fn set_thirds(alloc: Global, versions: &mut Versions) {
+    for word in "/w/a.rs /w/x.rs /w/t.rs".split(' ') {
+        if let Some(path) = path_at(alloc, word) {
+            let _ = versions.put(path, Some(3));
+        }
     }
 }
 
 /// Versions that say 3 at `/w/a.rs`, `/w/x.rs` and `/w/t.rs`.
 fn third_versions(alloc: Global) -> Option<Versions> {
     let mut versions = Versions::new(alloc).ok()?;
-    set_third(&mut versions, path_at(alloc, "/w/a.rs"));
-    set_third(&mut versions, path_at(alloc, "/w/x.rs"));
-    set_third(&mut versions, path_at(alloc, "/w/t.rs"));
+    set_thirds(alloc, &mut versions);
     Some(versions)
 }
 
@@ -99,11 +82,18 @@ pub fn snapshot_in(alloc: Global, world: Option<World>) -> Option<GlobalStateSna
     }))
 }
 
-/// A snapshot of the world with one text after another at `/w/a.rs`, whose lines ended so. A `|` stands between two.
-pub fn snapshot_of(
-    alloc: Global,
-    texts: &str,
-    endings: LineEndings,
-) -> Option<GlobalStateSnapshot> {
-    snapshot_in(alloc, world_of(alloc, texts, endings))
+/// The snapshot that a word names: `plain`, where `/w/a.rs` had no text first, and then `mod b;`, a copy of that, or one of two lines at
+/// `/w/a.rs`, which ended so.
+pub fn snapshot_by(alloc: Global, word: &str) -> Option<GlobalStateSnapshot> {
+    let world = match word {
+        "Unix" => world_of(alloc, "a\nb", LineEndings::Unix),
+        "Dos" => world_of(alloc, "a\nb", LineEndings::Dos),
+        _ => world_of(alloc, "|mod b;", LineEndings::Unix),
+    };
+    let snapshot = snapshot_in(alloc, world)?;
+    if word == "copied" {
+        copied(snapshot)
+    } else {
+        Some(snapshot)
+    }
 }

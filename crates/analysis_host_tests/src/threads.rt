@@ -1,10 +1,12 @@
 // What may go to another thread, and what threads may share.
-use crate::files::{copied, entry_of, files_without};
+use crate::files::{change_with, copied, entry_of};
 use analysis_host::{
     AnalysisHost, Answer, Ask, Never, Outcome, RowId, TextTree, Versions, World, WorldFault,
 };
+use expectations::expect;
 use plain::{Items, Json, SharedJson};
 use std::alloc::Global;
+use std::test::Fail;
 use text_core::LineEndings;
 
 /// Lets go of a value that may go to another thread.
@@ -26,31 +28,16 @@ fn worlds_cross(alloc: Global) -> Option<()> {
     Some(())
 }
 
-fn files_cross(alloc: Global) -> Option<()> {
-    sends(files_without(alloc, "/w/a.rs"));
+fn files_and_questions_cross(alloc: Global) -> Option<()> {
+    sends(change_with(alloc, "/w/a.rs", "-", LineEndings::Unix).files);
     sends(copied(entry_of(alloc, "", LineEndings::Unix)?)?);
     shares(entry_of(alloc, "", LineEndings::Dos)?);
-    Some(())
-}
-
-#[test]
-fn values_cross_threads(rt: HostRuntime) {
-    assert!(rt; worlds_cross(rt.alloc()).is_some());
-    assert!(rt; files_cross(rt.alloc()).is_some());
-    shares(TextTree::new(rt.alloc()));
+    shares(TextTree::new(alloc));
     sends(Never::new());
-}
-
-fn question(alloc: Global) -> Option<Ask> {
-    let params = SharedJson::new(alloc, Json::null()).ok()?;
-    Some(Ask::Request {
+    sends(copied(Ask::Request {
         row: RowId(1),
-        params,
-    })
-}
-
-fn questions_cross(alloc: Global) -> Option<()> {
-    sends(copied(question(alloc)?)?);
+        params: SharedJson::new(alloc, Json::null()).ok()?,
+    })?);
     sends(copied(Outcome::Value(Answer::Json(Json::null())))?);
     sends(copied(Outcome::Value(Answer::Roots(Items::new(alloc))))?);
     sends(WorldFault::Exhausted);
@@ -58,6 +45,8 @@ fn questions_cross(alloc: Global) -> Option<()> {
 }
 
 #[test]
-fn questions_cross_threads(rt: HostRuntime) {
-    assert!(rt; questions_cross(rt.alloc()).is_some());
+fn values_cross_threads(rt: HostRuntime) -> Result<(), Fail> {
+    let worlds = worlds_cross(rt.alloc()).is_some();
+    let others = files_and_questions_cross(rt.alloc()).is_some();
+    expect("each is made", worlds && others)
 }

@@ -1,101 +1,67 @@
 // Tables of texts that share what they have in common, and changes whose steps are counted.
 ghost use Rattle.std.specs.Prelude.{◌≡◌, ◌<◌};
 
-use crate::files::{add_present, change_with, entry_of, path_at};
-use crate::words::{add, add_number};
+use crate::files::{change_with, entry_of, path_at};
+use crate::words::{add, add_number, cut};
 use analysis_host::{AnalysisHost, TextTree};
-use docs_vfs::VfsPath;
+use expectations::expect_text;
 use shared_map::Steps;
 use std::alloc::Global;
 use std::marker::Brand;
 use std::mem;
 use std::sync::ledger::{Blank, Ledger};
+use std::test::Fail;
 use text_core::LineEndings;
 
-/// The table with a text at a path, or with none there.
+/// The table with a text at a path, or with none there where the text is `-`.
 fn with_text<L: Ledger>(
     alloc: Global,
     tree: &TextTree,
     path: &str,
-    text: Option<&str>,
+    text: &str,
     steps: &mut Steps<L>,
 ) -> Option<TextTree> {
     let path = path_at(alloc, path)?;
-    let entry = match text {
-        Some(text) => entry_of(alloc, text, LineEndings::Dos),
-        None => None,
-    };
+    let entry = entry_of(alloc, text, LineEndings::Dos);
     tree.set(path, entry, steps).ok()
-}
-
-/// Adds the text of a path, or `none`.
-fn add_text(text: &mut String, tree: &TextTree, path: Option<VfsPath>) {
-    add(text, " ");
-    let Some(path) = path else {
-        return;
-    };
-    match tree.get(&path) {
-        Some(entry) => add(text, entry.text.as_str()),
-        None => add(text, "none"),
-    }
 }
 
 /// Adds how many paths a table has, and its texts at `/a` and `/b`.
 fn add_tree(alloc: Global, text: &mut String, tree: &TextTree) {
-    add_number(alloc, text, tree.len());
-    add_text(text, tree, path_at(alloc, "/a"));
-    add_text(text, tree, path_at(alloc, "/b"));
+    add_number(alloc, text, tree.len(), "");
+    for path in "/a /b".split(' ') {
+        add(text, " ");
+        if let Some(path) = path_at(alloc, path) {
+            match tree.get(&path) {
+                Some(entry) => add(text, entry.text.as_str()),
+                None => add(text, "none"),
+            }
+        }
+    }
     add(text, ";");
 }
 
-/// Sets a text in a table.
-fn set<L: Ledger>(
-    alloc: Global,
-    tree: &mut TextTree,
-    path: &str,
-    text: &str,
-    steps: &mut Steps<L>,
-) {
-    if let Some(next) = with_text(alloc, tree, path, Some(text), steps) {
-        drop(mem::replace(tree, next));
-    }
-}
-
-/// Adds what is left once `/a` is removed, and what stays where it was.
+/// Sets two texts, and adds what is left once `/a` is removed, and what stays where it was.
 fn add_removed<L: Ledger>(
     alloc: Global,
     text: &mut String,
     tree: &mut TextTree,
     steps: &mut Steps<L>,
 ) {
-    set(alloc, tree, "/a", "x", steps);
-    set(alloc, tree, "/b", "y", steps);
-    if let Some(rest) = with_text(alloc, tree, "/a", None, steps) {
+    for words in "/a x,/b y".split(',') {
+        let (path, value) = cut(words, " ");
+        if let Some(next) = with_text(alloc, tree, path, value, steps) {
+            drop(mem::replace(tree, next));
+        }
+    }
+    if let Some(rest) = with_text(alloc, tree, "/a", "-", steps) {
         add_tree(alloc, text, &rest);
         drop(rest);
     }
     add_tree(alloc, text, tree);
 }
 
-fn stays_as_it_was<L: Ledger>(alloc: Global, blank: Blank) -> bool
-    requires name { blank.name ≡ L.name }
-    requires parts { blank.parts ≡ L.parts }
-    requires some { 0 < L.parts }
-{
-    let mut steps = Steps::<L>::new(blank);
-    let mut text = String::new(alloc);
-    let mut tree = TextTree::new(alloc);
-    add_removed(alloc, &mut text, &mut tree, &mut steps);
-    drop(tree);
-    text.as_str() == "1 none y;2 x y;"
-}
-
-#[test]
-fn removed_path(rt: HostRuntime) {
-    assert!(rt; stays_as_it_was::<Brand>(rt.alloc(), Blank::new(1)));
-}
-
-/// Changes the text of `/a` to `x`, and adds what the host has then.
+/// Changes the text of `/a` to `x`, and adds what the host has then, and its revision.
 fn add_counted<L: Ledger>(
     alloc: Global,
     text: &mut String,
@@ -107,26 +73,32 @@ fn add_counted<L: Ledger>(
         return;
     }
     if let Some(path) = path_at(alloc, "/a") {
-        add_present(alloc, text, host, &path);
+        add(text, host.text(&path).unwrap_or("none"));
+        add(text, " > ");
+        add_number(alloc, text, host.revision(), "");
     }
 }
 
-fn is_counted<L: Ledger>(alloc: Global, blank: Blank) -> bool
+/// What a table and a host come to whose steps are counted. The one function that owns either.
+fn counted<L: Ledger>(alloc: Global, blank: Blank) -> String
     requires name { blank.name ≡ L.name }
     requires parts { blank.parts ≡ L.parts }
     requires some { 0 < L.parts }
 {
     let mut steps = Steps::<L>::new(blank);
-    let Ok(mut host) = AnalysisHost::new(alloc) else {
-        return false;
-    };
     let mut text = String::new(alloc);
-    add_counted(alloc, &mut text, &mut host, &mut steps);
-    drop(host);
-    text.as_str() == "x > 1"
+    let mut tree = TextTree::new(alloc);
+    add_removed(alloc, &mut text, &mut tree, &mut steps);
+    drop(tree);
+    if let Ok(mut host) = AnalysisHost::new(alloc) {
+        add_counted(alloc, &mut text, &mut host, &mut steps);
+        drop(host);
+    }
+    text
 }
 
 #[test]
-fn counted_change(rt: HostRuntime) {
-    assert!(rt; is_counted::<Brand>(rt.alloc(), Blank::new(1)));
+fn counted_changes(rt: HostRuntime) -> Result<(), Fail> {
+    let text = counted::<Brand>(rt.alloc(), Blank::new(1));
+    expect_text("a table and a host", text.as_str(), "1 none y;2 x y;x > 1")
 }

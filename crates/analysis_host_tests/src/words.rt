@@ -1,8 +1,9 @@
 // The words of tables, and texts that tell what was found. Where memory runs out, less is told than a test wants.
 use analysis_host::ProtoFault;
 use docs_vfs::UrlFault;
+use plain::Items;
 use std::alloc::Global;
-use text_core::{OffsetFault, Position};
+use text_core::OffsetFault;
 
 /// What stands before the first mark in a text, and what stands behind it.
 pub fn cut<'a>(text: &'a str, mark: &str) -> (&'a str, &'a str) {
@@ -17,29 +18,24 @@ pub fn number(word: &str) -> u32 {
     word.parse::<u32>().unwrap_or(u32::MAX)
 }
 
-pub fn position(line: u32, character: u32) -> Position {
-    Position { line, character }
-}
-
 /// Adds words to a text.
 pub fn add(text: &mut String, more: &str) {
     let _ = text.push_str(more);
 }
 
-pub fn add_number(alloc: Global, text: &mut String, number: u64) {
+/// Adds a number, and a mark behind it.
+pub fn add_number(alloc: Global, text: &mut String, number: u64, mark: &str) {
     if let Ok(digits) = format!(in alloc; "{number}") {
         add(text, digits.as_str());
+        add(text, mark);
     }
 }
 
-/// Adds numbers, with a space between two.
-pub fn add_numbers(alloc: Global, text: &mut String, numbers: &[u32]) {
-    for (at, number) in numbers.iter().enumerate() {
-        if at > 0 {
-            add(text, " ");
-        }
-        add_number(alloc, text, u64::from(*number));
-    }
+/// A list of one item.
+pub fn one<T: Drop>(alloc: Global, item: T) -> Items<T> {
+    let mut list = Items::new(alloc);
+    let _ = list.push(item);
+    list
 }
 
 fn fault_name(fault: ProtoFault) -> &'static str {
