@@ -1,7 +1,6 @@
 // Maps that share their nodes stay as they were.
 ghost use Rattle.std.specs.Prelude.{◌≡◌, ◌<◌};
 
-use expectations::{expect, expect_same, expect_text};
 use shared_map::{SharedMap, Steps};
 use std::alloc::{AllocError, Global};
 use std::marker::Brand;
@@ -50,11 +49,6 @@ fn value_at(map: &Numbers, key: u32) -> Option<u32> {
     map.get(&key).copied()
 }
 
-/// That a map says this.
-fn says(alloc: Global, map: &Numbers, text: &str) -> Result<(), Fail> {
-    expect_text("a map", told(alloc, map)?.as_str(), text)
-}
-
 #[test]
 fn old_map_stays(rt: HostRuntime) -> Result<(), Fail> {
     let alloc = rt.alloc();
@@ -76,16 +70,17 @@ fn old_map_stays(rt: HostRuntime) -> Result<(), Fail> {
     ];
     let old = changed::<Brand>(&SharedMap::new(alloc), &first, Blank::new(1))?;
     let new = changed::<Brand>(&old, &second, Blank::new(1))?;
-    says(alloc, &old, "7: 1=10 2=20 3=30 4=40 5=50 6=60 7=70")?;
-    says(alloc, &new, "6: 1=11 2=20 3=30 6=60 7=70 8=80")?;
-    expect_same("the old map's", &value_at(&old, 4), &Some(40))?;
-    expect_same("the new map's", &value_at(&new, 4), &None)
-}
-
-/// That a map without a key says this.
-fn leaves(alloc: Global, map: &Numbers, key: u32, text: &str) -> Result<(), Fail> {
-    let left = changed::<Brand>(map, &[(key, None)], Blank::new(1))?;
-    says(alloc, &left, text)
+    assert_eq!(rt;
+        told(alloc, &old)?.as_str(),
+        "7: 1=10 2=20 3=30 4=40 5=50 6=60 7=70"
+    );
+    assert_eq!(rt;
+        told(alloc, &new)?.as_str(),
+        "6: 1=11 2=20 3=30 6=60 7=70 8=80"
+    );
+    assert_eq!(rt; value_at(&old, 4), Some(40));
+    assert_eq!(rt; value_at(&new, 4), None);
+    Ok(())
 }
 
 #[test]
@@ -93,9 +88,12 @@ fn each_key_removed(rt: HostRuntime) -> Result<(), Fail> {
     let alloc = rt.alloc();
     let both = [(2, Some(20)), (1, Some(10))];
     let whole = changed::<Brand>(&SharedMap::new(alloc), &both, Blank::new(1))?;
-    leaves(alloc, &whole, 1, "1: 2=20")?;
-    leaves(alloc, &whole, 2, "1: 1=10")?;
-    leaves(alloc, &whole, 3, "2: 1=10 2=20")?;
+    let cases = [(1, "1: 2=20"), (2, "1: 1=10"), (3, "2: 1=10 2=20")];
+    for (key, rest) in cases {
+        let left = changed::<Brand>(&whole, &[(key, None)], Blank::new(1))?;
+        assert_eq!(rt; told(alloc, &left)?.as_str(), rest, "without {key}");
+    }
     let none = changed::<Brand>(&whole, &[(1, None), (2, None)], Blank::new(1))?;
-    expect("nothing is left", none.is_empty())
+    assert!(rt; none.is_empty());
+    Ok(())
 }
