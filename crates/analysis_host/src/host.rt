@@ -63,10 +63,18 @@ impl From<AllocError> for WorldFault {
 }
 
 /// A world with its revision.
-#[derive(Drop)]
 pub struct AnalysisHost {
     world: World,
     revision: u64,
+}
+
+impl Drop for AnalysisHost {
+    fn drop(self) {
+        let AnalysisHost {
+            world: _,
+            revision: _,
+        } = self;
+    }
 }
 
 impl Model for AnalysisHost {

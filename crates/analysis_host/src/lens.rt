@@ -11,13 +11,24 @@ pub enum LensKind {
 }
 
 /// What a lens that is to be resolved says of itself.
-#[derive(Debug, Drop)]
+#[derive(Debug)]
 pub struct LensResolve {
     /// The version of the document that the lens was made for.
     pub version: i32,
     pub kind: LensKind,
     pub url: Text,
     pub position: Position,
+}
+
+impl Drop for LensResolve {
+    fn drop(self) {
+        let LensResolve {
+            version: _,
+            kind: _,
+            url: _,
+            position: _,
+        } = self;
+    }
 }
 
 /// A lens in its file.

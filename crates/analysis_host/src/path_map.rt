@@ -14,9 +14,14 @@ use std::sync::ledger::Ledger;
 
 /// Values by path, which contracts see as a finite map. A clone is the same tree, and what is set later in one of them
 /// makes anew the nodes on the way to the path alone.
-#[derive(Drop)]
 pub struct PathMap<V> {
     rows: SharedMap<VfsPath, V>,
+}
+
+impl<V: Drop> Drop for PathMap<V> {
+    fn drop(self) {
+        let PathMap { rows: _ } = self;
+    }
 }
 
 /// What a world keeps of each file by path: its text and its line endings.

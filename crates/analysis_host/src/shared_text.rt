@@ -9,9 +9,14 @@ use std::sync::Arc;
 use text_core::TextIndex;
 
 /// A text whose clones share its bytes and its index, which is built once.
-#[derive(Drop)]
 pub struct SharedText {
     index: Arc<TextIndex, Global>,
+}
+
+impl Drop for SharedText {
+    fn drop(self) {
+        let SharedText { index: _ } = self;
+    }
 }
 
 impl Model for SharedText {

@@ -36,9 +36,14 @@ pub struct SnapshotParts {
 }
 
 /// A frozen snapshot. Its clones share all that it holds.
-#[derive(Drop)]
 pub struct GlobalStateSnapshot {
     parts: SnapshotParts,
+}
+
+impl Drop for GlobalStateSnapshot {
+    fn drop(self) {
+        let GlobalStateSnapshot { parts: _ } = self;
+    }
 }
 
 impl Model for GlobalStateSnapshot {

@@ -7,10 +7,19 @@ use plain::Copied;
 use text_core::LineEndings;
 
 /// A file's text, and how its lines ended before it was normalised. Its clones share the text and the index of its lines.
-#[derive(Clone, Drop)]
+#[derive(Clone)]
 pub struct TextEntry {
     pub text: SharedText,
     pub endings: LineEndings,
+}
+
+impl Drop for TextEntry {
+    fn drop(self) {
+        let TextEntry {
+            text: _,
+            endings: _,
+        } = self;
+    }
 }
 
 impl Copied for TextEntry {

@@ -12,9 +12,14 @@ use std::marker::{Brand, Model};
 use std::sync::ledger::{Blank, Ledger};
 
 /// The version of each path that is open. Clones share what they have in common, and no change of one is seen in another.
-#[derive(Drop)]
 pub struct Versions {
     versions: PathMap<i32>,
+}
+
+impl Drop for Versions {
+    fn drop(self) {
+        let Versions { versions: _ } = self;
+    }
 }
 
 impl Model for Versions {

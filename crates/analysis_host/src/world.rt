@@ -22,12 +22,22 @@ use std::sync::ledger::Ledger;
 use text_core::TextIndex;
 
 /// A world. Its clones share all that it holds, and stay as they are when it changes.
-#[derive(Drop)]
 pub struct World {
     alloc: Global,
     texts: TextTree,
     roots: Arc<SourceRoots, Global>,
     crates: Arc<CrateData, Global>,
+}
+
+impl Drop for World {
+    fn drop(self) {
+        let World {
+            alloc: _,
+            texts: _,
+            roots: _,
+            crates: _,
+        } = self;
+    }
 }
 
 impl Model for World {

@@ -1,1 +1,4 @@
 mod EffectLemmas
+pub mod RootLaws
+pub mod TextLemmas
+pub mod UpdateLaws

@@ -24,10 +24,16 @@ pub enum CheckScope {
 }
 
 /// A check that restarts.
-#[derive(Debug, Drop)]
+#[derive(Debug)]
 pub struct Restart {
     pub id: u64,
     pub scope: CheckScope,
+}
+
+impl Drop for Restart {
+    fn drop(self) {
+        let Restart { id: _, scope: _ } = self;
+    }
 }
 
 impl Clone for CheckScope {

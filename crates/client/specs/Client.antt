@@ -2,7 +2,7 @@
 use Rattle.std.specs.Prelude.{ℕ, List, []}
 use Rattle.ra_settings.specs.declared.error.ConfigError.{ConfigError}
 use Rattle.ra_config.specs.Config.{ConfigData}
-use Rattle.outgoing.specs.Outgoing.{Outgoing, none_waiting}
+use Rattle.lsp_frame.specs.Outgoing.{Outgoing, none_waiting}
 use Rattle.client.specs.declared.handler.ReqHandler.{ReqHandler}
 
 pub record Client : Type 0 where

@@ -5,7 +5,7 @@ use Rattle.ra_settings.specs.contracts.error.ConfigErrors as errors_row
 use Rattle.ra_settings.specs.declared.error.ConfigError.{ConfigError}
 use Rattle.ra_config.specs.Codes.{config_code}
 use Rattle.ra_config.specs.Config.{ConfigData}
-use Rattle.outgoing.specs.Outgoing.{Outgoing, outgoing_code}
+use Rattle.lsp_frame.specs.Outgoing.{Outgoing, outgoing_code}
 use Rattle.client.specs.Client.{Client}
 use Rattle.client.specs.declared.handler.ReqHandler.{ReqHandler}
 

@@ -10,7 +10,7 @@ use Rattle.layered_settings.specs.Change.{after, errors_after}
 use Rattle.layered_settings.specs.declared.change.ConfigChange.{ConfigChange}
 use Rattle.ra_config.specs.Config.{ConfigData}
 use Rattle.ra_config.specs.Projects.{without}
-use Rattle.outgoing.specs.Outgoing.{Outgoing, registered, waiting_at, completed}
+use Rattle.lsp_frame.specs.Outgoing.{Outgoing, registered, waiting_at, completed}
 use Rattle.client.specs.Answers.{settings_in}
 use Rattle.client.specs.Client.{Client}
 use Rattle.client.specs.declared.handler.ReqHandler.{ReqHandler}

@@ -9,13 +9,13 @@ use Rattle.session_port.specs.declared.command.Command.{Command}
 use Rattle.session_port.specs.declared.command.Command.TheVariants.{Log}
 use Rattle.session_port.specs.declared.command.LogCode.{LogCode}
 use Rattle.session_port.specs.declared.command.LogCode.TheVariants.{UnknownResponse, SettingsError, BadPath}
-use Rattle.turn_parts.specs.Working.{Working, written, logged}
-use Rattle.turn_parts.specs.declared.fault.Counter.{Counter}
-use Rattle.turn_parts.specs.declared.fault.Counter.TheVariants.{Outgoing as OutgoingNumbers}
+use Rattle.session_port.specs.Working.{Working, written, logged}
+use Rattle.session_port.specs.declared.fault.Counter.{Counter}
+use Rattle.session_port.specs.declared.fault.Counter.TheVariants.{Outgoing as OutgoingNumbers}
 use Rattle.notify.specs.Writing.{outgo_body}
 use Rattle.notify.specs.declared.outgo.Outgo.{Outgo}
 use Rattle.notify.specs.declared.outgo.Outgo.TheVariants.{OpenLogs as OpenLogsMessage}
-use Rattle.outgoing.specs.Outgoing.{number_limit}
+use Rattle.lsp_frame.specs.Outgoing.{number_limit}
 use Rattle.client.specs.Answers.{fault_in, chooses}
 use Rattle.client.specs.Client.{Client}
 use Rattle.client.specs.Folds.{after_asking, after_answer, after_folders, follows}

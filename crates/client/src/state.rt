@@ -3,15 +3,15 @@ ghost use Rattle.std.specs.Prelude.{◌≡◌, ◌≢◌, ◌≤◌, ◌⊎◌, 
 ghost use Rattle.std.specs.Arc.{arc_value};
 ghost use Rattle.notify.specs.Writing.{HoldsPlain};
 ghost use Rattle.layered_settings.specs.Change.{passed_over};
-ghost use Rattle.outgoing.specs.Outgoing.{number_limit};
-ghost use Rattle.turn_parts.specs.Meets.{Meets};
-ghost use Rattle.turn_parts.specs.declared.fault.TurnError.TheVariants.{Exhausted, NoMemory as OutOfMemory};
-ghost use Rattle.turn_parts.specs.declared.fault.Counter.TheVariants.{Outgoing as OutgoingNumbers};
+ghost use Rattle.lsp_frame.specs.Outgoing.{number_limit};
+ghost use Rattle.session_port.specs.Meets.{Meets};
+ghost use Rattle.session_port.specs.declared.fault.TurnError.TheVariants.{Exhausted, NoMemory as OutOfMemory};
+ghost use Rattle.session_port.specs.declared.fault.Counter.TheVariants.{Outgoing as OutgoingNumbers};
 ghost use Rattle.client.specs.Client.{new_client, new_client_at};
 ghost use Rattle.client.specs.Folds.{after_asking, after_change};
 ghost use Rattle.client.specs.Steps.{asked_for, notification_of};
 ghost use Rattle.client.specs.Texts.{errors_told};
-ghost use Rattle.turn_parts.specs.Working.{written};
+ghost use Rattle.session_port.specs.Working.{written};
 
 mod answering;
 mod folders;
@@ -19,24 +19,33 @@ mod folders;
 use crate::errors::errors_text;
 use crate::handler::ReqHandler;
 use docs_vfs::VfsPath;
-use lsp_frame::{Message, Notification, Request, RequestId};
+use lsp_frame::{Message, Notification, Outgoing, OutgoingFault, Request, RequestId};
 use notify::{Outgo, outgo_body};
-use outgoing::{Outgoing, OutgoingFault};
 use plain::{Items, NoMemory, Text};
 use ra_config::{Config, ConfigChange, ConfigErrors};
+use session_port::{Counter, TurnError, TurnOut};
 use std::alloc::{AllocError, Global};
 use std::marker::Model;
 use std::sync::Arc;
-use turn_parts::{Counter, TurnError, TurnOut};
 
 /// What is agreed with the client, and the session's own requests that wait for its answer. Snapshots share the settings.
-#[derive(Drop)]
 pub struct Client {
     alloc: Global,
     settings: Arc<Config, Global>,
     asked: Outgoing<ReqHandler>,
     /// The errors of the last change of the settings.
     errors: ConfigErrors,
+}
+
+impl Drop for Client {
+    fn drop(self) {
+        let Client {
+            alloc: _,
+            settings: _,
+            asked: _,
+            errors: _,
+        } = self;
+    }
 }
 
 impl Model for Client {
@@ -114,7 +123,7 @@ impl Client {
     }
 
     /// Sends a request of the session's own. After an `Err` the client is spent.
-    #[tactic(auto, unfolding(crate::specs::Steps::asked_for, turn_parts::specs::Working::written))]
+    #[tactic(auto, unfolding(crate::specs::Steps::asked_for, session_port::specs::Working::written))]
     pub fn ask(
         &mut self,
         message: Outgo,
@@ -135,7 +144,7 @@ impl Client {
     }
 
     /// Sends a notification.
-    #[tactic(auto, unfolding(turn_parts::specs::Working::written))]
+    #[tactic(auto, unfolding(session_port::specs::Working::written))]
     pub fn tell(&self, message: Outgo, out: &mut TurnOut) -> Result<(), NoMemory>
         requires { HoldsPlain message }
         ensures { OnOk result (written (notification_of message) (record { state = self.now; out = out.old }) ≡ record { state = self.now; out = out.new }) }

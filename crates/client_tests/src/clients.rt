@@ -8,8 +8,8 @@ use lsp_frame::Response;
 use notify::Outgo;
 use plain::{Items, Text};
 use ra_config::Config;
+use session_port::TurnOut;
 use std::alloc::Global;
-use turn_parts::TurnOut;
 
 /// The settings with the one workspace `/w`.
 fn settings(alloc: Global) -> Option<Config> {

@@ -2,9 +2,8 @@
 use client::Client;
 use docs_vfs::VfsPath;
 use plain::Text;
-use session_port::{Command, LogCode};
+use session_port::{Command, Counter, LogCode, TurnError, TurnOut};
 use std::alloc::Global;
-use turn_parts::{Counter, TurnError, TurnOut};
 
 /// Why a turn was broken off, or an empty text.
 pub fn fault_name(done: Result<(), TurnError>) -> &'static str {

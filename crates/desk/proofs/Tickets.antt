@@ -7,11 +7,11 @@ use Rattle.lsp_frame.specs.declared.message.Request.{Request}
 use Rattle.lsp_frame.specs.Pending.{Pending, IsAbove, Registers, completed, id_of, is_pending, registered}
 use Rattle.lsp_frame.proofs.InStep.{ticket_of-is, waits-completed}
 use Rattle.lsp_frame.specs.declared.message.RequestId.{RequestId}
-use Rattle.turn_parts.specs.Meets.{Meets, Gives}
-use Rattle.turn_parts.specs.Working.{Working, replied}
-use Rattle.turn_parts.specs.declared.fault.Counter.{Counter}
-use Rattle.turn_parts.specs.declared.fault.TurnError.{TurnError}
-use Rattle.turn_parts.specs.Written.{Written}
+use Rattle.session_port.specs.Meets.{Meets, Gives}
+use Rattle.session_port.specs.Working.{Working, replied}
+use Rattle.session_port.specs.declared.fault.Counter.{Counter}
+use Rattle.session_port.specs.declared.fault.TurnError.{TurnError}
+use Rattle.session_port.specs.Written.{Written}
 use Rattle.desk.specs.Desk.{Desk}
 use Rattle.desk.specs.Meaning.{Meaning}
 use Rattle.desk.specs.Replies.{already_pending}

@@ -13,9 +13,9 @@ use Rattle.method_table.specs.declared.class.PoolClass.{PoolClass}
 use Rattle.method_table.specs.declared.planned.Plan.{Plan}
 use Rattle.method_table.specs.declared.planned.Plan.TheVariants as plans
 use Rattle.method_table.specs.declared.row_id.RowId.{RowId}
-use Rattle.state_params.specs.StateRequests.{request_of}
-use Rattle.state_params.specs.Unit.{is_unit}
-use Rattle.state_params.specs.declared.request.StateRequest.{StateRequest}
+use Rattle.method_table.specs.StateRequests.{request_of}
+use Rattle.method_table.specs.Unit.{is_unit}
+use Rattle.method_table.specs.declared.request.StateRequest.{StateRequest}
 use Rattle.dispatch.specs.Responses.{response_with}
 use Rattle.session_port.specs.Jobs.{final_of, fitting_job}
 use Rattle.session_port.specs.declared.event.TaskMsg.{TaskMsg}

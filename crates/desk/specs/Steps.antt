@@ -14,9 +14,9 @@ use Rattle.method_table.specs.declared.class.PoolClass.{PoolClass}
 use Rattle.method_table.specs.declared.planned.Plan.{Plan}
 use Rattle.method_table.specs.declared.planned.Plan.TheVariants as plans
 use Rattle.method_table.specs.declared.row_id.RowId.{RowId}
-use Rattle.state_params.specs.StateRequests.{request_of}
-use Rattle.state_params.specs.Unit.{is_unit}
-use Rattle.state_params.specs.declared.request.StateRequest.{StateRequest}
+use Rattle.method_table.specs.StateRequests.{request_of}
+use Rattle.method_table.specs.Unit.{is_unit}
+use Rattle.method_table.specs.declared.request.StateRequest.{StateRequest}
 use Rattle.dispatch.specs.Responses.{response_with}
 use Rattle.session_port.specs.Jobs.{final_of, fitting_job}
 use Rattle.session_port.specs.Record.{after_order}
@@ -27,9 +27,9 @@ use Rattle.session_port.specs.declared.job.Job.{Job}
 use Rattle.session_port.specs.declared.job.JobKind.{JobKind}
 use Rattle.session_port.specs.declared.job.JobKind.TheVariants.{Request as RequestJob, ProcMacroSources, FetchWorkspaces, FetchBuildData, LoadProcMacros}
 use Rattle.session_port.specs.declared.job.JobResult.{JobResult}
-use Rattle.turn_parts.specs.Working.{Working, and_then, next_number, replied, ordered, logged}
-use Rattle.turn_parts.specs.declared.fault.Counter.{Counter}
-use Rattle.turn_parts.specs.declared.fault.Counter.TheVariants.{Turns, Jobs}
+use Rattle.session_port.specs.Working.{Working, and_then, next_number, replied, ordered, logged}
+use Rattle.session_port.specs.declared.fault.Counter.{Counter}
+use Rattle.session_port.specs.declared.fault.Counter.TheVariants.{Turns, Jobs}
 use Rattle.desk.specs.Desk.{Desk, waiting_for}
 use Rattle.desk.specs.Meaning.{Meaning, can_read}
 use Rattle.desk.specs.Replies.{already_pending, shut_already, unknown_request, invalid_params, canceled_by_client}

@@ -2,9 +2,9 @@
 ghost use Rattle.std.specs.Prelude.{◌≡◌, ◌+◌, IfOk, OnOk, MatchResult, drop};
 ghost use Rattle.std.specs.FinMap as map;
 ghost use Rattle.session_port.specs.Record.{after_order};
-ghost use Rattle.turn_parts.specs.Meets.{Meets, Gives};
-ghost use Rattle.turn_parts.specs.Working.{next_number, replied, ordered, logged};
-ghost use Rattle.turn_parts.specs.declared.fault.TurnError.TheVariants.{Exhausted};
+ghost use Rattle.session_port.specs.Meets.{Meets, Gives};
+ghost use Rattle.session_port.specs.Working.{next_number, replied, ordered, logged};
+ghost use Rattle.session_port.specs.declared.fault.TurnError.TheVariants.{Exhausted};
 ghost use Rattle.desk.specs.Desk.{new_desk, new_desk_at};
 ghost use Rattle.desk.specs.Steps.{counted, kept, responded};
 ghost use Rattle.lsp_frame.specs.Pending.{IsAbove};
@@ -26,14 +26,12 @@ pub use fetching::FetchEnd;
 pub use loading::LoadEnd;
 use lsp_frame::{Incoming, Response};
 use plain::{ByNumber, Text};
-use session_port::{Command, Job, LogCode};
+use session_port::{Command, Counter, Job, LogCode, TurnError, TurnOut};
 use std::alloc::{AllocError, Global};
 use std::marker::Model;
-use turn_parts::{Counter, TurnError, TurnOut};
 
 /// The requests that wait for an answer, and the jobs that were handed over. A request's ticket is the number of the
 /// turn that read it.
-#[derive(Drop)]
 pub struct Desk {
     alloc: Global,
     turns: u64,
@@ -41,6 +39,19 @@ pub struct Desk {
     jobs: ByNumber<Job>,
     handed: u64,
     shutdown: bool,
+}
+
+impl Drop for Desk {
+    fn drop(self) {
+        let Desk {
+            alloc: _,
+            turns: _,
+            pending: _,
+            jobs: _,
+            handed: _,
+            shutdown: _,
+        } = self;
+    }
 }
 
 impl Model for Desk {
@@ -156,7 +167,7 @@ impl Desk {
 
 // What is written and ordered.
 impl Desk {
-    #[tactic(auto, unfolding(turn_parts::specs::Working::ordered))]
+    #[tactic(auto, unfolding(session_port::specs::Working::ordered))]
     fn order(&mut self, command: Command, out: &mut TurnOut) -> Result<(), TurnError>
         ensures gives { Gives result (ordered command (record { state = self.old; out = out.old })) self.new out.new }
         ensures same { self.new ≡ self.old }
@@ -165,7 +176,7 @@ impl Desk {
         Ok(())
     }
 
-    #[tactic(auto, unfolding(turn_parts::specs::Working::logged))]
+    #[tactic(auto, unfolding(session_port::specs::Working::logged))]
     fn log(&mut self, code: LogCode, text: Text, out: &mut TurnOut) -> Result<(), TurnError>
         ensures gives { Gives result (logged code text (record { state = self.old; out = out.old })) self.new out.new }
         ensures same { self.new ≡ self.old }
@@ -173,7 +184,7 @@ impl Desk {
         self.order(Command::Log(code, text), out)
     }
 
-    #[tactic(auto, unfolding(turn_parts::specs::Working::replied))]
+    #[tactic(auto, unfolding(session_port::specs::Working::replied))]
     fn reply(&mut self, response: Response, out: &mut TurnOut) -> Result<(), TurnError>
         requires { AreWritable (ResponseMessage response) }
         ensures { Gives result (replied response (record { state = self.old; out = out.old })) self.new out.new }

@@ -11,7 +11,7 @@ use Rattle.session_port.specs.Jobs.{Jobs}
 use Rattle.session_port.specs.Record.{spawned, with_jobs}
 use Rattle.session_port.specs.declared.command.Command.{Command}
 use Rattle.session_port.specs.declared.job.Job.{Job}
-use Rattle.turn_parts.specs.Written.{response_of, responses_in}
+use Rattle.session_port.specs.Written.{response_of, responses_in}
 use Rattle.desk.specs.Folds.{asked_among, closed_by, closed_with, is_asked}
 
 pub closed_by-append : (xs ys : List Response) (pending : Pending) → closed_by (xs ++ ys) pending ≡ closed_by ys (closed_by xs pending)

@@ -11,9 +11,9 @@ use Rattle.method_table.specs.Rows.{row_of, class_of, retries, default_of}
 use Rattle.method_table.specs.declared.planned.Plan.{Plan}
 use Rattle.method_table.specs.declared.planned.Plan.TheVariants as plans
 use Rattle.method_table.specs.declared.row_id.RowId.{RowId}
-use Rattle.state_params.specs.StateRequests.{request_of}
-use Rattle.state_params.specs.Unit.{is_unit}
-use Rattle.state_params.specs.declared.request.StateRequest.{StateRequest}
+use Rattle.method_table.specs.StateRequests.{request_of}
+use Rattle.method_table.specs.Unit.{is_unit}
+use Rattle.method_table.specs.declared.request.StateRequest.{StateRequest}
 use Rattle.dispatch.specs.Responses.{response_with}
 use Rattle.session_port.specs.Jobs.{ticket_of}
 use Rattle.session_port.specs.declared.job.Job.{Job}

@@ -1,8 +1,8 @@
 -- Parts of a machine that may be refused, one after another.
 use Rattle.std.proofs.Common.{ℕ, ◌+◌, ◌-◌, ◌^◌, Bool, true, false}
 use Rattle.std.specs.Prelude.{Result, Ok, Err, IfOk, IfErr, if◌then◌else◌, ltb}
-use Rattle.turn_parts.specs.Working.{Working, and_then, next_number, put_back, within}
-use Rattle.turn_parts.specs.declared.fault.Counter.{Counter}
+use Rattle.session_port.specs.Working.{Working, and_then, next_number, put_back, within}
+use Rattle.session_port.specs.declared.fault.Counter.{Counter}
 
 -- a part whose answers all have P goes on to a part whose answers all have Q
 pub IfOk-and_then : {X Y E : Type 0} (r : Result X E) (f : X → Result Y E) (P : X → Type 0) (Q : Y → Type 0) → IfOk r P → ((x : X) → P x → IfOk (f x) Q) → IfOk (and_then r f) Q

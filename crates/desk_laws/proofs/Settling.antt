@@ -21,9 +21,9 @@ use Rattle.method_table.specs.declared.class.PoolClass.{PoolClass}
 use Rattle.method_table.specs.declared.planned.Plan.{Plan}
 use Rattle.method_table.specs.declared.planned.Plan.TheVariants as plans
 use Rattle.method_table.specs.declared.row_id.RowId.{RowId}
-use Rattle.state_params.specs.StateRequests.{request_of}
-use Rattle.state_params.specs.Unit.{is_unit}
-use Rattle.state_params.specs.declared.request.StateRequest.{StateRequest}
+use Rattle.method_table.specs.StateRequests.{request_of}
+use Rattle.method_table.specs.Unit.{is_unit}
+use Rattle.method_table.specs.declared.request.StateRequest.{StateRequest}
 use Rattle.dispatch.specs.Responses.{response_with}
 use Rattle.session_port.specs.Jobs.{Jobs, ticket_of, final_of, fitting_job, after_message}
 use Rattle.session_port.specs.Record.{spawned}
@@ -36,9 +36,9 @@ use Rattle.session_port.specs.declared.job.JobKind.TheVariants.{Request as Reque
 use Rattle.session_port.specs.declared.job.JobResult.{JobResult}
 use Rattle.session_port.specs.declared.job.JobResult.TheVariants.{Value, Fault, Cancelled, NoMemory}
 use Rattle.session_port.specs.declared.job.JobValue.TheVariants.{Json, Roots, Primed, Workspaces, BuildData, ProcMacros}
-use Rattle.turn_parts.specs.Working.{Working, logged, ordered, replied}
-use Rattle.turn_parts.specs.Written.{responses_in}
-use Rattle.turn_parts.specs.declared.fault.Counter.{Counter}
+use Rattle.session_port.specs.Working.{Working, logged, ordered, replied}
+use Rattle.session_port.specs.Written.{responses_in}
+use Rattle.session_port.specs.declared.fault.Counter.{Counter}
 use Rattle.desk.specs.Desk.{Desk, waiting_for}
 use Rattle.desk.specs.Folds.{closed_by, closed_with, shutdown_after}
 use Rattle.desk.specs.Meaning.{Meaning, can_read}

@@ -6,7 +6,7 @@ ghost use Rattle.lsp_frame.specs.declared.message.RequestId.{RequestId};
 ghost use Rattle.session_port.specs.Jobs.{after_message, fitting_job, ticket_of};
 ghost use Rattle.session_port.specs.declared.event.TaskMsg.{TaskMsg};
 ghost use Rattle.session_port.specs.declared.job.Job.{Job};
-ghost use Rattle.turn_parts.specs.Working.{Working};
+ghost use Rattle.session_port.specs.Working.{Working};
 ghost use Rattle.desk.specs.Desk.{Desk, new_desk};
 ghost use Rattle.desk.specs.Meaning.{Meaning};
 ghost use Rattle.desk.specs.Reactions.{cancel_row, message_row, request_row};

@@ -9,10 +9,19 @@ use std::fmt;
 const INVALID_PARAMS: i32 = -32602;
 
 /// Why a request fails, as the client is told.
-#[derive(Debug, Drop)]
+#[derive(Debug)]
 pub struct LspError {
     pub code: i32,
     pub message: Text,
+}
+
+impl Drop for LspError {
+    fn drop(self) {
+        let LspError {
+            code: _,
+            message: _,
+        } = self;
+    }
 }
 
 impl LspError {

@@ -1,8 +1,10 @@
 // The params of the rows that change the session's own state.
 use crate::words::{cut, json};
-use method_table::{HOVER, REBUILD_PROC_MACROS, RELOAD_WORKSPACE, RUN_TEST, RowId, SHUTDOWN};
+use method_table::{
+    HOVER, REBUILD_PROC_MACROS, RELOAD_WORKSPACE, RUN_TEST, RowId, RunTest, SHUTDOWN, StateRequest,
+    read_state_request,
+};
 use plain::{Items, Json, Text};
-use state_params::{RunTest, StateRequest, read_state_request};
 use std::alloc::Global;
 
 fn push(words: &mut String, more: &str) -> Option<()> {

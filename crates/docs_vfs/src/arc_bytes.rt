@@ -6,9 +6,14 @@ use std::marker::Model;
 use std::sync::Arc;
 
 /// Bytes whose clones share them.
-#[derive(Drop)]
 pub struct ArcBytes {
     bytes: Arc<Bytes, Global>,
+}
+
+impl Drop for ArcBytes {
+    fn drop(self) {
+        let ArcBytes { bytes: _ } = self;
+    }
 }
 
 impl Model for ArcBytes {

@@ -30,12 +30,22 @@ pub enum ChangeKind {
 }
 
 /// A file whose contents aren't what they were at the last take. The contents are shared with the table.
-#[derive(Drop)]
 pub struct ChangedFile {
     pub file: FileId,
     pub path: VfsPath,
     pub kind: ChangeKind,
     pub contents: Option<SharedBytes>,
+}
+
+impl Drop for ChangedFile {
+    fn drop(self) {
+        let ChangedFile {
+            file: _,
+            path: _,
+            kind: _,
+            contents: _,
+        } = self;
+    }
 }
 
 /// What a table keeps of a path.
@@ -47,17 +57,30 @@ pub enum Kept {
 }
 
 /// A path's number, and what is kept of it.
-#[derive(Drop)]
 pub struct FileRow {
     pub file: FileId,
     pub kept: Kept,
 }
 
+impl Drop for FileRow {
+    fn drop(self) {
+        let FileRow { file: _, kept: _ } = self;
+    }
+}
+
 /// A path's number, and its contents at an earlier time.
-#[derive(Drop)]
 pub struct FileWas {
     pub file: FileId,
     pub contents: Option<SharedBytes>,
+}
+
+impl Drop for FileWas {
+    fn drop(self) {
+        let FileWas {
+            file: _,
+            contents: _,
+        } = self;
+    }
 }
 
 /// What a call made of a path: its number before and after, where it had contents or a mark, with whether it was marked,

@@ -21,13 +21,24 @@ use std::mem;
 const MOST_FILES: u128 = 4_294_967_295;
 
 /// The files by path: their numbers, and their contents or marks, now and at the last take.
-#[derive(Drop)]
 pub struct FileTable {
     alloc: Global,
     first: u32,
     paths: Items<VfsPath>,
     rows: ByPath<FileRow>,
     before: ByPath<FileWas>,
+}
+
+impl Drop for FileTable {
+    fn drop(self) {
+        let FileTable {
+            alloc: _,
+            first: _,
+            paths: _,
+            rows: _,
+            before: _,
+        } = self;
+    }
 }
 
 impl Model for FileTable {

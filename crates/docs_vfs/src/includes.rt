@@ -10,9 +10,14 @@ use std::alloc::{AllocError, Global};
 use std::collections::BTreeMap;
 
 /// The places of the roots by the texts of their includes.
-#[derive(Drop)]
 pub(crate) struct Includes {
     rows: BTreeMap<String, Vec<u32>>,
+}
+
+impl Drop for Includes {
+    fn drop(self) {
+        let Includes { rows: _ } = self;
+    }
 }
 
 impl Includes {

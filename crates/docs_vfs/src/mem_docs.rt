@@ -15,10 +15,18 @@ use std::collections::btree_map::Keys;
 use std::marker::Model;
 
 /// The version and the text of an open document.
-#[derive(Drop)]
 pub struct DocumentData {
     pub version: i32,
     pub text: Text,
+}
+
+impl Drop for DocumentData {
+    fn drop(self) {
+        let DocumentData {
+            version: _,
+            text: _,
+        } = self;
+    }
 }
 
 impl Clone for DocumentData {
@@ -40,10 +48,18 @@ impl Copied for DocumentData {
 pub type Paths<'a> = Keys<'a, VfsPath, DocumentData>;
 
 /// The open documents.
-#[derive(Drop)]
 pub struct MemDocs {
     docs: ByPath<DocumentData>,
     changed: bool,
+}
+
+impl Drop for MemDocs {
+    fn drop(self) {
+        let MemDocs {
+            docs: _,
+            changed: _,
+        } = self;
+    }
 }
 
 impl Model for MemDocs {

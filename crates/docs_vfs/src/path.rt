@@ -22,9 +22,14 @@ use std::marker::Model;
 use std::sync::Arc;
 
 /// The path of a file: `/`, or segments that each follow a `/`. Clones share its text.
-#[derive(Drop)]
 pub struct VfsPath {
     text: Arc<String, Global>,
+}
+
+impl Drop for VfsPath {
+    fn drop(self) {
+        let VfsPath { text: _ } = self;
+    }
 }
 
 impl Model for VfsPath {

@@ -16,9 +16,14 @@ pub enum Held {
 }
 
 /// Bytes whose clones share them. They may be the bytes of a text that others share.
-#[derive(Drop)]
 pub struct SharedBytes {
     held: Held,
+}
+
+impl Drop for SharedBytes {
+    fn drop(self) {
+        let SharedBytes { held: _ } = self;
+    }
 }
 
 impl Model for SharedBytes {

@@ -14,11 +14,21 @@ use std::marker::Model;
 use std::sync::Arc;
 
 /// A part of the files: those below an include that are below no exclude.
-#[derive(Debug, Drop)]
+#[derive(Debug)]
 pub struct Root {
     pub include: Items<VfsPath>,
     pub exclude: Items<VfsPath>,
     pub is_local: bool,
+}
+
+impl Drop for Root {
+    fn drop(self) {
+        let Root {
+            include: _,
+            exclude: _,
+            is_local: _,
+        } = self;
+    }
 }
 
 impl Clone for Root {
@@ -41,12 +51,22 @@ impl Copied for Root {
 const MOST_ROOTS: usize = 4_294_967_295;
 
 /// The roots of a workspace.
-#[derive(Drop)]
 pub struct SourceRoots {
     alloc: Global,
     roots: Items<Root>,
     includes: Arc<Includes, Global>,
     local_includes: Arc<Includes, Global>,
+}
+
+impl Drop for SourceRoots {
+    fn drop(self) {
+        let SourceRoots {
+            alloc: _,
+            roots: _,
+            includes: _,
+            local_includes: _,
+        } = self;
+    }
 }
 
 impl Model for SourceRoots {

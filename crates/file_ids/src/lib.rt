@@ -15,11 +15,16 @@ use std::sync::ledger::{Blank, Ledger};
 
 /// The number of each path, and whether its file is excluded. No two paths have one number. A clone
 /// is the same table, and what is set later in one of them makes anew the nodes on the way to what differs alone.
-#[derive(Drop)]
 pub struct FileIds {
     files: SharedMap<VfsPath, (FileId, FileExcluded)>,
     /// Each path by its number.
     paths: SharedMap<u32, VfsPath>,
+}
+
+impl Drop for FileIds {
+    fn drop(self) {
+        let FileIds { files: _, paths: _ } = self;
+    }
 }
 
 impl Model for FileIds {

@@ -8,12 +8,22 @@ use std::marker::Model;
 use std::mem;
 
 /// The orders that a host has taken and not answered yet.
-#[derive(Drop)]
 pub struct HostOrders<D> {
     alloc: Global,
     loaders: Items<u32>,
     deferred: Items<D>,
     timer: Option<u64>,
+}
+
+impl<D: Drop> Drop for HostOrders<D> {
+    fn drop(self) {
+        let HostOrders {
+            alloc: _,
+            loaders: _,
+            deferred: _,
+            timer: _,
+        } = self;
+    }
 }
 
 impl<D> Model for HostOrders<D> {

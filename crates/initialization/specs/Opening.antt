@@ -12,8 +12,8 @@ use Rattle.session_laws.specs.Run.{Told, fed_bytes, giving}
 use Rattle.session_laws.specs.SessionError.{SessionError}
 use Rattle.session_laws.specs.SessionError.TheVariants.{ClientExited, BadFrame, BadMessage, HostFault, WriteFault, Exhausted, NoMemory}
 use Rattle.session_laws.specs.Input.{Input}
-use Rattle.turn_parts.specs.declared.fault.Counter.{Counter}
-use Rattle.turn_parts.specs.declared.fault.Counter.TheVariants.{Turns, Bytes}
+use Rattle.session_port.specs.declared.fault.Counter.{Counter}
+use Rattle.session_port.specs.declared.fault.Counter.TheVariants.{Turns, Bytes}
 use Rattle.initialization.specs.Stages.{Stage, awaits_initialize, awaits_initialized, begun, by_input, stage_after, replies_to}
 use Rattle.initialization.specs.declared.opening.Opening.{Opening}
 use Rattle.initialization.specs.declared.opening.Opening.TheVariants.{Begun, Left}

@@ -3,9 +3,9 @@ use Rattle.std.specs.Prelude.{ℕ, true, false, List, [], ◌∷◌, ◌++◌, O
 use Rattle.lsp_frame.specs.declared.message.Message.{Message}
 use Rattle.lsp_frame.specs.declared.message.RequestId.{RequestId}
 use Rattle.lsp_frame.specs.declared.message.Response.{Response}
-use Rattle.handshake.specs.Handshake.{step_of}
-use Rattle.handshake.specs.declared.step.Step.{Step}
-use Rattle.handshake.specs.declared.step.Step.TheVariants.{Initialize, Refuse, Ignore, Initialized, Exit}
+use Rattle.lsp_frame.specs.Handshake.{step_of}
+use Rattle.lsp_frame.specs.declared.step.Step.{Step}
+use Rattle.lsp_frame.specs.declared.step.Step.TheVariants.{Initialize, Refuse, Ignore, Initialized, Exit}
 use Rattle.ra_config.specs.Config.{ConfigData}
 use Rattle.ra_config.specs.Initialize.{initial_config}
 use Rattle.ra_config.specs.declared.initialize.ConfigFault.{ConfigFault}

@@ -13,7 +13,7 @@ use Rattle.session_laws.specs.Run.{Told, empty_reader, fed_bytes}
 use Rattle.session_laws.specs.SessionError.{SessionError}
 use Rattle.session_laws.specs.SessionError.TheVariants.{ClientExited, BadFrame, BadMessage, HostFault, WriteFault, Exhausted, NoMemory}
 use Rattle.session_laws.specs.Input.{Input}
-use Rattle.turn_parts.specs.declared.fault.Counter.TheVariants.{Bytes as BytesCounter}
+use Rattle.session_port.specs.declared.fault.Counter.TheVariants.{Bytes as BytesCounter}
 use Rattle.initialization.specs.Stages.{Stage, awaits_initialize, awaits_initialized, begun, by_input, by_message, quiet, replied, stage_after, replies_to}
 use Rattle.initialization.specs.Opening.{LeftBy, taking, telling}
 use Rattle.initialization.specs.declared.negotiation.Answer.{Answer}

@@ -7,8 +7,7 @@ ghost use Rattle.initialization.specs.Stages.{by_settings, replied};
 ghost use Rattle.initialization.specs.Talking.{Answers, IfWaiting, IsInStep, stage_of};
 
 use crate::replies::{no_workspace, welcome};
-use handshake::{Handshake, Step};
-use lsp_frame::{Message, RequestId, Response};
+use lsp_frame::{Handshake, Message, RequestId, Response, Step};
 use plain::{Json, NoMemory};
 use ra_config::{Config, ConfigFault};
 use std::alloc::Global;

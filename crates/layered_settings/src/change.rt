@@ -13,11 +13,21 @@ use ra_settings::{ConfigError, Layer, ReadLayer, Reason, Source, toml_tree};
 use std::alloc::{AllocError, Global};
 
 /// A changed settings file of a root; without a text it was deleted.
-#[derive(Debug, Drop)]
+#[derive(Debug)]
 pub struct SettingsFile {
     pub root: u32,
     pub path: VfsPath,
     pub text: Option<Text>,
+}
+
+impl Drop for SettingsFile {
+    fn drop(self) {
+        let SettingsFile {
+            root: _,
+            path: _,
+            text: _,
+        } = self;
+    }
 }
 
 /// A change of settings. What it leaves out stays.

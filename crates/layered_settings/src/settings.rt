@@ -17,9 +17,14 @@ use std::sync::ledger::{Blank, Ledger};
 
 /// The files of one kind, by root. They never change: `put` answers others, which share with these all nodes but
 /// those on the way to the root, and a clone is the same tree.
-#[derive(Drop)]
 pub(crate) struct Files {
     layers: SharedMap<u32, Layer>,
+}
+
+impl Drop for Files {
+    fn drop(self) {
+        let Files { layers: _ } = self;
+    }
 }
 
 impl Model for Files {
@@ -92,9 +97,14 @@ impl Clone for Files {
 }
 
 /// The parent of each root that has one. A clone shares them.
-#[derive(Drop)]
 pub(crate) struct Parents {
     parents: Arc<ByNumber<u32>, Global>,
+}
+
+impl Drop for Parents {
+    fn drop(self) {
+        let Parents { parents: _ } = self;
+    }
 }
 
 impl Model for Parents {
@@ -146,7 +156,6 @@ impl Clone for Parents {
 }
 
 /// What is set. Clones share the values.
-#[derive(Drop)]
 pub struct Settings {
     client: Layer,
     user: Layer,
@@ -154,6 +163,19 @@ pub struct Settings {
     crates: Files,
     parents: Parents,
     defaults: Defaults,
+}
+
+impl Drop for Settings {
+    fn drop(self) {
+        let Settings {
+            client: _,
+            user: _,
+            workspaces: _,
+            crates: _,
+            parents: _,
+            defaults: _,
+        } = self;
+    }
 }
 
 /// The parts of settings.
@@ -236,12 +258,12 @@ impl Settings {
         ensures { result ≡ record self { client = client } }
     {
         let Settings {
+            client: _,
             user,
             workspaces,
             crates,
             parents,
             defaults,
-            ..
         } = self;
         Settings {
             client,

@@ -17,3 +17,4 @@ pub mod InStep
 pub mod Above
 pub mod Rows
 pub mod Readings
+pub mod Given

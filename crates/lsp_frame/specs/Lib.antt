@@ -11,3 +11,5 @@ pub mod Ids
 pub mod Pending
 pub mod Indexed
 pub mod Pieces
+pub mod Outgoing
+pub mod Handshake

@@ -23,11 +23,16 @@ pub enum Registered {
 }
 
 /// The requests that wait for an answer: tickets of ours, and the client's id of each. No two have one id.
-#[derive(Drop)]
 pub struct Incoming {
     ids: BTreeMap<u64, RequestId>,
     // The same by id.
     tickets: BTreeMap<RequestId, u64>,
+}
+
+impl Drop for Incoming {
+    fn drop(self) {
+        let Incoming { ids: _, tickets: _ } = self;
+    }
 }
 
 impl Model for Incoming {

@@ -11,10 +11,19 @@ use plain::{Items, NoMemory};
 use std::alloc::{AllocError, Global};
 
 /// The messages of a stream up to its first fault, and that fault.
-#[derive(Debug, Drop)]
+#[derive(Debug)]
 pub struct Reading {
     pub messages: Items<Message>,
     pub fault: Option<FrameFault>,
+}
+
+impl Drop for Reading {
+    fn drop(self) {
+        let Reading {
+            messages: _,
+            fault: _,
+        } = self;
+    }
 }
 
 /// Takes out each message that is whole, and answers the fault that comes after them.

@@ -29,7 +29,6 @@ impl Known {
 }
 
 /// A reader of messages.
-#[derive(Drop)]
 pub struct FrameReader {
     alloc: Global,
     // The bytes that belong to no message given so far, and where in the stream they begin.
@@ -37,6 +36,18 @@ pub struct FrameReader {
     place: u64,
     known: Known,
     failed: bool,
+}
+
+impl Drop for FrameReader {
+    fn drop(self) {
+        let FrameReader {
+            alloc: _,
+            held: _,
+            place: _,
+            known: _,
+            failed: _,
+        } = self;
+    }
 }
 
 impl Model for FrameReader {

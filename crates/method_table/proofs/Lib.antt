@@ -3,3 +3,4 @@ pub mod Searching
 pub mod TableLaws
 pub mod PlanLaws
 pub mod Plainness
+pub mod Units

@@ -4,3 +4,6 @@ pub mod Seen
 pub mod Rows
 pub mod Plans
 pub mod Laws
+pub mod Unit
+pub mod RunTest
+pub mod StateRequests

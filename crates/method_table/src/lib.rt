@@ -1,5 +1,5 @@
 //! The requests that a session takes: one table of their methods, classes, retries and defaults, and what is to be
-//! done for a request by its row and the state of the session.
+//! done for a request by its row and the state of the session, and the params of the requests that change that state.
 #![tactic(auto)]
 
 mod class;
@@ -9,8 +9,12 @@ mod laws;
 mod named;
 mod planned;
 mod planning;
+mod read;
+mod request;
 mod row_id;
 mod rows;
+mod run_test;
+mod unit;
 
 pub use class::{Class, PoolClass};
 pub use default_value::DefaultValue;
@@ -26,5 +30,9 @@ pub use named::{
 pub use plain::NoMemory;
 pub use planned::Plan;
 pub use planning::plan;
+pub use read::read_state_request;
+pub use request::{RunTest, StateRequest};
 pub use row_id::RowId;
 pub use rows::{class_of, default_of, method_of, retries, row_of};
+pub use run_test::read_run_test;
+pub use unit::is_unit;

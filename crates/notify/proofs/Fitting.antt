@@ -6,7 +6,7 @@ use Rattle.std.proofs.lemmas.Bool.{leb-true}
 use Rattle.plain.specs.Reading.{as_i32}
 use Rattle.serde_json.specs.Data.{Data, Members}
 use Rattle.serde_json.specs.Find.{get_member, as_str}
-use Rattle.state_params.specs.Unit.{is_unit}
+use Rattle.method_table.specs.Unit.{is_unit}
 use Rattle.notify.specs.Cancelling.{request_in, token_in}
 use Rattle.notify.specs.Changing.{changed_in}
 use Rattle.notify.specs.Documents.{document_members, uri_in}

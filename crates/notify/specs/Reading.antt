@@ -5,7 +5,7 @@ use Rattle.std.specs.Option.{option_map_or}
 use Rattle.plain.specs.Plain.{is_plain}
 use Rattle.serde_json.specs.Data.{Data}
 use Rattle.lsp_frame.specs.declared.message.Notification.{Notification}
-use Rattle.state_params.specs.Unit.{is_unit}
+use Rattle.method_table.specs.Unit.{is_unit}
 use Rattle.notify.specs.Cancelling.{request_in, token_in}
 use Rattle.notify.specs.Changing.{changed_in}
 use Rattle.notify.specs.Documents.{uri_in}

@@ -9,8 +9,8 @@ use crate::flychecks::checked_in;
 use crate::notice::Notice;
 use crate::opening::{opened_in, uri_in};
 use crate::uris::{folders_in, watched_in};
+use method_table::is_unit;
 use plain::{Json, NoMemory, Text};
-use state_params::is_unit;
 use std::alloc::Global;
 
 // The notice, where the params say nothing.

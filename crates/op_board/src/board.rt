@@ -20,7 +20,6 @@ use std::marker::Model;
 
 /// The diagnostics of all files, and the files whose lists changed. After a call that had no memory it is only to
 /// be dropped.
-#[derive(Drop)]
 pub struct DiagnosticCollection {
     alloc: Global,
     generation: u64,
@@ -29,6 +28,20 @@ pub struct DiagnosticCollection {
     cleared: ByFile<u64>,
     checks: Checks,
     marks: Marks,
+}
+
+impl Drop for DiagnosticCollection {
+    fn drop(self) {
+        let DiagnosticCollection {
+            alloc: _,
+            generation: _,
+            syntax: _,
+            semantic: _,
+            cleared: _,
+            checks: _,
+            marks: _,
+        } = self;
+    }
 }
 
 impl Model for DiagnosticCollection {

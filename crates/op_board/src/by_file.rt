@@ -12,9 +12,14 @@ use std::collections::btree_map::Keys;
 use std::marker::Model;
 
 /// Values by file, which contracts see as a finite map by the files' numbers.
-#[derive(Drop)]
 pub struct ByFile<V> {
     rows: BTreeMap<u32, V>,
+}
+
+impl<V: Drop> Drop for ByFile<V> {
+    fn drop(self) {
+        let ByFile { rows: _ } = self;
+    }
 }
 
 impl<V> Model for ByFile<V> {

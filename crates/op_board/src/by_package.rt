@@ -15,9 +15,14 @@ use std::collections::btree_map::Values;
 use std::marker::Model;
 
 /// Values by the name of a package, or by none, which contracts see as a finite map.
-#[derive(Drop)]
 pub struct ByPackage<V> {
     rows: BTreeMap<Option<Text>, V>,
+}
+
+impl<V: Drop> Drop for ByPackage<V> {
+    fn drop(self) {
+        let ByPackage { rows: _ } = self;
+    }
 }
 
 impl<V> Model for ByPackage<V> {

@@ -14,11 +14,20 @@ use std::alloc::{AllocError, Global};
 
 /// What a check says of a package: its newest generation, the lists by file, and the fixes, both in the order in which
 /// they came. There is something in each list.
-#[derive(Drop)]
 pub struct CheckPackage {
     pub generation: u64,
     pub lists: ByFile<Items<Diagnostic>>,
     pub fixes: Items<CheckFix>,
+}
+
+impl Drop for CheckPackage {
+    fn drop(self) {
+        let CheckPackage {
+            generation: _,
+            lists: _,
+            fixes: _,
+        } = self;
+    }
 }
 
 /// A diagnostic of a check, with what it offers to mend the file.

@@ -8,15 +8,23 @@ use std::cmp::Ordering;
 use text_core::{Position, Range};
 
 /// A place that a diagnostic speaks of besides its own.
-#[derive(Drop)]
 pub struct Related {
     pub path: VfsPath,
     pub range: Range,
     pub message: Text,
 }
 
+impl Drop for Related {
+    fn drop(self) {
+        let Related {
+            path: _,
+            range: _,
+            message: _,
+        } = self;
+    }
+}
+
 /// What is wrong in a range of a file. The severity is a number of the Language Server Protocol.
-#[derive(Drop)]
 pub struct Diagnostic {
     pub range: Range,
     pub severity: Option<u8>,
@@ -24,6 +32,19 @@ pub struct Diagnostic {
     pub source: Option<Text>,
     pub message: Text,
     pub related: Items<Related>,
+}
+
+impl Drop for Diagnostic {
+    fn drop(self) {
+        let Diagnostic {
+            range: _,
+            severity: _,
+            code: _,
+            source: _,
+            message: _,
+            related: _,
+        } = self;
+    }
 }
 
 /// Which part of the analysis a list comes from.
@@ -34,10 +55,15 @@ pub enum Pass {
 }
 
 /// What a check offers to mend a file. The action is JSON of the Language Server Protocol.
-#[derive(Drop)]
 pub struct CheckFix {
     pub file: FileId,
     pub action: Json,
+}
+
+impl Drop for CheckFix {
+    fn drop(self) {
+        let CheckFix { file: _, action: _ } = self;
+    }
 }
 
 impl Clone for Related {

@@ -11,10 +11,15 @@ use std::marker::Model;
 use std::mem;
 
 /// The files that are marked, and a list with room for them, so that a take needs no memory.
-#[derive(Drop)]
 pub struct Marks {
     files: ByFile<()>,
     room: Vec<FileId>,
+}
+
+impl Drop for Marks {
+    fn drop(self) {
+        let Marks { files: _, room: _ } = self;
+    }
 }
 
 impl Model for Marks {

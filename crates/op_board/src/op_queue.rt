@@ -8,11 +8,20 @@ use plain::Text;
 use std::marker::Model;
 
 /// Requests of an operation that runs one at a time. A newer request takes the place of one that waits.
-#[derive(Drop)]
 pub struct OpQueue<Args, Output> {
     waiting: Option<(Text, Args)>,
     in_progress: bool,
     last: Option<Output>,
+}
+
+impl<Args: Drop, Output: Drop> Drop for OpQueue<Args, Output> {
+    fn drop(self) {
+        let OpQueue {
+            waiting: _,
+            in_progress: _,
+            last: _,
+        } = self;
+    }
 }
 
 impl<Args, Output> Model for OpQueue<Args, Output> {

@@ -12,10 +12,18 @@ use plain::Items;
 use std::alloc::{AllocError, Global};
 
 /// A file's list of one pass, and the highest generation that was accepted.
-#[derive(Drop)]
 pub struct PassList {
     pub accepted: u64,
     pub list: Items<Diagnostic>,
+}
+
+impl Drop for PassList {
+    fn drop(self) {
+        let PassList {
+            accepted: _,
+            list: _,
+        } = self;
+    }
 }
 
 /// Whether a list of this generation is accepted.

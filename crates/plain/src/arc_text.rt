@@ -7,9 +7,15 @@ use std::marker::Model;
 use std::sync::Arc;
 
 /// A text whose clones share it.
-#[derive(Debug, Drop)]
+#[derive(Debug)]
 pub struct ArcText {
     text: Arc<Text, Global>,
+}
+
+impl Drop for ArcText {
+    fn drop(self) {
+        let ArcText { text: _ } = self;
+    }
 }
 
 impl Model for ArcText {
@@ -54,7 +60,8 @@ impl ArcText {
     pub fn into_text(self) -> Result<Text, NoMemory>
         ensures { IfOk result (λ text. text ≡ self) }
     {
-        Arc::unwrap_or_clone(self.text)
+        let ArcText { text } = self;
+        Arc::unwrap_or_clone(text)
     }
 }
 

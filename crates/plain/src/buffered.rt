@@ -5,11 +5,17 @@ use std::alloc::Global;
 use std::marker::Model;
 
 /// Bytes that are taken from the front while more come at the end. Contracts see those that are left.
-#[derive(Debug, Drop)]
+#[derive(Debug)]
 pub struct Buffered {
     bytes: Vec<u8>,
     // Where those begin that are left.
     start: usize,
+}
+
+impl Drop for Buffered {
+    fn drop(self) {
+        let Buffered { bytes: _, start: _ } = self;
+    }
 }
 
 impl Model for Buffered {

@@ -14,9 +14,15 @@ use std::collections::btree_map::{Keys, Values};
 use std::marker::Model;
 
 /// Values by keys that stand for texts, which contracts see as a finite map from the texts.
-#[derive(Debug, Drop)]
+#[derive(Debug)]
 pub struct ByText<K: TextKey, V> {
     rows: BTreeMap<K, V>,
+}
+
+impl<K: TextKey + Drop, V: Drop> Drop for ByText<K, V> {
+    fn drop(self) {
+        let ByText { rows: _ } = self;
+    }
 }
 
 impl<K: TextKey, V> Model for ByText<K, V> {

@@ -7,9 +7,15 @@ use std::marker::Model;
 use std::sync::Arc;
 
 /// A JSON value whose clones share it.
-#[derive(Debug, Drop)]
+#[derive(Debug)]
 pub struct SharedJson {
     json: Arc<Json, Global>,
+}
+
+impl Drop for SharedJson {
+    fn drop(self) {
+        let SharedJson { json: _ } = self;
+    }
 }
 
 impl Model for SharedJson {
@@ -43,7 +49,8 @@ impl SharedJson {
     pub fn into_json(self) -> Result<Json, NoMemory>
         ensures { IfOk result (λ json. json ≡ self) }
     {
-        Arc::unwrap_or_clone(self.json)
+        let SharedJson { json } = self;
+        Arc::unwrap_or_clone(json)
     }
 }
 

@@ -14,12 +14,21 @@ pub enum MacroPath {
 }
 
 /// What the build scripts of a workspace made.
-#[derive(Debug, Drop)]
+#[derive(Debug)]
 pub struct BuildScripts {
     /// What was wrong with some of them.
     pub error: Option<Text>,
     /// The proc macro crates, by their places among the crates of the workspace.
     pub macro_paths: Items<(u32, MacroPath)>,
+}
+
+impl Drop for BuildScripts {
+    fn drop(self) {
+        let BuildScripts {
+            error: _,
+            macro_paths: _,
+        } = self;
+    }
 }
 
 impl Clone for MacroPath {

@@ -5,7 +5,7 @@ use docs_vfs::{FileId, VfsPath};
 use plain::{Copied, Items, NoMemory, Text};
 
 /// A crate of a workspace, before its root file has a number.
-#[derive(Debug, Drop)]
+#[derive(Debug)]
 pub struct CrateEntry {
     pub root: VfsPath,
     pub name: Option<Text>,
@@ -14,14 +14,36 @@ pub struct CrateEntry {
     pub is_proc_macro: bool,
 }
 
+impl Drop for CrateEntry {
+    fn drop(self) {
+        let CrateEntry {
+            root: _,
+            name: _,
+            deps: _,
+            is_proc_macro: _,
+        } = self;
+    }
+}
+
 /// A crate of the crate graph.
-#[derive(Debug, Drop)]
+#[derive(Debug)]
 pub struct CrateInfo {
     pub root: FileId,
     pub name: Option<Text>,
     /// The numbers of its dependencies in the crate graph.
     pub deps: Items<u32>,
     pub is_proc_macro: bool,
+}
+
+impl Drop for CrateInfo {
+    fn drop(self) {
+        let CrateInfo {
+            root: _,
+            name: _,
+            deps: _,
+            is_proc_macro: _,
+        } = self;
+    }
 }
 
 /// What became of the macros of a crate.

@@ -6,7 +6,7 @@ use docs_vfs::VfsPath;
 use plain::{Copied, Items, NoMemory, Text};
 
 /// What a package builds from one root file.
-#[derive(Debug, Drop)]
+#[derive(Debug)]
 pub struct Target {
     pub name: Text,
     pub kind: TargetKind,
@@ -14,8 +14,19 @@ pub struct Target {
     pub required_features: Items<Text>,
 }
 
+impl Drop for Target {
+    fn drop(self) {
+        let Target {
+            name: _,
+            kind: _,
+            root: _,
+            required_features: _,
+        } = self;
+    }
+}
+
 /// A package of a workspace. In a workspace that is described as JSON its id is its label.
-#[derive(Debug, Drop)]
+#[derive(Debug)]
 pub struct Package {
     pub id: Text,
     pub manifest: VfsPath,
@@ -23,6 +34,18 @@ pub struct Package {
     pub features: Items<Text>,
     /// The ids of the members of its workspace that it depends on, where they are known.
     pub member_deps: Option<Items<Text>>,
+}
+
+impl Drop for Package {
+    fn drop(self) {
+        let Package {
+            id: _,
+            manifest: _,
+            targets: _,
+            features: _,
+            member_deps: _,
+        } = self;
+    }
 }
 
 /// The name of a package to the tool that builds it.

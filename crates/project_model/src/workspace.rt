@@ -10,7 +10,7 @@ use docs_vfs::{Root, VfsPath};
 use plain::{Copied, Items, NoMemory, Text, is_same};
 
 /// One workspace of a project, as it was loaded.
-#[derive(Debug, Drop)]
+#[derive(Debug)]
 pub struct ProjectWorkspace {
     pub kind: WorkspaceKind,
     pub manifest: Option<VfsPath>,
@@ -31,6 +31,27 @@ pub struct ProjectWorkspace {
     pub rustc_error: Option<Text>,
     /// What its build scripts made, once they were run.
     pub build: Option<BuildScripts>,
+}
+
+impl Drop for ProjectWorkspace {
+    fn drop(self) {
+        let ProjectWorkspace {
+            kind: _,
+            manifest: _,
+            root: _,
+            roots: _,
+            packages: _,
+            crates: _,
+            build_files: _,
+            toolchain: _,
+            error: _,
+            sysroot_root: _,
+            sysroot_error: _,
+            sysroot_metadata_error: _,
+            rustc_error: _,
+            build: _,
+        } = self;
+    }
 }
 
 impl ProjectWorkspace {

@@ -31,7 +31,6 @@ pub struct Applied {
 }
 
 /// The settings of a session.
-#[derive(Drop)]
 pub struct Config {
     root_path: VfsPath,
     workspace_roots: Vec<VfsPath>,
@@ -39,6 +38,19 @@ pub struct Config {
     capabilities: Capabilities,
     settings: Settings,
     discovered: Arc<Items<Discovered>, Global>,
+}
+
+impl Drop for Config {
+    fn drop(self) {
+        let Config {
+            root_path: _,
+            workspace_roots: _,
+            threads: _,
+            capabilities: _,
+            settings: _,
+            discovered: _,
+        } = self;
+    }
 }
 
 impl Model for Config {
@@ -128,10 +140,11 @@ impl Config {
     {
         let Config {
             root_path,
+            workspace_roots: _,
             threads,
+            capabilities: _,
             settings,
             discovered,
-            ..
         } = self;
         Config {
             root_path,

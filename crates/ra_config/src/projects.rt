@@ -11,10 +11,18 @@ use std::marker::Model;
 use std::sync::Arc;
 
 /// A project that a command found, and the file by which it was found. A clone shares the project.
-#[derive(Drop)]
 pub(crate) struct Discovered {
     project: Arc<Json, Global>,
     buildfile: Text,
+}
+
+impl Drop for Discovered {
+    fn drop(self) {
+        let Discovered {
+            project: _,
+            buildfile: _,
+        } = self;
+    }
 }
 
 impl Model for Discovered {

@@ -12,9 +12,14 @@ use std::marker::Model;
 use std::sync::Arc;
 
 /// The default of each row. A clone shares them.
-#[derive(Drop)]
 pub struct Defaults {
     values: Arc<Items<SettingValue>, Global>,
+}
+
+impl Drop for Defaults {
+    fn drop(self) {
+        let Defaults { values: _ } = self;
+    }
 }
 
 impl Model for Defaults {

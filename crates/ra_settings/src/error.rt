@@ -10,7 +10,7 @@ use std::fmt;
 use std::marker::Model;
 
 /// A value that isn't set: where it stands, its row's name, and why.
-#[derive(Debug, Drop)]
+#[derive(Debug)]
 pub struct ConfigError {
     /// `client`, `user`, or the path of a settings file.
     pub place: Text,
@@ -20,11 +20,27 @@ pub struct ConfigError {
     pub reason: Text,
 }
 
+impl Drop for ConfigError {
+    fn drop(self) {
+        let ConfigError {
+            place: _,
+            key: _,
+            reason: _,
+        } = self;
+    }
+}
+
 /// The errors of a change, in order. Their text is made once, since showing them takes no memory.
-#[derive(Debug, Drop)]
+#[derive(Debug)]
 pub struct ConfigErrors {
     errors: Items<ConfigError>,
     text: Text,
+}
+
+impl Drop for ConfigErrors {
+    fn drop(self) {
+        let ConfigErrors { errors: _, text: _ } = self;
+    }
 }
 
 impl Model for ConfigErrors {

@@ -46,9 +46,14 @@ impl Source {
 }
 
 /// The values that one source sets, by row. A clone shares them.
-#[derive(Drop)]
 pub struct Layer {
     values: Arc<Items<Option<SettingValue>>, Global>,
+}
+
+impl Drop for Layer {
+    fn drop(self) {
+        let Layer { values: _ } = self;
+    }
 }
 
 /// What a source sets, and the errors of the values that it doesn't set.

@@ -41,11 +41,21 @@ pub enum LinkedProject {
 }
 
 /// How projects are discovered.
-#[derive(Debug, Drop)]
+#[derive(Debug)]
 pub struct DiscoverConfig {
     pub command: Items<Text>,
     pub progress_label: Text,
     pub files_to_watch: Items<Text>,
+}
+
+impl Drop for DiscoverConfig {
+    fn drop(self) {
+        let DiscoverConfig {
+            command: _,
+            progress_label: _,
+            files_to_watch: _,
+        } = self;
+    }
 }
 
 /// The value of a setting.

@@ -4,7 +4,7 @@ use Rattle.std.specs.Cmp.Lexicographic.{pointwise}
 use Rattle.project_model.specs.declared.build.BuildScripts.{BuildScripts}
 use Rattle.project_model.specs.declared.workspace.ProjectWorkspace.{ProjectWorkspace}
 use Rattle.project_model.specs.Same.{is_same_but_build}
-use Rattle.msrv.specs.Msrv.{msrv_texts}
+use Rattle.project_model.specs.Msrv.{msrv_texts}
 use Rattle.reload.specs.Errors.{fetch_error}
 use Rattle.reload.specs.declared.switch.Switch.{Switch}
 use Rattle.reload.specs.declared.switch.Switch.TheVariants as switch

@@ -5,9 +5,8 @@ ghost use Rattle.reload.specs.Switch.{taken, are_same, scripts_of, with_build, j
 
 use crate::errors::fetch_workspace_error;
 use crate::switch::Switch;
-use msrv::check_workspaces_msrv;
 use plain::{Items, NoMemory, Text};
-use project_model::{BuildScripts, ProjectWorkspace};
+use project_model::{BuildScripts, ProjectWorkspace, check_workspaces_msrv};
 use std::alloc::Global;
 
 /// A workspace that was fetched, or why it wasn't.

@@ -7,8 +7,8 @@ use Rattle.session_laws.specs.Machine.{step}
 use Rattle.session_laws.specs.Meaning.{Meaning}
 use Rattle.session_laws.specs.Run.{Turn, Told, Steps, Stretch, Ends, EndsWell, EndsBy, begun, commands_of, fed_bytes, telling}
 use Rattle.session_laws.specs.State.{State}
-use Rattle.turn_parts.specs.Written.{AreRead}
-use Rattle.turn_parts.specs.declared.fault.Counter.TheVariants.{Bytes as BytesCounter}
+use Rattle.session_port.specs.Written.{AreRead}
+use Rattle.session_port.specs.declared.fault.Counter.TheVariants.{Bytes as BytesCounter}
 use Rattle.session_laws.specs.SessionError.{SessionError}
 use Rattle.session_laws.specs.SessionError.TheVariants.{ClientExited, BadFrame, BadMessage, HostFault, WriteFault, Exhausted, NoMemory}
 use Rattle.session_laws.specs.Input.{Input}

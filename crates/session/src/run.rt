@@ -7,7 +7,7 @@ ghost use Rattle.session_port.specs.Record.{HasCause, Rose, after_ok, added, too
 ghost use Rattle.session_laws.specs.Headline.{IsAnswered, EndsByCause, IsComplete};
 ghost use Rattle.session_laws.specs.Meaning.{meaning_of};
 ghost use Rattle.session_laws.specs.Machine.{step};
-ghost use Rattle.turn_parts.specs.Meets.{Meets};
+ghost use Rattle.session_port.specs.Meets.{Meets};
 ghost use Rattle.session_laws.specs.Run.{IsRun, empty_reader, told_of, turn_error_of, fed_bytes};
 ghost use Rattle.session.specs.Looping.{Advances, AdvancesByEvent, RunsOn, TurnDone, IsFeedError};
 ghost use Rattle.session_laws.specs.State.{fresh};

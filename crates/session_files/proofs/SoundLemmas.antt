@@ -34,8 +34,8 @@ use Rattle.project_model.specs.declared.crates.CrateData.{CrateData}
 use Rattle.session_port.specs.declared.event.LoadedFile.{LoadedFile}
 use Rattle.session_port.specs.declared.event.LoaderMsg.{LoaderMsg}
 use Rattle.session_port.specs.declared.event.LoaderMsg.TheVariants.{Changed, Loaded, Progress}
-use Rattle.turn_parts.specs.Working.{and_then}
-use Rattle.turn_parts.specs.declared.fault.Counter.{Counter}
+use Rattle.session_port.specs.Working.{and_then}
+use Rattle.session_port.specs.declared.fault.Counter.{Counter}
 use Rattle.session_files.specs.Changing.{text_after}
 use Rattle.session_files.specs.Current.{IsSound, IsCurrent}
 use Rattle.session_files.specs.Folds.{with_table, table_put, made_of, contents_put, mark_put, is_open, version_put, text_put, is_excluded, after_opening, text_edited, after_editing, after_closing}

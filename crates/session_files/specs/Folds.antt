@@ -22,9 +22,9 @@ use Rattle.session_port.specs.declared.event.LoaderMsg.{LoaderMsg}
 use Rattle.session_port.specs.declared.event.LoaderMsg.TheVariants.{Changed, Loaded, Progress}
 use Rattle.session_port.specs.declared.event.LoadingProgress.{LoadingProgress}
 use Rattle.session_port.specs.declared.event.LoadingProgress.TheVariants as progress
-use Rattle.turn_parts.specs.Working.{and_then}
-use Rattle.turn_parts.specs.declared.fault.Counter.{Counter}
-use Rattle.turn_parts.specs.declared.fault.Counter.TheVariants.{Files as FilesCounter, Revisions}
+use Rattle.session_port.specs.Working.{and_then}
+use Rattle.session_port.specs.declared.fault.Counter.{Counter}
+use Rattle.session_port.specs.declared.fault.Counter.TheVariants.{Files as FilesCounter, Revisions}
 use Rattle.session_files.specs.Changing.{text_after}
 use Rattle.session_files.specs.SessionFiles.{SessionFiles}
 use Rattle.session_files.specs.Texts.{file_change, holds_text}

@@ -8,8 +8,8 @@ use Rattle.project_model.specs.declared.crates.CrateData.{CrateData}
 use Rattle.session_port.specs.declared.command.Command.TheVariants.{Invalidate}
 use Rattle.session_port.specs.declared.command.LogCode.TheVariants.{DuplicateOpen, OrphanClose, SkippedChange, UnexpectedChange}
 use Rattle.session_port.specs.declared.event.LoaderMsg.{LoaderMsg}
-use Rattle.turn_parts.specs.Working.{Working, logged, ordered}
-use Rattle.turn_parts.specs.declared.fault.Counter.{Counter}
+use Rattle.session_port.specs.Working.{Working, logged, ordered}
+use Rattle.session_port.specs.declared.fault.Counter.{Counter}
 use Rattle.session_files.specs.Changing.{has_skipped}
 use Rattle.session_files.specs.Folds.{after_closing, after_crates, after_editing, after_messages, after_opening, after_turn, is_open}
 use Rattle.session_files.specs.SessionFiles.{SessionFiles}

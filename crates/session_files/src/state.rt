@@ -12,13 +12,12 @@ use crate::numbers::{add_contents, set_contents, set_mark};
 use analysis_host::{AnalysisHost, SharedText, Versions, World};
 use docs_vfs::{ByPath, FileTable, SharedBytes, VfsPath};
 use file_ids::FileIds;
+use session_port::TurnError;
 use std::alloc::{AllocError, Global};
 use std::marker::Model;
-use turn_parts::TurnError;
 
 /// The files of a session. A document's text, the contents of its path and the world's text share one buffer where the
 /// text has no CR LF.
-#[derive(Drop)]
 pub struct SessionFiles {
     alloc: Global,
     versions: Versions,
@@ -29,6 +28,21 @@ pub struct SessionFiles {
     host: AnalysisHost,
     loading: bool,
     progress_version: u32,
+}
+
+impl Drop for SessionFiles {
+    fn drop(self) {
+        let SessionFiles {
+            alloc: _,
+            versions: _,
+            texts: _,
+            table: _,
+            ids: _,
+            host: _,
+            loading: _,
+            progress_version: _,
+        } = self;
+    }
 }
 
 impl Model for SessionFiles {

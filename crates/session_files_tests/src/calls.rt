@@ -4,10 +4,9 @@ use docs_vfs::{FileExcluded, FileId, SourceRoots, VfsPath};
 use file_ids::FileIds;
 use plain::{Items, Text};
 use session_files::SessionFiles;
-use session_port::LoaderMsg;
+use session_port::{LoaderMsg, TurnError, TurnOut};
 use std::alloc::Global;
 use text_core::{ContentChange, PositionEncoding, WideEncoding};
-use turn_parts::{TurnError, TurnOut};
 
 /// Files where so many numbers and revisions were used.
 pub fn files_at(alloc: Global, numbers: u32, revisions: u64) -> Option<SessionFiles> {

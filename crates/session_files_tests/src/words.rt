@@ -6,10 +6,9 @@ use crate::values::{cut, edits_of, escaped, excludes, messages_of, path_at, text
 use analysis_host::{TextEntry, World};
 use docs_vfs::{FileExcluded, FileId, VfsPath};
 use session_files::SessionFiles;
-use session_port::{Command, LogCode};
+use session_port::{Command, Counter, LogCode, TurnError, TurnOut};
 use std::alloc::Global;
 use text_core::LineEndings;
-use turn_parts::{Counter, TurnError, TurnOut};
 
 fn log_name(code: LogCode) -> &'static str {
     match code {

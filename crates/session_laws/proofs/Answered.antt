@@ -17,7 +17,7 @@ use Rattle.session_model.specs.Headline.{TellsItsStatus}
 use Rattle.desk.specs.Meaning.{Meaning}
 use Rattle.session_model.specs.Run.{Turn, Told, Runs, Steps, AreHonest, AsksLast, BreaksOffWritten, Ends, EndsBy, IsRun, MayAsk, RunsOut, Stretch, TooManyBytes, commands_of, fed_bytes, giving, taking, telling}
 use Rattle.session_model.specs.State.{State, fresh}
-use Rattle.turn_parts.specs.declared.fault.Counter.{Counter}
+use Rattle.session_port.specs.declared.fault.Counter.{Counter}
 use Rattle.session_model.specs.declared.fault.SessionError.{SessionError}
 use Rattle.session_model.specs.declared.fault.SessionError.TheVariants.{ClientExited, BadFrame, BadMessage, HostFault, WriteFault, Exhausted, NoMemory}
 use Rattle.session_laws.specs.Answering.{answered_by, AreAccountedFor}

@@ -6,9 +6,9 @@ use Rattle.analysis_host.specs.SnapshotData.{SnapshotData}
 use Rattle.op_board.specs.Queue.{Queue}
 use Rattle.session_port.specs.declared.job.Job.{Job}
 use Rattle.session_port.specs.declared.job.JobKind.TheVariants.{FetchBuildData}
-use Rattle.turn_parts.specs.Working.{Working, and_then}
-use Rattle.turn_parts.specs.declared.fault.Counter.{Counter}
-use Rattle.turn_parts.specs.declared.fault.Counter.TheVariants.{Jobs as JobsCounter}
+use Rattle.session_port.specs.Working.{Working, and_then}
+use Rattle.session_port.specs.declared.fault.Counter.{Counter}
+use Rattle.session_port.specs.declared.fault.Counter.TheVariants.{Jobs as JobsCounter}
 use Rattle.desk_laws.proofs.Refusing.{err-and_then, err-weaker}
 use Rattle.desk_laws.proofs.Results.{IfOk-and_then, IfOk-weaker}
 use Rattle.workspaces.specs.Fetches.{fetch_to_start, start_fetch}

@@ -5,8 +5,8 @@ use Rattle.docs_vfs.specs.FileUrls.{path_of}
 use Rattle.docs_vfs.specs.declared.file_url.UrlFault.{UrlFault}
 use Rattle.docs_vfs.specs.declared.source_roots.Root.{Root}
 use Rattle.ra_config.specs.Config.{ConfigData}
-use Rattle.config_update.specs.Update.{cause_of, update_of}
-use Rattle.config_update.specs.declared.cause.FetchCause.{FetchCause}
+use Rattle.change_effects.specs.Update.{cause_of, update_of}
+use Rattle.change_effects.specs.declared.cause.FetchCause.{FetchCause}
 use Rattle.notify.specs.declared.notice.Notice.{Notice}
 use Rattle.notify.specs.declared.notice.Notice.TheVariants as notices
 use Rattle.session_files.specs.SessionFiles.{SessionFiles}

@@ -13,9 +13,9 @@ use Rattle.session_port.specs.declared.command.Command.TheVariants.{Spawn}
 use Rattle.session_port.specs.declared.command.DeferredTask.{DeferredTask}
 use Rattle.session_port.specs.declared.command.DeferredTask.TheVariants.{CheckIfIndexed, CheckProcMacroSources}
 use Rattle.session_port.specs.declared.job.Job.{Job}
-use Rattle.turn_parts.specs.Working.{Working, ordered}
-use Rattle.turn_parts.specs.declared.fault.Counter.{Counter}
-use Rattle.turn_parts.specs.declared.fault.Counter.TheVariants.{Jobs as JobsCounter}
+use Rattle.session_port.specs.Working.{Working, ordered}
+use Rattle.session_port.specs.declared.fault.Counter.{Counter}
+use Rattle.session_port.specs.declared.fault.Counter.TheVariants.{Jobs as JobsCounter}
 use Rattle.desk.specs.Meaning.{Meaning}
 use Rattle.desk.specs.Steps.{handed_over}
 use Rattle.desk_laws.specs.Numbers.{AreNumbered}

@@ -2,7 +2,7 @@
 use Rattle.std.proofs.Common.{◌≡◌, ◌≤◌, ℕ, ◌∙◌, refl, ap, subst}
 use Rattle.std.specs.Prelude.{Option, None, Some}
 use Rattle.layered_settings.specs.declared.change.ConfigChange.{ConfigChange}
-use Rattle.outgoing.specs.Outgoing.{Outgoing as AskedOfClient}
+use Rattle.lsp_frame.specs.Outgoing.{Outgoing as AskedOfClient}
 use Rattle.client.specs.Client.{Client}
 use Rattle.client.specs.declared.handler.ReqHandler.{ReqHandler}
 use Rattle.client.specs.declared.handler.ReqHandler.TheVariants.{Ignore, OpenLogs}

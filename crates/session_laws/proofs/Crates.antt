@@ -4,7 +4,7 @@ use Rattle.std.specs.Prelude.{IfErr, IfOk, Option, None, Some, is_some, Ok, ifâ—
 use Rattle.project_model.specs.declared.crates.CrateData.{CrateData}
 use Rattle.session_port.specs.Jobs.{Jobs, after_message}
 use Rattle.session_port.specs.declared.event.TaskMsg.{TaskMsg}
-use Rattle.turn_parts.specs.Working.{Working}
+use Rattle.session_port.specs.Working.{Working}
 use Rattle.desk_laws.proofs.Results.{IfErr-within, IfOk-and_then, IfOk-weaker, IfOk-within}
 use Rattle.session_files.specs.SessionFiles.{SessionFiles}
 use Rattle.session_files.specs.Steps.{crates_put}

@@ -15,12 +15,12 @@ use Rattle.session_port.specs.Jobs.{after_message}
 use Rattle.session_port.specs.declared.command.DeferredTask.{DeferredTask}
 use Rattle.session_port.specs.declared.event.TaskMsg.{TaskMsg}
 use Rattle.session_port.specs.declared.job.Job.{Job}
-use Rattle.turn_parts.specs.Working.{Working, and_then, within}
-use Rattle.turn_parts.specs.Written.{nothing_done}
-use Rattle.turn_parts.specs.declared.fault.Counter.{Counter}
-use Rattle.turn_parts.specs.declared.fault.Counter.TheVariants.{LoaderSettings, Turns}
+use Rattle.session_port.specs.Working.{Working, and_then, within}
+use Rattle.session_port.specs.Written.{nothing_done}
+use Rattle.session_port.specs.declared.fault.Counter.{Counter}
+use Rattle.session_port.specs.declared.fault.Counter.TheVariants.{LoaderSettings, Turns}
 use Rattle.notify.specs.declared.outgo.Outgo.TheVariants.{Configuration}
-use Rattle.outgoing.specs.Outgoing.{number_limit}
+use Rattle.lsp_frame.specs.Outgoing.{number_limit}
 use Rattle.client.specs.Client.{Client}
 use Rattle.client.specs.Folds.{after_asking}
 use Rattle.client.specs.Steps.{answered, folders_changed}

@@ -3,7 +3,7 @@ use Rattle.std.proofs.Common.{Bool, ℕ, List, refl}
 use Rattle.std.specs.Prelude.{IfOk, IfErr, Option, None, Some}
 use Rattle.analysis_host.specs.SnapshotData.{SnapshotData}
 use Rattle.session_port.specs.declared.job.Job.{Job}
-use Rattle.turn_parts.specs.Working.{Working}
+use Rattle.session_port.specs.Working.{Working}
 use Rattle.desk_laws.proofs.Results.{IfOk-weaker}
 use Rattle.workspaces.specs.Fetches.{fetch_to_start, start_fetch}
 use Rattle.workspaces.specs.Workspaces.{Workspaces}

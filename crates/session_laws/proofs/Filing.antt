@@ -17,9 +17,9 @@ use Rattle.session_port.specs.declared.command.LogCode.TheVariants.{DuplicateOpe
 use Rattle.session_port.specs.declared.event.LoadedFile.{LoadedFile}
 use Rattle.session_port.specs.declared.event.LoaderMsg.{LoaderMsg}
 use Rattle.session_port.specs.declared.event.LoaderMsg.TheVariants.{Changed, Loaded, Progress}
-use Rattle.turn_parts.specs.Working.{Working, logged, ordered}
-use Rattle.turn_parts.specs.declared.fault.Counter.{Counter}
-use Rattle.turn_parts.specs.declared.fault.Counter.TheVariants.{Files as FilesCounter, Revisions}
+use Rattle.session_port.specs.Working.{Working, logged, ordered}
+use Rattle.session_port.specs.declared.fault.Counter.{Counter}
+use Rattle.session_port.specs.declared.fault.Counter.TheVariants.{Files as FilesCounter, Revisions}
 use Rattle.desk_laws.proofs.Refusing.{err-and_then}
 use Rattle.desk_laws.proofs.Results.{IfOk-if}
 use Rattle.session_files.specs.Changing.{has_skipped}

@@ -6,7 +6,7 @@ use Rattle.docs_vfs.specs.declared.file_kinds.FileId.{FileId}
 use Rattle.session_port.specs.declared.command.Command.TheVariants.{Defer}
 use Rattle.session_port.specs.declared.command.DeferredTask.TheVariants.{CheckProcMacroSources}
 use Rattle.session_port.specs.declared.command.LogCode.TheVariants.{SecondSettingsFile}
-use Rattle.turn_parts.specs.Working.{Working, logged, ordered}
+use Rattle.session_port.specs.Working.{Working, logged, ordered}
 use Rattle.change_effects.specs.declared.effects.ChangeEffects.{ChangeEffects}
 use Rattle.session_model.specs.Machine.{effects_done, fetch_waits, files_followed, further_logged, settings_filed, sources_deferred, with_client, with_sources, with_workspaces}
 use Rattle.session_model.specs.Sources.{change_by, change_for, client_with, further_files, parents_told, sources_after}

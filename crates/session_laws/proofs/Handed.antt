@@ -26,7 +26,7 @@ use Rattle.desk_laws.proofs.Reacting.{new-reacts, result-reacts}
 use Rattle.analysis_host.specs.SnapshotData.{SnapshotData}
 use Rattle.project_model.specs.declared.crates.CrateData.{CrateData}
 use Rattle.session_files.specs.SessionFiles.{SessionFiles}
-use Rattle.turn_parts.specs.declared.fault.Counter.{Counter}
+use Rattle.session_port.specs.declared.fault.Counter.{Counter}
 use Rattle.session_model.specs.Crates.{crates_in, crates_let_in}
 use Rattle.session_model.specs.Hearing.{heard_of, told_by}
 use Rattle.session_model.specs.Headline.{AreEarlier, AreHandedOver, ComesBehind, Place, ShowsDocuments, WasHandedOver, or_before, reaction_of, row, notice_row, batch_row, place_past, place_told, place_within, next_turn, scene_at, snapshot_at, beginning}

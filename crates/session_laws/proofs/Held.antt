@@ -13,7 +13,7 @@ use Rattle.session_port.specs.Jobs.{Jobs, after_message, after_batch, ticket_of}
 use Rattle.session_port.specs.Record.{spawned, with_jobs}
 use Rattle.session_port.specs.declared.event.TaskMsg.{TaskMsg}
 use Rattle.session_port.specs.declared.job.Job.{Job}
-use Rattle.turn_parts.specs.Written.{responses_in}
+use Rattle.session_port.specs.Written.{responses_in}
 use Rattle.desk.specs.Desk.{Desk}
 use Rattle.desk.specs.Folds.{AreAnswers, AnswersOnce, asked_among, closed_by, desk_past, is_asked}
 use Rattle.desk.specs.Meaning.{Meaning}

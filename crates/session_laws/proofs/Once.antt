@@ -5,7 +5,7 @@ use Rattle.lsp_frame.specs.Pending.{Pending, id_of, none_pending}
 use Rattle.lsp_frame.specs.declared.message.Message.TheVariants.{Request as RequestMessage, Notification as NotificationMessage, Response as ResponseMessage}
 use Rattle.lsp_frame.proofs.Above.{none_above}
 use Rattle.ra_config.specs.Config.{ConfigData}
-use Rattle.turn_parts.specs.Written.{responses_in}
+use Rattle.session_port.specs.Written.{responses_in}
 use Rattle.desk_laws.specs.Answering.{AllDiffer, IsAmong, IsThere}
 use Rattle.desk_laws.proofs.Once.{IsNew, Turns, among-cases, differ-append, turn-closes}
 use Rattle.session_model.specs.Headline.{Place, beginning, next_turn, place_after}

@@ -4,12 +4,12 @@ use Rattle.std.proofs.lemmas.Result.{IfOk-at_ok}
 use Rattle.std.specs.Prelude.{◌==◌, Ok, Err, IfOk, IfErr, if◌then◌else◌}
 use Rattle.serde_json.specs.Data.{Data}
 use Rattle.ra_config.specs.declared.capabilities.Capabilities.{Capabilities}
-use Rattle.turn_parts.specs.Working.{Working, written}
-use Rattle.turn_parts.specs.declared.fault.Counter.{Counter}
-use Rattle.turn_parts.specs.declared.fault.Counter.TheVariants.{Outgoing}
+use Rattle.session_port.specs.Working.{Working, written}
+use Rattle.session_port.specs.declared.fault.Counter.{Counter}
+use Rattle.session_port.specs.declared.fault.Counter.TheVariants.{Outgoing}
 use Rattle.notify.specs.declared.outgo.Outgo.{Outgo}
 use Rattle.notify.specs.declared.outgo.Outgo.TheVariants.{CodeLensRefresh, DiagnosticRefresh, InlayHintRefresh, SemanticTokensRefresh}
-use Rattle.outgoing.specs.Outgoing.{number_limit}
+use Rattle.lsp_frame.specs.Outgoing.{number_limit}
 use Rattle.client.specs.Client.{Client}
 use Rattle.client.specs.Folds.{after_asking}
 use Rattle.client.specs.Steps.{asked_for, request_at}

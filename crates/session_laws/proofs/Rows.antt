@@ -29,9 +29,9 @@ use Rattle.session_port.specs.declared.command.LogCode.TheVariants.{BadPath, Bui
 use Rattle.session_port.specs.declared.event.LoaderMsg.{LoaderMsg}
 use Rattle.session_port.specs.declared.event.TaskMsg.{TaskMsg}
 use Rattle.session_port.specs.declared.job.Job.{Job}
-use Rattle.turn_parts.specs.Working.{Working, and_then, logged, ordered, within}
-use Rattle.turn_parts.specs.Written.{Written, nothing_done}
-use Rattle.turn_parts.specs.declared.fault.Counter.{Counter}
+use Rattle.session_port.specs.Working.{Working, and_then, logged, ordered, within}
+use Rattle.session_port.specs.Written.{Written, nothing_done}
+use Rattle.session_port.specs.declared.fault.Counter.{Counter}
 use Rattle.client.specs.Client.{Client}
 use Rattle.client.specs.Folds.{after_answer, after_asking, after_folders}
 use Rattle.client.specs.Steps.{answered, folders_changed, logged_if}

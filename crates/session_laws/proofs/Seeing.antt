@@ -13,8 +13,8 @@ use Rattle.project_model.specs.declared.crates.CrateData.{CrateData}
 use Rattle.project_model.specs.declared.workspace.ProjectWorkspace.{ProjectWorkspace}
 use Rattle.session_port.specs.Jobs.{Jobs, after_message}
 use Rattle.session_port.specs.declared.event.TaskMsg.{TaskMsg}
-use Rattle.turn_parts.specs.Working.{and_then}
-use Rattle.turn_parts.specs.declared.fault.Counter.{Counter}
+use Rattle.session_port.specs.Working.{and_then}
+use Rattle.session_port.specs.declared.fault.Counter.{Counter}
 use Rattle.workspaces.specs.Workspaces.{Workspaces}
 use Rattle.workspaces.specs.declared.follows.Follows.{Follows}
 use Rattle.notify.specs.declared.notice.DidChange.{DidChange}

@@ -10,9 +10,9 @@ use Rattle.session_port.specs.Record.{spawned}
 use Rattle.session_port.specs.declared.command.Command.TheVariants.{Spawn}
 use Rattle.session_port.specs.declared.job.Job.{Job}
 use Rattle.session_port.specs.declared.job.JobKind.{JobKind}
-use Rattle.turn_parts.specs.Working.{Working, ordered}
-use Rattle.turn_parts.specs.declared.fault.Counter.{Counter}
-use Rattle.turn_parts.specs.declared.fault.Counter.TheVariants.{Jobs as JobsCounter}
+use Rattle.session_port.specs.Working.{Working, ordered}
+use Rattle.session_port.specs.declared.fault.Counter.{Counter}
+use Rattle.session_port.specs.declared.fault.Counter.TheVariants.{Jobs as JobsCounter}
 use Rattle.desk.specs.Steps.{handed_over}
 use Rattle.desk_laws.proofs.Appends.{revisions-append, spawned-append}
 use Rattle.desk_laws.proofs.Refusing.{err-next}

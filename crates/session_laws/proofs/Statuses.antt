@@ -2,7 +2,7 @@
 use Rattle.std.proofs.Common.{◌≡◌, ℕ, List, [], ◌∷◌, Bool, true, false, refl, ap, ◌∙◌}
 use Rattle.std.specs.Prelude.{not, ◌&&◌, Option, None, Some, is_some, Ok, IfOk, IfErr, if◌then◌else◌}
 use Rattle.serde_json.specs.Data.{Data}
-use Rattle.turn_parts.specs.Working.{Working, written}
+use Rattle.session_port.specs.Working.{Working, written}
 use Rattle.notify.specs.Showing.{status_params}
 use Rattle.notify.specs.declared.outgo.MessageKind.{MessageKind}
 use Rattle.notify.specs.declared.outgo.Outgo.TheVariants.{ShowMessageRequest}

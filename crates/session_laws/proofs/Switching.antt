@@ -8,9 +8,9 @@ use Rattle.reload.specs.Switch.{is_empty}
 use Rattle.reload.specs.declared.switch.Switch.{Switch}
 use Rattle.reload.specs.declared.switch.Switch.TheVariants as switch
 use Rattle.session_port.specs.declared.command.Command.TheVariants.{SetLoader}
-use Rattle.turn_parts.specs.Working.{Working, and_then, ordered, written}
-use Rattle.turn_parts.specs.declared.fault.Counter.{Counter}
-use Rattle.turn_parts.specs.declared.fault.Counter.TheVariants.{LoaderSettings}
+use Rattle.session_port.specs.Working.{Working, and_then, ordered, written}
+use Rattle.session_port.specs.declared.fault.Counter.{Counter}
+use Rattle.session_port.specs.declared.fault.Counter.TheVariants.{LoaderSettings}
 use Rattle.client.specs.Client.{Client}
 use Rattle.client.specs.Steps.{notification_of}
 use Rattle.client.specs.declared.handler.ReqHandler.TheVariants.{Ignore}

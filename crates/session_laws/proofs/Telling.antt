@@ -16,9 +16,9 @@ use Rattle.session_port.specs.declared.command.Command.TheVariants.{Invalidate, 
 use Rattle.session_port.specs.declared.command.LogCode.{LogCode}
 use Rattle.session_port.specs.declared.command.LogCode.TheVariants.{BadPath, SettingsError, UnknownResponse}
 use Rattle.session_port.specs.declared.job.Job.{Job}
-use Rattle.turn_parts.specs.Working.{Working, logged, ordered, written}
-use Rattle.turn_parts.specs.Written.{Written}
-use Rattle.turn_parts.specs.declared.fault.Counter.TheVariants.{Outgoing}
+use Rattle.session_port.specs.Working.{Working, logged, ordered, written}
+use Rattle.session_port.specs.Written.{Written}
+use Rattle.session_port.specs.declared.fault.Counter.TheVariants.{Outgoing}
 use Rattle.client.specs.Answers.{chooses, fault_in}
 use Rattle.client.specs.Client.{Client}
 use Rattle.client.specs.Folds.{after_answer, after_asking, after_folders, follows}
@@ -28,7 +28,7 @@ use Rattle.client.specs.declared.handler.ReqHandler.{ReqHandler}
 use Rattle.client.specs.declared.handler.ReqHandler.TheVariants.{Ignore, Settings, OpenLogs}
 use Rattle.notify.specs.declared.outgo.Outgo.{Outgo}
 use Rattle.notify.specs.declared.outgo.Outgo.TheVariants.{OpenLogs as OpenLogsMessage}
-use Rattle.outgoing.specs.Outgoing.{number_limit}
+use Rattle.lsp_frame.specs.Outgoing.{number_limit}
 use Rattle.desk.specs.Folds.{asked_among}
 use Rattle.desk_laws.specs.Numbers.{AreNumbered}
 use Rattle.desk_laws.proofs.Appends.{responses-append, revisions-append, spawned-append}

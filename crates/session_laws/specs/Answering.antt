@@ -4,7 +4,7 @@ use Rattle.std.specs.FinMap as map
 use Rattle.lsp_frame.specs.Pending.{Pending}
 use Rattle.session_port.specs.Jobs.{Jobs, ticket_of}
 use Rattle.session_port.specs.declared.job.Job.{Job}
-use Rattle.turn_parts.specs.Written.{responses_in}
+use Rattle.session_port.specs.Written.{responses_in}
 use Rattle.desk_laws.specs.Answering.{answered_at, IsAmong, IsThere}
 use Rattle.session_model.specs.Headline.{Place, next_turn, place_after}
 use Rattle.session_model.specs.Inputs.{request_in}

@@ -7,8 +7,8 @@ use Rattle.session_port.specs.Events.{revision_of}
 use Rattle.session_port.specs.Jobs.{Jobs}
 use Rattle.session_port.specs.Record.{spawned}
 use Rattle.session_port.specs.declared.command.Command.{Command}
-use Rattle.turn_parts.specs.Working.{Working}
-use Rattle.turn_parts.specs.Written.{Written, responses_in}
+use Rattle.session_port.specs.Working.{Working}
+use Rattle.session_port.specs.Written.{Written, responses_in}
 use Rattle.desk.specs.Folds.{asked_among}
 use Rattle.desk.specs.Meaning.{Meaning}
 use Rattle.desk_laws.specs.Numbers.{AreNumbered}

@@ -22,11 +22,11 @@ use Rattle.session_port.specs.declared.command.Command.{Command}
 use Rattle.session_port.specs.declared.command.Command.TheVariants.{Stop}
 use Rattle.session_port.specs.declared.event.TaskMsg.{TaskMsg}
 use Rattle.session_port.specs.declared.job.Job.{Job}
-use Rattle.turn_parts.specs.Working.{and_then}
-use Rattle.turn_parts.specs.Written.{responses_in}
-use Rattle.turn_parts.specs.declared.fault.Counter.{Counter}
-use Rattle.turn_parts.specs.declared.fault.Counter.TheVariants.{Turns, Bytes, Jobs as JobsCounter, Revisions, Outgoing, Files, LoaderSettings}
-use Rattle.outgoing.specs.Outgoing.{number_limit}
+use Rattle.session_port.specs.Working.{and_then}
+use Rattle.session_port.specs.Written.{responses_in}
+use Rattle.session_port.specs.declared.fault.Counter.{Counter}
+use Rattle.session_port.specs.declared.fault.Counter.TheVariants.{Turns, Bytes, Jobs as JobsCounter, Revisions, Outgoing, Files, LoaderSettings}
+use Rattle.lsp_frame.specs.Outgoing.{number_limit}
 use Rattle.client.specs.Client.{Client, new_client}
 use Rattle.client.specs.Folds.{after_answer, after_asking, after_folders}
 use Rattle.client.specs.declared.handler.ReqHandler.TheVariants.{Settings}

@@ -2,7 +2,7 @@
 use Rattle.std.proofs.Common.{◌≡◌, ◌≤◌, ℕ, List, [], ◌∷◌, length, refl, arith, Bool, true, false}
 use Rattle.std.specs.Prelude.{◌==◌}
 use Rattle.docs_vfs.specs.declared.file_kinds.ChangedFile.{ChangedFile}
-use Rattle.turn_parts.specs.Working.{Working}
+use Rattle.session_port.specs.Working.{Working}
 use Rattle.session_model.specs.Machine.{effects_done, files_followed}
 use Rattle.session_model.specs.State.{State}
 use Rattle.session_model.specs.Timing.{effects_for}

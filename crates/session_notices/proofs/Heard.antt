@@ -2,10 +2,10 @@
 use Rattle.std.proofs.Common.{◌≡◌, ℕ, List, subst}
 use Rattle.std.specs.Prelude.{Result}
 use Rattle.lsp_frame.specs.declared.message.Notification.{Notification}
-use Rattle.turn_parts.specs.Meets.{Meets}
-use Rattle.turn_parts.specs.Working.{Working}
-use Rattle.turn_parts.specs.Written.{Written}
-use Rattle.turn_parts.specs.declared.fault.TurnError.{TurnError}
+use Rattle.session_port.specs.Meets.{Meets}
+use Rattle.session_port.specs.Working.{Working}
+use Rattle.session_port.specs.Written.{Written}
+use Rattle.session_port.specs.declared.fault.TurnError.{TurnError}
 use Rattle.session_model.specs.Hearing.{heard_of}
 use Rattle.session_model.specs.Machine.{noticed}
 use Rattle.session_model.specs.State.{State}

@@ -1,6 +1,6 @@
 // What is agreed with the client.
 ghost use Rattle.std.specs.Prelude.{Ok};
-ghost use Rattle.turn_parts.specs.Meets.{Meets};
+ghost use Rattle.session_port.specs.Meets.{Meets};
 ghost use Rattle.session_model.specs.ClientSteps.{answered, folders_changed};
 ghost use Rattle.session_model.specs.Machine.{answer_taken, asked_for_settings, at_client, folders_taken};
 
@@ -9,9 +9,9 @@ use lsp_frame::Response;
 use notify::Outgo;
 use plain::{Items, Text};
 use session_model::{ReqHandler, TurnError};
+use session_port::TurnOut;
 use session_store::Store;
 use std::sync::Arc;
-use turn_parts::TurnOut;
 
 // The client is asked for its settings.
 pub(crate) fn ask_for_settings(store: &mut Store, out: &mut TurnOut) -> Result<(), TurnError>

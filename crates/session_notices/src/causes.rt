@@ -1,16 +1,16 @@
 // What the client says that asks for a fetch.
 ghost use Rattle.std.specs.Prelude.{◌≡◌, OnOk};
-ghost use Rattle.turn_parts.specs.Meets.{Gives};
+ghost use Rattle.session_port.specs.Meets.{Gives};
 ghost use Rattle.session_model.specs.Fetching.{fetch_asked, fetch_caused, folders_told_if, settings_told};
 ghost use Rattle.session_model.specs.Machine.{at_workspaces};
 
-use config_update::{FetchCause, update_of};
+use change_effects::{FetchCause, update_of};
 use plain::Text;
 use ra_config::Config;
 use session_model::TurnError;
+use session_port::TurnOut;
 use session_store::Store;
 use std::alloc::AllocError;
-use turn_parts::TurnOut;
 use workspaces::FetchRequest;
 
 // Asks for a fetch, for this cause.

@@ -1,7 +1,7 @@
 // Documents, the loader's files, and the world that is made of them.
 ghost use Rattle.std.specs.Prelude.{◌≡◌, ◌<◌, ◌^◌, length, Ok, IfOk};
 ghost use Rattle.docs_vfs.specs.FileUrls.{path_of};
-ghost use Rattle.turn_parts.specs.Meets.{Meets, Gives};
+ghost use Rattle.session_port.specs.Meets.{Meets, Gives};
 ghost use Rattle.session_model.specs.FilesFolds.{due_changes, is_due};
 ghost use Rattle.session_model.specs.FilesSteps.{changed, closed as closed_document, loaded, opened, processed};
 ghost use Rattle.session_model.specs.Machine.{at_files, brought, changed_at, closed_at, files_followed, files_processed, opened_at};
@@ -13,10 +13,9 @@ use docs_vfs::{ChangedFile, UrlFault, VfsPath, path_of_url};
 use notify::{DidChange, DidOpen};
 use plain::{Items, Text};
 use session_model::TurnError;
-use session_port::{LoaderMsg, LogCode};
+use session_port::{LoaderMsg, LogCode, TurnOut};
 use session_store::Store;
 use text_core::ContentChange;
-use turn_parts::TurnOut;
 
 // Whether a loader's message brings files.
 fn brings_files(message: &LoaderMsg) -> bool

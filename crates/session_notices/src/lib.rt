@@ -1,9 +1,11 @@
-//! What a client and a loader tell a session: documents, saved files, settings, folders, watched files and answers.
+//! What a client and a loader tell a session: what is heard in a notification, documents, saved files, settings, folders, watched
+//! files and answers.
 #![tactic(auto)]
 
 mod asking;
 mod causes;
 mod filing;
+mod hearing;
 mod notifications;
 mod saving;
 mod settings;
@@ -12,5 +14,6 @@ mod watching;
 
 pub use asking::complete_request;
 pub use filing::{on_loader, process, process_changes};
+pub use hearing::heard_of;
 pub use notifications::on_notification;
 pub use timing::set_timer;

@@ -1,6 +1,6 @@
 // Notifications.
 ghost use Rattle.std.specs.Prelude.{Ok};
-ghost use Rattle.turn_parts.specs.Meets.{Meets};
+ghost use Rattle.session_port.specs.Meets.{Meets};
 ghost use Rattle.session_model.specs.DeskSteps.{cancelled};
 ghost use Rattle.notify.specs.Reading.{FitsWorld as NoticeFitsWorld};
 ghost use Rattle.session_model.specs.Hearing.{heard_of, FitsWorld};
@@ -8,16 +8,15 @@ ghost use Rattle.session_model.specs.Machine.{at_desk, noticed, told};
 
 use crate::asking::{ask_for_settings, on_folders};
 use crate::filing::{on_change, on_close, on_open};
+use crate::hearing::heard_of;
 use crate::saving::on_save;
 use crate::watching::change_files;
 use lsp_frame::{Notification, RequestId};
 use notify::Notice;
 use plain::Text;
-use session_messages::heard_of;
 use session_model::{Heard, TurnError};
-use session_port::LogCode;
+use session_port::{LogCode, TurnOut};
 use session_store::Store;
-use turn_parts::TurnOut;
 
 // The request of an id is cancelled, where it is pending.
 fn on_cancel(store: &mut Store, id: RequestId, out: &mut TurnOut) -> Result<(), TurnError>

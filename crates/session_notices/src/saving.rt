@@ -3,7 +3,7 @@ ghost use Rattle.std.specs.Prelude.{◌≡◌, ◌++◌, IfOk};
 ghost use Rattle.docs_vfs.specs.FileUrls.{path_of};
 ghost use Rattle.docs_vfs.specs.declared.file_kinds.ChangeKind.TheVariants.{Modify as Modified};
 ghost use Rattle.reload.specs.Refresh.{refreshes};
-ghost use Rattle.turn_parts.specs.Meets.{Gives};
+ghost use Rattle.session_port.specs.Meets.{Gives};
 ghost use Rattle.session_model.specs.Machine.{at_workspaces, save_noted, saved_at, saved_file};
 ghost use Rattle.session_model.specs.Saving.{asked_by_save, builds_on_save, fetch_saved, is_detached, is_detached_at, is_detached_file, is_manifest, path_saved, rebuilt_on, save_cause, settings_root};
 ghost use Rattle.session_model.specs.State.{watched_names};
@@ -13,10 +13,9 @@ use plain::Text;
 use project_model::{ProjectWorkspace, WorkspaceKind};
 use reload::should_refresh_for_change;
 use session_model::TurnError;
-use session_port::LogCode;
+use session_port::{LogCode, TurnOut};
 use session_store::Store;
 use std::alloc::{AllocError, Global};
-use turn_parts::TurnOut;
 use workspaces::FetchRequest;
 
 fn is_detached(kind: WorkspaceKind) -> bool

@@ -1,20 +1,18 @@
 // Settings files that changed.
 ghost use Rattle.std.specs.Prelude.{◌≡◌, Some, IfOk, OnOk};
-ghost use Rattle.turn_parts.specs.Meets.{Gives};
+ghost use Rattle.session_port.specs.Meets.{Gives};
 ghost use Rattle.layered_settings.specs.Change.{passed_over};
 ghost use Rattle.session_model.specs.Machine.{further_logged, settings_filed, with_client};
 ghost use Rattle.session_model.specs.Sources.{client_with, is_settled, parents_told};
-ghost use Rattle.settings_files.specs.Filing.{change_of};
+ghost use Rattle.change_effects.specs.Filing.{change_of};
 
-use change_effects::SettingsFile;
+use change_effects::{SettingsFile, settings_change};
 use docs_vfs::VfsPath;
 use plain::{Items, NoMemory, Text};
 use ra_config::ConfigChange;
 use session_model::TurnError;
-use session_port::LogCode;
+use session_port::{LogCode, TurnOut};
 use session_store::Store;
-use settings_files::settings_change;
-use turn_parts::TurnOut;
 
 // Whether the settings have the parents of the roots, and no settings file has changed.
 fn is_settled(store: &Store, files: &Items<SettingsFile>) -> bool

@@ -1,6 +1,6 @@
 // What follows from changed files, and fetches of workspaces that wait for a timer.
 ghost use Rattle.std.specs.Prelude.{◌≡◌, IfOk};
-ghost use Rattle.turn_parts.specs.Meets.{Gives};
+ghost use Rattle.session_port.specs.Meets.{Gives};
 ghost use Rattle.session_model.specs.Machine.{at_workspaces, effects_done, fetch_waits, sources_deferred, timer_set};
 ghost use Rattle.session_model.specs.Timing.{effects_for, renewed_if};
 
@@ -9,9 +9,8 @@ use change_effects::{ChangeEffects, effects_of};
 use docs_vfs::{ChangedFile, FileId};
 use plain::{Items, NoMemory};
 use session_model::TurnError;
-use session_port::{Command, DeferredTask};
+use session_port::{Command, DeferredTask, TurnOut};
 use session_store::Store;
-use turn_parts::TurnOut;
 use workspaces::FetchRequest;
 
 // What follows from changed files.

@@ -1,15 +1,14 @@
 // Files that the client watches.
 ghost use Rattle.std.specs.FinMap as map;
 ghost use Rattle.docs_vfs.specs.FileUrls.{path_of};
-ghost use Rattle.turn_parts.specs.Meets.{Gives};
+ghost use Rattle.session_port.specs.Meets.{Gives};
 ghost use Rattle.session_model.specs.Machine.{file_changed, files_changed};
 
 use docs_vfs::{UrlFault, path_of_url};
 use plain::{ByText, Items, Text};
 use session_model::TurnError;
-use session_port::{Command, LogCode};
+use session_port::{Command, LogCode, TurnOut};
 use session_store::Store;
-use turn_parts::TurnOut;
 
 // The file of a URL is to be read anew.
 #[tactic(auto, unfolding(session_model::specs::Machine::file_changed))]

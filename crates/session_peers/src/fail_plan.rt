@@ -6,11 +6,20 @@ use plain::Items;
 use std::marker::Model;
 
 /// The calls of a fake, and which of them fail.
-#[derive(Drop)]
 pub(crate) struct FailPlan {
     fails: Items<u64>,
     made: u64,
     faults: u64,
+}
+
+impl Drop for FailPlan {
+    fn drop(self) {
+        let FailPlan {
+            fails: _,
+            made: _,
+            faults: _,
+        } = self;
+    }
 }
 
 impl Model for FailPlan {

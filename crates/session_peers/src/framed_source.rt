@@ -16,13 +16,23 @@ use std::marker::Model;
 const PIECE: usize = 65536;
 
 /// A source, and the bytes that were read of it and not given yet.
-#[derive(Drop)]
 pub(crate) struct FramedSource<S: Source> {
     alloc: Global,
     source: S,
     held: Buffered,
     // A piece that was read and has no room among those held yet, or nothing.
     pending: Bytes,
+}
+
+impl<S: Source + Drop> Drop for FramedSource<S> {
+    fn drop(self) {
+        let FramedSource {
+            alloc: _,
+            source: _,
+            held: _,
+            pending: _,
+        } = self;
+    }
 }
 
 impl<S: Source> Model for FramedSource<S> {

@@ -13,11 +13,20 @@ use std::alloc::Global;
 use std::marker::Model;
 
 /// Gives its events as they are, made-up results too, and then the end. It keeps a record, and never fails.
-#[derive(Drop)]
 pub struct HostileHost {
     events: Queue<HostEvent>,
     jobs: NumberedJobs,
     calls: Items<RecordedCall>,
+}
+
+impl Drop for HostileHost {
+    fn drop(self) {
+        let HostileHost {
+            events: _,
+            jobs: _,
+            calls: _,
+        } = self;
+    }
 }
 
 impl Model for HostileHost {

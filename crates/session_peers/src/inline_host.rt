@@ -23,7 +23,6 @@ use std::marker::Model;
 
 /// Before more bytes come the results of all jobs out, which it runs within `next`, then the answers to the settings of a loader, one event
 /// each, then the deferred tasks, then the newest timer. It reads the source where it needs more bytes.
-#[derive(Drop)]
 pub struct InlineHost<'a, S: Source, A> {
     alloc: Global,
     source: FramedSource<S>,
@@ -31,6 +30,19 @@ pub struct InlineHost<'a, S: Source, A> {
     jobs: JobsOut,
     orders: HostOrders<DeferredTask>,
     calls: Option<Items<RecordedCall>>,
+}
+
+impl<'a, S: Source + Drop, A: Drop> Drop for InlineHost<'a, S, A> {
+    fn drop(self) {
+        let InlineHost {
+            alloc: _,
+            source: _,
+            analysis: _,
+            jobs: _,
+            orders: _,
+            calls: _,
+        } = self;
+    }
 }
 
 impl<'a, S: Source, A> Model for InlineHost<'a, S, A> {

@@ -16,10 +16,15 @@ use std::alloc::{AllocError, Global};
 use std::marker::Model;
 
 /// The jobs out, which came in the order of their numbers.
-#[derive(Drop)]
 pub(crate) struct JobsOut {
     jobs: Vec<Job>,
     handed: u64,
+}
+
+impl Drop for JobsOut {
+    fn drop(self) {
+        let JobsOut { jobs: _, handed: _ } = self;
+    }
 }
 
 impl Model for JobsOut {

@@ -10,11 +10,20 @@ use std::alloc::Global;
 use std::marker::Model;
 
 /// Keeps each turn, and fails at the calls that are listed.
-#[derive(Drop)]
 pub struct MemorySink {
     alloc: Global,
     turns: Items<Bytes>,
     plan: FailPlan,
+}
+
+impl Drop for MemorySink {
+    fn drop(self) {
+        let MemorySink {
+            alloc: _,
+            turns: _,
+            plan: _,
+        } = self;
+    }
 }
 
 impl Model for MemorySink {

@@ -10,13 +10,23 @@ use std::alloc::Global;
 use std::marker::Model;
 
 /// Gives its bytes in order, and fails at the calls that are listed.
-#[derive(Drop)]
 pub struct MemorySource {
     alloc: Global,
     bytes: Bytes,
     // How many of the bytes were given.
     given: usize,
     plan: FailPlan,
+}
+
+impl Drop for MemorySource {
+    fn drop(self) {
+        let MemorySource {
+            alloc: _,
+            bytes: _,
+            given: _,
+            plan: _,
+        } = self;
+    }
 }
 
 impl Model for MemorySource {

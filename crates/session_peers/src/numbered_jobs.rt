@@ -9,10 +9,15 @@ use session_port::{Command, HostEvent, Job, TaskMsg};
 use std::alloc::{AllocError, Global};
 
 /// The jobs out by their numbers, and the number of the last one that came.
-#[derive(Drop)]
 pub(crate) struct NumberedJobs {
     pub out: ByNumber<Job>,
     pub handed: u64,
+}
+
+impl Drop for NumberedJobs {
+    fn drop(self) {
+        let NumberedJobs { out: _, handed: _ } = self;
+    }
 }
 
 /// Takes off the job that a message ends, where it fits one.

@@ -6,9 +6,14 @@ use std::marker::Model;
 use std::vec;
 
 /// Items that are taken one by one, in order.
-#[derive(Drop)]
 pub(crate) struct Queue<T> {
     items: vec::IntoIter<T>,
+}
+
+impl<T: Drop> Drop for Queue<T> {
+    fn drop(self) {
+        let Queue { items: _ } = self;
+    }
 }
 
 impl<T> Model for Queue<T> {

@@ -8,9 +8,14 @@ use session_port::{Command, HostEvent};
 use std::marker::Model;
 
 /// A call of a host: it gave an event, or it took a turn's commands.
-#[derive(Drop)]
 pub struct RecordedCall {
     call: Call,
+}
+
+impl Drop for RecordedCall {
+    fn drop(self) {
+        let RecordedCall { call: _ } = self;
+    }
 }
 
 #[derive(Drop)]

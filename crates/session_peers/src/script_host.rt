@@ -17,7 +17,6 @@ use std::alloc::{AllocError, Global};
 use std::marker::Model;
 
 /// Gives what its script says, keeps a record, and fails at the calls that are listed.
-#[derive(Drop)]
 pub struct ScriptHost<'a, A> {
     alloc: Global,
     analysis: &'a A,
@@ -25,6 +24,19 @@ pub struct ScriptHost<'a, A> {
     jobs: NumberedJobs,
     calls: Items<RecordedCall>,
     plan: FailPlan,
+}
+
+impl<'a, A: Drop> Drop for ScriptHost<'a, A> {
+    fn drop(self) {
+        let ScriptHost {
+            alloc: _,
+            analysis: _,
+            steps: _,
+            jobs: _,
+            calls: _,
+            plan: _,
+        } = self;
+    }
 }
 
 impl<'a, A> Model for ScriptHost<'a, A> {

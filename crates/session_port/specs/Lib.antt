@@ -4,3 +4,7 @@ pub mod Jobs
 pub mod Record
 pub mod Runs
 pub mod SmallProject
+pub mod Codes
+pub mod Meets
+pub mod Working
+pub mod Written

@@ -2,7 +2,7 @@
 ghost use Rattle.std.specs.Prelude.{◌≡◌, Some, IfOk, OnOk};
 ghost use Rattle.session_model.specs.ClientSteps.{logged_if};
 ghost use Rattle.session_port.specs.declared.command.LogCode.TheVariants.{BuildError};
-ghost use Rattle.turn_parts.specs.Meets.{Meets, Gives};
+ghost use Rattle.session_port.specs.Meets.{Meets, Gives};
 ghost use Rattle.session_model.specs.Building.{build_due, build_kept, rebuilt_if};
 ghost use Rattle.session_model.specs.Machine.{at_workspaces, build_handed_over, build_started, build_taken, runs_started};
 ghost use Rattle.session_model.specs.Status.{build_fault};
@@ -10,9 +10,8 @@ ghost use Rattle.session_model.specs.Status.{build_fault};
 use crate::loading::start_load;
 use plain::NoMemory;
 use session_model::{BuildEnd, TurnError};
-use session_port::{JobKind, LogCode};
+use session_port::{JobKind, LogCode, TurnOut};
 use session_store::Store;
-use turn_parts::TurnOut;
 
 /// Asks for the macros anew, where this flag is set.
 pub fn rebuild_macros_if(

@@ -2,7 +2,7 @@
 ghost use Rattle.std.specs.Prelude.{◌≡◌, filter, IfOk};
 ghost use Rattle.std.specs.List.{list_any};
 ghost use Rattle.analysis_host.specs.SnapshotFiles.{file_exists};
-ghost use Rattle.turn_parts.specs.Meets.{Meets};
+ghost use Rattle.session_port.specs.Meets.{Meets};
 ghost use Rattle.session_model.specs.Checking.{check_kept, check_kind, finds_macros, has_macro_root, is_macro_root};
 ghost use Rattle.session_model.specs.Machine.{all_resumed, resumed, with_workspaces};
 
@@ -11,10 +11,9 @@ use docs_vfs::{FileId, VfsPath};
 use plain::Items;
 use project_model::{CrateEntry, ProjectWorkspace};
 use session_model::TurnError;
-use session_port::{DeferredTask, JobKind};
+use session_port::{DeferredTask, JobKind, TurnOut};
 use session_store::Store;
 use std::alloc::{AllocError, Global};
-use turn_parts::TurnOut;
 
 // Whether this is a crate of macros with this root file.
 fn is_macro_root(root: &VfsPath, entry: &CrateEntry) -> bool

@@ -1,7 +1,7 @@
 // Crate data of the workspaces.
 ghost use Rattle.std.specs.Prelude.{◌≡◌, IfOk, OnOk};
 ghost use Rattle.std.specs.FinMap as map;
-ghost use Rattle.turn_parts.specs.Meets.{Meets};
+ghost use Rattle.session_port.specs.Meets.{Meets};
 ghost use Rattle.session_model.specs.FilesSteps.{crates_put};
 ghost use Rattle.session_model.specs.Crates.{are_unknown, builds_crates, crate_data, crate_graph, crates_asked, crates_sought, crates_wait, followed_by, waits, with_paths};
 ghost use Rattle.session_model.specs.Machine.{at_files, crates_built};
@@ -12,9 +12,9 @@ use plain::{Items, NoMemory, Text};
 use project_model::{CrateData, MacroPath};
 use reload::{crate_roots, ws_to_crate_graph};
 use session_model::TurnError;
+use session_port::TurnOut;
 use session_store::{Store, file_of, is_unknown};
 use std::alloc::Global;
-use turn_parts::TurnOut;
 use workspaces::{Follows, without_macros};
 
 /// A crate graph, and for each workspace what was built of its proc macro crates.

@@ -2,7 +2,7 @@
 ghost use Rattle.std.specs.Prelude.{◌≡◌, Some, IfOk, OnOk};
 ghost use Rattle.session_model.specs.ClientSteps.{logged_if};
 ghost use Rattle.session_port.specs.declared.command.LogCode.TheVariants.{FetchError};
-ghost use Rattle.turn_parts.specs.Meets.{Meets, Gives};
+ghost use Rattle.session_port.specs.Meets.{Meets, Gives};
 ghost use Rattle.session_model.specs.Fetching.{fetch_kept, reloaded_if, with_fetches};
 ghost use Rattle.session_model.specs.Machine.{at_workspaces, begun_fetches, fetch_handed_over, fetch_started, fetch_taken, timed, with_workspaces};
 ghost use Rattle.workspaces.specs.Fetches.{fetch_to_start, start_fetch};
@@ -12,10 +12,9 @@ ghost use Rattle.session_model.specs.Status.{fetch_fault};
 use docs_vfs::VfsPath;
 use plain::{Items, NoMemory, Text};
 use session_model::{FetchEnd, TurnError};
-use session_port::{JobKind, LogCode};
+use session_port::{JobKind, LogCode, TurnOut};
 use session_store::Store;
 use std::alloc::{AllocError, Global};
-use turn_parts::TurnOut;
 use workspaces::FetchRequest;
 
 // A copy of paths.

@@ -1,6 +1,6 @@
 // Loads of the macros of workspaces.
 ghost use Rattle.std.specs.Prelude.{◌≡◌, IfOk, OnOk};
-ghost use Rattle.turn_parts.specs.Meets.{Meets};
+ghost use Rattle.session_port.specs.Meets.{Meets};
 ghost use Rattle.session_model.specs.Loading.{crates_loaded, load_kept, load_kind};
 ghost use Rattle.session_model.specs.Machine.{crates_arrived, load_handed_over, load_started, load_taken};
 
@@ -8,10 +8,9 @@ use crate::crates::put_crates;
 use plain::{Items, NoMemory, Text};
 use project_model::{CrateData, MacroPath};
 use session_model::{LoadEnd, TurnError};
-use session_port::JobKind;
+use session_port::{JobKind, TurnOut};
 use session_store::Store;
 use std::alloc::{AllocError, Global};
-use turn_parts::TurnOut;
 
 // A copy of texts by their names.
 fn copied(

@@ -1,6 +1,6 @@
 // What the client is asked to tell of.
 ghost use Rattle.std.specs.Prelude.{◌≡◌, map, IfOk};
-ghost use Rattle.turn_parts.specs.Meets.{Meets};
+ghost use Rattle.session_port.specs.Meets.{Meets};
 ghost use Rattle.session_model.specs.Asking.{watcher_asked, watchers_asked};
 ghost use Rattle.session_model.specs.Machine.{saves_registered, watchers_registered};
 ghost use Rattle.session_model.specs.State.{watched_names};
@@ -9,9 +9,9 @@ use notify::{Outgo, Watcher};
 use plain::{Items, NoMemory, Text};
 use reload::{Watcher as WatchedFiles, watchers};
 use session_model::{ReqHandler, TurnError};
+use session_port::TurnOut;
 use session_store::Store;
 use std::alloc::Global;
-use turn_parts::TurnOut;
 
 fn watcher_asked(files: WatchedFiles) -> Watcher
     ensures { result ≡ watcher_asked files }

@@ -1,8 +1,8 @@
 // Switches to workspaces that were fetched.
 ghost use Rattle.std.specs.Prelude.{◌≡◌, ◌⊎◌, None, Some, Ok, Err, IfOk, IfErr, OnOk};
-ghost use Rattle.turn_parts.specs.Meets.{Meets, Gives};
-ghost use Rattle.turn_parts.specs.declared.fault.Counter.TheVariants.{LoaderSettings};
-ghost use Rattle.turn_parts.specs.declared.fault.TurnError.TheVariants.{Exhausted, NoMemory as OutOfMemory};
+ghost use Rattle.session_port.specs.Meets.{Meets, Gives};
+ghost use Rattle.session_port.specs.declared.fault.Counter.TheVariants.{LoaderSettings};
+ghost use Rattle.session_port.specs.declared.fault.TurnError.TheVariants.{Exhausted, NoMemory as OutOfMemory};
 ghost use Rattle.session_model.specs.Machine.{followed, loader_set, roots_renewed, switch_done, warned};
 ghost use Rattle.session_model.specs.Sources.{sources_now};
 ghost use Rattle.session_model.specs.Switching.{switch_by, switch_made};
@@ -13,10 +13,9 @@ use docs_vfs::SourceRoots;
 use notify::{MessageKind, Outgo};
 use plain::{Items, Text};
 use session_model::{Counter, TurnError};
-use session_port::Command;
+use session_port::{Command, TurnOut};
 use session_store::Store;
 use std::alloc::AllocError;
-use turn_parts::TurnOut;
 use workspaces::{Follows, SwitchFault};
 
 // The user is told of a compiler that is too old.

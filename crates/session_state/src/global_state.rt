@@ -4,9 +4,9 @@ ghost use Rattle.lsp_frame.specs.Pending.{id_of, is_pending};
 ghost use Rattle.lsp_frame.specs.Written.{AreWritable};
 ghost use Rattle.lsp_frame.specs.declared.message.Message.TheVariants.{Response as ResponseMessage};
 ghost use Rattle.notify.specs.Writing.{HoldsPlain};
-ghost use Rattle.outgoing.specs.Outgoing.{number_limit};
-ghost use Rattle.turn_parts.specs.Meets.{Meets};
-ghost use Rattle.turn_parts.specs.Working.{written};
+ghost use Rattle.lsp_frame.specs.Outgoing.{number_limit};
+ghost use Rattle.session_port.specs.Meets.{Meets};
+ghost use Rattle.session_port.specs.Working.{written};
 ghost use Rattle.session_model.specs.ClientSteps.{asked_for, notification_of};
 ghost use Rattle.session_model.specs.Meaning.{Meaning, meaning_of};
 ghost use Rattle.session_model.specs.DeskSteps.{responded, cancelled};
@@ -25,16 +25,21 @@ use notify::Outgo;
 use plain::{NoMemory, Text};
 use ra_config::Config;
 use session_model::{Counters, Event, ReqHandler, TurnError};
+use session_port::TurnOut;
 use session_store::Store;
 use std::alloc::{AllocError, Global};
 use std::marker::Model;
-use turn_parts::TurnOut;
 use workspaces::FetchRequest;
 
 /// The state of a session.
-#[derive(Drop)]
 pub struct GlobalState {
     store: Store,
+}
+
+impl Drop for GlobalState {
+    fn drop(self) {
+        let GlobalState { store: _ } = self;
+    }
 }
 
 impl Model for GlobalState {

@@ -8,4 +8,4 @@ mod turns;
 pub use global_state::GlobalState;
 pub use plain::NoMemory;
 pub use session_model::{Counter, Event, Input, SessionError, TurnError};
-pub use turn_parts::TurnOut;
+pub use session_port::TurnOut;

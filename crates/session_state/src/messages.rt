@@ -1,7 +1,7 @@
 // Messages of the client and of jobs: which is what.
 ghost use Rattle.std.specs.Prelude.{◌≡◌};
 ghost use Rattle.lsp_frame.specs.Pending.{IsAbove};
-ghost use Rattle.turn_parts.specs.Meets.{Meets};
+ghost use Rattle.session_port.specs.Meets.{Meets};
 ghost use Rattle.session_model.specs.Meaning.{meaning_of};
 ghost use Rattle.session_model.specs.Building.{is_rebuild, rebuilds};
 ghost use Rattle.session_model.specs.Fetching.{is_reload, reloads};
@@ -9,17 +9,15 @@ ghost use Rattle.session_model.specs.Machine.{asked, batched, ends_taken, receiv
 
 use analysis_host::Analysis;
 use lsp_frame::{Message, Request};
-use method_table::{REBUILD_PROC_MACROS, RELOAD_WORKSPACE, RowId, row_of};
+use method_table::{REBUILD_PROC_MACROS, RELOAD_WORKSPACE, RowId, is_unit, row_of};
 use plain::Items;
 use session_model::{Ends, TurnError};
 use session_notices::{complete_request, on_notification};
-use session_port::TaskMsg;
+use session_port::{TaskMsg, TurnOut};
 use session_renewal::{
     rebuild_macros_if, reload_if, take_build, take_check, take_fetch, take_load,
 };
 use session_store::Store;
-use state_params::is_unit;
-use turn_parts::TurnOut;
 
 // Whether this is the row of requests that ask for the workspaces anew.
 fn is_reload(row: Option<RowId>) -> bool

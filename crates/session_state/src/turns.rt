@@ -1,7 +1,7 @@
 // The turns of a session.
 ghost use Rattle.std.specs.Prelude.{◌≡◌, OnOk};
 ghost use Rattle.lsp_frame.specs.Pending.{IsAbove};
-ghost use Rattle.turn_parts.specs.Meets.{Meets, Gives};
+ghost use Rattle.session_port.specs.Meets.{Meets, Gives};
 ghost use Rattle.session_model.specs.Meaning.{Meaning, meaning_of};
 ghost use Rattle.session_model.specs.Machine.{closed, counted, facts_of, happened, kept, revised, step, taken_in};
 ghost use Rattle.session_model.specs.declared.input.Input.TheVariants.{Start, Next};
@@ -10,13 +10,12 @@ use crate::messages::{on_batch, on_message};
 use analysis_host::Analysis;
 use session_model::{Event, Facts, TurnError};
 use session_notices::{on_loader, process, set_timer};
-use session_port::Command;
+use session_port::{Command, TurnOut};
 use session_renewal::{
     begin_fetches, on_timer, register_saves, resume_all, start_fetch, start_runs, switch_workspaces,
 };
 use session_status::{refresh, report_status};
 use session_store::Store;
-use turn_parts::TurnOut;
 
 // The turn is counted.
 #[tactic(auto, unfolding(session_model::specs::Machine::counted))]
@@ -101,7 +100,7 @@ fn facts(store: &Store, out: &TurnOut) -> Facts
 }
 
 // Turn 0. It uses no number of the turns. After an `Err` the state is spent.
-#[tactic(auto, unfolding(session_model::specs::Machine::step, session_model::specs::Machine::register_part, session_model::specs::Machine::begin_part, session_model::specs::Machine::fetch_part, session_model::specs::Machine::status_part, session_model::specs::Machine::closing_part, turn_parts::specs::Working::within))]
+#[tactic(auto, unfolding(session_model::specs::Machine::step, session_model::specs::Machine::register_part, session_model::specs::Machine::begin_part, session_model::specs::Machine::fetch_part, session_model::specs::Machine::status_part, session_model::specs::Machine::closing_part, session_port::specs::Working::within))]
 pub(crate) fn start(store: &mut Store, out: &mut TurnOut) -> Result<(), TurnError>
     ensures { (meaning : Meaning) → Meets result (step meaning Start (record { state = store.old; out = out.old })) store.new out.new }
 {
@@ -114,7 +113,7 @@ pub(crate) fn start(store: &mut Store, out: &mut TurnOut) -> Result<(), TurnErro
 }
 
 // One turn. After an `Err` the state is spent.
-#[tactic(auto, unfolding(session_model::specs::Machine::step, session_model::specs::Machine::event_part, session_model::specs::Machine::switch_part, session_model::specs::Machine::files_part, session_model::specs::Machine::quiet_part, session_model::specs::Machine::fetch_part, session_model::specs::Machine::build_part, session_model::specs::Machine::status_part, session_model::specs::Machine::closing_part, turn_parts::specs::Working::within))]
+#[tactic(auto, unfolding(session_model::specs::Machine::step, session_model::specs::Machine::event_part, session_model::specs::Machine::switch_part, session_model::specs::Machine::files_part, session_model::specs::Machine::quiet_part, session_model::specs::Machine::fetch_part, session_model::specs::Machine::build_part, session_model::specs::Machine::status_part, session_model::specs::Machine::closing_part, session_port::specs::Working::within))]
 pub(crate) fn handle_event<A: Analysis>(
     store: &mut Store,
     event: Event,

@@ -1,1 +1,2 @@
 pub mod Projects
+pub mod Told

@@ -3,6 +3,7 @@
 
 mod refreshing;
 mod telling;
+mod well;
 
 pub use refreshing::refresh;
 pub use telling::report_status;

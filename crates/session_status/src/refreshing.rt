@@ -1,15 +1,15 @@
 // What the client is asked to ask anew.
 ghost use Rattle.std.specs.Prelude.{◌≡◌};
 ghost use Rattle.notify.specs.Writing.{HoldsPlain};
-ghost use Rattle.turn_parts.specs.Meets.{Meets};
+ghost use Rattle.session_port.specs.Meets.{Meets};
 ghost use Rattle.session_model.specs.Asking.{is_refresh_due};
 ghost use Rattle.session_model.specs.Machine.{asked_if, has_new_world, quiet_done, refreshed};
 ghost use Rattle.session_model.specs.Status.{is_quiescent};
 
 use notify::Outgo;
 use session_model::{Facts, ReqHandler, TurnError};
+use session_port::TurnOut;
 use session_store::Store;
-use turn_parts::TurnOut;
 
 // The client is asked for this, where the flag is set. Nothing follows its answer.
 #[tactic(auto, unfolding(session_model::specs::Machine::asked_if))]

@@ -1,20 +1,21 @@
 // The status of the session, and how the client is told of it.
 ghost use Rattle.std.specs.Prelude.{◌≡◌, ◌==◌, length, IfOk};
 ghost use Rattle.ra_config.specs.Config.{projects_of};
-ghost use Rattle.turn_parts.specs.Meets.{Meets};
+ghost use Rattle.session_port.specs.Meets.{Meets};
 ghost use Rattle.session_model.specs.Machine.{status_changed, status_done, status_kept, status_told, text_shown};
 ghost use Rattle.session_model.specs.State.{linked_of};
 ghost use Rattle.session_model.specs.Status.{facts_known, has_build_error, has_fetch_error, health_text, lacks_projects, needs_reload, opens_logs, shown_as, shown_of, status_message, status_now};
 
+use crate::well::is_told;
 use notify::{MessageKind, Outgo};
 use plain::{Items, NoMemory, Text};
 use project_model::ProjectWorkspace;
 use ra_settings::LinkedProject;
 use session_model::{ReqHandler, TurnError};
+use session_port::TurnOut;
 use session_store::Store;
 use status::{Health, Status, StatusInput, status_with};
 use std::alloc::{AllocError, Global};
-use turn_parts::TurnOut;
 
 fn health_text(health: Health) -> &'static str
     ensures { result.now ≡ health_text health }
@@ -80,7 +81,7 @@ fn has_no_projects(store: &Store) -> Result<bool, AllocError>
 }
 
 // Whether there is nothing to load: no projects, and no files that stand alone.
-fn lacks_projects(store: &Store) -> Result<bool, AllocError>
+pub(crate) fn lacks_projects(store: &Store) -> Result<bool, AllocError>
     ensures { IfOk result (λ lacks. lacks ≡ lacks_projects store.now.client.settings) }
 {
     let none = has_no_projects(store)?;
@@ -88,21 +89,21 @@ fn lacks_projects(store: &Store) -> Result<bool, AllocError>
 }
 
 // Whether workspaces have changed, and wait until they are asked for.
-fn needs_reload(store: &Store) -> bool
+pub(crate) fn needs_reload(store: &Store) -> bool
     ensures { result ≡ needs_reload store.now.client.settings store.now.files store.now.workspaces }
 {
     store.workspaces.is_fetch_requested() && !store.may_fetch() && store.is_quiescent()
 }
 
 // Whether the last fetch failed.
-fn has_fetch_error(store: &Store) -> Result<bool, NoMemory>
+pub(crate) fn has_fetch_error(store: &Store) -> Result<bool, NoMemory>
     ensures { IfOk result (λ has. has ≡ has_fetch_error store.now.client.settings store.now.workspaces) }
 {
     Ok(store.workspaces.fetch_error(store.discovers())?.is_some())
 }
 
 // Whether some of the last builds failed.
-fn has_build_error(store: &Store) -> Result<bool, NoMemory>
+pub(crate) fn has_build_error(store: &Store) -> Result<bool, NoMemory>
     ensures { IfOk result (λ has. has ≡ has_build_error store.now.workspaces) }
 {
     Ok(store.workspaces.build_error()?.is_some())
@@ -139,7 +140,7 @@ fn linked_projects(store: &Store) -> &[LinkedProject]
 }
 
 // The workspaces that are present.
-fn present_workspaces(store: &Store) -> &[ProjectWorkspace]
+pub(crate) fn present_workspaces(store: &Store) -> &[ProjectWorkspace]
     ensures { result.now ≡ store.now.workspaces.present }
 {
     store.workspaces.present()
@@ -228,10 +229,13 @@ fn keep_status(store: &mut Store, status: Status, out: &mut TurnOut) -> Result<(
 }
 
 /// The status of the present is told where it is another than the last one, and kept.
-#[tactic(auto, unfolding(session_model::specs::Machine::status_done))]
+#[tactic(auto, using(crate::proofs::Told::status_stays), unfolding(session_model::specs::Machine::status_done))]
 pub fn report_status(store: &mut Store, out: &mut TurnOut) -> Result<(), TurnError>
     ensures { Meets result (status_done (record { state = store.old; out = out.old })) store.new out.new }
 {
+    if is_told(store)? {
+        return Ok(());
+    }
     let status = status_now(store)?;
     keep_status(store, status, out)
 }

@@ -1,12 +1,12 @@
 -- A call of what is agreed with the client, as a step of the session.
 use Rattle.std.proofs.Common.{◌≡◌, sym, subst}
 use Rattle.std.specs.Prelude.{Result}
-use Rattle.turn_parts.proofs.Parts.{within_meets}
-use Rattle.turn_parts.specs.Meets.{Meets}
-use Rattle.turn_parts.specs.Working.{Working}
-use Rattle.turn_parts.specs.Written.{Written}
-use Rattle.turn_parts.specs.declared.fault.Counter.{Counter}
-use Rattle.turn_parts.specs.declared.fault.TurnError.{TurnError}
+use Rattle.session_port.proofs.Parts.{within_meets}
+use Rattle.session_port.specs.Meets.{Meets}
+use Rattle.session_port.specs.Working.{Working}
+use Rattle.session_port.specs.Written.{Written}
+use Rattle.session_port.specs.declared.fault.Counter.{Counter}
+use Rattle.session_port.specs.declared.fault.TurnError.{TurnError}
 use Rattle.session_model.specs.Client.{Client}
 use Rattle.session_model.specs.Machine.{at_client, client_in, with_client}
 use Rattle.session_model.specs.State.{State}

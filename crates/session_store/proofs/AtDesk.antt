@@ -1,12 +1,12 @@
 -- A call of the desk, as a step of the session.
 use Rattle.std.proofs.Common.{◌≡◌, sym, ap, subst, ◌∙◌}
 use Rattle.std.specs.Prelude.{Result, Ok}
-use Rattle.turn_parts.proofs.Parts.{within_meets}
-use Rattle.turn_parts.specs.Meets.{Meets}
-use Rattle.turn_parts.specs.Working.{Working, within, put_back}
-use Rattle.turn_parts.specs.Written.{Written}
-use Rattle.turn_parts.specs.declared.fault.Counter.{Counter}
-use Rattle.turn_parts.specs.declared.fault.TurnError.{TurnError}
+use Rattle.session_port.proofs.Parts.{within_meets}
+use Rattle.session_port.specs.Meets.{Meets}
+use Rattle.session_port.specs.Working.{Working, within, put_back}
+use Rattle.session_port.specs.Written.{Written}
+use Rattle.session_port.specs.declared.fault.Counter.{Counter}
+use Rattle.session_port.specs.declared.fault.TurnError.{TurnError}
 use Rattle.session_model.specs.Client.{Client}
 use Rattle.session_model.specs.Desk.{Desk}
 use Rattle.session_model.specs.Machine.{at_desk, desk_in, with_desk}

@@ -4,12 +4,12 @@ use Rattle.std.specs.Prelude.{ℤ, Result}
 use Rattle.docs_vfs.specs.declared.source_roots.Root.{Root}
 use Rattle.text_core.specs.declared.change.ContentChange.{ContentChange}
 use Rattle.text_core.specs.declared.position.PositionEncoding.{PositionEncoding}
-use Rattle.turn_parts.proofs.Parts.{within_meets}
-use Rattle.turn_parts.specs.Meets.{Meets}
-use Rattle.turn_parts.specs.Working.{Working}
-use Rattle.turn_parts.specs.Written.{Written}
-use Rattle.turn_parts.specs.declared.fault.Counter.{Counter}
-use Rattle.turn_parts.specs.declared.fault.TurnError.{TurnError}
+use Rattle.session_port.proofs.Parts.{within_meets}
+use Rattle.session_port.specs.Meets.{Meets}
+use Rattle.session_port.specs.Working.{Working}
+use Rattle.session_port.specs.Written.{Written}
+use Rattle.session_port.specs.declared.fault.Counter.{Counter}
+use Rattle.session_port.specs.declared.fault.TurnError.{TurnError}
 use Rattle.session_model.specs.SessionFiles.{SessionFiles}
 use Rattle.session_model.specs.FilesSteps.{changed, opened, processed}
 use Rattle.session_model.specs.Machine.{at_files, files_in, with_files}

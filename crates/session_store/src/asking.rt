@@ -1,8 +1,8 @@
 // What the client is asked and told.
 ghost use Rattle.std.specs.Prelude.{◌≡◌, OnOk};
 ghost use Rattle.notify.specs.Writing.{HoldsPlain};
-ghost use Rattle.turn_parts.specs.Meets.{Meets};
-ghost use Rattle.turn_parts.specs.Working.{written};
+ghost use Rattle.session_port.specs.Meets.{Meets};
+ghost use Rattle.session_port.specs.Working.{written};
 ghost use Rattle.session_model.specs.ClientSteps.{asked_for, notification_of};
 ghost use Rattle.session_model.specs.Machine.{at_client};
 
@@ -10,7 +10,7 @@ use crate::state::Store;
 use notify::Outgo;
 use plain::NoMemory;
 use session_model::{ReqHandler, TurnError};
-use turn_parts::TurnOut;
+use session_port::TurnOut;
 
 impl Store {
     /// Sends a request of the session's own, whose answer is followed by what `then` says. After an `Err` the state is spent.
@@ -27,7 +27,7 @@ impl Store {
     }
 
     /// Sends a notification.
-    #[tactic(auto, unfolding(turn_parts::specs::Working::written))]
+    #[tactic(auto, unfolding(session_port::specs::Working::written))]
     pub fn send_notification(&mut self, message: Outgo, out: &mut TurnOut) -> Result<(), NoMemory>
         requires { HoldsPlain message }
         ensures after { OnOk result (written (notification_of message) (record { state = self.old; out = out.old }) ≡ record { state = self.new; out = out.new }) }

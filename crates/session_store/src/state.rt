@@ -3,9 +3,9 @@ ghost use Rattle.std.specs.Prelude.{◌≡◌, ◌≤◌, [], IfOk, Ok, OnOk, So
 ghost use Rattle.lsp_frame.specs.Pending.{IsAbove, id_of, is_pending};
 ghost use Rattle.lsp_frame.specs.Written.{AreWritable};
 ghost use Rattle.lsp_frame.specs.declared.message.Message.TheVariants.{Response as ResponseMessage};
-ghost use Rattle.outgoing.specs.Outgoing.{number_limit};
-ghost use Rattle.turn_parts.specs.Meets.{Meets, Gives};
-ghost use Rattle.turn_parts.specs.Working.{ordered, logged};
+ghost use Rattle.lsp_frame.specs.Outgoing.{number_limit};
+ghost use Rattle.session_port.specs.Meets.{Meets, Gives};
+ghost use Rattle.session_port.specs.Working.{ordered, logged};
 ghost use Rattle.session_model.specs.ClientSteps.{logged_if};
 ghost use Rattle.session_model.specs.DeskSteps.{responded, cancelled, handed_over, requested, taken};
 ghost use Rattle.session_model.specs.Machine.{at_desk};
@@ -21,15 +21,13 @@ use method_table::PoolClass;
 use plain::{Items, NoMemory, Text};
 use ra_config::Config;
 use session_model::{Client, Counters, Desk, Present, SessionFiles, TurnError};
-use session_port::{Command, JobKind, LogCode, TaskMsg};
+use session_port::{Command, JobKind, LogCode, TaskMsg, TurnOut};
 use status::{Health, Status};
 use std::alloc::{AllocError, Global};
 use std::marker::Model;
-use turn_parts::TurnOut;
 use workspaces::Workspaces;
 
 /// The state of a session, as the crates of its subjects change it.
-#[derive(Drop)]
 pub struct Store {
     pub alloc: Global,
     pub client: Client,
@@ -42,6 +40,21 @@ pub struct Store {
     pub parents: Option<Items<(u32, u32)>>,
     /// The status that was told last.
     pub status: Status,
+}
+
+impl Drop for Store {
+    fn drop(self) {
+        let Store {
+            alloc: _,
+            client: _,
+            files: _,
+            desk: _,
+            workspaces: _,
+            roots: _,
+            parents: _,
+            status: _,
+        } = self;
+    }
 }
 
 // No source roots.
@@ -226,7 +239,7 @@ impl Store {
 // What is ordered.
 impl Store {
     /// Orders a command.
-    #[tactic(auto, unfolding(turn_parts::specs::Working::ordered))]
+    #[tactic(auto, unfolding(session_port::specs::Working::ordered))]
     pub fn order(&mut self, command: Command, out: &mut TurnOut) -> Result<(), TurnError>
         ensures gives { Gives result (ordered command (record { state = self.old; out = out.old })) self.new out.new }
         ensures same { self.new ≡ self.old }
@@ -236,7 +249,7 @@ impl Store {
     }
 
     /// Writes a log line.
-    #[tactic(auto, unfolding(turn_parts::specs::Working::logged))]
+    #[tactic(auto, unfolding(session_port::specs::Working::logged))]
     pub fn log(&mut self, code: LogCode, text: Text, out: &mut TurnOut) -> Result<(), TurnError>
         ensures gives { Gives result (logged code text (record { state = self.old; out = out.old })) self.new out.new }
         ensures same { self.new ≡ self.old }

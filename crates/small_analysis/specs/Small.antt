@@ -77,14 +77,18 @@ class_value row params other = default_of row
 abbrev pub row_value : RowId → Data → Data
 row_value row params = class_value row params (class_of row)
 
+-- a value that isn't plain is no answer
+abbrev pub plain_answer : Data → Finding
+plain_answer value = if is_plain value then answer (Json value) else malformed
+
 abbrev pub row_answer : SnapshotData → RowId → Data → Finding
 row_answer snapshot row params =
     if is_hover row then hover_of snapshot (hover_params params)
-    else (if is_matching_brace row then braces_of snapshot (brace_params params) else answer (Json (row_value row params)))
+    else (if is_matching_brace row then braces_of snapshot (brace_params params) else plain_answer (row_value row params))
 
--- params that aren't plain, or can't be read, are malformed
+-- params that can't be read are malformed
 abbrev pub request_answer : SnapshotData → RowId → Data → Finding
-request_answer snapshot row params = if is_plain params && small_decodes row params then row_answer snapshot row params else malformed
+request_answer snapshot row params = if small_decodes row params then row_answer snapshot row params else malformed
 
 -- nothing has to be found out beforehand
 abbrev pub small_answer : SnapshotData → Ask → Finding

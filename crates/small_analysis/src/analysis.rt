@@ -1,9 +1,8 @@
 // The small analysis.
-ghost use Rattle.std.specs.Prelude.{◌≡◌, true, None, IfOk, OnOk};
-ghost use Rattle.plain.specs.Plain.{is_plain};
+ghost use Rattle.std.specs.Prelude.{◌≡◌, None, IfOk, OnOk};
 ghost use Rattle.analysis_host.specs.Answers.{Answers, IsOutcomeOf, IsPlainOutcome};
 ghost use Rattle.analysis_host.specs.Polls.{Counts, HasPolled};
-ghost use Rattle.small_analysis.specs.Small.{class_value, is_hover, is_matching_brace, request_answer, row_value, small_decodes, small_answer, stopped_by};
+ghost use Rattle.small_analysis.specs.Small.{class_value, is_hover, is_matching_brace, plain_answer, request_answer, row_value, small_decodes, small_answer, stopped_by};
 
 use crate::hover::hover_of;
 use crate::matching_brace::braces_of;
@@ -34,11 +33,8 @@ fn is_matching_brace(row: RowId) -> bool
 }
 
 /// What a row of a class is answered where nothing is known.
-#[tactic(auto, unfolding(plain::specs::Plain::most_levels))]
 fn class_value(alloc: Global, class: Class, row: RowId, params: &Json) -> Result<Json, AllocError>
-    requires { is_plain params.now ≡ true }
-    ensures value { IfOk result (λ json. json ≡ class_value row params.now class) }
-    ensures plain { IfOk result (λ json. is_plain json ≡ true) }
+    ensures { IfOk result (λ json. json ≡ class_value row params.now class) }
 {
     match class {
         Class::Identity => Ok(params.clone()?),
@@ -51,11 +47,20 @@ fn class_value(alloc: Global, class: Class, row: RowId, params: &Json) -> Result
 
 /// What a row is answered where nothing is known.
 fn row_value(alloc: Global, row: RowId, params: &Json) -> Result<Json, AllocError>
-    requires { is_plain params.now ≡ true }
-    ensures value { IfOk result (λ json. json ≡ row_value row params.now) }
-    ensures plain { IfOk result (λ json. is_plain json ≡ true) }
+    ensures { IfOk result (λ json. json ≡ row_value row params.now) }
 {
     class_value(alloc, class_of(row), row, params)
+}
+
+/// An answer by a value, where it is plain.
+fn plain_answer(alloc: Global, value: Json) -> Result<Outcome, AllocError>
+    ensures answers { IfOk result (Answers (plain_answer value) None) }
+    ensures plain { IfOk result IsPlainOutcome }
+{
+    if !value.is_plain() {
+        return malformed(alloc);
+    }
+    Ok(Outcome::Value(Answer::Json(value)))
 }
 
 /// What a request of a row comes to.
@@ -68,16 +73,12 @@ fn request_answer(
     ensures answers { IfOk result (Answers (request_answer snapshot.now row params.now) None) }
     ensures plain { IfOk result IsPlainOutcome }
 {
-    if !params.is_plain() {
-        return malformed(alloc);
-    }
     if is_hover(row) {
         hover_of(alloc, snapshot, params)
     } else if is_matching_brace(row) {
         braces_of(alloc, snapshot, params)
     } else {
-        let value = row_value(alloc, row, params)?;
-        Ok(Outcome::Value(Answer::Json(value)))
+        plain_answer(alloc, row_value(alloc, row, params)?)
     }
 }
 

@@ -62,7 +62,7 @@ const FAULT_ROWS: &str =
 {"textDocument":{"uri":7},"position":{"line":0,"character":0}} > invalid params
 {"textDocument":{"uri":"file:///w/a.rs"},"position":{"line":-1,"character":0}} > invalid params
 {"textDocument":{"uri":"file:///w/a.rs"},"position":{"line":0,"character":4294967296}} > invalid params
-{"textDocument":{"uri":"file:///w/a.rs"},"position":{"line":0,"character":0},"more":0.5} > invalid params
+{"textDocument":{"uri":"file:///w/a.rs"},"position":{"line":0,"character":0},"more":0.5} > {"contents":"a"}
 [] > invalid params"#;
 
 fn is_fault(alloc: Global, line: &str) -> Option<bool> {

@@ -110,7 +110,7 @@ const OTHERS: &str = "resolve > [] > []
 resolve > null > null
 resolve > 0.5 > invalid params
 completion > 7 > null
-completion > [0.5] > invalid params
+completion > [0.5] > null
 0 > {} > null
 62 > {} > null";
 

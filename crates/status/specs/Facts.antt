@@ -2,7 +2,7 @@
 use Rattle.std.specs.Prelude.{ℕ, Bool, true, false, List, [], ◌∷◌, ◌++◌, codes, map, Option, Some, None}
 use Rattle.project_model.specs.Workspaces.{manifest_or_root}
 use Rattle.project_model.specs.declared.workspace.ProjectWorkspace.{ProjectWorkspace}
-use Rattle.msrv.specs.Msrv.{msrv_texts}
+use Rattle.project_model.specs.Msrv.{msrv_texts}
 use Rattle.status.specs.Drafts.{Fact, add_all, add_each, nothing_told, message_of}
 use Rattle.status.specs.Texts.{reload_text, rebuild_text, build_text, discover_text, line, load_text, error_text}
 use Rattle.status.specs.declared.draft.Draft.{Draft}

@@ -10,10 +10,15 @@ use plain::{NoMemory, Text};
 use std::alloc::Global;
 
 /// How well the session is by the facts so far, and their texts.
-#[derive(Drop)]
 pub(crate) struct Draft {
     pub health: Health,
     pub text: Text,
+}
+
+impl Drop for Draft {
+    fn drop(self) {
+        let Draft { health: _, text: _ } = self;
+    }
 }
 
 /// All is well, and nothing is told.

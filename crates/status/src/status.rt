@@ -7,14 +7,12 @@ use crate::draft::nothing_told;
 use crate::health::Health;
 use crate::session_facts::add_session_facts;
 use crate::workspace_facts::{add_warnings, add_workspaces};
-use msrv::check_workspaces_msrv;
 use plain::{Items, NoMemory, Text};
-use project_model::ProjectWorkspace;
+use project_model::{ProjectWorkspace, check_workspaces_msrv};
 use ra_settings::LinkedProject;
 use std::alloc::Global;
 
 /// What a status is made of.
-#[derive(Drop)]
 pub struct StatusInput {
     /// Workspaces changed, and are fetched only by hand.
     pub reload_needed: bool,
@@ -37,12 +35,38 @@ pub struct StatusInput {
     pub fully_ready: bool,
 }
 
+impl Drop for StatusInput {
+    fn drop(self) {
+        let StatusInput {
+            reload_needed: _,
+            build_deps_changed: _,
+            build_error: _,
+            config_errors: _,
+            check_error: _,
+            no_projects: _,
+            workspace_error: _,
+            linked: _,
+            workspaces: _,
+            fully_ready: _,
+        } = self;
+    }
+}
+
 /// The status of a session.
-#[derive(Drop)]
 pub struct Status {
     pub health: Health,
     pub quiescent: bool,
     pub message: Option<Text>,
+}
+
+impl Drop for Status {
+    fn drop(self) {
+        let Status {
+            health: _,
+            quiescent: _,
+            message: _,
+        } = self;
+    }
 }
 
 fn message_of(alloc: Global, text: &str) -> Result<Option<Text>, NoMemory>

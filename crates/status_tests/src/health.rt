@@ -25,8 +25,8 @@ pub(crate) fn all_is_well(alloc: Global) -> StatusInput {
 
 /// The message of a status; `none` where there is none.
 pub(crate) fn message_of(alloc: Global, input: &StatusInput) -> Result<Text, Fail> {
-    match current_status(alloc, input)?.message {
-        Some(message) => Ok(message),
+    match &current_status(alloc, input)?.message {
+        Some(message) => Ok(message.clone()?),
         None => text_of(alloc, "none"),
     }
 }

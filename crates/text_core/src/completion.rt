@@ -49,7 +49,7 @@ pub struct Relevance {
 }
 
 /// The parts of a completion that tell whether it is the one that a client asks for.
-#[derive(Clone, Debug, Drop)]
+#[derive(Clone, Debug)]
 pub struct HashedItem {
     pub is_snippet: bool,
     pub deprecated: bool,
@@ -64,4 +64,23 @@ pub struct HashedItem {
     /// How it refers to its item, and where.
     pub ref_match: Option<(RefMode, u32)>,
     pub import_to_add: Items<Text>,
+}
+
+impl Drop for HashedItem {
+    fn drop(self) {
+        let HashedItem {
+            is_snippet: _,
+            deprecated: _,
+            trigger_call_info: _,
+            label: _,
+            detail_left: _,
+            detail_right: _,
+            kind_tag: _,
+            lookup: _,
+            detail: _,
+            relevance: _,
+            ref_match: _,
+            import_to_add: _,
+        } = self;
+    }
 }

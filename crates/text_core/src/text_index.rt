@@ -22,10 +22,15 @@ use std::marker::Model;
 use std::sync::Arc;
 
 /// A text with the places at which its lines begin. Contracts see it as the text.
-#[derive(Drop)]
 pub struct TextIndex {
     text: ArcText,
     starts: Vec<u32>,
+}
+
+impl Drop for TextIndex {
+    fn drop(self) {
+        let TextIndex { text: _, starts: _ } = self;
+    }
 }
 
 impl Model for TextIndex {
@@ -242,11 +247,20 @@ impl TextIndex {
 }
 
 /// A text's index, with what a column counts in it and how its lines ended before they were normalised.
-#[derive(Drop)]
 pub struct LineIndex {
     pub index: Arc<TextIndex, Global>,
     pub endings: LineEndings,
     pub encoding: PositionEncoding,
+}
+
+impl Drop for LineIndex {
+    fn drop(self) {
+        let LineIndex {
+            index: _,
+            endings: _,
+            encoding: _,
+        } = self;
+    }
 }
 
 /// The byte at which a position stands, between whole characters of the text.

@@ -7,17 +7,33 @@ use plain::{Items, Text};
 use project_model::{BuildScripts, ProjectWorkspace};
 
 /// What a fetch found, and whether it was forced.
-#[derive(Drop)]
 pub struct FetchOutput {
     pub workspaces: Items<Result<ProjectWorkspace, Text>>,
     pub forced: bool,
 }
 
+impl Drop for FetchOutput {
+    fn drop(self) {
+        let FetchOutput {
+            workspaces: _,
+            forced: _,
+        } = self;
+    }
+}
+
 /// What the build scripts of each workspace made, and the version of the workspaces.
-#[derive(Drop)]
 pub struct BuildOutput {
     pub version: u64,
     pub runs: Items<Result<BuildScripts, Text>>,
+}
+
+impl Drop for BuildOutput {
+    fn drop(self) {
+        let BuildOutput {
+            version: _,
+            runs: _,
+        } = self;
+    }
 }
 
 pub(crate) fn list_fetched(last: Option<&FetchOutput>) -> Option<&[Result<ProjectWorkspace, Text>]>

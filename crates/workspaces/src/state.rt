@@ -22,7 +22,6 @@ use std::marker::Model;
 use std::sync::Arc;
 
 /// The workspaces of a session, with what is fetched, built and loaded to renew them.
-#[derive(Drop)]
 pub struct Workspaces {
     alloc: Global,
     fetches: OpQueue<FetchRequest, FetchOutput>,
@@ -45,6 +44,28 @@ pub struct Workspaces {
     incomplete: bool,
     switch_wanted: bool,
     build_deps_changed: bool,
+}
+
+impl Drop for Workspaces {
+    fn drop(self) {
+        let Workspaces {
+            alloc: _,
+            fetches: _,
+            forced: _,
+            planned: _,
+            builds: _,
+            build_version: _,
+            loads: _,
+            loading: _,
+            present: _,
+            version: _,
+            loader_version: _,
+            asked: _,
+            incomplete: _,
+            switch_wanted: _,
+            build_deps_changed: _,
+        } = self;
+    }
 }
 
 impl Model for Workspaces {

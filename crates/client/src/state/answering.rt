@@ -4,7 +4,7 @@ ghost use Rattle.client.specs.Answers.{fault_in, settings_in};
 ghost use Rattle.client.specs.Folds.{follows, asked_after, with_client, errors_with, client_change};
 ghost use Rattle.client.specs.Steps.{answered, logged_if};
 ghost use Rattle.session_port.specs.declared.command.LogCode.TheVariants.{SettingsError};
-ghost use Rattle.turn_parts.specs.Meets.{Gives};
+ghost use Rattle.session_port.specs.Meets.{Gives};
 
 use crate::answers::{SettingsAnswer, chooses, read_settings};
 use crate::handler::ReqHandler;
@@ -14,9 +14,8 @@ use lsp_frame::{RequestId, Response};
 use notify::Outgo;
 use plain::{Items, Json};
 use ra_config::ConfigChange;
-use session_port::{Command, LogCode};
+use session_port::{Command, LogCode, TurnError, TurnOut};
 use std::alloc::{AllocError, Global};
-use turn_parts::{TurnError, TurnOut};
 
 // A change of the client's settings alone.
 fn client_change(alloc: Global, value: Json) -> ConfigChange
@@ -56,7 +55,7 @@ impl Client {
     }
 
     // The answer to a request for the settings.
-    #[tactic(auto, unfolding(turn_parts::specs::Working::logged, turn_parts::specs::Working::ordered))]
+    #[tactic(auto, unfolding(session_port::specs::Working::logged, session_port::specs::Working::ordered))]
     fn take_settings(&mut self, response: Response, out: &mut TurnOut) -> Result<(), AllocError>
         ensures { OnOk result (logged_if SettingsError (fault_in response)
             (record { state = record self.old { settings = with_client (settings_in response) self.old.settings; errors = errors_with (settings_in response) self.old }; out = out.old })
@@ -70,7 +69,7 @@ impl Client {
     }
 
     /// An answer to a request of the session's own. After an `Err` the client is spent.
-    #[tactic(auto, unfolding(crate::specs::Steps::answered, crate::specs::Steps::followed, turn_parts::specs::Working::logged, turn_parts::specs::Working::ordered, turn_parts::specs::Working::written))]
+    #[tactic(auto, unfolding(crate::specs::Steps::answered, crate::specs::Steps::followed, session_port::specs::Working::logged, session_port::specs::Working::ordered, session_port::specs::Working::written))]
     pub fn complete(&mut self, response: Response, out: &mut TurnOut) -> Result<(), TurnError>
         ensures { Gives result (answered response (record { state = self.old; out = out.old })) self.new out.new }
     {

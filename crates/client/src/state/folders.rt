@@ -4,16 +4,15 @@ ghost use Rattle.std.specs.Result.{result_ok};
 ghost use Rattle.docs_vfs.specs.FileUrls.{path_of};
 ghost use Rattle.client.specs.Folds.{paths_of, without_each};
 ghost use Rattle.client.specs.Steps.{folders_changed, misses};
-ghost use Rattle.turn_parts.specs.Meets.{Gives};
+ghost use Rattle.session_port.specs.Meets.{Gives};
 
 use crate::state::Client;
 use docs_vfs::{UrlFault, VfsPath, path_of_url};
 use plain::{Items, Text};
 use ra_config::Config;
-use session_port::{Command, LogCode};
+use session_port::{Command, LogCode, TurnError, TurnOut};
 use std::alloc::{AllocError, Global};
 use std::sync::Arc;
-use turn_parts::{TurnError, TurnOut};
 
 // The path that a URL names, or none.
 fn path_named(alloc: Global, url: &str) -> Result<Option<VfsPath>, AllocError>

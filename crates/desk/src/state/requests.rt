@@ -8,10 +8,10 @@ ghost use Rattle.plain.specs.Plain.{is_plain};
 ghost use Rattle.analysis_host.specs.declared.ask.Ask.TheVariants.{Request as RequestAsk};
 ghost use Rattle.method_table.specs.Plans.{is_shutdown};
 ghost use Rattle.method_table.specs.Rows.{default_of};
-ghost use Rattle.state_params.specs.StateRequests.{request_of};
+ghost use Rattle.method_table.specs.StateRequests.{request_of};
 ghost use Rattle.dispatch.specs.Responses.{response_with};
-ghost use Rattle.turn_parts.specs.Meets.{Meets, Gives};
-ghost use Rattle.turn_parts.specs.Working.{replied};
+ghost use Rattle.session_port.specs.Meets.{Meets, Gives};
+ghost use Rattle.session_port.specs.Working.{replied};
 ghost use Rattle.desk.specs.Meaning.{meaning_of, can_read};
 ghost use Rattle.desk.specs.Replies.{already_pending, shut_already, unknown_request, invalid_params, finding_reply};
 ghost use Rattle.desk.specs.Steps.{requested, responded, admitted, shut_down, asked, unknown, classed, planned, stated, echoed, queried, submitted, dispatched, handed_over};
@@ -22,12 +22,12 @@ use crate::state::{Desk, next_number};
 use analysis_host::{Analysis, Answer, Ask, GlobalStateSnapshot, Never, Outcome, RowId};
 use dispatch::response_with;
 use lsp_frame::{Registered, Request, RequestId, Response};
-use method_table::{Plan, PoolClass, SHUTDOWN, default_of, plan, row_of};
+use method_table::{
+    Plan, PoolClass, SHUTDOWN, default_of, is_unit, plan, read_state_request, row_of,
+};
 use plain::{Json, SharedJson, Text};
-use session_port::{Command, Job, JobKind, LogCode};
-use state_params::{is_unit, read_state_request};
+use session_port::{Command, Counter, Job, JobKind, LogCode, TurnError, TurnOut};
 use std::alloc::AllocError;
-use turn_parts::{Counter, TurnError, TurnOut};
 
 fn is_shutdown(row: Option<RowId>) -> bool
     ensures { result ≡ is_shutdown row }
@@ -167,7 +167,7 @@ impl Desk {
 // What is planned for a request.
 impl Desk {
     /// Hands over a job of this kind on this snapshot. After an `Err` the desk is spent.
-    #[tactic(auto, unfolding(turn_parts::specs::Working::ordered))]
+    #[tactic(auto, unfolding(session_port::specs::Working::ordered))]
     pub fn hand_over(
         &mut self,
         kind: JobKind,

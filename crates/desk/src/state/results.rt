@@ -3,8 +3,8 @@ ghost use Rattle.std.specs.Prelude.{◌≡◌, true, decimal, IfSome, MatchOptio
 ghost use Rattle.std.specs.FinMap as map;
 ghost use Rattle.method_table.specs.Rows.{class_of};
 ghost use Rattle.session_port.specs.Jobs.{fits, fits_kind, fitting_job};
-ghost use Rattle.turn_parts.specs.Meets.{Meets, Gives};
-ghost use Rattle.turn_parts.specs.Working.{logged};
+ghost use Rattle.session_port.specs.Meets.{Meets, Gives};
+ghost use Rattle.session_port.specs.Working.{logged};
 ghost use Rattle.desk.specs.Desk.{waiting_for};
 ghost use Rattle.desk.specs.Meaning.{meaning_of};
 ghost use Rattle.desk.specs.Replies.{stopped_reply};
@@ -16,8 +16,7 @@ use crate::state::Desk;
 use analysis_host::{Analysis, RowId};
 use method_table::{class_of, retries};
 use plain::Text;
-use session_port::{Job, JobKind, JobResult, LogCode, TaskBody, TaskMsg};
-use turn_parts::{TurnError, TurnOut};
+use session_port::{Job, JobKind, JobResult, LogCode, TaskBody, TaskMsg, TurnError, TurnOut};
 
 impl Desk {
     // The request of a job that stopped is refused, since the texts have changed.

@@ -2,8 +2,8 @@
 ghost use Rattle.std.specs.Prelude.{◌≡◌, ◌<◌, ◌^◌, ℕ, List, length, IfOk, OnOk};
 ghost use Rattle.std.specs.List.{list_any};
 ghost use Rattle.std.specs.FinMap as map;
-ghost use Rattle.turn_parts.specs.Meets.{Meets, Gives};
-ghost use Rattle.turn_parts.specs.Working.{logged};
+ghost use Rattle.session_port.specs.Meets.{Meets, Gives};
+ghost use Rattle.session_port.specs.Working.{logged};
 ghost use Rattle.session_files.specs.Changing.{text_after, has_skipped, IsNews};
 ghost use Rattle.session_files.specs.Folds.{is_excluded, after_opening, after_closing, text_edited};
 ghost use Rattle.session_files.specs.Meets.{Leaves};
@@ -14,10 +14,9 @@ use crate::state::SessionFiles;
 use analysis_host::SharedText;
 use docs_vfs::VfsPath;
 use plain::{Items, Text};
-use session_port::{Command, LogCode};
+use session_port::{Command, LogCode, TurnError, TurnOut};
 use std::alloc::AllocError;
 use text_core::{ContentChange, PositionEncoding};
-use turn_parts::{TurnError, TurnOut};
 
 // Whether a path lies under one of these.
 fn is_excluded(excludes: &[VfsPath], path: &VfsPath) -> bool
@@ -28,7 +27,7 @@ fn is_excluded(excludes: &[VfsPath], path: &VfsPath) -> bool
 
 // What is logged of a document.
 impl SessionFiles {
-    #[tactic(auto, unfolding(turn_parts::specs::Working::logged, turn_parts::specs::Working::ordered))]
+    #[tactic(auto, unfolding(session_port::specs::Working::logged, session_port::specs::Working::ordered))]
     fn log_path(&self, code: LogCode, path: &VfsPath, out: &mut TurnOut) -> Result<(), TurnError>
         ensures { Gives result (logged code path.now (record { state = self.now; out = out.old })) self.now out.new }
     {
@@ -186,7 +185,7 @@ impl SessionFiles {
 
     /// A document is closed, and its file is to be read anew; until then its contents stay. After an `Err` the files are
     /// spent.
-    #[tactic(auto, unfolding(crate::specs::Steps::closed, turn_parts::specs::Working::ordered))]
+    #[tactic(auto, unfolding(crate::specs::Steps::closed, session_port::specs::Working::ordered))]
     pub fn close(&mut self, path: VfsPath, out: &mut TurnOut) -> Result<(), TurnError>
         ensures { Gives result (closed path (record { state = self.old; out = out.old })) self.new out.new }
     {

@@ -1,7 +1,7 @@
 // What has changed goes into the world.
 ghost use Rattle.std.specs.Prelude.{◌≡◌, not, map as each, Some, IfOk, IfSome};
 ghost use Rattle.docs_vfs.specs.Files.{changes};
-ghost use Rattle.turn_parts.specs.Meets.{Meets};
+ghost use Rattle.session_port.specs.Meets.{Meets};
 ghost use Rattle.session_files.specs.Folds.{world_put, taken_up, after_crates, after_processing, after_turn, crates_only, due_changes, have_come_or_gone, is_modification, roots_with, world_change};
 ghost use Rattle.session_files.specs.Meets.{Leaves};
 ghost use Rattle.session_files.specs.Steps.{crates_put, processed};
@@ -14,8 +14,8 @@ use analysis_host::{Change, FileChange, SharedText, TextEntry, WorldFault};
 use docs_vfs::{ChangeKind, ChangedFile, SharedBytes, SourceRoots, VfsPath};
 use plain::Items;
 use project_model::CrateData;
+use session_port::{Counter, TurnError, TurnOut};
 use std::alloc::{AllocError, Global};
-use turn_parts::{Counter, TurnError, TurnOut};
 
 // A change of the crate graph alone.
 fn crates_only(alloc: Global, crates: CrateData) -> Change

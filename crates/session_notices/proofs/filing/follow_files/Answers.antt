@@ -1,6 +1,6 @@
 use Rattle.std.proofs.Common.{rules, ◌≡◌, [], true, false, ap, sym, subst, ◌∙◌}
-use Rattle.turn_parts.specs.Meets.{Gives}
-use Rattle.turn_parts.specs.Working.{Working}
+use Rattle.session_port.specs.Meets.{Gives}
+use Rattle.session_port.specs.Working.{Working}
 use Rattle.session_model.specs.Machine.{effects_done}
 use Rattle.session_model.specs.State.{State}
 use Rattle.session_model.specs.Timing.{effects_for}

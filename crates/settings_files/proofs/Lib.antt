@@ -1,2 +1,0 @@
-pub mod RootLaws
-pub mod TextLemmas

@@ -1,7 +1,0 @@
-use Rattle.std.proofs.Common.{◌≡◌, ◌++◌, drop}
-use Rattle.std.specs.List.{filter_map}
-use Rattle.settings_files.specs.Filing.{crate_file, crate_files}
-use Rattle.settings_files.proofs.filing.crate_files.Given as goal
-
-abbrev pub invariant-loop-file : goal.invariant-loop-file
-invariant-loop-file l = l.list ++ filter_map (crate_file l.roots l.workspaces) (drop l.file-index l.files) ≡ crate_files l.roots l.workspaces l.files

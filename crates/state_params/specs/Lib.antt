@@ -1,3 +1,0 @@
-pub mod Unit
-pub mod RunTest
-pub mod StateRequests

@@ -1,4 +1,0 @@
-pub mod Codes
-pub mod Meets
-pub mod Working
-pub mod Written
