@@ -1,2 +1,3 @@
 pub mod Tickets
+pub mod Unended
 pub mod Writable

@@ -29,8 +29,8 @@ pub fn read_body(alloc: Global, bytes: &[u8]) -> Result<Option<Message>, AllocEr
 pub fn message_from(mut members: Members) -> Option<Message>
     ensures { result ≡ members_message members }
 {
-    let method = members.take("method");
-    let id = members.take("id");
+    let method = members.take_value("method");
+    let id = members.take_value("id");
     match (method, id) {
         (Some(method), id) => call_from(method.into_text()?, id, members),
         (None, Some(id)) => response_from(id, members),
@@ -54,7 +54,7 @@ fn call_from(method: Text, id: Option<Json>, members: Members) -> Option<Message
 fn params_from(mut members: Members) -> Json
     ensures { result ≡ params_of members }
 {
-    match members.take("params") {
+    match members.take_value("params") {
         Some(params) => params,
         None => Json::null(),
     }
@@ -64,8 +64,8 @@ fn response_from(id: Json, mut members: Members) -> Option<Message>
     ensures { result ≡ response_of id members }
 {
     let id = optional_id_from(id).ok()?;
-    let result = members.take("result");
-    let error = error_from(members.take("error")).ok()?;
+    let result = members.take_value("result");
+    let error = error_from(members.take_value("error")).ok()?;
     Some(Message::Response(Response { id, result, error }))
 }
 
@@ -108,9 +108,9 @@ fn error_from(json: Option<Json>) -> Result<Option<ResponseError>, NoMessage>
 fn error_object_from(mut members: Members) -> Option<ResponseError>
     ensures { result ≡ error_object members }
 {
-    let code = members.take("code")?.as_i32()?;
-    let message = members.take("message")?.into_text()?;
-    let extra = members.take("data");
+    let code = members.take_value("code")?.as_i32()?;
+    let message = members.take_value("message")?.into_text()?;
+    let extra = members.take_value("data");
     Some(ResponseError {
         code,
         message,

@@ -10,7 +10,7 @@ use serde_json::Value;
 pub(crate) fn request_in(params: Json) -> Option<RequestId>
     ensures { result ≡ request_in params }
 {
-    RequestId::from_json(params.into_members()?.take("id")?)
+    RequestId::from_json(params.into_members()?.take_value("id")?)
 }
 
 fn token_of(token: Json) -> Option<Json>
@@ -26,5 +26,5 @@ fn token_of(token: Json) -> Option<Json>
 pub(crate) fn token_in(params: Json) -> Option<Json>
     ensures { result ≡ token_in params }
 {
-    token_of(params.into_members()?.take("token")?)
+    token_of(params.into_members()?.take_value("token")?)
 }

@@ -25,8 +25,8 @@ fn edit_of(change: Json) -> Option<ContentChange>
     ensures { result ≡ edit_of change }
 {
     let mut members = change.into_members()?;
-    let range = range_in(members.take("range"))?;
-    let text = members.take("text")?.into_text()?;
+    let range = range_in(members.take_value("range"))?;
+    let text = members.take_value("text")?.into_text()?;
     Some(ContentChange { range, text })
 }
 
@@ -48,15 +48,16 @@ fn change_in(alloc: Global, mut params: Members) -> Result<Option<DidChange>, No
     ensures { IfOk result (λ change. change ≡ members_change params) }
 {
     let (Some(document), Some(changes)) = (
-        params.take("textDocument"),
-        params.take("contentChanges"),
+        params.take_value("textDocument"),
+        params.take_value("contentChanges"),
     ) else {
         return Ok(None);
     };
     let Some(mut document) = document.into_members() else {
         return Ok(None);
     };
-    let (Some(uri), Some(version)) = (document.take("uri"), document.take("version")) else {
+    let (Some(uri), Some(version)) = (document.take_value("uri"), document.take_value("version"))
+    else {
         return Ok(None);
     };
     let (Some(uri), Some(version)) = (uri.into_text(), version.as_i32()) else {

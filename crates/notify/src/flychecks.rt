@@ -19,5 +19,5 @@ fn checked(document: Option<Json>) -> Option<Option<Text>>
 pub(crate) fn checked_in(params: Json) -> Option<Option<Text>>
     ensures { result ≡ checked_in params }
 {
-    checked(params.into_members()?.take("textDocument"))
+    checked(params.into_members()?.take_value("textDocument"))
 }

@@ -13,21 +13,24 @@ const TEXT_LIMIT: usize = 4_294_967_295;
 pub(crate) fn document_members(params: Json) -> Option<Members>
     ensures { result ≡ document_members params }
 {
-    params.into_members()?.take("textDocument")?.into_members()
+    params
+        .into_members()?
+        .take_value("textDocument")?
+        .into_members()
 }
 
 /// The URL that a value has.
 pub(crate) fn uri_of(value: Json) -> Option<Text>
     ensures { result ≡ uri_of value }
 {
-    value.into_members()?.take("uri")?.into_text()
+    value.into_members()?.take_value("uri")?.into_text()
 }
 
 /// The URL of the document that params name.
 pub(crate) fn uri_in(params: Json) -> Option<Text>
     ensures { result ≡ uri_in params }
 {
-    document_members(params)?.take("uri")?.into_text()
+    document_members(params)?.take_value("uri")?.into_text()
 }
 
 fn text_within(text: Text) -> Option<Text>
@@ -45,8 +48,8 @@ pub(crate) fn opened_in(params: Json) -> Option<DidOpen>
     ensures { result ≡ opened_in params }
 {
     let mut members = document_members(params)?;
-    let uri = members.take("uri")?.into_text()?;
-    let version = members.take("version")?.as_i32()?;
-    let text = text_within(members.take("text")?.into_text()?)?;
+    let uri = members.take_value("uri")?.into_text()?;
+    let version = members.take_value("version")?.as_i32()?;
+    let text = text_within(members.take_value("text")?.into_text()?)?;
     Some(DidOpen { uri, version, text })
 }

@@ -39,7 +39,7 @@ fn uris_of(alloc: Global, list: Option<Json>) -> Result<Option<Items<Text>>, NoM
 fn event_of(params: Json) -> Option<Members>
     ensures { result ≡ event_of params }
 {
-    params.into_members()?.take("event")?.into_members()
+    params.into_members()?.take_value("event")?.into_members()
 }
 
 /// The folders that were added and removed, or none where the params are malformed.
@@ -49,10 +49,10 @@ pub(crate) fn folders_in(alloc: Global, params: Json) -> Result<Option<Notice>, 
     let Some(mut event) = event_of(params) else {
         return Ok(None);
     };
-    let Some(added) = uris_of(alloc, event.take("added"))? else {
+    let Some(added) = uris_of(alloc, event.take_value("added"))? else {
         return Ok(None);
     };
-    let Some(removed) = uris_of(alloc, event.take("removed"))? else {
+    let Some(removed) = uris_of(alloc, event.take_value("removed"))? else {
         return Ok(None);
     };
     Ok(Some(Notice::DidChangeWorkspaceFolders { added, removed }))
@@ -63,7 +63,7 @@ pub(crate) fn watched_in(alloc: Global, params: Json) -> Result<Option<Items<Tex
     ensures { IfOk result (λ uris. uris ≡ watched_in params) }
 {
     match params.into_members() {
-        Some(mut members) => uris_of(alloc, members.take("changes")),
+        Some(mut members) => uris_of(alloc, members.take_value("changes")),
         None => Ok(None),
     }
 }

@@ -24,11 +24,20 @@ pub use plain::Steps;
 
 /// Values by key, seen as the entries in the order of their keys. A clone is the same tree, and no change of a map is
 /// seen in its clones: `set` answers another map, `put` and `take` change this one.
-#[derive(Drop)]
 pub struct SharedMap<K: Ord, V> {
     tree: Tree<K, V>,
     len: u64,
     alloc: Global,
+}
+
+impl<K: Ord + Drop, V: Drop> Drop for SharedMap<K, V> {
+    fn drop(self) {
+        let SharedMap {
+            tree: _,
+            len: _,
+            alloc: _,
+        } = self;
+    }
 }
 
 impl<K: Ord, V> Model for SharedMap<K, V> {
@@ -101,6 +110,16 @@ impl<K: Ord, V> SharedMap<K, V> {
         mem::replace(self, SharedMap::new(self.alloc))
     }
 
+    /// What it is made of.
+    fn into_parts(self) -> (Tree<K, V>, u64, Global)
+        ensures tree { result.0.0 ≡ self }
+        ensures order { IsInOrder K.cmp result.0.0 }
+        ensures len { result.1 ≡ length result.0.0 }
+    {
+        let SharedMap { tree, len, alloc } = self;
+        (tree, len, alloc)
+    }
+
     /// Sets the value at the key, or none at it, in this map. Nodes that other maps share are copied on the way to
     /// the key, all others stay this map's own. Each step is one node that is read. Without memory, which a map of
     /// 18,446,744,073,709,551,615 entries counts as, the map is empty.
@@ -118,11 +137,7 @@ impl<K: Ord, V> SharedMap<K, V> {
         ensures err { OnErr result (self.new ≡ []) }
         ensures cost { IsQuick (length self.old) steps.old steps.new }
     {
-        let SharedMap {
-            mut tree,
-            len,
-            alloc,
-        } = self.take();
+        let (mut tree, len, alloc) = self.take().into_parts();
         if len == u64::MAX {
             return Err(AllocError);
         }

@@ -1,8 +1,7 @@
 // What the messages of jobs end of the session's own work.
 ghost use Rattle.std.specs.Prelude.{◌≡◌, IfOk};
-ghost use Rattle.std.specs.Option.{option_copied};
-ghost use Rattle.session_port.specs.Jobs.{fitting_job};
-ghost use Rattle.desk.specs.Ends.{ends_of, ends_told, nothing_ends};
+ghost use Rattle.session_port.specs.Jobs.{if_fits};
+ghost use Rattle.desk.specs.Ends.{ends_at, ends_of, ends_told, nothing_ends};
 
 use crate::state::Desk;
 use crate::state::building::{BuildEnd, build_end};
@@ -69,27 +68,29 @@ fn ends_of(alloc: Global, kind: &JobKind, outcome: &JobResult) -> Result<Ends, N
     }
 }
 
-impl Desk {
-    // The job out that a message fits.
-    fn fitting(&self, message: &TaskMsg) -> Option<&Job>
-        ensures { option_copied result ≡ fitting_job message.now self.now.jobs }
-    {
-        let job = self.jobs.get(message.job)?;
-        if message.body.fits(job) {
-            Some(job)
-        } else {
-            None
-        }
+// What a message to this job ends. That to a request's job ends nothing, whether it fits or not, so that it isn't asked.
+#[tactic(auto, using(crate::proofs::Unended::requests_end_nothing))]
+fn ends_at(alloc: Global, job: &Job, message: &TaskMsg) -> Result<Ends, NoMemory>
+    ensures { IfOk result (λ ends. ends ≡ ends_at message.now (if_fits message.now.body job.now)) }
+{
+    if let JobKind::Request { .. } = &job.kind {
+        return Ok(nothing());
     }
+    if !message.body.fits(job) {
+        return Ok(nothing());
+    }
+    let TaskBody::Final(outcome) = &message.body;
+    ends_of(alloc, &job.kind, outcome)
+}
 
+impl Desk {
     /// What a message of a job ends, where it fits one that is out: a copy of what it came to.
     pub fn ends(&self, message: &TaskMsg) -> Result<Ends, NoMemory>
         ensures { IfOk result (λ ends. ends ≡ ends_told message.now self.now.jobs) }
     {
-        let Some(job) = self.fitting(message) else {
-            return Ok(nothing());
-        };
-        let TaskBody::Final(outcome) = &message.body;
-        ends_of(self.alloc, &job.kind, outcome)
+        match self.jobs.get(message.job) {
+            Some(job) => ends_at(self.alloc, job, message),
+            None => Ok(nothing()),
+        }
     }
 }

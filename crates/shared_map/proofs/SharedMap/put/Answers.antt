@@ -8,12 +8,12 @@ use Rattle.shared_map.proofs.SharedMap.put.Goals as goal
 pub invariant_of-changed : goal.invariant_of-changed
 invariant_of-changed g c =
     let set = c.in_ok-found.ensures.ok in
-    let old = c.tree.inside.tree.0 in
-    let long = length_set _ g.met.K.Ord.total c.args.key c.args.value old c.tree.invariant.order in
+    let old = c.into_parts-tree.result.0.0 in
+    let long = length_set _ g.met.K.Ord.total c.args.key c.args.value old c.into_parts-tree.ensures.order in
     let given : c.from.result ≡ from_bool (is_some c.args.value) = c.from.ensures ∙ ap from_bool c.is_some-given.ensures in
     let found : c.from-2.result ≡ from_bool (is_some (find g.K.Ord.cmp c.args.key old)) = c.from-2.ensures ∙ ap from_bool set.was in
-    let len = c.tree.invariant.len in
+    let len = c.into_parts-tree.ensures.len in
     rw set.entries (record {
-      order = order_set _ g.met.K.Ord.total c.args.key c.args.value old c.tree.invariant.order;
+      order = order_set _ g.met.K.Ord.total c.args.key c.args.value old c.into_parts-tree.ensures.order;
       len = omega arith;
     })
