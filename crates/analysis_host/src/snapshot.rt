@@ -23,7 +23,6 @@ use text_core::PositionEncoding;
 mod files;
 
 /// The parts of a snapshot.
-#[derive(Drop)]
 pub struct SnapshotParts {
     pub world: World,
     pub file_ids: FileIds,
@@ -35,9 +34,24 @@ pub struct SnapshotParts {
     pub revision: u64,
 }
 
-/// A frozen snapshot. Its clones share all that it holds.
+impl Drop for SnapshotParts {
+    fn drop(self) {
+        let SnapshotParts {
+            world: _,
+            file_ids: _,
+            versions: _,
+            config: _,
+            proc_macros_loaded: _,
+            workspaces: _,
+            workspaces_version: _,
+            revision: _,
+        } = self;
+    }
+}
+
+/// A frozen snapshot. Its clones are the same one: a clone is one count.
 pub struct GlobalStateSnapshot {
-    parts: SnapshotParts,
+    parts: Arc<SnapshotParts, Global>,
 }
 
 impl Drop for GlobalStateSnapshot {
@@ -57,20 +71,20 @@ impl Model for GlobalStateSnapshot {
     ghost coded = { snapshot_code };
 
     ghost view = { λ s. record {
-      world = s.parts.world;
-      file_ids = s.parts.file_ids;
-      versions = s.parts.versions;
-      config = arc_value s.parts.config;
-      proc_macros_loaded = s.parts.proc_macros_loaded;
-      workspaces = arc_value s.parts.workspaces;
-      workspaces_version = s.parts.workspaces_version;
-      revision = s.parts.revision;
+      world = (arc_value s.parts).world;
+      file_ids = (arc_value s.parts).file_ids;
+      versions = (arc_value s.parts).versions;
+      config = arc_value (arc_value s.parts).config;
+      proc_macros_loaded = (arc_value s.parts).proc_macros_loaded;
+      workspaces = arc_value (arc_value s.parts).workspaces;
+      workspaces_version = (arc_value s.parts).workspaces_version;
+      revision = (arc_value s.parts).revision;
     } };
 }
 
 impl GlobalStateSnapshot {
-    pub fn new(parts: SnapshotParts) -> Self
-        ensures { result ≡ record {
+    pub fn new(parts: SnapshotParts) -> Result<Self, AllocError>
+        ensures { IfOk result (λ snapshot. snapshot ≡ record {
           world = parts.world;
           file_ids = parts.file_ids;
           versions = parts.versions;
@@ -79,9 +93,11 @@ impl GlobalStateSnapshot {
           workspaces = arc_value parts.workspaces;
           workspaces_version = parts.workspaces_version;
           revision = parts.revision;
-        } }
+        }) }
     {
-        GlobalStateSnapshot { parts }
+        let alloc = parts.world.alloc();
+        let parts = Arc::new(alloc, parts)?;
+        Ok(GlobalStateSnapshot { parts })
     }
 
     pub fn revision(&self) -> u64
@@ -164,16 +180,7 @@ impl Clone for GlobalStateSnapshot {
 
     fn clone(&self) -> Result<GlobalStateSnapshot, AllocError> {
         Ok(GlobalStateSnapshot {
-            parts: SnapshotParts {
-                world: self.parts.world.clone()?,
-                file_ids: self.parts.file_ids.clone()?,
-                versions: self.parts.versions.clone()?,
-                config: Arc::try_clone(&self.parts.config)?,
-                proc_macros_loaded: self.parts.proc_macros_loaded,
-                workspaces: Arc::try_clone(&self.parts.workspaces)?,
-                workspaces_version: self.parts.workspaces_version,
-                revision: self.parts.revision,
-            },
+            parts: Arc::try_clone(&self.parts)?,
         })
     }
 }

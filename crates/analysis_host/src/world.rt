@@ -88,6 +88,11 @@ fn shared<T: Drop>(alloc: Global, given: Option<T>) -> Result<Option<Arc<T, Glob
 }
 
 impl World {
+    // Where its copies are made.
+    pub(crate) fn alloc(&self) -> Global {
+        self.alloc
+    }
+
     /// The world without texts, roots and crates.
     pub fn new(alloc: Global) -> Result<World, AllocError>
         ensures { IfOk result (λ world. world ≡ empty_world) }

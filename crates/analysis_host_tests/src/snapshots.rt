@@ -70,7 +70,7 @@ fn third_versions(alloc: Global) -> Option<Versions> {
 pub fn snapshot_in(alloc: Global, world: Option<World>) -> Option<GlobalStateSnapshot> {
     let shared = settings(alloc).zip(workspaces(alloc));
     let ((world, versions), (config, workspaces)) = world.zip(third_versions(alloc)).zip(shared)?;
-    Some(GlobalStateSnapshot::new(SnapshotParts {
+    GlobalStateSnapshot::new(SnapshotParts {
         world,
         file_ids: numbers(alloc),
         versions,
@@ -79,7 +79,8 @@ pub fn snapshot_in(alloc: Global, world: Option<World>) -> Option<GlobalStateSna
         workspaces,
         workspaces_version: 5,
         revision: 9,
-    }))
+    })
+    .ok()
 }
 
 /// The snapshot that a word names: `plain`, where `/w/a.rs` had no text first, and then `mod b;`, a copy of that, or one of two lines at

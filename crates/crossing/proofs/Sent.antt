@@ -96,10 +96,10 @@ pub parts_sync : IsSync SnapshotParts.the_row
 parts_sync = declared_sync SnapshotParts.the_type (search (world_sync, file_ids_sync, versions_sync, config_send, config_sync, workspaces, heap.Arc-sync, sendable) depth 20 fits 20000)
 
 pub snapshot_send : IsSend Snapshot.the_row
-snapshot_send = view_send SnapshotInside.the_row _ _ _ _ (declared_send SnapshotInside.the_type (search (parts_send, sendable) depth 20 fits 20000))
+snapshot_send = view_send SnapshotInside.the_row _ _ _ _ (declared_send SnapshotInside.the_type (search (parts_send, parts_sync, heap.Arc-send, sendable) depth 20 fits 20000))
 
 pub snapshot_sync : IsSync Snapshot.the_row
-snapshot_sync = view_sync SnapshotInside.the_row _ _ _ _ (declared_sync SnapshotInside.the_type (search (parts_sync, sendable) depth 20 fits 20000))
+snapshot_sync = view_sync SnapshotInside.the_row _ _ _ _ (declared_sync SnapshotInside.the_type (search (parts_send, parts_sync, heap.Arc-sync, sendable) depth 20 fits 20000))
 
 pub job_send : IsSend Job.the_row
 job_send = declared_send Job.the_type (search (PoolClass.the_send, JobKind.the_send, snapshot_send, sendable) depth 20 fits 20000)

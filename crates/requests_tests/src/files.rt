@@ -89,7 +89,7 @@ fn numbers(alloc: Global) -> Result<FileIds, Fail> {
 
 fn snapshot(alloc: Global) -> Result<GlobalStateSnapshot, Fail> {
     let host = host(alloc)?;
-    Ok(GlobalStateSnapshot::new(SnapshotParts {
+    let parts = SnapshotParts {
         revision: host.revision(),
         world: host.world()?,
         file_ids: numbers(alloc)?,
@@ -98,7 +98,8 @@ fn snapshot(alloc: Global) -> Result<GlobalStateSnapshot, Fail> {
         proc_macros_loaded: false,
         workspaces: Arc::new(alloc, Items::new(alloc))?,
         workspaces_version: 0,
-    }))
+    };
+    Ok(GlobalStateSnapshot::new(parts)?)
 }
 
 /// The text of a URL, or why there is none.

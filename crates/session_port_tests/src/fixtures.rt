@@ -50,7 +50,7 @@ fn snapshot(alloc: Global) -> Option<GlobalStateSnapshot> {
     let ((world, versions), (config, workspaces)) = texts.zip(settings(alloc).zip(workspaces(
         alloc,
     )))?;
-    Some(GlobalStateSnapshot::new(SnapshotParts {
+    GlobalStateSnapshot::new(SnapshotParts {
         world,
         file_ids: FileIds::new(alloc),
         versions,
@@ -59,7 +59,8 @@ fn snapshot(alloc: Global) -> Option<GlobalStateSnapshot> {
         workspaces,
         workspaces_version: 0,
         revision: 0,
-    }))
+    })
+    .ok()
 }
 
 /// The files 0 and 1.

@@ -27,7 +27,7 @@ impl<'a> Present for Now<'a> {
     ghost scene = { λ n. scene_in n.client.now n.files.now n.workspaces.now };
 
     fn snapshot(&self) -> Result<GlobalStateSnapshot, AllocError> {
-        Ok(GlobalStateSnapshot::new(SnapshotParts {
+        GlobalStateSnapshot::new(SnapshotParts {
             world: self.files.world()?,
             file_ids: self.files.file_ids()?,
             versions: self.files.versions()?,
@@ -36,7 +36,7 @@ impl<'a> Present for Now<'a> {
             workspaces: self.workspaces.share_present()?,
             workspaces_version: self.workspaces.version(),
             revision: self.files.revision(),
-        }))
+        })
     }
 
     fn revision(&self) -> u64 {

@@ -143,7 +143,7 @@ fn snapshot(alloc: Global, host: &AnalysisHost) -> Option<GlobalStateSnapshot> {
     let config = config(alloc)?;
     let workspaces = Arc::new(alloc, Items::new(alloc)).ok()?;
     let world = host.world().ok()?;
-    Some(GlobalStateSnapshot::new(SnapshotParts {
+    GlobalStateSnapshot::new(SnapshotParts {
         revision: host.revision(),
         world,
         file_ids,
@@ -152,7 +152,8 @@ fn snapshot(alloc: Global, host: &AnalysisHost) -> Option<GlobalStateSnapshot> {
         proc_macros_loaded: false,
         workspaces,
         workspaces_version: 0,
-    }))
+    })
+    .ok()
 }
 
 fn snapshot_in(alloc: Global, host: &mut AnalysisHost, text: &str) -> Option<GlobalStateSnapshot> {
