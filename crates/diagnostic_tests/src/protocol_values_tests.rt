@@ -1,0 +1,2 @@
+// Tests of `protocol_values`, by its public calls alone.
+mod values;

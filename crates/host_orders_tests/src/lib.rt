@@ -1,5 +1,0 @@
-//! Tests of `host_orders`, by its public calls alone: lines of calls, which one interpreter reads.
-#![tactic(auto)]
-
-#[cfg(test)]
-mod lines;

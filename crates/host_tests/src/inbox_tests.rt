@@ -1,0 +1,2 @@
+// Tests of the inbox, with real threads.
+mod tests;

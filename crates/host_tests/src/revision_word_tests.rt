@@ -1,0 +1,2 @@
+// Tests of the revision word, with real threads.
+mod tests;

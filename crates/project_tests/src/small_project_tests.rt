@@ -1,0 +1,2 @@
+// Tests of `small_project`, by its public calls alone.
+mod answers;

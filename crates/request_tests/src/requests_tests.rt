@@ -1,0 +1,3 @@
+// Tests of `requests`, by its public calls alone.
+mod files;
+mod params;

@@ -1,5 +1,0 @@
-//! Tests of `server`: the statuses that a session ends with, over hosts and sinks in memory.
-#![tactic(auto)]
-
-#[cfg(test)]
-mod statuses;
