@@ -2,6 +2,6 @@
 // them are told in words. The calls go through wrappers that claim nothing, and few functions own workspaces.
 mod calls;
 mod graphs;
+mod made;
 mod packages;
 mod restarts;
-mod workspaces;

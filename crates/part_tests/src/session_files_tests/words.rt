@@ -2,7 +2,9 @@
 use crate::session_files_tests::calls::{
     change, close, files_at, load, new_files, number_of, open, process, text_entry, world_of,
 };
-use crate::session_files_tests::values::{cut, edits_of, escaped, excludes, messages_of, path_at, text_of};
+use crate::session_files_tests::values::{
+    cut, edits_of, escaped, excludes, messages_of, path_at, text_of,
+};
 use analysis_host::{TextEntry, World};
 use docs_vfs::{FileExcluded, FileId, VfsPath};
 use session_files::SessionFiles;

@@ -1,6 +1,6 @@
 // The targets of files, the members that a package depends on, and workspaces that are compared.
 use crate::check_restarts_tests::calls::{cut, path, push, text};
-use crate::check_restarts_tests::workspaces::{workspace, workspaces};
+use crate::check_restarts_tests::made::{workspace, workspaces};
 use plain::Items;
 use project_model::{
     PackageSpecifier, ProjectWorkspace, TargetSpec, all_workspace_dependencies_for_package,

@@ -1,7 +1,7 @@
 // The checks that restart for a saved file.
 use crate::check_restarts_tests::calls::{cut, path, paths, push, push_number};
 use crate::check_restarts_tests::graphs::{crates_of, roots_of};
-use crate::check_restarts_tests::workspaces::workspaces;
+use crate::check_restarts_tests::made::workspaces;
 use check_restarts::{CheckScope, Restart, check_restarts};
 use docs_vfs::VfsPath;
 use plain::Items;
