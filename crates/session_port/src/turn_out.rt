@@ -13,7 +13,6 @@ use std::mem;
 
 /// What a turn writes and orders. The values of its messages can be written.
 pub struct TurnOut {
-    alloc: Global,
     messages: Items<Message>,
     commands: Items<Command>,
 }
@@ -21,7 +20,6 @@ pub struct TurnOut {
 impl Drop for TurnOut {
     fn drop(self) {
         let TurnOut {
-            alloc: _,
             messages: _,
             commands: _,
         } = self;
@@ -43,21 +41,11 @@ impl Model for TurnOut {
     ghost invariant = { λ t. AllWritable t.messages };
 }
 
-// A list of one item, with room for no other: most turns order one command, and a command is large.
-fn one_item<T: Drop>(alloc: Global, item: T) -> Result<Items<T>, AllocError>
-    ensures { IfOk result (λ items. items ≡ item ∷ []) }
-{
-    let mut items = Vec::with_capacity(alloc, 1)?;
-    items.push(item)?;
-    Ok(Items::from_vec(items))
-}
-
 impl TurnOut {
     pub fn new(alloc: Global) -> Self
         ensures { result ≡ nothing_done }
     {
         TurnOut {
-            alloc,
             messages: Items::new(alloc),
             commands: Items::new(alloc),
         }
@@ -85,10 +73,6 @@ impl TurnOut {
     pub fn order(&mut self, command: Command) -> Result<(), AllocError>
         ensures { OnOk result (self.new ≡ record self.old { commands = self.old.commands ++ command ∷ [] }) }
     {
-        if self.commands.is_empty() {
-            self.commands = one_item(self.alloc, command)?;
-            return Ok(());
-        }
         self.commands.push(command)?;
         Ok(())
     }
@@ -114,7 +98,6 @@ impl TurnOut {
         ensures { result ≡ self.commands }
     {
         let TurnOut {
-            alloc: _,
             messages: _,
             commands,
         } = self;
