@@ -30,6 +30,18 @@ finish 2
 const ENDINGS_ANSWERS: &str = r#"{"id":1,"jsonrpc":"2.0","result":{"contents":"b"}}
 "#;
 
+/// Each edit of a change is made on what those before it leave: a column past its line is the line's end, and an edit whose
+/// range is reversed is skipped.
+const EDITS: &str =
+    r#"- textDocument/didOpen {"textDocument":{"uri":"file:///w/a.rs","version":1,"text":"ab\ncd"}}
+- textDocument/didChange {"textDocument":{"uri":"file:///w/a.rs","version":2},"contentChanges":[{"range":{"start":{"line":0,"character":99},"end":{"line":0,"character":99}},"text":"X"},{"range":{"start":{"line":1,"character":1},"end":{"line":0,"character":0}},"text":"?"},{"range":{"start":{"line":1,"character":0},"end":{"line":1,"character":1}},"text":"Y"}]}
+1 textDocument/hover {"textDocument":{"uri":"file:///w/a.rs"},"position":{"line":1,"character":0}}
+finish 2
+- exit null"#;
+
+const EDITS_ANSWERS: &str = r#"{"id":1,"jsonrpc":"2.0","result":{"contents":"Ycd"}}
+"#;
+
 /// A file of the loader is seen once loading has ended; an open document is the client's.
 const FILES: &str = r#"loading
 file /w/b.rs one
@@ -75,6 +87,11 @@ fn requests_while_files_are_loading(rt: HostRuntime) -> Result<(), Fail> {
 #[test]
 fn texts_are_normalised(rt: HostRuntime) -> Result<(), Fail> {
     writes(&rt, "endings", ENDINGS, ENDINGS_ANSWERS)
+}
+
+#[test]
+fn edits_are_made_one_after_another(rt: HostRuntime) -> Result<(), Fail> {
+    writes(&rt, "edits", EDITS, EDITS_ANSWERS)
 }
 
 #[test]

@@ -2,6 +2,10 @@
 #![tactic(auto)]
 
 #[cfg(test)]
+mod failures;
+#[cfg(test)]
 mod files;
+#[cfg(test)]
+mod replies;
 #[cfg(test)]
 mod scripts;

@@ -31,10 +31,15 @@ fn body_of(alloc: Global, line: &str) -> Result<String, Fail> {
     Ok(format!(in alloc; "{{\"id\":{id},\"method\":\"{method}\",\"params\":{params}}}")?)
 }
 
-fn framed(alloc: Global, line: &str) -> Result<HostEvent, Fail> {
+/// The frame of a message.
+pub fn frame_of(alloc: Global, line: &str) -> Result<String, Fail> {
     let body = body_of(alloc, line)?;
     let len = body.len();
-    let frame = format!(in alloc; "Content-Length: {len}\r\n\r\n{body}")?;
+    Ok(format!(in alloc; "Content-Length: {len}\r\n\r\n{body}")?)
+}
+
+fn framed(alloc: Global, line: &str) -> Result<HostEvent, Fail> {
+    let frame = frame_of(alloc, line)?;
     Ok(HostEvent::Bytes(Bytes::from_vec(frame.into_bytes())))
 }
 
@@ -67,8 +72,19 @@ fn files(alloc: Global, line: &str) -> Result<Items<LoadedFile>, Fail> {
     Ok(files)
 }
 
-/// `loading` and `loaded`, `file PATH TEXT`, `finish JOB`, or a message. Job 1 is the fetch that the start hands over.
-fn step(alloc: Global, line: &str) -> Result<ScriptStep, Fail> {
+/// The number that a word is, or 0.
+fn number(word: &str) -> u64 {
+    word.parse::<u64>().unwrap_or(0)
+}
+
+/// A list of one number.
+fn one(alloc: Global, number: u64) -> Result<Items<u64>, Fail> {
+    Ok(Items::from_vec(Vec::from_slice(alloc, &[number])?))
+}
+
+/// `loading` and `loaded`, `file PATH TEXT`, `finish JOB`, `stop JOB REVISION`, or a message. Job 1 is the fetch that the
+/// start hands over.
+pub fn step(alloc: Global, line: &str) -> Result<ScriptStep, Fail> {
     let (word, rest) = cut(line);
     match word {
         "loading" => Ok(ScriptStep::Give(progress(alloc, LoadingProgress::Started)?)),
@@ -77,15 +93,17 @@ fn step(alloc: Global, line: &str) -> Result<ScriptStep, Fail> {
             let files = files(alloc, rest)?;
             Ok(ScriptStep::Give(loader(alloc, LoaderMsg::Loaded { files })?))
         }
-        "finish" => {
-            let number = rest.parse::<u64>().unwrap_or(0);
-            Ok(ScriptStep::Finish(Items::from_vec(Vec::from_slice(alloc, &[number])?)))
+        "finish" => Ok(ScriptStep::Finish(one(alloc, number(rest))?)),
+        "stop" => {
+            let (job, revision) = cut(rest);
+            Ok(ScriptStep::Cancel(number(job), number(revision)))
         }
         _ => Ok(ScriptStep::Give(framed(alloc, line)?)),
     }
 }
 
-fn steps(alloc: Global, lines: &str) -> Result<Items<ScriptStep>, Fail> {
+/// The steps of these lines.
+pub fn steps(alloc: Global, lines: &str) -> Result<Items<ScriptStep>, Fail> {
     let mut steps = Items::new(alloc);
     for line in lines.lines() {
         steps.push(step(alloc, line)?)?;
@@ -115,19 +133,32 @@ fn ends<H: Host<A>, S: Sink, A: Analysis>(
     main_loop(alloc, config, host, sink, analysis).is_ok()
 }
 
-// A run, and what it writes. Each `?` lets go of settings at most.
-fn turns(alloc: Global, lines: &str) -> Result<MemorySink, Fail> {
+/// The calls of the host and of the sink that fail, each by its number. None has the number 0.
+#[derive(Clone, Copy)]
+pub struct Failing {
+    pub host: u64,
+    pub sink: u64,
+}
+
+pub const NOTHING_FAILS: Failing = Failing { host: 0, sink: 0 };
+
+/// What a run wrote, and whether it ended well.
+#[derive(Drop)]
+pub struct Outcome {
+    pub sink: MemorySink,
+    pub ends: bool,
+}
+
+/// A run over these steps. Each `?` lets go of settings at most.
+pub fn ran(alloc: Global, steps: Items<ScriptStep>, failing: Failing) -> Result<Outcome, Fail> {
     let config = settings(alloc)?;
-    let steps = steps(alloc, lines)?;
+    let host_fails = one(alloc, failing.host)?;
+    let mut sink = MemorySink::new(alloc, one(alloc, failing.sink)?);
     let analysis = SmallAnalysis::new(alloc);
-    let mut host = ScriptHost::new(alloc, &analysis, steps, Items::new(alloc))?;
-    let mut sink = MemorySink::new(alloc, Items::new(alloc));
+    let mut host = ScriptHost::new(alloc, &analysis, steps, host_fails)?;
     let ends = ends(alloc, config, &mut host, &mut sink, &analysis);
     drop(host);
-    if ends {
-        return Ok(sink);
-    }
-    Err(Fail::from("no end"))
+    Ok(Outcome { sink, ends })
 }
 
 /// The body of the frame that a turn wrote, if it wrote one.
@@ -145,16 +176,23 @@ fn cut_head(frame: &str) -> &str {
     }
 }
 
-/// What a run writes, a body on each line.
-pub fn written(alloc: Global, lines: &str) -> Result<String, Fail> {
-    let sink = turns(alloc, lines)?;
+/// What a run wrote, a body on each line, and a last line `failed` where it didn't end well.
+pub fn bodies(alloc: Global, outcome: &Outcome) -> Result<String, Fail> {
     let mut text = String::new(alloc);
-    for turn in sink.turns() {
+    for turn in outcome.sink.turns() {
         let body = body(turn);
         if !body.is_empty() {
             text.push_str(body)?;
             text.push_str("\n")?;
         }
     }
+    if !outcome.ends {
+        text.push_str("failed\n")?;
+    }
     Ok(text)
+}
+
+/// What a run of these lines writes.
+pub fn written(alloc: Global, lines: &str) -> Result<String, Fail> {
+    bodies(alloc, &ran(alloc, steps(alloc, lines)?, NOTHING_FAILS)?)
 }
