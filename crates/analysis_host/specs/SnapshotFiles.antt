@@ -89,6 +89,16 @@ number_from (Some entry) has_text = number_by entry.0 entry.1 has_text
 abbrev pub path_to_file : SnapshotData → List ℕ → Result (Option FileId) ProtoFault
 path_to_file snapshot path = number_from (map.get snapshot.file_ids path) (is_some (text_at snapshot.world path))
 
+-- the text of a file that was found, or none where it is excluded, or the fault
+abbrev pub found_text : SnapshotData → Result (Option FileId) ProtoFault → Result (Option (List ℕ)) ProtoFault
+found_text snapshot (Err fault) = Err fault
+found_text snapshot (Ok None) = Ok None
+found_text snapshot (Ok (Some file)) = Ok (file_text snapshot file)
+
+-- the text of a path's file, by its number
+abbrev pub path_text : SnapshotData → List ℕ → Result (Option (List ℕ)) ProtoFault
+path_text snapshot path = found_text snapshot (path_to_file snapshot path)
+
 -- the same of the path that a URL names
 abbrev pub named_file : SnapshotData → Result (List ℕ) UrlFault → Result (Option FileId) ProtoFault
 named_file snapshot (Err fault) = Err (Url fault)

@@ -2,9 +2,8 @@
 ghost use Rattle.std.specs.Prelude.{◌≡◌};
 ghost use Rattle.std.proofs.Common.{rules};
 
-use crate::shared_text::SharedText;
 use plain::Copied;
-use text_core::LineEndings;
+use text_core::{LineEndings, SharedText};
 
 /// A file's text, and how its lines ended before it was normalised. Its clones share the text and the index of its lines.
 #[derive(Clone)]

@@ -1,20 +1,27 @@
 ghost use Rattle.std.specs.Prelude.{◌≡◌, ◌++◌, ◌∷◌, true, false, nat_eq, slice_index, MatchOption};
-ghost use Rattle.std.specs.List.{starts_with, list_any, before_last, after_last};
+ghost use Rattle.std.specs.List.{starts_with, list_all, list_any, before_last, after_last};
 ghost use Rattle.std.specs.Option.{option_copied};
-ghost use Rattle.docs_vfs.specs.Paths.{is_slash, is_dot, is_dots, has_nul, is_segment, is_path, extension_of, begins_with_folder};
+ghost use Rattle.docs_vfs.specs.Paths.{is_slash, is_dot, is_dots, has_nul, is_segment, is_path, parts, extension_of, begins_with_folder};
 
-/// Whether a text is `.` or `..`.
-pub(crate) fn is_dots_text(text: &str) -> bool
-    ensures { result ≡ is_dots text.now }
+/// Whether bytes are `.` or `..`.
+fn are_dots(bytes: &[u8]) -> bool
+    ensures { result ≡ is_dots bytes.now }
 {
-    text == "." || text == ".."
+    bytes == b".".as_slice() || bytes == b"..".as_slice()
 }
 
-/// Whether a text holds a NUL.
-fn has_nul_text(text: &str) -> bool
-    ensures { result ≡ has_nul text.now }
+/// Whether bytes hold a NUL.
+fn have_nul(bytes: &[u8]) -> bool
+    ensures { result ≡ has_nul bytes.now }
 {
-    text.as_bytes().iter().any(|b| *b == 0)
+    bytes.iter().any(|b| *b == 0)
+}
+
+/// Whether bytes may stand between two slashes of a path.
+fn are_segment(bytes: &[u8]) -> bool
+    ensures { result ≡ is_segment bytes.now }
+{
+    !bytes.is_empty() && !are_dots(bytes) && !have_nul(bytes)
 }
 
 /// Whether a text holds a slash.
@@ -28,7 +35,14 @@ pub(crate) fn has_slash_text(text: &str) -> bool
 pub(crate) fn is_segment_text(text: &str) -> bool
     ensures { result ≡ is_segment text.now }
 {
-    !text.is_empty() && !is_dots_text(text) && !has_nul_text(text)
+    are_segment(text.as_bytes())
+}
+
+/// Whether bytes are segments that are parted by slashes.
+fn are_segments(bytes: &[u8]) -> bool
+    ensures { result ≡ list_all is_segment (parts bytes.now) }
+{
+    bytes.split(|b| *b == b'/').all(|part| are_segment(part))
 }
 
 /// Whether a text is a path.
@@ -37,7 +51,7 @@ pub(crate) fn is_path_text(text: &str) -> bool
 {
     match text.strip_prefix('/') {
         None => false,
-        Some(rest) => rest.is_empty() || rest.split('/').all(|part| is_segment_text(part)),
+        Some(rest) => rest.is_empty() || are_segments(rest.as_bytes()),
     }
 }
 

@@ -1,5 +1,5 @@
 // What a table keeps of a file's bytes.
-ghost use Rattle.std.specs.Prelude.{◌≡◌, IfOk, if◌then◌else◌, Some, None};
+ghost use Rattle.std.specs.Prelude.{◌≡◌, IfOk, IfSome, if◌then◌else◌, Some, None};
 ghost use Rattle.std.specs.Str.{is_utf8};
 ghost use Rattle.docs_vfs.specs.Held.{held_bytes};
 
@@ -7,12 +7,13 @@ use crate::arc_bytes::ArcBytes;
 use plain::{ArcText, Bytes, Copied, Text};
 use std::alloc::{AllocError, Global};
 use std::marker::Model;
+use text_core::SharedText;
 
-/// Bytes, or a text, which its clones share.
+/// Bytes, or a text with the index of its lines, which its clones share.
 #[derive(Drop)]
 pub enum Held {
     Bytes(ArcBytes),
-    Text(ArcText),
+    Text(SharedText),
 }
 
 /// Bytes whose clones share them. They may be the bytes of a text that others share.
@@ -45,7 +46,7 @@ impl SharedBytes {
     }
 
     /// The bytes of a text, which is shared.
-    pub fn of_text(text: ArcText) -> SharedBytes
+    pub fn of_text(text: SharedText) -> SharedBytes
         ensures { result ≡ text }
     {
         SharedBytes {
@@ -62,6 +63,16 @@ impl SharedBytes {
         }
     }
 
+    /// The text that the bytes were made of, if they were made of one.
+    pub fn text(&self) -> Option<&SharedText>
+        ensures { IfSome result (λ text. text.now ≡ self.now) }
+    {
+        match &self.held {
+            Held::Bytes(_) => None,
+            Held::Text(text) => Some(text),
+        }
+    }
+
     /// The text that the bytes are, or none exactly where they are not UTF-8. It is shared where a text is held.
     #[tactic(auto, using(crate::proofs::HeldLemmas::utf8_some))]
     pub fn to_text(&self, alloc: Global) -> Result<Option<ArcText>, AllocError>
@@ -71,7 +82,7 @@ impl SharedBytes {
             Held::Bytes(bytes) => text_of(alloc, bytes.as_slice()),
             Held::Text(text) => {
                 let _is_utf8 = text.as_str();
-                Ok(Some(text.clone()?))
+                Ok(Some(text.share_text()?))
             }
         }
     }

@@ -2,11 +2,10 @@
 use Rattle.std.specs.Prelude.{ℕ, ◌++◌, List, codes, Option, None, Some, Result, Ok, Err}
 use Rattle.serde_json.specs.Data.{null}
 use Rattle.docs_vfs.specs.FileUrls.{path_of}
-use Rattle.docs_vfs.specs.declared.file_kinds.FileId.{FileId}
 use Rattle.docs_vfs.specs.declared.file_url.UrlFault.{UrlFault}
 use Rattle.analysis_host.specs.Answers.{Finding, answer, fault}
 use Rattle.analysis_host.specs.SnapshotData.{SnapshotData}
-use Rattle.analysis_host.specs.SnapshotFiles.{file_text, path_to_file}
+use Rattle.analysis_host.specs.SnapshotFiles.{path_text}
 use Rattle.analysis_host.specs.declared.ask.Answer.TheVariants.{Json}
 use Rattle.analysis_host.specs.declared.proto_fault.ProtoFault.{ProtoFault}
 
@@ -21,16 +20,15 @@ malformed = refusal (codes "invalid params")
 abbrev pub nothing : Finding
 nothing = answer (Json null)
 
--- the text of a path's file, by its number: none where it is excluded; or why there is no such file
-abbrev pub text_in : SnapshotData → List ℕ → Result (Option FileId) ProtoFault → Result (Option (List ℕ)) (List ℕ)
-text_in snapshot path (Err e) = Err (codes "file not found: " ++ path)
-text_in snapshot path (Ok None) = Ok None
-text_in snapshot path (Ok (Some file)) = Ok (file_text snapshot file)
+-- the text of a path's file, or why there is no such file
+abbrev pub text_in : List ℕ → Result (Option (List ℕ)) ProtoFault → Result (Option (List ℕ)) (List ℕ)
+text_in path (Err e) = Err (codes "file not found: " ++ path)
+text_in path (Ok text) = Ok text
 
--- the text of the file that a URL names
+-- the text of the file that a URL names; none of an excluded one
 abbrev pub text_at : SnapshotData → Result (List ℕ) UrlFault → Result (Option (List ℕ)) (List ℕ)
 text_at snapshot (Err e) = Err (codes "url is not a file")
-text_at snapshot (Ok path) = text_in snapshot path (path_to_file snapshot path)
+text_at snapshot (Ok path) = text_in path (path_text snapshot path)
 
 abbrev pub text_of : SnapshotData → List ℕ → Result (Option (List ℕ)) (List ℕ)
 text_of snapshot uri = text_at snapshot (path_of uri)

@@ -57,9 +57,8 @@ fn text_in<'a>(
         (λ text. text_at snapshot.now (Ok path.now) ≡ Ok (option_copied text))
         (λ message. text_at snapshot.now (Ok path.now) ≡ Err message)) }
 {
-    match snapshot.vfs_path_to_file_id(path) {
-        Ok(Some(file)) => Ok(Ok(snapshot.file_index(file))),
-        Ok(None) => Ok(Ok(None)),
+    match snapshot.path_index(path) {
+        Ok(text) => Ok(Ok(text)),
         Err(_) => Ok(Err(not_found(alloc, path)?)),
     }
 }

@@ -186,7 +186,7 @@ impl SessionFiles {
     fn put_document(&mut self, path: VfsPath, text: SharedText) -> Result<(), TurnError>
         ensures { Leaves result (contents_put path (Some text) (text_put path text self.old)) self.new }
     {
-        let contents = SharedBytes::of_text(text.share_text()?);
+        let contents = SharedBytes::of_text(text.clone()?);
         self.put_text(path.clone()?, text)?;
         self.put_contents(path, Some(contents))
     }

@@ -1,6 +1,6 @@
 // The same session in pieces of each size, and over a host and a sink of which one call fails.
-use crate::scripts::{Failing, NOTHING_FAILS, bodies, frame_of, ran, step, steps};
-use expectations::{expect, expect_same, expect_text};
+use crate::scripts::{Failing, NOTHING_FAILS, bodies, end_of, frame_of, ran, step, steps};
+use expectations::{expect_same, expect_text};
 use plain::{Bytes, Items};
 use session_peers::ScriptStep;
 use session_port::HostEvent;
@@ -61,11 +61,11 @@ fn pieces_of_each_size(rt: HostRuntime) -> Result<(), Fail> {
     Ok(())
 }
 
-// That a run over peers of which one call fails writes so many turns, and ends well or not.
-fn writes(alloc: Global, failing: Failing, turns: usize, ends: bool) -> Result<(), Fail> {
+// That a run over peers of which one call fails writes so many turns, and ends with this.
+fn writes(alloc: Global, failing: Failing, turns: usize, end: &str) -> Result<(), Fail> {
     let outcome = ran(alloc, steps(alloc, LINES)?, failing)?;
     expect_same("turns", &outcome.sink.turns().len(), &turns)?;
-    expect("how a run ends", outcome.ends == ends)
+    expect_text("how a run ends", end_of(alloc, &outcome)?.as_str(), end)
 }
 
 /// Each turn is written, its commands are ordered, and the next event is asked for. The first turn reads nothing, `exit` is
@@ -74,7 +74,7 @@ fn writes(alloc: Global, failing: Failing, turns: usize, ends: bool) -> Result<(
 fn each_call_fails(rt: HostRuntime) -> Result<(), Fail> {
     let alloc = rt.alloc();
     for (sink, turns) in [(1, 0), (2, 1), (3, 2), (4, 3)] {
-        writes(alloc, Failing { host: 0, sink }, turns, false)?;
+        writes(alloc, Failing { host: 0, sink }, turns, "the output failed")?;
     }
     for (host, turns) in [
         (1, 1),
@@ -87,7 +87,7 @@ fn each_call_fails(rt: HostRuntime) -> Result<(), Fail> {
         (8, 4),
         (9, 4),
     ] {
-        writes(alloc, Failing { host, sink: 0 }, turns, false)?;
+        writes(alloc, Failing { host, sink: 0 }, turns, "the host failed")?;
     }
-    writes(alloc, Failing { host: 10, sink: 5 }, 4, true)
+    writes(alloc, Failing { host: 10, sink: 5 }, 4, "")
 }

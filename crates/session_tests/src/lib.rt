@@ -6,6 +6,8 @@ mod failures;
 #[cfg(test)]
 mod files;
 #[cfg(test)]
+mod logs;
+#[cfg(test)]
 mod replies;
 #[cfg(test)]
 mod scripts;

@@ -6,11 +6,12 @@ use analysis_host::Analysis;
 use docs_vfs::VfsPath;
 use plain::{Bytes, Items};
 use ra_config::Config;
-use session::main_loop;
-use session_peers::{MemorySink, ScriptHost, ScriptStep};
-use session_port::{Host, HostEvent, LoadedFile, LoaderMsg, LoadingProgress, Sink};
+use session::{SessionError, main_loop};
+use session_peers::{MemorySink, RecordedCall, ScriptHost, ScriptStep};
+use session_port::{Command, Host, HostEvent, LoadedFile, LoaderMsg, LoadingProgress, Sink};
 use small_analysis::SmallAnalysis;
-use std::alloc::Global;
+use std::alloc::{AllocError, Global};
+use std::fmt::Write;
 use std::test::Fail;
 
 /// The two parts of a line around the first blank.
@@ -21,8 +22,11 @@ fn cut(line: &str) -> (&str, &str) {
     }
 }
 
-/// The body of `ID METHOD PARAMS`, or of a notification where the line begins with `-`.
+/// The body of `ID METHOD PARAMS`, or of a notification where the line begins with `-`; one that begins with `{` is a body.
 fn body_of(alloc: Global, line: &str) -> Result<String, Fail> {
+    if line.starts_with("{") {
+        return Ok(String::from_str(alloc, line)?);
+    }
     let (id, rest) = cut(line);
     let (method, params) = cut(rest);
     if id == "-" {
@@ -38,9 +42,10 @@ pub fn frame_of(alloc: Global, line: &str) -> Result<String, Fail> {
     Ok(format!(in alloc; "Content-Length: {len}\r\n\r\n{body}")?)
 }
 
-fn framed(alloc: Global, line: &str) -> Result<HostEvent, Fail> {
-    let frame = frame_of(alloc, line)?;
-    Ok(HostEvent::Bytes(Bytes::from_vec(frame.into_bytes())))
+/// The step that gives these bytes.
+pub fn given(alloc: Global, bytes: &str) -> Result<ScriptStep, Fail> {
+    let bytes = Bytes::from_slice(alloc, bytes.as_bytes())?;
+    Ok(ScriptStep::Give(HostEvent::Bytes(bytes)))
 }
 
 fn loader(alloc: Global, message: LoaderMsg) -> Result<HostEvent, Fail> {
@@ -98,7 +103,7 @@ pub fn step(alloc: Global, line: &str) -> Result<ScriptStep, Fail> {
             let (job, revision) = cut(rest);
             Ok(ScriptStep::Cancel(number(job), number(revision)))
         }
-        _ => Ok(ScriptStep::Give(framed(alloc, line)?)),
+        _ => given(alloc, frame_of(alloc, line)?.as_str()),
     }
 }
 
@@ -117,20 +122,20 @@ fn settings(alloc: Global) -> Result<Config, Fail> {
     Ok(Config::new(alloc, root, 4)?)
 }
 
-// Whether a run over a host ends well. This call claims nothing here.
-fn ends<H: Host<A>, S: Sink, A: Analysis>(
+// What a run over a host ends with, if it doesn't end well. This call claims nothing here.
+fn fault<H: Host<A>, S: Sink, A: Analysis>(
     alloc: Global,
     config: Config,
     host: &mut H,
     sink: &mut S,
     analysis: &A,
-) -> bool
+) -> Option<SessionError>
     requires idle { H.out host.old ≡ map.empty }
     requires unused { H.handed host.old ≡ 0 }
     requires host_fresh { H.spent host.old ≡ false }
     requires sink_fresh { S.spent sink.old ≡ false }
 {
-    main_loop(alloc, config, host, sink, analysis).is_ok()
+    main_loop(alloc, config, host, sink, analysis).err()
 }
 
 /// The calls of the host and of the sink that fail, each by its number. None has the number 0.
@@ -142,23 +147,50 @@ pub struct Failing {
 
 pub const NOTHING_FAILS: Failing = Failing { host: 0, sink: 0 };
 
-/// What a run wrote, and whether it ended well.
+/// What a run wrote, what it logged, each code and text on a line, and what it ended with, if it didn't end well.
 #[derive(Drop)]
 pub struct Outcome {
     pub sink: MemorySink,
-    pub ends: bool,
+    pub logs: String,
+    pub fault: Option<SessionError>,
 }
 
-/// A run over these steps. Each `?` lets go of settings at most.
+// Adds what is logged by a turn's commands.
+fn push_logs(logs: &mut String, commands: &[Command]) -> Result<(), AllocError> {
+    for command in commands {
+        if let Command::Log(code, text) = command {
+            write!(logs, "{code:?} {}\n", text.as_str())?;
+        }
+    }
+    Ok(())
+}
+
+/// What the commands of these calls log.
+fn logs_of(alloc: Global, calls: &[RecordedCall]) -> Result<String, AllocError> {
+    let mut logs = String::new(alloc);
+    for call in calls {
+        if let Some(commands) = call.commands() {
+            push_logs(&mut logs, commands.as_slice())?;
+        }
+    }
+    Ok(logs)
+}
+
+/// A run over these steps. Each `?` lets go of settings, of lists or of a sink.
 pub fn ran(alloc: Global, steps: Items<ScriptStep>, failing: Failing) -> Result<Outcome, Fail> {
     let config = settings(alloc)?;
     let host_fails = one(alloc, failing.host)?;
     let mut sink = MemorySink::new(alloc, one(alloc, failing.sink)?);
     let analysis = SmallAnalysis::new(alloc);
     let mut host = ScriptHost::new(alloc, &analysis, steps, host_fails)?;
-    let ends = ends(alloc, config, &mut host, &mut sink, &analysis);
+    let fault = fault(alloc, config, &mut host, &mut sink, &analysis);
+    let logs = logs_of(alloc, host.calls());
     drop(host);
-    Ok(Outcome { sink, ends })
+    Ok(Outcome {
+        sink,
+        logs: logs?,
+        fault,
+    })
 }
 
 /// The body of the frame that a turn wrote, if it wrote one.
@@ -176,6 +208,14 @@ fn cut_head(frame: &str) -> &str {
     }
 }
 
+/// What a run ended with, in words; none where it ended well.
+pub fn end_of(alloc: Global, outcome: &Outcome) -> Result<String, Fail> {
+    match &outcome.fault {
+        Some(fault) => Ok(format!(in alloc; "{fault}")?),
+        None => Ok(String::new(alloc)),
+    }
+}
+
 /// What a run wrote, a body on each line, and a last line `failed` where it didn't end well.
 pub fn bodies(alloc: Global, outcome: &Outcome) -> Result<String, Fail> {
     let mut text = String::new(alloc);
@@ -186,7 +226,7 @@ pub fn bodies(alloc: Global, outcome: &Outcome) -> Result<String, Fail> {
             text.push_str("\n")?;
         }
     }
-    if !outcome.ends {
+    if outcome.fault.is_some() {
         text.push_str("failed\n")?;
     }
     Ok(text)

@@ -1,14 +1,15 @@
 -- Where CR LF stand, and what is left without their CR.
-use Rattle.std.proofs.Common.{◌≡◌, ◌≢◌, ℕ, zero, suc, ◌+◌, ◌<◌, ◌≤◌, Bool, true, false, ◌&&◌, ◌==◌, List, [], ◌∷◌, ◌++◌, length, take, drop, get_or, Option, Some, None, refl, ap, sym, subst, ◌∙◌, arith, append_assoc, ⊎_elim}
+use Rattle.std.proofs.Common.{◌≡◌, ◌≢◌, ℕ, zero, suc, ◌+◌, ◌<◌, ◌≤◌, Bool, true, false, ◌&&◌, ◌||◌, ◌==◌, List, [], ◌∷◌, ◌++◌, length, take, drop, get_or, Option, Some, None, refl, ap, sym, subst, ◌∙◌, arith, append_assoc, ⊎_elim}
 use Rattle.std.specs.Prelude.{◌⊎◌, is_some, if◌then◌else◌}
 use Rattle.memchr.specs.Find.{IsFirstByte, is_byte}
 use Rattle.std.specs.Str.{IsUtf8}
 use Rattle.std.proofs.lemmas.Bool.{cases_Bool, cond-true, cond-false, eq-eqb, ne_eqb, false≢true}
 use Rattle.std.proofs.lemmas.Bool.Decides.{nat_tests}
-use Rattle.std.proofs.lemmas.List.{at_drop_more, drop_all, take_all, length-drop, get_or-drop, drop-drop}
+use Rattle.std.proofs.lemmas.List.{at_drop_more, drop_all, take_all, length-drop, get_or-drop, get_or_default, drop-drop}
+use Rattle.std.proofs.lemmas.List.Folds.{list_any_at, list_any_none}
 use Rattle.std.proofs.lemmas.Str.{IsUtf8-append, IsUtf8-take, IsUtf8-drop, IsCharBoundary-before_ascii, IsCharBoundary-after_ascii}
 use Rattle.text_core.specs.Positions.{ends_line}
-use Rattle.text_core.specs.LineEnds.{begins_with_lf, is_crlf, normalized, crlf_place}
+use Rattle.text_core.specs.LineEnds.{begins_with_lf, is_crlf, normalized, crlf_place, has_cr}
 use Rattle.text_core.proofs.LineLemmas.{further, further-zero}
 use Rattle.text_core.proofs.StartLemmas.{further_some, some_inj}
 use Rattle.text_core.proofs.PlaceLemmas.{option_cases}
@@ -153,6 +154,27 @@ pub no_cr : (xs : List ℕ) → IsFirstByte (is_byte 13) xs None → crlf_place 
 no_cr xs none =
     crlf_skip xs (length xs) (omega arith) (λ j lt. not_cr _ (none j (omega arith) lt))
     ∙ ap (λ l. further (length xs) (crlf_place l)) (drop_all (length xs) xs (omega arith))
+
+-- ---- CR alone
+
+none_has : (xs : List ℕ) → IsFirstByte (is_byte 13) xs None → has_cr xs ≡ false
+none_has xs none =
+    list_any_none (λ b. b == 13) xs (λ k d lt. ne_eqb _ _ (λ same. none k (omega arith) lt (eq-eqb _ _ (get_or_default xs k 0 d lt ∙ same))))
+
+pub has_cr_is : (xs : List ℕ) (found : Option ℕ) → IsFirstByte (is_byte 13) xs found → is_some found ≡ has_cr xs
+has_cr_is xs None none = sym (none_has xs none)
+has_cr_is xs (Some at) first = sym (list_any_at (λ b. b == 13) xs at 0 first.0.high first.1)
+
+pub neither : (a b : Bool) → (a || b) ≡ false → (a ≡ false) × (b ≡ false)
+neither true b e = absurd (false≢true (sym e))
+neither false b e = (refl, e)
+
+-- without a CR there is no CR LF
+pub no_crlf : (text : List ℕ) → has_cr text ≡ false → crlf_place text ≡ None
+no_crlf [] e = refl
+no_crlf (b ∷ rest) e =
+    let both = neither (b == 13) (has_cr rest) e in
+    cond-false _ _ _ (and_not (b == 13) (begins_with_lf rest) both.0) ∙ ap (further 1) (no_crlf rest both.1)
 
 -- the first CR is the first CR LF
 pub place_here : (xs : List ℕ) (from gap : ℕ) → crlf_place xs ≡ further from (crlf_place (drop from xs)) → IsFirstByte (is_byte 13) (drop from xs) (Some gap)

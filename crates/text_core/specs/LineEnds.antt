@@ -1,9 +1,14 @@
 -- The ends of lines: LF, or CR LF.
 use Rattle.std.specs.Prelude.{ℕ, ◌+◌, ◌==◌, ◌&&◌, Bool, false, List, [], ◌∷◌, if◌then◌else◌, is_some, Option, Some, None}
+use Rattle.std.specs.List.{list_any}
 use Rattle.std.specs.Option.{option_map}
 use Rattle.text_core.specs.Positions.{ends_line}
 use Rattle.text_core.specs.declared.line_endings.LineEndings.{LineEndings}
 use Rattle.text_core.specs.declared.line_endings.LineEndings.TheVariants.{Unix, Dos}
+
+-- a CR stands somewhere, before an LF or not
+abbrev pub has_cr : List ℕ → Bool
+has_cr text = list_any (λ b. b == 13) text
 
 abbrev pub begins_with_lf : List ℕ → Bool
 begins_with_lf [] = false

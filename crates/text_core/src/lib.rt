@@ -15,6 +15,7 @@ mod laws;
 mod line_endings;
 mod offsets;
 mod position;
+mod shared_text;
 mod splices;
 mod starts;
 mod text_index;
@@ -29,7 +30,8 @@ pub use editing::{
 pub use laws::{
     columns_stand_behind_their_units, lines_are_the_text, places_of_positions, positions_of_places,
 };
-pub use line_endings::LineEndings;
+pub use line_endings::{LineEndings, has_cr};
 pub use plain::{NoMemory, Steps};
 pub use position::{OffsetFault, Position, PositionEncoding, Range, WideEncoding};
+pub use shared_text::SharedText;
 pub use text_index::{LineIndex, TextIndex, offset, text_range};

@@ -1,6 +1,6 @@
 // How lines end.
 ghost use Rattle.std.specs.Prelude.{◌≡◌, ◌+◌, ◌<◌, ◌≤◌, ◌++◌, length, take, drop, is_some, IfSome, IfOk};
-ghost use Rattle.text_core.specs.LineEnds.{normalized, endings_of, crlf_place};
+ghost use Rattle.text_core.specs.LineEnds.{normalized, endings_of, crlf_place, has_cr};
 
 use memchr::memchr;
 use plain::{ArcText, Text};
@@ -11,6 +11,13 @@ use std::alloc::{AllocError, Global};
 pub enum LineEndings {
     Unix,
     Dos,
+}
+
+/// Whether a CR stands in a text, before an LF or not.
+pub fn has_cr(text: &str) -> bool
+    ensures { result ≡ has_cr text.now }
+{
+    memchr(b'\r', text.as_bytes()).is_some()
 }
 
 /// The first CR LF.

@@ -4,7 +4,7 @@ use expectations::expect;
 use plain::{ArcText, Text};
 use std::alloc::Global;
 use std::test::Fail;
-use text_core::{LineEndings, TextIndex};
+use text_core::{LineEndings, SharedText, TextIndex, has_cr};
 
 /// Texts, their normal forms, and how their lines end.
 const ENDINGS: &str = "a\nb\nc\n\n\n\n > a\nb\nc\n\n\n\n > LF;
@@ -46,6 +46,21 @@ fn is_indexed(alloc: Global, shared: &ArcText, text: &str) -> Option<bool> {
     Some(index.text() == text && index.share_text().ok()?.as_str() == text)
 }
 
+/// Whether a text with its lines is this text, and so are its clones, and whether it knows of a CR: where it was searched
+/// for one, exactly.
+fn is_kept(alloc: Global, src: &str) -> Option<bool> {
+    if src.len() > 100 {
+        return None;
+    }
+    let with_cr = src.contains('\r');
+    let text = SharedText::new(alloc, Text::from_str(alloc, src).ok()?).ok()?;
+    let copy = text.clone().ok()?;
+    let unsearched = SharedText::from_shared(alloc, text.share_text().ok()?).ok()?;
+    let are_texts = copy.as_str() == src && unsearched.index().text() == src;
+    let are_known = text.may_have_cr() == with_cr && copy.may_have_cr() == with_cr;
+    Some(are_texts && are_known && unsearched.may_have_cr() && has_cr(src) == with_cr)
+}
+
 /// Whether a row is right.
 fn agrees(alloc: Global, row: &str) -> Option<bool> {
     let (src, rest) = cut(row, " > ");
@@ -57,7 +72,8 @@ fn agrees(alloc: Global, row: &str) -> Option<bool> {
     };
     let shared = ArcText::new(alloc, Text::from_str(alloc, src).ok()?).ok()?;
     let is_normal = normalizes_shared(alloc, &shared, src, text, endings) == Some(true)
-        && is_indexed(alloc, &shared, src) == Some(true);
+        && is_indexed(alloc, &shared, src) == Some(true)
+        && is_kept(alloc, src) == Some(true);
     drop(shared);
     Some(is_normal && normalizes(alloc, src, text, endings)?)
 }

@@ -1,9 +1,10 @@
 // A snapshot's files, by their numbers.
-ghost use Rattle.std.specs.Prelude.{◌≡◌, None, Some, IfOk, IfSome, MatchOption, option_copied};
+ghost use Rattle.std.specs.Prelude.{◌≡◌, None, Some, Ok, Err, IfOk, IfSome, MatchOption, MatchResult, option_copied};
 ghost use Rattle.std.specs.FinMap as map;
 ghost use Rattle.docs_vfs.specs.FileUrls.{path_of};
 ghost use Rattle.analysis_host.specs.FilePlaces.{Finds};
-ghost use Rattle.analysis_host.specs.SnapshotFiles.{IsFile, IsLineIndexOf, beside, file_entry, file_exists, file_text, file_url, file_version, is_included, named_file, named_version, number_from, path_at, path_to_file, url_beside};
+ghost use Rattle.analysis_host.specs.SnapshotData.{text_of};
+ghost use Rattle.analysis_host.specs.SnapshotFiles.{IsFile, IsLineIndexOf, beside, file_entry, file_exists, file_text, file_url, file_version, is_included, named_file, named_version, number_from, path_at, path_text, path_to_file, url_beside};
 
 use crate::proto_fault::ProtoFault;
 use crate::snapshot::GlobalStateSnapshot;
@@ -43,6 +44,16 @@ fn number_from(
     }
 }
 
+/// The text of an entry, with its lines.
+fn index_of(entry: Option<&TextEntry>) -> Option<&TextIndex>
+    ensures { option_copied result ≡ text_of (option_copied entry.entry) }
+{
+    match entry {
+        Some(entry) => Some(entry.text.index()),
+        None => None,
+    }
+}
+
 /// The path that a text is, taken from the folder that a path lies in.
 fn beside(alloc: Global, anchor: &VfsPath, path: &str) -> Result<Option<VfsPath>, NoMemory>
     ensures { IfOk result (λ found. found ≡ beside anchor.now path.now) }
@@ -61,6 +72,20 @@ impl GlobalStateSnapshot {
     {
         let entry = self.parts.file_ids.get(path);
         number_from(entry, self.parts.world.text(path).is_some())
+    }
+
+    /// The text of a path's file, with its lines, or none where the file is excluded.
+    pub fn path_index(&self, path: &VfsPath) -> Result<Option<&TextIndex>, ProtoFault>
+        ensures { MatchResult result
+            (λ text. path_text self.now path.now ≡ Ok (option_copied text))
+            (λ fault. path_text self.now path.now ≡ Err fault) }
+    {
+        let number = self.parts.file_ids.get(path);
+        let entry = self.parts.world.entry(path);
+        match number_from(number, entry.is_some())? {
+            Some(_) => Ok(index_of(entry)),
+            None => Ok(None),
+        }
     }
 
     /// The same of the path that a URL names.
@@ -124,10 +149,7 @@ impl GlobalStateSnapshot {
     pub fn file_index(&self, file: FileId) -> Option<&TextIndex>
         ensures { option_copied result ≡ file_text self.now file }
     {
-        match self.file_entry(file) {
-            Some(entry) => Some(entry.text.index()),
-            None => None,
-        }
+        index_of(self.file_entry(file))
     }
 
     /// The text of a file.

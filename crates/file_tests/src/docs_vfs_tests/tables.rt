@@ -4,9 +4,10 @@ use docs_vfs::{
     VfsPath,
 };
 use expectations::expect_text;
-use plain::{ArcText, Bytes, Text};
+use plain::{Bytes, Text};
 use std::alloc::Global;
 use std::test::Fail;
+use text_core::SharedText;
 
 /// Calls of new tables, each with a path, a text or a number, and its answer. Contents are set or shared, or taken away
 /// where the text is `-`; `0xff` is that byte. A number that is answered has `!` where the path is marked, and a replacement
@@ -106,6 +107,14 @@ fn contents_of(alloc: Global, text: &str) -> Option<Option<Bytes>> {
         "0xff" => Some(Some(Bytes::from_slice(alloc, &[0xff]).ok()?)),
         _ => Some(Some(Bytes::from_slice(alloc, text.as_bytes()).ok()?)),
     }
+}
+
+/// A text with its lines, unless it is too long.
+fn shared_text(alloc: Global, text: &str) -> Option<SharedText> {
+    if text.len() > u32::MAX as usize {
+        return None;
+    }
+    SharedText::new(alloc, Text::from_str(alloc, text).ok()?).ok()
 }
 
 /// Contents to be shared, or none.
@@ -220,8 +229,7 @@ fn changes_so(
             Some(word(table.set_contents(path.clone().ok()?, contents)) == answer)
         }
         "share" => {
-            let text = ArcText::new(alloc, Text::from_str(alloc, text).ok()?).ok()?;
-            let contents = Some(SharedBytes::of_text(text));
+            let contents = Some(SharedBytes::of_text(shared_text(alloc, text)?));
             Some(word(table.set_shared(path.clone().ok()?, contents)) == answer)
         }
         "mark" => match table.insert_excluded(path.clone().ok()?) {

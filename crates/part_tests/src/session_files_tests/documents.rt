@@ -27,6 +27,19 @@ edit /a 1 1 1 \\r\\n >
 process > changed
 show /a > dos a\\nb\\n
 
+open /a a\\nb > 
+edit /a 0 0 0 x > 
+edit /a 0 2 2 \\r > 
+process > changed
+show /a > dos xa\\nb
+
+open /a a\\rb > 
+process > changed
+show /a > unix a\\rb
+edit /a 0 2 2 \\n > 
+process > changed
+show /a > dos a\\nb
+
 open /x/a text > 
 number /x/a > 0 marked
 process > same

@@ -1,17 +1,17 @@
 // What has changed goes into the world.
-ghost use Rattle.std.specs.Prelude.{◌≡◌, not, map as each, Some, IfOk, IfSome};
+ghost use Rattle.std.specs.Prelude.{◌≡◌, not, map as each, IfOk};
 ghost use Rattle.docs_vfs.specs.Files.{changes};
 ghost use Rattle.session_port.specs.Meets.{Meets};
 ghost use Rattle.session_files.specs.Folds.{world_put, taken_up, after_crates, after_processing, after_turn, crates_only, due_changes, have_come_or_gone, is_modification, roots_with, world_change};
 ghost use Rattle.session_files.specs.Meets.{Leaves};
 ghost use Rattle.session_files.specs.Steps.{crates_put, processed};
-ghost use Rattle.session_files.specs.Texts.{entry_of, file_change};
+ghost use Rattle.session_files.specs.Texts.{file_change};
 ghost use Rattle.analysis_host.specs.HostData.{changed};
 
-use crate::entries::{entry_of_bytes, entry_of_document};
+use crate::entries::entry_of_contents;
 use crate::state::SessionFiles;
-use analysis_host::{Change, FileChange, SharedText, TextEntry, WorldFault};
-use docs_vfs::{ChangeKind, ChangedFile, SharedBytes, SourceRoots, VfsPath};
+use analysis_host::{Change, FileChange, WorldFault};
+use docs_vfs::{ChangeKind, ChangedFile, SourceRoots};
 use plain::Items;
 use project_model::CrateData;
 use session_port::{Counter, TurnError, TurnOut};
@@ -55,63 +55,45 @@ fn roots_with(roots: &SourceRoots, files: &[ChangedFile]) -> Result<Option<Sourc
     }
 }
 
+fn file_change(alloc: Global, file: &ChangedFile) -> Result<FileChange, AllocError>
+    ensures { IfOk result (λ change. change ≡ file_change file.now) }
+{
+    let entry = match &file.contents {
+        Some(contents) => entry_of_contents(alloc, contents)?,
+        None => None,
+    };
+    Ok(FileChange {
+        path: file.path.clone()?,
+        entry,
+    })
+}
+
+fn file_changes(alloc: Global, files: &[ChangedFile]) -> Result<Items<FileChange>, AllocError>
+    ensures { IfOk result (λ changes. changes ≡ each file_change files.now) }
+{
+    let mut changes = Items::new(alloc);
+    for file in files {
+        changes.push(file_change(alloc, file)?)?;
+    }
+    Ok(changes)
+}
+
+// The change of the world that files are.
+fn world_change(
+    alloc: Global,
+    roots: &SourceRoots,
+    files: &[ChangedFile],
+) -> Result<Change, AllocError>
+    ensures { IfOk result (λ change. change ≡ world_change roots.now files.now) }
+{
+    Ok(Change {
+        files: file_changes(alloc, files)?,
+        roots: roots_with(roots, files)?,
+        crates: None,
+    })
+}
+
 impl SessionFiles {
-    // The document of a path, where its text is these bytes.
-    fn document_with(&self, path: &VfsPath, bytes: &SharedBytes) -> Option<&SharedText>
-        ensures { IfSome result (λ document. document.now ≡ bytes.now) }
-    {
-        let document = self.texts.get(path)?;
-        if document.as_str().as_bytes() == bytes.as_slice() {
-            Some(document)
-        } else {
-            None
-        }
-    }
-
-    // What the world is to keep of a path with these contents. Where they are the text of a document, that is shared.
-    fn entry_at(&self, path: &VfsPath, bytes: &SharedBytes) -> Result<Option<TextEntry>, AllocError>
-        ensures { IfOk result (λ entry. entry ≡ entry_of (Some bytes.now)) }
-    {
-        match self.document_with(path, bytes) {
-            Some(document) => Ok(Some(entry_of_document(self.alloc, document)?)),
-            None => entry_of_bytes(self.alloc, bytes),
-        }
-    }
-
-    fn file_change(&self, file: &ChangedFile) -> Result<FileChange, AllocError>
-        ensures { IfOk result (λ change. change ≡ file_change file.now) }
-    {
-        let entry = match &file.contents {
-            Some(bytes) => self.entry_at(&file.path, bytes)?,
-            None => None,
-        };
-        Ok(FileChange {
-            path: file.path.clone()?,
-            entry,
-        })
-    }
-
-    fn file_changes(&self, files: &[ChangedFile]) -> Result<Items<FileChange>, AllocError>
-        ensures { IfOk result (λ changes. changes ≡ each file_change files.now) }
-    {
-        let mut changes = Items::new(self.alloc);
-        for file in files {
-            changes.push(self.file_change(file)?)?;
-        }
-        Ok(changes)
-    }
-
-    // The change of the world that files are.
-    fn world_change(&self, roots: &SourceRoots, files: &[ChangedFile]) -> Result<Change, AllocError>
-        ensures { IfOk result (λ change. change ≡ world_change roots.now files.now) }
-    {
-        Ok(Change {
-            files: self.file_changes(files)?,
-            roots: roots_with(roots, files)?,
-            crates: None,
-        })
-    }
-
     // One change of the world, and so one revision more.
     fn change_world(&mut self, change: Change) -> Result<(), TurnError>
         ensures { Leaves result (world_put (changed change self.old.host) self.old) self.new }
@@ -141,7 +123,7 @@ impl SessionFiles {
     {
         let files = self.take_changes()?;
         if !files.is_empty() {
-            let change = self.world_change(roots, files.as_slice())?;
+            let change = world_change(self.alloc, roots, files.as_slice())?;
             self.change_world(change)?;
         }
         Ok(files)
