@@ -69,7 +69,7 @@ impl<V> PathMap<V> {
         steps: &mut Steps<L>,
     ) -> Result<PathMap<V>, AllocError>
     where
-        V: Drop,
+        V: Copied + Drop,
         ensures ok { IfOk result (λ new. new ≡ set_in_map self.now path value) }
         ensures cost { IsQuick (map.len self.now) steps.old steps.new }
     {
@@ -97,7 +97,7 @@ impl<V> PathMap<V> {
         steps: &mut Steps<L>,
     ) -> Result<(), AllocError>
     where
-        V: Drop,
+        V: Copied + Drop,
         ensures ok { OnOk result (self.new ≡ set_in_map self.old path value) }
         ensures err { OnErr result (self.new ≡ map.empty) }
         ensures cost { IsQuick (map.len self.old) steps.old steps.new }

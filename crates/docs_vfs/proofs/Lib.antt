@@ -27,3 +27,4 @@ pub mod Climbs
 pub mod Places
 pub mod Greatest
 pub mod Rises
+pub mod ByHash

@@ -6,6 +6,7 @@ pub mod Files
 pub mod Fronts
 pub mod Held
 pub mod Lent
+pub mod LentByPath
 pub mod Paths
 pub mod Resolve
 pub mod RootLaws

@@ -21,6 +21,10 @@ pub enum FileExcluded {
     No,
 }
 
+impl Copied for FileExcluded {
+    ghost copies = { λ x y h. Prim.search rules };
+}
+
 /// What became of a file.
 #[derive(Clone, Copy, Debug, PartialEq, Eq, PartialOrd, Ord, Hash)]
 pub enum ChangeKind {

@@ -11,6 +11,7 @@ use crate::file_kinds::{
     ChangeKind, ChangedFile, FileExcluded, FileId, FileRow, FileWas, Kept, Replaced, TableFault,
 };
 use crate::path::VfsPath;
+use crate::path_table::PathTable;
 use crate::shared_bytes::SharedBytes;
 use plain::{Bytes, Items};
 use std::alloc::{AllocError, Global};
@@ -25,7 +26,7 @@ pub struct FileTable {
     alloc: Global,
     first: u32,
     paths: Items<VfsPath>,
-    rows: ByPath<FileRow>,
+    rows: PathTable<FileRow>,
     before: ByPath<FileWas>,
 }
 
@@ -151,7 +152,7 @@ fn share(contents: Option<&SharedBytes>) -> Result<Option<SharedBytes>, AllocErr
 /// Adds what became of a path since the last take, unless its contents are what they were.
 fn push_change(
     list: &mut Items<ChangedFile>,
-    rows: &ByPath<FileRow>,
+    rows: &PathTable<FileRow>,
     path: VfsPath,
     was: &FileWas,
 ) -> Result<(), AllocError>
@@ -176,7 +177,7 @@ fn push_change(
 /// Adds what became of each path that was touched.
 fn drain_changes(
     list: &mut Items<ChangedFile>,
-    rows: &ByPath<FileRow>,
+    rows: &PathTable<FileRow>,
     before: &mut ByPath<FileWas>,
 ) -> Result<(), AllocError>
     ensures { OnOk result ((list.new ≡ list.old ++ filter_map (change_of rows.now) (map.entries before.old))
@@ -287,7 +288,7 @@ fn mark_row(
 #[tactic(auto, using(crate::proofs::TableLemmas::undone_by))]
 fn put_next_row(
     paths: &mut Items<VfsPath>,
-    rows: &mut ByPath<FileRow>,
+    rows: &mut PathTable<FileRow>,
     path: &VfsPath,
     row: FileRow,
 ) -> Result<(), AllocError>
@@ -310,7 +311,7 @@ fn put_next_row(
 #[tactic(auto, using(crate::proofs::TableLemmas::undone_by))]
 fn put_next(
     paths: &mut Items<VfsPath>,
-    rows: &mut ByPath<FileRow>,
+    rows: &mut PathTable<FileRow>,
     before: &mut ByPath<FileWas>,
     path: &VfsPath,
     row: FileRow,
@@ -350,7 +351,7 @@ impl FileTable {
             alloc,
             first: used,
             paths: Items::new(alloc),
-            rows: ByPath::new(alloc),
+            rows: PathTable::new(alloc),
             before: ByPath::new(alloc),
         }
     }

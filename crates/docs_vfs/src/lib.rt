@@ -11,6 +11,7 @@ mod includes;
 mod mem_docs;
 mod path;
 mod path_laws;
+mod path_table;
 mod path_text;
 mod relative;
 mod root_laws;
@@ -30,6 +31,7 @@ pub use file_url::{
 pub use mem_docs::{DocumentData, MemDocs, Paths};
 pub use path::VfsPath;
 pub use path_laws::resolved_texts_are_paths;
+pub use path_table::PathTable;
 pub use plain::NoMemory;
 pub use relative::EmptySegments;
 pub use root_laws::the_longest_root_is_chosen;

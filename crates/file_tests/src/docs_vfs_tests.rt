@@ -2,6 +2,7 @@
 mod calls;
 mod documents;
 mod maps;
+mod path_tables;
 mod paths;
 mod roots;
 mod tables;

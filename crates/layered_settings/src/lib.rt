@@ -4,6 +4,7 @@
 mod change;
 mod path_laws;
 mod settings;
+mod shared_layer;
 
 pub use change::{ChangedSettings, ConfigChange, SettingsFile};
 pub use path_laws::the_search_path_ends;

@@ -7,6 +7,7 @@ ghost use Rattle.ra_settings.specs.Values.{kind_of};
 ghost use Rattle.layered_settings.specs.Change.{no_settings};
 ghost use Rattle.layered_settings.specs.Search.{parent_of, layers_at, layers_of, roots_from, path, first_in, setting};
 
+use crate::shared_layer::SharedLayer;
 use plain::ByNumber;
 use ra_settings::{Defaults, Layer, Row, SettingValue};
 use shared_map::{SharedMap, Steps};
@@ -18,12 +19,16 @@ use std::sync::ledger::{Blank, Ledger};
 /// The files of one kind, by root. They never change: `put` answers others, which share with these all nodes but
 /// those on the way to the root, and a clone is the same tree.
 pub(crate) struct Files {
-    layers: SharedMap<u32, Layer>,
+    alloc: Global,
+    layers: SharedMap<u32, SharedLayer>,
 }
 
 impl Drop for Files {
     fn drop(self) {
-        let Files { layers: _ } = self;
+        let Files {
+            alloc: _,
+            layers: _,
+        } = self;
     }
 }
 
@@ -48,6 +53,7 @@ impl Files {
         ensures { result ≡ map.empty }
     {
         Files {
+            alloc,
             layers: SharedMap::new(alloc),
         }
     }
@@ -56,7 +62,10 @@ impl Files {
     pub(crate) fn get(&self, root: u32) -> Option<&Layer>
         ensures { option_copied result ≡ map.get self.now root }
     {
-        self.layers.get(&root)
+        match self.layers.get(&root) {
+            Some(shared) => Some(shared.layer()),
+            None => None,
+        }
     }
 
     /// The files where the layer of a root is this one.
@@ -80,8 +89,10 @@ impl Files {
     {
         let mut steps = Steps::<L>::new(blank);
         let _in_order = self.layers.len();
+        let shared = SharedLayer::new(self.alloc, layer)?;
         Ok(Files {
-            layers: self.layers.set(root, Some(layer), &mut steps)?,
+            alloc: self.alloc,
+            layers: self.layers.set(root, Some(shared), &mut steps)?,
         })
     }
 }
@@ -91,6 +102,7 @@ impl Clone for Files {
 
     fn clone(&self) -> Result<Files, AllocError> {
         Ok(Files {
+            alloc: self.alloc,
             layers: self.layers.clone()?,
         })
     }

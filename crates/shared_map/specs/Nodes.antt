@@ -1,11 +1,10 @@
 -- When two nodes hold the same.
 use Rattle.std.specs.Prelude.{◌≡◌}
-use Rattle.std.specs.Arc.{arc_value}
 use Rattle.shared_map.specs.declared.tree.Fork.{Fork}
 
 module _ {K V : Type 0} where
   -- the same sides and the same entry, each in a place of its own or not
   pub record IsAlike (f g : Fork K V) : Type 0 where
     pub left : g.left ≡ f.left
-    pub entry : arc_value g.entry ≡ arc_value f.entry
+    pub entry : g.entry ≡ f.entry
     pub right : g.right ≡ f.right

@@ -5,6 +5,9 @@ ghost use Rattle.text_core.specs.Starts.{line_starts, starts_in};
 use memchr::memchr_iter;
 use std::alloc::AllocError;
 
+/// A line of a program seldom has fewer bytes on average.
+const SHORT_LINE: usize = 24;
+
 /// Puts the starts of the lines that a part of a text begins behind what a list holds. The part begins at a place.
 pub(crate) fn push_starts(
     starts: &mut Vec<u32>,
@@ -20,13 +23,15 @@ pub(crate) fn push_starts(
     Ok(())
 }
 
-/// Puts the starts of all lines into a list, in place of what it holds.
+/// Puts the starts of all lines into a list, in place of what it holds. The list grows while it is
+/// filled only where the lines are short.
 #[tactic(auto, unfolding(crate::specs::Starts::line_starts))]
 pub(crate) fn find_starts(starts: &mut Vec<u32>, text: &[u8]) -> Result<(), AllocError>
     requires { length text.now < 2 ^ 32 }
     ensures { OnOk result (starts.new.items ≡ line_starts text.now) }
 {
     starts.clear();
+    starts.reserve(text.len() / SHORT_LINE + 1)?;
     starts.push(0)?;
     push_starts(starts, text, 0)
 }

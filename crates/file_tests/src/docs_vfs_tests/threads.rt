@@ -1,4 +1,6 @@
-use docs_vfs::{ByPath, FileTable, MemDocs, SharedBytes, SourceRoots, UrlFault, VfsPath};
+use docs_vfs::{
+    ByPath, FileTable, MemDocs, PathTable, SharedBytes, SourceRoots, UrlFault, VfsPath,
+};
 use plain::Text;
 
 /// Is called at types whose values may go to another thread.
@@ -13,6 +15,7 @@ fn values_cross_threads() {
     sends::<VfsPath>();
     sends::<SharedBytes>();
     sends::<ByPath<Text>>();
+    sends::<PathTable<Text>>();
     sends::<MemDocs>();
     sends::<FileTable>();
     sends::<SourceRoots>();

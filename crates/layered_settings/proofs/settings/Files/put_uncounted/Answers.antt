@@ -7,7 +7,7 @@ use Rattle.layered_settings.proofs.settings.Files.put_uncounted.Goals as goal
 
 pub returns : goal.returns
 returns g c =
-    rw c.in_ok-set.ensures.ok (
+    rw c.in_ok-set.ensures.ok (rw c.in_ok-shared.ensures (
     set-view nat_cmp_total map.nat_cmp-IsAntisymmetric c.args.root (Some c.args.layer) c.self.inside.layers c.len-in_order.ensures.order
     ∙ ap (λ m. map.insert m c.args.root c.args.layer) c.self.view_is
-    )
+    ))
