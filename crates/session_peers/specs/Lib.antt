@@ -7,4 +7,3 @@ pub mod Memory
 pub mod Null
 pub mod Orders
 pub mod Results
-pub mod Script

@@ -6,7 +6,7 @@ use plain::Items;
 use std::marker::Model;
 
 /// The calls of a fake, and which of them fail.
-pub(crate) struct FailPlan {
+pub struct FailPlan {
     fails: Items<u64>,
     made: u64,
     faults: u64,

@@ -40,7 +40,7 @@ impl Model for RecordedCall {
 }
 
 impl RecordedCall {
-    pub(crate) fn of_event(event: HostEvent) -> Self
+    pub fn of_event(event: HostEvent) -> Self
         ensures { result ≡ gave event }
     {
         RecordedCall {
@@ -48,7 +48,7 @@ impl RecordedCall {
         }
     }
 
-    pub(crate) fn of_commands(commands: Items<Command>) -> Self
+    pub fn of_commands(commands: Items<Command>) -> Self
         ensures { result ≡ took commands }
     {
         RecordedCall {

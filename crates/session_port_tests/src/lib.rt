@@ -1,4 +1,4 @@
-//! Tests of `session_port` and `session_peers`. Lines of words tell the cases, and what comes of them. Calls with large
+//! Tests of `session_port`, `session_peers` and `script_hosts`. Lines of words tell the cases, and what comes of them. Calls with large
 //! contracts go through wrappers that claim nothing, or one fact, and one function alone owns a host, so that a test
 //! stays quick to prove.
 #![tactic(auto)]

@@ -1,7 +1,8 @@
 // Events and calls in words. Where memory runs out, less is told than a test wants.
 use crate::loader::add_loader;
 use plain::Items;
-use session_peers::{HostileHost, NullAnalysis, RecordedCall, ScriptHost};
+use script_hosts::{HostileHost, ScriptHost};
+use session_peers::{NullAnalysis, RecordedCall};
 use session_port::{Host, HostError, HostEvent, JobResult, JobValue, TaskBody, TaskMsg};
 use std::alloc::Global;
 

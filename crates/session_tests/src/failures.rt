@@ -2,7 +2,7 @@
 use crate::scripts::{Failing, NOTHING_FAILS, bodies, end_of, frame_of, ran, step, steps};
 use expectations::{expect_same, expect_text};
 use plain::{Bytes, Items};
-use session_peers::ScriptStep;
+use script_hosts::ScriptStep;
 use session_port::HostEvent;
 use std::alloc::Global;
 use std::test::Fail;

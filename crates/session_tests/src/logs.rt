@@ -2,7 +2,7 @@
 use crate::scripts::{NOTHING_FAILS, end_of, given, ran, steps};
 use expectations::expect_text;
 use plain::Items;
-use session_peers::ScriptStep;
+use script_hosts::ScriptStep;
 use std::alloc::Global;
 use std::test::Fail;
 

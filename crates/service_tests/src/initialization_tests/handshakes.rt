@@ -2,8 +2,9 @@
 use expectations::expect_text;
 use initialization::{Opening, initialize};
 use plain::{Bytes, Items};
+use script_hosts::HostileHost;
 use session_model::SessionError;
-use session_peers::{HostileHost, MemorySink, NullAnalysis};
+use session_peers::{MemorySink, NullAnalysis};
 use session_port::{HostEvent, LoaderMsg, LoadingProgress};
 use std::alloc::{AllocError, Global};
 use std::test::Fail;

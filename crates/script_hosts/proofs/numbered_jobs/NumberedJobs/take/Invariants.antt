@@ -1,6 +1,6 @@
 use Rattle.std.proofs.Common.{◌≡◌, drop}
 use Rattle.session_port.specs.Record.{after_order, last_number, spawned}
-use Rattle.session_peers.proofs.numbered_jobs.NumberedJobs.take.Given as goal
+use Rattle.script_hosts.proofs.numbered_jobs.NumberedJobs.take.Given as goal
 
 abbrev pub invariant-loop-command : goal.invariant-loop-command
 invariant-loop-command l = record {

@@ -13,7 +13,7 @@ use Rattle.analysis_host.specs.declared.ask.Ask.{Ask}
 use Rattle.session_port.specs.Honest.{AreHonest, IsHonest, IsResultOf}
 use Rattle.session_port.specs.Jobs.{Jobs, after_message, fits_kind, asks_analysis}
 use Rattle.session_peers.proofs.Fitting.{after_fitting}
-use Rattle.session_peers.specs.Script.{Gift, event, results, named, left_out, can_see, can_end, sees_later, ended, asked_at, if_asked, without_found, gift_of, next_gift, FinishesAt, IsGift}
+use Rattle.script_hosts.specs.Script.{Gift, event, results, named, left_out, can_see, can_end, sees_later, ended, asked_at, if_asked, without_found, gift_of, next_gift, FinishesAt, IsGift}
 use Rattle.session_port.specs.declared.event.HostEvent.{HostEvent}
 use Rattle.session_port.specs.declared.event.HostEvent.TheVariants.{Bytes, Ended, Tasks, Vfs, DeferredTask, Timer}
 use Rattle.session_port.specs.declared.event.TaskMsg.{TaskMsg}
@@ -22,8 +22,8 @@ use Rattle.session_port.specs.declared.job.JobKind.{JobKind}
 use Rattle.session_port.specs.declared.job.JobKind.TheVariants.{Request, ProcMacroSources, FetchWorkspaces, FetchBuildData, LoadProcMacros}
 use Rattle.session_port.specs.declared.job.JobResult.{JobResult}
 use Rattle.session_port.specs.declared.job.JobResult.TheVariants.{Value, Fault, Cancelled, NoMemory}
-use Rattle.session_peers.specs.declared.script.ScriptStep.{ScriptStep}
-use Rattle.session_peers.specs.declared.script.ScriptStep.TheVariants.{Give, Finish, Cancel, Supply}
+use Rattle.script_hosts.specs.declared.script.ScriptStep.{ScriptStep}
+use Rattle.script_hosts.specs.declared.script.ScriptStep.TheVariants.{Give, Finish, Cancel, Supply}
 
 turned : {X : Type 0} (b : Bool) (x : Option X) → cond (not b) x None ≡ cond b None x
 turned true x = refl

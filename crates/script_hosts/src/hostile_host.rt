@@ -1,13 +1,13 @@
 // A host that gives whatever it was told to give.
 ghost use Rattle.std.specs.Prelude.{◌≡◌, Some, IfOk, IfErr};
 ghost use Rattle.session_port.specs.Record.{HasCause, AreRising, added, after_given, after_ok, after_order, gave, last_number, spawned, took};
-ghost use Rattle.session_peers.specs.Script.{new_hostile, next_event};
+ghost use Rattle.script_hosts.specs.Script.{new_hostile, next_event};
 
 use crate::numbered_jobs::NumberedJobs;
 use crate::queue::Queue;
-use crate::recorded_call::RecordedCall;
 use analysis_host::Analysis;
 use plain::Items;
+use session_peers::RecordedCall;
 use session_port::{Command, Host, HostError, HostEvent};
 use std::alloc::Global;
 use std::marker::Model;
@@ -30,8 +30,9 @@ impl Drop for HostileHost {
 }
 
 impl Model for HostileHost {
-    ghost use Rattle.session_peers.specs.Codes.{call_code, hostile_code};
-    ghost use Rattle.session_peers.specs.Script.{HostileData};
+    ghost use Rattle.session_peers.specs.Codes.{call_code};
+    ghost use Rattle.script_hosts.specs.Codes.{hostile_code};
+    ghost use Rattle.script_hosts.specs.Script.{HostileData};
     ghost use Rattle.session_port.specs.contracts.command.Command as command;
     ghost use Rattle.session_port.specs.contracts.event.HostEvent as event;
     ghost use Rattle.session_port.specs.contracts.job.Job as job;

@@ -2,12 +2,12 @@
 ghost use Rattle.std.specs.Prelude.{◌≡◌, [], ◌∷◌, IfOk, option_copied};
 ghost use Rattle.std.specs.FinMap as map;
 ghost use Rattle.std.specs.List.{AllZip};
-ghost use Rattle.session_peers.specs.Script.{FinishesAt, IsGiven, IsNext, asked_at, can_end, can_see, ended, gift_of, left_out, named, next_gift, without_found};
+ghost use Rattle.script_hosts.specs.Script.{FinishesAt, IsGiven, IsNext, asked_at, can_end, can_see, ended, gift_of, left_out, named, next_gift, without_found};
 
 use crate::queue::Queue;
-use crate::results::result_of;
 use analysis_host::Analysis;
 use plain::{ByNumber, Items};
+use session_peers::result_of;
 use session_port::{HostEvent, Job, JobResult, TaskBody, TaskMsg};
 use std::alloc::{AllocError, Global};
 

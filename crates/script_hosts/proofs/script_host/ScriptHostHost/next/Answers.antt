@@ -1,7 +1,7 @@
 use Rattle.std.proofs.Common.{ap, subst}
 use Rattle.session_port.specs.Honest.{IsHonest}
-use Rattle.session_peers.proofs.Scripts.{honest_next}
-use Rattle.session_peers.proofs.script_host.ScriptHostHost.next.Goals as goal
+use Rattle.script_hosts.proofs.Scripts.{honest_next}
+use Rattle.script_hosts.proofs.script_host.ScriptHostHost.next.Goals as goal
 
 pub returns-clause-honest : goal.returns-clause-honest
 returns-clause-honest g c =

@@ -19,8 +19,8 @@ use Rattle.session_port.specs.declared.event.TaskMsg.{TaskMsg}
 use Rattle.session_port.specs.declared.job.Job.{Job}
 use Rattle.session_port.specs.declared.job.JobResult.{JobResult}
 use Rattle.session_port.specs.declared.job.JobResult.TheVariants.{Value, Fault, Cancelled, NoMemory}
-use Rattle.session_peers.specs.declared.script.ScriptStep.{ScriptStep}
-use Rattle.session_peers.specs.declared.script.ScriptStep.TheVariants.{Give, Finish, Cancel, Supply}
+use Rattle.script_hosts.specs.declared.script.ScriptStep.{ScriptStep}
+use Rattle.script_hosts.specs.declared.script.ScriptStep.TheVariants.{Give, Finish, Cancel, Supply}
 
 -- what comes next: an event as it stands, or the results of jobs, each with the number that it is out at
 pub data Gift : Type 0 where

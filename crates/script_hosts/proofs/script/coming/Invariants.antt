@@ -1,6 +1,6 @@
 use Rattle.std.proofs.Common.{◌≡◌, length}
-use Rattle.session_peers.specs.Script.{next_gift}
-use Rattle.session_peers.proofs.script.coming.Given as goal
+use Rattle.script_hosts.specs.Script.{next_gift}
+use Rattle.script_hosts.proofs.script.coming.Given as goal
 
 abbrev pub invariant-steps : goal.invariant-steps
 invariant-steps g l = next_gift l.out l.steps ≡ next_gift l.out l.fn.steps

@@ -3,15 +3,14 @@ ghost use Rattle.std.specs.Prelude.{◌≡◌, ◌↔◌, true, false, Some, Err
 ghost use Rattle.session_port.specs.Honest.{IsHonest};
 ghost use Rattle.session_peers.specs.Memory.{after_call, IsFailing};
 ghost use Rattle.session_port.specs.Record.{HasCause, AreRising, UnlessEnded, added, after_given, after_ok, after_order, gave, last_number, spawned, took};
-ghost use Rattle.session_peers.specs.Script.{IsNext, new_script, next_gift};
+ghost use Rattle.script_hosts.specs.Script.{IsNext, new_script, next_gift};
 
-use crate::fail_plan::FailPlan;
 use crate::numbered_jobs::NumberedJobs;
 use crate::queue::Queue;
-use crate::recorded_call::RecordedCall;
 use crate::script::{ScriptStep, coming};
 use analysis_host::Analysis;
 use plain::Items;
+use session_peers::{FailPlan, RecordedCall};
 use session_port::{Command, Host, HostError, HostEvent};
 use std::alloc::{AllocError, Global};
 use std::marker::Model;
@@ -40,12 +39,13 @@ impl<'a, A: Drop> Drop for ScriptHost<'a, A> {
 }
 
 impl<'a, A> Model for ScriptHost<'a, A> {
-    ghost use Rattle.session_peers.specs.Codes.{call_code, script_code};
-    ghost use Rattle.session_peers.specs.Script.{ScriptData};
+    ghost use Rattle.session_peers.specs.Codes.{call_code};
+    ghost use Rattle.script_hosts.specs.Codes.{script_code};
+    ghost use Rattle.script_hosts.specs.Script.{ScriptData};
     ghost use Rattle.session_port.specs.contracts.command.Command as command;
     ghost use Rattle.session_port.specs.contracts.event.HostEvent as event;
     ghost use Rattle.session_port.specs.contracts.job.Job as job;
-    ghost use Rattle.session_peers.specs.contracts.script.ScriptStep as step;
+    ghost use Rattle.script_hosts.specs.contracts.script.ScriptStep as step;
 
     ghost Value = { ScriptData };
 

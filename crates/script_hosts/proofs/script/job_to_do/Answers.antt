@@ -1,8 +1,8 @@
 use Rattle.std.proofs.Common.{cond, ap, sym, ◌∙◌}
 use Rattle.std.specs.Prelude.{None, is_some, option_copied}
-use Rattle.session_peers.specs.Script.{asked_at, left_out}
-use Rattle.session_peers.proofs.Scripts.{asked_none, done_again, left_asked, left_done}
-use Rattle.session_peers.proofs.script.job_to_do.Goals as goal
+use Rattle.script_hosts.specs.Script.{asked_at, left_out}
+use Rattle.script_hosts.proofs.Scripts.{asked_none, done_again, left_asked, left_done}
+use Rattle.script_hosts.proofs.script.job_to_do.Goals as goal
 
 pub returns-in_default-clause-found : goal.returns-in_default-clause-found
 returns-in_default-clause-found c =

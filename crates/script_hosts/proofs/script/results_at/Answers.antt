@@ -1,9 +1,9 @@
 use Rattle.std.proofs.Common.{[], ap, sym, subst, ◌∙◌}
 use Rattle.std.specs.List.{AllZip}
 use Rattle.std.proofs.lemmas.List.{append-nil, drop_all}
-use Rattle.session_peers.specs.Script.{FinishesAt, left_out, named}
-use Rattle.session_peers.proofs.Scripts.{continues_start, left_none}
-use Rattle.session_peers.proofs.script.results_at.Goals as goal
+use Rattle.script_hosts.specs.Script.{FinishesAt, left_out, named}
+use Rattle.script_hosts.proofs.Scripts.{continues_start, left_none}
+use Rattle.script_hosts.proofs.script.results_at.Goals as goal
 
 pub loop-number-init : goal.loop-number-init
 loop-number-init g c =
