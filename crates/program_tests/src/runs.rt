@@ -2,11 +2,11 @@
 use crate::streams::{Paper, Tape};
 use expectations::{expect, expect_same, expect_text};
 use plain::{Items, Text};
-use program::{Program, Words, run};
+use server::{Program, Words, run};
 use session_peers::NullAnalysis;
 use std::alloc::Global;
 use std::test::Fail;
-use stdio::StandardOutput;
+use server::StandardOutput;
 
 const OPEN: &str =
     "Content-Length: 151\r\n\r\n{\"jsonrpc\":\"2.0\",\"method\":\"textDocument/didOpen\",\"params\":{\"textDocument\":{\"uri\":\"file:///w/a.rs\",\"languageId\":\"rust\",\"version\":1,\"text\":\"fn a() {}\"}}}";

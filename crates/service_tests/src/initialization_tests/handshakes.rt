@@ -1,6 +1,6 @@
 // Handshakes: what a client sends, what it is answered, and how it ends.
 use expectations::expect_text;
-use initialization::{Opening, initialize};
+use server::{Opening, initialize};
 use plain::{Bytes, Items};
 use script_hosts::HostileHost;
 use session_model::SessionError;
