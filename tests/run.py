@@ -53,10 +53,7 @@ def run(program, lines, pieces):
     """The status, the output and the standard error of one run."""
     one = {word: rest.decode() for _, word, rest in lines}
     output = one.get("output", "")
-
-    def limit():
-        signal.signal(signal.SIGXFSZ, signal.SIG_IGN)
-        resource.setrlimit(resource.RLIMIT_FSIZE, (int(output), int(output)))
+    limit = lambda: (signal.signal(signal.SIGXFSZ, signal.SIG_IGN), resource.setrlimit(resource.RLIMIT_FSIZE, (int(output),) * 2))
     (gone, closed), (said, err) = os.pipe(), os.pipe()
     os.close(gone), fcntl.fcntl(err, fcntl.F_SETPIPE_SZ, 1 << 20)
     with tempfile.TemporaryFile() as out, open("/dev/full", "wb") as full, open(said, "rb") as errors:
@@ -80,9 +77,11 @@ def difference(program, name, lines, pieces):
         if not found.startswith(wanted) or not number and found:
             return f"{at}\n  line {number or 'the last'} wants {rest.decode() or 'no more'}\n  found  {shown or 'nothing'}"
         found = found[len(wanted):]
-    told = [rest for _, word, rest in lines if word == "!"]
-    if told and [line for line in told if line] != errors.splitlines():
-        return f"{at}\n  standard error wants {told}\n  found {errors.splitlines()}"
+    told = [(number, rest) for number, word, rest in lines if word == "!" and rest]
+    missing = len(errors.splitlines()) - len(told)
+    for (number, wanted), line in zip(told + [(0, b"")] * missing, errors.splitlines() + [b""] * -missing):
+        if wanted != line and any(word == "!" for _, word, _ in lines):
+            return f"{at}\n  line {number or 'the last'} wants {wanted.decode() or 'no more'} on standard error\n  found  {line.decode() or 'nothing'}"
     wants = int(([b"0"] + [rest for _, word, rest in lines if word == "status"])[-1])
     return None if status == wants else f"{at}\n  wants status {wants}, found {status}"
 
