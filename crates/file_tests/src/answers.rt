@@ -1,16 +1,12 @@
-// What a snapshot answers of its file, and the kinds of code actions.
-use crate::calls::{cut, path_at, text_of};
+// What a snapshot answers of its file.
+use crate::calls::{path_at, text_of};
 use crate::snapshots::snapshot;
 use analysis_host::{
-    AssistKind, GlobalStateSnapshot, LensKind, LensResolve, annotation, assist_kind, file_position,
-    file_range,
+    GlobalStateSnapshot, LensKind, LensResolve, annotation, file_position, file_range,
 };
 use docs_vfs::FileId;
-use expectations::{expect, expect_text};
-use plain::Text;
 use project_model::{PackageSpecifier, TargetSpec};
 use std::alloc::Global;
-use std::test::Fail;
 use text_core::{Position, Range};
 
 const URL: &str = "file:///w/a.rs";
@@ -110,49 +106,27 @@ fn has_dependency(alloc: Global, snapshot: &GlobalStateSnapshot) -> Option<bool>
     Some(is_found)
 }
 
-fn answers_all(alloc: Global, snapshot: &GlobalStateSnapshot) -> Result<(), Fail> {
-    expect("places", finds_places(alloc, snapshot) == Some(true))?;
-    expect("a lens", finds_lens(alloc, snapshot) == Some(true))?;
-    expect("URLs", has_urls(alloc, snapshot))?;
-    expect("a number", has_number(alloc, snapshot) == Some(true))?;
-    expect("lines", lines(snapshot, FileId(0)) == Some(1))?;
-    expect("a target", has_target(alloc, snapshot) == Some(true))?;
-    expect("a package", has_dependency(alloc, snapshot) == Some(true))
+/// Whether a snapshot answers a call.
+fn answers_call(alloc: Global, snapshot: &GlobalStateSnapshot, call: &str) -> Option<bool> {
+    match call {
+        "places in a snapshot" => finds_places(alloc, snapshot),
+        "a lens in a snapshot" => finds_lens(alloc, snapshot),
+        "URLs in a snapshot" => Some(has_urls(alloc, snapshot)),
+        "a number in a snapshot" => has_number(alloc, snapshot),
+        "lines in a snapshot" => Some(lines(snapshot, FileId(0)) == Some(1)),
+        "a target in a snapshot" => has_target(alloc, snapshot),
+        "a package in a snapshot" => has_dependency(alloc, snapshot),
+        _ => None,
+    }
 }
 
-#[test]
-fn answers_of_a_snapshot(rt: HostRuntime) -> Result<(), Fail> {
-    let snapshot = snapshot(rt.alloc());
-    let outcome = match &snapshot {
-        Some(snapshot) => answers_all(rt.alloc(), snapshot),
-        None => expect("memory for a snapshot", false),
+/// The same of a snapshot that is made.
+pub fn answers(alloc: Global, call: &str) -> Option<bool> {
+    let snapshot = snapshot(alloc);
+    let found = match &snapshot {
+        Some(snapshot) => answers_call(alloc, snapshot, call),
+        None => None,
     };
     drop(snapshot);
-    outcome
-}
-
-fn kind_name(kind: Option<AssistKind>) -> &'static str {
-    match kind {
-        Some(AssistKind::Generate) => "Generate",
-        Some(AssistKind::QuickFix) => "QuickFix",
-        Some(AssistKind::Refactor) => "Refactor",
-        Some(AssistKind::RefactorExtract) => "RefactorExtract",
-        Some(AssistKind::RefactorInline) => "RefactorInline",
-        Some(AssistKind::RefactorRewrite) => "RefactorRewrite",
-        None => "none",
-    }
-}
-
-/// Kinds of code actions, and the assists that they stand for.
-const KINDS: &str = " > Generate
-refactor.inline > RefactorInline
-source > none";
-
-#[test]
-fn kinds_of_code_actions() -> Result<(), Fail> {
-    for line in KINDS.lines() {
-        let (kind, want) = cut(line, " > ");
-        expect_text(kind, kind_name(assist_kind(kind)), want)?;
-    }
-    Ok(())
+    found
 }

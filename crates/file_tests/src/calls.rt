@@ -22,13 +22,6 @@ pub fn add(text: &mut String, more: &str) {
     let _ = text.push_str(more);
 }
 
-/// Adds a number.
-pub fn add_number(alloc: Global, text: &mut String, number: u64) {
-    if let Ok(digits) = format!(in alloc; "{number}") {
-        add(text, digits.as_str());
-    }
-}
-
 pub fn text_of(alloc: Global, words: &str) -> Option<Text> {
     Text::from_str(alloc, words).ok()
 }

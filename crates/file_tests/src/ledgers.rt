@@ -1,9 +1,9 @@
 // Tables of texts that share what they have in common, and changes whose steps are counted.
 ghost use Rattle.std.specs.Prelude.{◌≡◌, ◌<◌};
 
-use crate::calls::{add, add_number, change_with, cut, entry_of, path_at};
+use crate::calls::{add, change_with, cut, entry_of, path_at};
 use analysis_host::{AnalysisHost, TextTree};
-use expectations::expect_text;
+use expectations::expect;
 use shared_map::Steps;
 use std::alloc::Global;
 use std::marker::Brand;
@@ -24,79 +24,76 @@ fn with_text<L: Ledger>(
     tree.set(path, entry, steps).ok()
 }
 
-/// Adds how many paths a table has, and its texts at `/a` and `/b`.
-fn add_tree(alloc: Global, text: &mut String, tree: &TextTree) {
-    add_number(alloc, text, tree.len());
+/// Whether a table has so many paths, and these texts at `/a` and `/b`.
+fn has_texts(alloc: Global, tree: &TextTree, len: u64, texts: &str) -> bool {
+    let mut found = String::new(alloc);
     for path in "/a /b".split(' ') {
-        add(text, " ");
         if let Some(path) = path_at(alloc, path) {
             match tree.get(&path) {
-                Some(entry) => add(text, entry.text.as_str()),
-                None => add(text, "none"),
+                Some(entry) => add(&mut found, entry.text.as_str()),
+                None => add(&mut found, "none"),
             }
         }
+        add(&mut found, ";");
     }
-    add(text, ";");
+    tree.len() == len && found.as_str() == texts
 }
 
-/// Sets two texts, and adds what is left once `/a` is removed, and what stays where it was.
-fn add_removed<L: Ledger>(
-    alloc: Global,
-    text: &mut String,
-    tree: &mut TextTree,
-    steps: &mut Steps<L>,
-) {
+/// Whether a table of two texts stays as it was where `/a` is removed.
+fn stays<L: Ledger>(alloc: Global, tree: &mut TextTree, steps: &mut Steps<L>) -> bool {
     for words in "/a x,/b y".split(',') {
         let (path, value) = cut(words, " ");
         if let Some(next) = with_text(alloc, tree, path, value, steps) {
             drop(mem::replace(tree, next));
         }
     }
-    if let Some(rest) = with_text(alloc, tree, "/a", "-", steps) {
-        add_tree(alloc, text, &rest);
-        drop(rest);
-    }
-    add_tree(alloc, text, tree);
+    let is_removed = match with_text(alloc, tree, "/a", "-", steps) {
+        Some(rest) => {
+            let is_removed = has_texts(alloc, &rest, 1, "none;y;");
+            drop(rest);
+            is_removed
+        }
+        None => false,
+    };
+    is_removed && has_texts(alloc, tree, 2, "x;y;")
 }
 
-/// Changes the text of `/a` to `x`, and adds what the host has then, and its revision.
-fn add_counted<L: Ledger>(
+/// Whether a host has the text that `/a` is changed to, and one revision more.
+fn changes<L: Ledger>(
     alloc: Global,
-    text: &mut String,
     host: &mut AnalysisHost,
     steps: &mut Steps<L>,
-) {
+) -> Option<bool> {
     let change = change_with(alloc, "/a", "x");
     if host.apply_counted(change, steps).is_err() {
-        return;
+        return None;
     }
-    if let Some(path) = path_at(alloc, "/a") {
-        add(text, host.text(&path).unwrap_or("none"));
-        add(text, " > ");
-        add_number(alloc, text, host.revision());
-    }
+    let path = path_at(alloc, "/a")?;
+    Some(host.text(&path).unwrap_or("none") == "x" && host.revision() == 1)
 }
 
-/// What a table and a host come to whose steps are counted. The one function that owns either.
-fn counted<L: Ledger>(alloc: Global, blank: Blank) -> String
+/// Whether a table and a host whose steps are counted are right. The one function that owns either.
+fn counted<L: Ledger>(alloc: Global, blank: Blank) -> bool
     requires name { blank.name ≡ L.name }
     requires parts { blank.parts ≡ L.parts }
     requires some { 0 < L.parts }
 {
     let mut steps = Steps::<L>::new(blank);
-    let mut text = String::new(alloc);
     let mut tree = TextTree::new(alloc);
-    add_removed(alloc, &mut text, &mut tree, &mut steps);
+    let stays = stays(alloc, &mut tree, &mut steps);
     drop(tree);
-    if let Ok(mut host) = AnalysisHost::new(alloc) {
-        add_counted(alloc, &mut text, &mut host, &mut steps);
-        drop(host);
+    match AnalysisHost::new(alloc) {
+        Ok(mut host) => {
+            let is_changed = changes(alloc, &mut host, &mut steps);
+            drop(host);
+            stays && is_changed == Some(true)
+        }
+        Err(_) => false,
     }
-    text
 }
 
 #[test]
 fn counted_changes(rt: HostRuntime) -> Result<(), Fail> {
-    let text = counted::<Brand>(rt.alloc(), Blank::new(1));
-    expect_text("a table and a host", text.as_str(), "1 none y;2 x y;x > 1")
+    let is_right = counted::<Brand>(rt.alloc(), Blank::new(1));
+    expect("a table and a host", is_right)
 }

@@ -1,7 +1,6 @@
 //! Tests of files and their tables, of diagnostics, of the server's own messages and of snapshots, of what no stored session shows: one
-//! call of each kind that ends well, JSON that nothing sends yet, ledgers of steps, and kinds of code actions. The calls go through
-//! wrappers that claim nothing, so that the prover carries none of their clauses, and the few functions that own a snapshot or a host
-//! have one way out.
+//! call of each kind that ends well, JSON that nothing sends yet, and ledgers of steps. The calls go through wrappers that claim nothing,
+//! so that the prover carries none of their clauses, and the few functions that own a snapshot or a host have one way out.
 #![tactic(auto)]
 
 #[cfg(test)]
@@ -10,6 +9,8 @@ mod answers;
 mod board;
 #[cfg(test)]
 mod calls;
+#[cfg(test)]
+mod ends;
 #[cfg(test)]
 mod forms;
 #[cfg(test)]

@@ -1,8 +1,9 @@
-// Messages of the server that nothing sends yet, from words, and as they are written, each in a line of its own. Each call answers none also
-// where memory runs out.
+// JSON that nothing sends yet, from words: the server's own messages, and values that stand in answers, each in a line of its own. Each call
+// answers none also where memory runs out.
 ghost use Rattle.notify.specs.Writing.{HoldsPlain};
 
-use crate::calls::{cut, json, text_of};
+use crate::calls::{add, cut, json, text_of};
+use crate::forms::form;
 use expectations::expect;
 use notify::{MessageKind, Outgo, ProgressValue, TestReport, is_request, outgo_body};
 use plain::{Items, Json, Text};
@@ -22,7 +23,13 @@ fn body_of(alloc: Global, message: Outgo) -> Option<(Text, Json)>
 
 fn shown(alloc: Global, letter: &str, method: &str, params: &Json) -> Option<String> {
     let params = params.as_value().to_string(alloc).ok()?;
-    format!(in alloc; "{letter} {method} {params}").ok()
+    let mut line = String::new(alloc);
+    add(&mut line, letter);
+    add(&mut line, " ");
+    add(&mut line, method);
+    add(&mut line, " ");
+    add(&mut line, params.as_str());
+    Some(line)
 }
 
 /// A line: its letter, the method, the params. The one function that owns a message.
@@ -197,14 +204,15 @@ fn written(alloc: Global, words: &str) -> Option<String> {
         "test" => found_one(alloc, json(alloc, rest)?),
         "state" => state(alloc, rest),
         "output" => output(alloc),
-        _ => None,
+        _ => form(alloc, kind),
     }
 }
 
 /// What is written, and words that tell the message. A token is created by its text; work begins, goes on and ends by whether it can be
 /// cancelled, its message behind `=`, and its percentage. Messages are shown, and shown with a button, by their kind. Tests are found, by
-/// the files that were searched, or by the value of one; then what became of a test, and the output of tests.
-const MESSAGES: &str = r#"n experimental/openServerLogs null > logs
+/// the files that were searched, or by the value of one; then what became of a test, and the output of tests. The last are values: a range, a
+/// text edit, and a diagnostic without more and with all that it may have.
+const WRITTEN: &str = r#"n experimental/openServerLogs null > logs
 n experimental/endRunTest null > ended
 q window/workDoneProgress/create {"token":"t \"1\""} > create t "1"
 n $/progress {"token":"t","value":{"cancellable":false,"kind":"begin","title":"T"}} > begin no none none
@@ -229,7 +237,11 @@ n experimental/changeTestState {"state":{"kind":"started"},"testId":"a_b::c"} > 
 n experimental/changeTestState {"state":{"kind":"skipped"},"testId":"a_b::c"} > state skipped
 n experimental/changeTestState {"state":{"kind":"passed"},"testId":"a_b::c"} > state passed
 n experimental/changeTestState {"state":{"kind":"failed","message":"m"},"testId":"a_b::c"} > state failed m
-n experimental/appendOutputToRunTest "a\nb" > output"#;
+n experimental/appendOutputToRunTest "a\nb" > output
+{"end":{"character":8,"line":0},"start":{"character":7,"line":0}} > range
+{"newText":"a\n","range":{"end":{"character":8,"line":0},"start":{"character":7,"line":0}}} > edit
+{"message":"unmatched bracket","range":{"end":{"character":8,"line":0},"start":{"character":7,"line":0}},"severity":1,"source":"ra_serve"} > least
+{"code":"E1","message":"\"","range":{"end":{"character":8,"line":0},"start":{"character":7,"line":0}},"relatedInformation":[{"location":{"range":{"end":{"character":8,"line":0},"start":{"character":7,"line":0}},"uri":"file:///w/a%20b.rs"},"message":"here"}]} > most"#;
 
 /// Whether what stands first is written for the words behind it.
 fn agrees(alloc: Global, line: &str) -> Option<bool> {
@@ -238,8 +250,8 @@ fn agrees(alloc: Global, line: &str) -> Option<bool> {
 }
 
 #[test]
-fn messages_that_nothing_sends_yet(rt: HostRuntime) -> Result<(), Fail> {
-    for line in MESSAGES.lines() {
+fn json_that_nothing_sends_yet(rt: HostRuntime) -> Result<(), Fail> {
+    for line in WRITTEN.lines() {
         expect(line, agrees(rt.alloc(), line) == Some(true))?;
     }
     Ok(())

@@ -1,11 +1,9 @@
 // Documents, contents and numbers by path, and bytes that are shared.
 use crate::calls::{copied, is_free, path_at, shared_text, text_of};
 use docs_vfs::{DocumentData, FileExcluded, FileId, FileTable, MemDocs, SharedBytes, VfsPath};
-use expectations::expect;
 use file_ids::FileIds;
 use plain::Bytes;
 use std::alloc::Global;
-use std::test::Fail;
 
 fn document(alloc: Global) -> Option<DocumentData> {
     Some(DocumentData {
@@ -32,7 +30,7 @@ fn is_open(alloc: Global, docs: &mut MemDocs) -> Option<bool> {
 }
 
 /// Whether a document is opened in a new table.
-fn opens(alloc: Global) -> Option<bool> {
+pub fn opens(alloc: Global) -> Option<bool> {
     let mut docs = MemDocs::new(alloc);
     let is_open = is_open(alloc, &mut docs);
     drop(docs);
@@ -60,7 +58,7 @@ fn adds(alloc: Global, table: &mut FileTable, path: &VfsPath) -> Option<bool> {
 }
 
 /// Whether a table takes contents in each way.
-fn takes_contents(alloc: Global) -> Option<bool> {
+pub fn takes_contents(alloc: Global) -> Option<bool> {
     let mut table = FileTable::new(alloc);
     let set = sets(alloc, &mut table, &path_at(alloc, "/a")?);
     let added = adds(alloc, &mut table, &VfsPath::root(alloc).ok()?);
@@ -69,7 +67,7 @@ fn takes_contents(alloc: Global) -> Option<bool> {
 }
 
 /// Whether the text that shared bytes are is this one, and other bytes are none.
-fn are_texts(alloc: Global) -> Option<bool> {
+pub fn are_texts(alloc: Global) -> Option<bool> {
     let text = SharedBytes::new(alloc, Bytes::from_slice(alloc, "é".as_bytes()).ok()?).ok()?;
     let other = SharedBytes::new(alloc, bytes(alloc)?).ok()?;
     let is_text = text.to_text(alloc).ok()??.as_str() == "é";
@@ -86,19 +84,7 @@ fn with(alloc: Global, ids: &FileIds, path: &str, number: u32) -> Option<FileIds
 }
 
 /// Whether a number is set.
-fn numbers(alloc: Global) -> Option<bool> {
+pub fn sets_number(alloc: Global) -> Option<bool> {
     let ids = with(alloc, &FileIds::new(alloc), "/a", 1)?;
     Some(ids.path_of(FileId(1))?.as_str() == "/a")
-}
-
-#[test]
-fn tables(rt: HostRuntime) -> Result<(), Fail> {
-    let alloc = rt.alloc();
-    expect("a document is opened", opens(alloc) == Some(true))?;
-    expect(
-        "a table takes contents",
-        takes_contents(alloc) == Some(true),
-    )?;
-    expect("bytes are a text or none", are_texts(alloc) == Some(true))?;
-    expect("a number is set", numbers(alloc) == Some(true))
 }

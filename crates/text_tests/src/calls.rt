@@ -69,8 +69,3 @@ pub(crate) fn is_written(alloc: Global, json: &Json, want: &str) -> bool {
     let is_made = is_plain && json.write(&mut bytes).is_ok();
     is_made && bytes.as_slice() == want.as_bytes()
 }
-
-/// Adds words to a text.
-pub(crate) fn add(text: &mut String, more: &str) {
-    let _ = text.push_str(more);
-}

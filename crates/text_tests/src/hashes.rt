@@ -1,8 +1,6 @@
 // Hashes of completions.
-use expectations::expect;
 use plain::{Items, Text};
 use std::alloc::Global;
-use std::test::Fail;
 use text_core::{
     HashedItem, PostfixMatch, RefMode, Relevance, ReturnType, TypeMatch, completion_item_hash,
 };
@@ -92,11 +90,12 @@ const METHOD_HASH: [u8; 20] = [
     0xaa, 0xa9, 0xc7, 0x02,
 ];
 
-#[test]
-fn hashes_of_completions(rt: HostRuntime) -> Result<(), Fail> {
-    expect(
-        "the keyword's",
-        hash(rt.alloc(), false) == Some(sha1::Sha1::digest(KEYWORD)),
-    )?;
-    expect("the method's", hash(rt.alloc(), true) == Some(METHOD_HASH))
+/// Whether the hash of a keyword is that of its bytes.
+pub fn is_keyword(alloc: Global) -> Option<bool> {
+    Some(hash(alloc, false)? == sha1::Sha1::digest(KEYWORD))
+}
+
+/// Whether the hash of a method is this one.
+pub fn is_method(alloc: Global) -> Option<bool> {
+    Some(hash(alloc, true)? == METHOD_HASH)
 }

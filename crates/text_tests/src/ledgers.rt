@@ -1,8 +1,8 @@
 // Steps that are counted: of maps that stay as they were, and of edits under a limit.
 ghost use Rattle.std.specs.Prelude.{◌≡◌, ◌<◌};
 
-use crate::calls::{UTF16, add, add_changes, cut};
-use expectations::expect_text;
+use crate::calls::{UTF16, add_changes, cut};
+use expectations::expect;
 use plain::{Items, Text};
 use shared_map::{SharedMap, Steps};
 use std::alloc::{AllocError, Global};
@@ -26,47 +26,34 @@ fn with_all<L: Ledger>(
     Ok(map)
 }
 
-/// The keys and values in order, in words.
-fn told(alloc: Global, map: &Numbers) -> Option<String> {
-    let mut text = format!(in alloc; "{}:", map.len()).ok()?;
+/// The keys in order, each with its value, all of one figure.
+fn figures(map: &Numbers) -> Option<u64> {
+    let mut figures = 0u64;
     for entry in map.entries().ok()? {
-        let words = format!(in alloc; " {}={}", entry.0, entry.1).ok()?;
-        text.push_str(words.as_str()).ok()?;
+        figures = figures
+            .wrapping_mul(10)
+            .wrapping_add(u64::from(entry.0))
+            .wrapping_mul(10)
+            .wrapping_add(u64::from(entry.1));
     }
-    Some(text)
+    Some(figures)
 }
 
-fn add_map(alloc: Global, text: &mut String, map: &Numbers) {
-    if let Some(told) = told(alloc, map) {
-        add(text, told.as_str());
-        add(text, ";");
-    }
-}
-
-/// Adds a map, and what came of it by other entries.
-fn add_maps<L: Ledger>(alloc: Global, text: &mut String, steps: &mut Steps<L>) {
+/// Whether a map has what was set last, and the map before has what it had.
+fn stays<L: Ledger>(alloc: Global, steps: &mut Steps<L>) -> Option<bool> {
     let first = [
-        (5, Some(50)),
-        (1, Some(10)),
-        (4, Some(40)),
-        (2, Some(20)),
-        (3, Some(30)),
-        (6, Some(60)),
-        (7, Some(70)),
+        (5, Some(1)),
+        (1, Some(2)),
+        (4, Some(3)),
+        (2, Some(4)),
+        (3, Some(5)),
+        (6, Some(6)),
+        (7, Some(7)),
     ];
-    let second = [
-        (4, None),
-        (9, None),
-        (1, Some(11)),
-        (8, Some(80)),
-        (5, None),
-    ];
-    if let Ok(old) = with_all(&SharedMap::new(alloc), &first, steps) {
-        if let Ok(new) = with_all(&old, &second, steps) {
-            add_map(alloc, text, &old);
-            add_map(alloc, text, &new);
-        }
-    }
+    let second = [(4, None), (9, None), (1, Some(8)), (8, Some(9)), (5, None)];
+    let old = with_all(&SharedMap::new(alloc), &first, steps).ok()?;
+    let new = with_all(&old, &second, steps).ok()?;
+    Some(figures(&old)? == 12243543516677 && figures(&new)? == 182435667789)
 }
 
 /// A text, changes, the text that they leave, and how many bytes it may have. What passes that limit is dropped, if its own text does,
@@ -101,37 +88,30 @@ fn agrees<L: Ledger>(alloc: Global, row: &str, steps: &mut Steps<L>) -> Option<b
     Some(limited(alloc, text, list, limit.parse().ok()?, steps)?.is(after))
 }
 
-/// Adds the rows that aren't right.
-fn add_wrong<L: Ledger>(alloc: Global, text: &mut String, steps: &mut Steps<L>) {
+/// Whether all rows are right.
+fn are_limited<L: Ledger>(alloc: Global, steps: &mut Steps<L>) -> bool {
     for row in LIMITED.split(";\n") {
         if agrees(alloc, row, steps) != Some(true) {
-            add(text, row);
+            return false;
         }
     }
+    true
 }
 
-/// What maps and texts come to whose steps are counted. A count takes no bytes, and only contracts see it.
-fn counted<L: Ledger>(alloc: Global, blank: Blank) -> String
+/// Whether maps and edits whose steps are counted are right, and a count takes no bytes. Only contracts see it.
+fn counted<L: Ledger>(alloc: Global, blank: Blank) -> bool
     requires name { blank.name ≡ L.name }
     requires parts { blank.parts ≡ L.parts }
     requires some { 0 < L.parts }
 {
     let mut steps = Steps::<L>::new(blank);
-    let mut text = String::new(alloc);
-    add_maps(alloc, &mut text, &mut steps);
-    add_wrong(alloc, &mut text, &mut steps);
-    if size_of::<Steps<L>>() != 0 {
-        add(&mut text, "a count takes bytes");
-    }
-    text
+    let stays = stays(alloc, &mut steps) == Some(true);
+    let are_limited = are_limited(alloc, &mut steps);
+    stays && are_limited && size_of::<Steps<L>>() == 0
 }
 
 #[test]
 fn steps_are_counted(rt: HostRuntime) -> Result<(), Fail> {
-    let text = counted::<Brand>(rt.alloc(), Blank::new(1));
-    expect_text(
-        "maps and edits",
-        text.as_str(),
-        "7: 1=10 2=20 3=30 4=40 5=50 6=60 7=70;6: 1=11 2=20 3=30 6=60 7=70 8=80;",
-    )
+    let is_right = counted::<Brand>(rt.alloc(), Blank::new(1));
+    expect("maps and edits", is_right)
 }

@@ -1,12 +1,10 @@
 // Bytes, JSON and maps: calls that end well where memory is left.
 use crate::calls::{is_written, json, text};
-use expectations::expect;
-use plain::{Buffered, ByNumber, ByText, Bytes, Json, Members, Plain, SharedJson};
+use plain::{Buffered, ByNumber, ByText, Bytes, Json, Members, Plain, SharedJson, Text};
 use std::alloc::Global;
-use std::test::Fail;
 
 /// Whether bytes stay as room is made for more.
-fn stay(alloc: Global) -> Option<bool> {
+pub fn stay(alloc: Global) -> Option<bool> {
     let mut bytes = Buffered::with_capacity(alloc, 4).ok()?;
     let are_fed = bytes.feed(b"abc").is_ok();
     let is_made = bytes.reserve(100).is_ok();
@@ -16,7 +14,7 @@ fn stay(alloc: Global) -> Option<bool> {
 }
 
 /// Whether bytes that grew are what was put.
-fn are_grown(alloc: Global) -> Option<bool> {
+pub fn are_grown(alloc: Global) -> Option<bool> {
     let mut bytes = Bytes::from_slice(alloc, b"ab").ok()?;
     let is_pushed = bytes.push(b'c').is_ok();
     let is_right = bytes.as_slice() == b"abc".as_slice();
@@ -25,7 +23,7 @@ fn are_grown(alloc: Global) -> Option<bool> {
 }
 
 /// Whether a copy of members is written as they are.
-fn are_members(alloc: Global) -> Option<bool> {
+pub fn are_members(alloc: Global) -> Option<bool> {
     let mut members = Members::new(alloc);
     let is_put = members.put(alloc, "a", Json::from_i32(1)).is_ok();
     let copy = members.clone().ok();
@@ -42,7 +40,7 @@ fn is_kept(plain: Plain) -> Option<bool> {
 }
 
 /// The same of the value that a text is.
-fn is_plain(alloc: Global, text: &str) -> Option<bool> {
+pub fn is_plain(alloc: Global, text: &str) -> Option<bool> {
     is_kept(Plain::new(json(alloc, text)?).ok()?)
 }
 
@@ -52,7 +50,7 @@ fn is_moved(alloc: Global, shared: SharedJson, want: &str) -> Option<bool> {
 }
 
 /// Whether what is moved out of a clone, and then where nothing else shares it, is the value that a text is.
-fn is_shared(alloc: Global, text: &str) -> Option<bool> {
+pub fn is_shared(alloc: Global, text: &str) -> Option<bool> {
     let shared = SharedJson::new(alloc, json(alloc, text)?).ok()?;
     let copy = shared.clone().ok()?;
     let is_copied = is_moved(alloc, copy, text) == Some(true);
@@ -60,7 +58,7 @@ fn is_shared(alloc: Global, text: &str) -> Option<bool> {
 }
 
 /// Whether a copy of a map by number stays as it was.
-fn stays_by_number(alloc: Global) -> Option<bool> {
+pub fn stays_by_number(alloc: Global) -> Option<bool> {
     let mut map = ByNumber::new(alloc);
     let is_put = map.insert(7, 1u32).is_ok();
     let copy = map.clone().ok();
@@ -69,28 +67,20 @@ fn stays_by_number(alloc: Global) -> Option<bool> {
     Some(is_put && is_changed && copy?.get(7).copied() == Some(1))
 }
 
-/// The same of a map by text.
-fn stays_by_text(alloc: Global) -> Option<bool> {
-    let key = text(alloc, "a")?;
-    let mut map = ByText::new(alloc);
-    let is_put = map.insert(text(alloc, "a")?, 1u32).is_ok();
-    let copy = map.clone().ok();
-    let is_changed = map.insert(text(alloc, "a")?, 2).is_ok();
-    drop(map);
-    Some(is_put && is_changed && copy?.get(&key).copied() == Some(1))
+/// Puts a value at the key `a`.
+fn put(alloc: Global, map: &mut ByText<Text, u32>, value: u32) -> Option<()> {
+    let old = map.insert(text(alloc, "a")?, value).ok()?;
+    drop(old);
+    Some(())
 }
 
-#[test]
-fn values(rt: HostRuntime) -> Result<(), Fail> {
-    let alloc = rt.alloc();
-    expect("bytes stay as room is made", stay(alloc) == Some(true))?;
-    expect("bytes grow", are_grown(alloc) == Some(true))?;
-    expect("members", are_members(alloc) == Some(true))?;
-    expect("a plain value", is_plain(alloc, "[1]") == Some(true))?;
-    expect(
-        "a shared value",
-        is_shared(alloc, "[7,\"b\"]") == Some(true),
-    )?;
-    expect("a map by number", stays_by_number(alloc) == Some(true))?;
-    expect("a map by text", stays_by_text(alloc) == Some(true))
+/// The same of a map by text.
+pub fn stays_by_text(alloc: Global) -> Option<bool> {
+    let mut map = ByText::new(alloc);
+    let is_put = put(alloc, &mut map, 1).is_some();
+    let copy = map.clone().ok();
+    let is_changed = put(alloc, &mut map, 2).is_some();
+    drop(map);
+    let key = text(alloc, "a")?;
+    Some(is_put && is_changed && copy?.get(&key).copied() == Some(1))
 }
