@@ -1,12 +1,14 @@
-// The calls of a session besides its turns.
-use crate::asking::agree;
+// The calls of a session besides its turns, and its parts by themselves.
+use crate::asking::{agree, settings};
+use expectations::expect;
 use lsp_frame::{RequestId, Response, ResponseError};
 use notify::Outgo;
 use plain::Text;
-use session_model::ReqHandler;
+use session_model::{Client, ReqHandler, SessionFiles};
 use session_state::{GlobalState, TurnOut};
 use std::alloc::Global;
 use std::test::Fail;
+use workspaces::Workspaces;
 
 /// A refusal under no id.
 fn refusal(alloc: Global) -> Option<ResponseError> {
@@ -84,4 +86,33 @@ start then fetched then call quiescent > yes"#;
 #[test]
 fn calls_besides_turns(rt: HostRuntime) -> Result<(), Fail> {
     agree(rt.alloc(), CALLS)
+}
+
+/// Whether a client has the settings that it is made with.
+fn is_client_made(alloc: Global) -> Option<bool> {
+    let client = Client::new(alloc, settings(alloc, "")?).ok()?;
+    let is = client.settings().threads() == 4;
+    drop(client);
+    Some(is)
+}
+
+fn are_files_made(alloc: Global) -> Option<bool> {
+    let files = SessionFiles::new(alloc).ok()?;
+    let are = files.revision() == 0 && !files.is_loading();
+    drop(files);
+    Some(are)
+}
+
+fn are_workspaces_made(alloc: Global) -> Option<bool> {
+    let workspaces = Workspaces::new(alloc).ok()?;
+    let are = workspaces.version() == 0 && workspaces.is_idle();
+    drop(workspaces);
+    Some(are)
+}
+
+#[test]
+fn parts_by_themselves(rt: HostRuntime) -> Result<(), Fail> {
+    expect("a client", is_client_made(rt.alloc()) == Some(true))?;
+    expect("files", are_files_made(rt.alloc()) == Some(true))?;
+    expect("workspaces", are_workspaces_made(rt.alloc()) == Some(true))
 }
