@@ -63,7 +63,8 @@ fn roots_in(alloc: Global, params: &str) -> Option<usize> {
 
 #[test]
 fn projects_and_roots(rt: HostRuntime) -> Result<(), Fail> {
-    let named = r#"{"rootUri":"file:///r","workspaceFolders":[{"uri":"file:///a"},{"uri":"x"},{"uri":"file:///b"}]}"#;
+    let named =
+        r#"{"rootUri":"file:///r","workspaceFolders":[{"uri":"file:///a"},{"uri":"x"},{"uri":"file:///b"}]}"#;
     expect("discovered", is_discovered(rt.alloc()) == Some(true))?;
     expect(named, roots_in(rt.alloc(), named) == Some(2))?;
     expect("no roots", roots_in(rt.alloc(), "{}") == Some(0))?;
