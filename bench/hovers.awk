@@ -1,4 +1,4 @@
-# Writes the frames of a session with one document and n hovers: awk -v n=10000 -f docs/hovers.awk
+# Writes the frames of a session with one document and n hovers: awk -v n=10000 -f bench/hovers.awk
 function frame(body) { printf "Content-Length: %d\r\n\r\n%s", length(body), body }
 BEGIN {
   frame("{\"jsonrpc\":\"2.0\",\"method\":\"textDocument/didOpen\",\"params\":{\"textDocument\":{\"uri\":\"file:///w/a.rs\",\"languageId\":\"rust\",\"version\":1,\"text\":\"fn a() {}\"}}}")

@@ -4,7 +4,7 @@ use method_table::RowId;
 use plain::{Items, Json, SharedJson, Text};
 
 /// A question on a snapshot.
-#[derive(Clone, Debug, Drop)]
+#[derive(Clone, Drop)]
 pub enum Ask {
     /// What the request of this row answers.
     Request { row: RowId, params: SharedJson },
@@ -15,7 +15,7 @@ pub enum Ask {
 }
 
 /// The answer to a question, of the question's kind.
-#[derive(Clone, Debug, Drop)]
+#[derive(Clone, Drop)]
 pub enum Answer {
     /// The result of a request.
     Json(Json),
@@ -26,7 +26,7 @@ pub enum Answer {
 }
 
 /// What a query comes to.
-#[derive(Clone, Debug, Drop)]
+#[derive(Clone, Drop)]
 pub enum Outcome {
     Value(Answer),
     /// Why there is no answer, as the client is to read it.

@@ -9,14 +9,14 @@ use std::alloc::Global;
 use text_core::{Position, Range};
 
 /// A byte of a file's text.
-#[derive(Clone, Copy, Debug, PartialEq, Eq)]
+#[derive(Clone, Copy, PartialEq, Eq)]
 pub struct FilePosition {
     pub file: FileId,
     pub offset: u32,
 }
 
 /// Bytes of a file's text.
-#[derive(Clone, Copy, Debug, PartialEq, Eq)]
+#[derive(Clone, Copy, PartialEq, Eq)]
 pub struct FileRange {
     pub file: FileId,
     pub start: u32,

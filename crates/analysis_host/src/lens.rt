@@ -11,7 +11,6 @@ pub enum LensKind {
 }
 
 /// What a lens that is to be resolved says of itself.
-#[derive(Debug)]
 pub struct LensResolve {
     /// The version of the document that the lens was made for.
     pub version: i32,
@@ -32,7 +31,7 @@ impl Drop for LensResolve {
 }
 
 /// A lens in its file.
-#[derive(Clone, Copy, Debug, PartialEq, Eq)]
+#[derive(Clone, Copy, PartialEq, Eq)]
 pub struct Annotation {
     pub start: u32,
     pub end: u32,

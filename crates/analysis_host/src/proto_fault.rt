@@ -3,7 +3,7 @@ use docs_vfs::UrlFault;
 use text_core::OffsetFault;
 
 /// Why a client's URL or position names no file or no place.
-#[derive(Clone, Copy, Debug, PartialEq, Eq)]
+#[derive(Clone, Copy, PartialEq, Eq)]
 pub enum ProtoFault {
     /// The URL names no file.
     Url(UrlFault),

@@ -1,7 +1,7 @@
 use crate::cause::FetchCause;
 
 /// What a change of settings asks for.
-#[derive(Clone, Copy, Debug, PartialEq, Eq)]
+#[derive(Clone, Copy, PartialEq, Eq)]
 pub struct ConfigUpdate {
     /// A fetch of workspaces, since there are other projects.
     pub projects: bool,

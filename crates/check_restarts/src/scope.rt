@@ -6,7 +6,7 @@ use plain::{Copied, Items, NoMemory, Text};
 use project_model::{PackageSpecifier, TargetKind};
 
 /// What a check is run on.
-#[derive(Debug, Drop)]
+#[derive(Drop)]
 pub enum CheckScope {
     Workspace {
         /// The file that was saved.
@@ -24,7 +24,6 @@ pub enum CheckScope {
 }
 
 /// A check that restarts.
-#[derive(Debug)]
 pub struct Restart {
     pub id: u64,
     pub scope: CheckScope,

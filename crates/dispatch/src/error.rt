@@ -9,7 +9,6 @@ use std::fmt;
 const INVALID_PARAMS: i32 = -32602;
 
 /// Why a request fails, as the client is told.
-#[derive(Debug)]
 pub struct LspError {
     pub code: i32,
     pub message: Text,
@@ -43,6 +42,12 @@ impl fmt::Display for LspError {
         let code = self.code;
         let message = self.message.as_str();
         write!(f, "Language Server request failed with {code}. ({message})")
+    }
+}
+
+impl fmt::Debug for LspError {
+    fn fmt<W: fmt::Write>(&self, f: &mut fmt::Formatter<W>) -> fmt::Result {
+        fmt::Display::fmt(self, f)
     }
 }
 

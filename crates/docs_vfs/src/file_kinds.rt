@@ -89,7 +89,7 @@ impl Drop for FileWas {
 
 /// What a call made of a path: its number before and after, where it had contents or a mark, with whether it was marked,
 /// and whether its contents changed.
-#[derive(Clone, Copy, Debug)]
+#[derive(Clone, Copy)]
 pub struct Replaced {
     pub before: Option<(FileId, FileExcluded)>,
     pub after: Option<(FileId, FileExcluded)>,

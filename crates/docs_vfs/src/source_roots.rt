@@ -14,7 +14,6 @@ use std::marker::Model;
 use std::sync::Arc;
 
 /// A part of the files: those below an include that are below no exclude.
-#[derive(Debug)]
 pub struct Root {
     pub include: Items<VfsPath>,
     pub exclude: Items<VfsPath>,

@@ -1,7 +1,7 @@
 use plain::Items;
 
 /// What a host gives the answers of.
-#[derive(Debug, Drop)]
+#[derive(Drop)]
 pub enum Kept<D> {
     /// Settings of a loader, by their version.
     Loader(u32),

@@ -1,8 +1,6 @@
-//! Tests of what a host stands on: what it keeps of orders, the inbox and the revision word, these two with real threads.
+//! Tests of what a host with threads stands on: the inbox and the revision word, with real threads.
 #![tactic(auto)]
 
-#[cfg(test)]
-mod host_orders_tests;
 #[cfg(test)]
 mod inbox_tests;
 #[cfg(test)]

@@ -4,7 +4,7 @@
 mod ini;
 
 use ini::Ini;
-use program::{Program, start};
+use server::{Program, start};
 use std::process::ExitCode;
 
 const PROGRAM: Program<'static> = Program {

@@ -13,7 +13,6 @@ use ra_settings::{ConfigError, Layer, ReadLayer, Reason, Source, toml_tree};
 use std::alloc::{AllocError, Global};
 
 /// A changed settings file of a root; without a text it was deleted.
-#[derive(Debug)]
 pub struct SettingsFile {
     pub root: u32,
     pub path: VfsPath,
@@ -31,7 +30,7 @@ impl Drop for SettingsFile {
 }
 
 /// A change of settings. What it leaves out stays.
-#[derive(Debug, Drop)]
+#[derive(Drop)]
 pub struct ConfigChange {
     /// The client's settings: of no kind but an object do any values come.
     pub client: Option<Json>,
@@ -219,7 +218,7 @@ fn user_after(
 }
 
 /// Which of the client's and the user's settings a change names.
-#[derive(Debug, Drop)]
+#[derive(Drop)]
 struct Named {
     client: bool,
     user: bool,

@@ -3,7 +3,7 @@ use plain::{Copied, Json, Text};
 use std::cmp::Ordering;
 
 /// The id of a request.
-#[derive(Clone, Debug, PartialEq, Eq, Hash, Drop)]
+#[derive(Clone, PartialEq, Eq, Hash, Drop)]
 pub enum RequestId {
     Number(i32),
     Text(Text),
@@ -48,7 +48,7 @@ impl Ord for RequestId {
 }
 
 /// A call that wants an answer.
-#[derive(Clone, Debug, Drop)]
+#[derive(Clone, Drop)]
 pub struct Request {
     pub id: RequestId,
     pub method: Text,
@@ -56,14 +56,14 @@ pub struct Request {
 }
 
 /// A call that wants no answer.
-#[derive(Clone, Debug, Drop)]
+#[derive(Clone, Drop)]
 pub struct Notification {
     pub method: Text,
     pub params: Json,
 }
 
 /// What went wrong with a request.
-#[derive(Clone, Debug, Drop)]
+#[derive(Clone, Drop)]
 pub struct ResponseError {
     pub code: i32,
     pub message: Text,
@@ -72,7 +72,7 @@ pub struct ResponseError {
 }
 
 /// The answer to a request. A missing id was null, and a null result is one.
-#[derive(Clone, Debug, Drop)]
+#[derive(Clone, Drop)]
 pub struct Response {
     pub id: Option<RequestId>,
     pub result: Option<Json>,
@@ -80,7 +80,7 @@ pub struct Response {
 }
 
 /// A message of the protocol.
-#[derive(Clone, Debug, Drop)]
+#[derive(Clone, Drop)]
 pub enum Message {
     Request(Request),
     Notification(Notification),

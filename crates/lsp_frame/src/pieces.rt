@@ -11,7 +11,6 @@ use plain::{Items, NoMemory};
 use std::alloc::{AllocError, Global};
 
 /// The messages of a stream up to its first fault, and that fault.
-#[derive(Debug)]
 pub struct Reading {
     pub messages: Items<Message>,
     pub fault: Option<FrameFault>,

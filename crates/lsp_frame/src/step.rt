@@ -3,7 +3,7 @@ use crate::message::{RequestId, Response};
 use plain::Json;
 
 /// What a message of the handshake asks for.
-#[derive(Debug, Drop)]
+#[derive(Drop)]
 pub enum Step {
     /// The request of this id begins the handshake, with these params.
     Initialize(RequestId, Json),

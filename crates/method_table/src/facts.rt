@@ -8,7 +8,7 @@ use crate::default_value::DefaultValue;
 use crate::row_id::RowId;
 
 /// What the table says of a row.
-#[derive(Clone, Copy, Debug)]
+#[derive(Clone, Copy)]
 pub struct Facts {
     pub method: &'static str,
     pub class: Class,

@@ -1,7 +1,7 @@
 use crate::class::PoolClass;
 
 /// What is done for a request. Where it is by other than a refusal or a default, its params are read first.
-#[derive(Clone, Copy, Debug, PartialEq, Eq, PartialOrd, Ord, Hash)]
+#[derive(Clone, Copy, PartialEq, Eq, PartialOrd, Ord, Hash)]
 pub enum Plan {
     /// The session is to shut down, also where it was told so before.
     Shutdown,

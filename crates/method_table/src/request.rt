@@ -1,7 +1,7 @@
 use plain::{Items, Text};
 
 /// A request to run tests.
-#[derive(Clone, Debug)]
+#[derive(Clone)]
 pub struct RunTest {
     /// The ids of the tests that are to run; where there are none, all are.
     pub include: Option<Items<Text>>,
@@ -19,7 +19,7 @@ impl Drop for RunTest {
 }
 
 /// A request that changes the session's own state.
-#[derive(Clone, Debug, Drop)]
+#[derive(Clone, Drop)]
 pub enum StateRequest {
     /// `shutdown`
     Shutdown,

@@ -7,7 +7,6 @@ use std::marker::Model;
 use std::sync::Arc;
 
 /// A text whose clones share it.
-#[derive(Debug)]
 pub struct ArcText {
     text: Arc<Text, Global>,
 }

@@ -5,7 +5,6 @@ use std::alloc::Global;
 use std::marker::Model;
 
 /// Bytes that are taken from the front while more come at the end. Contracts see those that are left.
-#[derive(Debug)]
 pub struct Buffered {
     bytes: Vec<u8>,
     // Where those begin that are left.

@@ -14,7 +14,6 @@ use std::collections::btree_map::{Keys, Values};
 use std::marker::Model;
 
 /// Values by keys that stand for texts, which contracts see as a finite map from the texts.
-#[derive(Debug)]
 pub struct ByText<K: TextKey, V> {
     rows: BTreeMap<K, V>,
 }

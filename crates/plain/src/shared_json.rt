@@ -7,7 +7,6 @@ use std::marker::Model;
 use std::sync::Arc;
 
 /// A JSON value whose clones share it.
-#[derive(Debug)]
 pub struct SharedJson {
     json: Arc<Json, Global>,
 }

@@ -5,7 +5,7 @@ use docs_vfs::VfsPath;
 use plain::{Copied, Items, NoMemory, Text};
 
 /// What was built of a proc macro crate.
-#[derive(Debug, Drop)]
+#[derive(Drop)]
 pub enum MacroPath {
     /// The name of the crate, and its library.
     Built { name: Text, library: VfsPath },
@@ -14,7 +14,6 @@ pub enum MacroPath {
 }
 
 /// What the build scripts of a workspace made.
-#[derive(Debug)]
 pub struct BuildScripts {
     /// What was wrong with some of them.
     pub error: Option<Text>,

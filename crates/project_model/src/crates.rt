@@ -5,7 +5,6 @@ use docs_vfs::{FileId, VfsPath};
 use plain::{Copied, Items, NoMemory, Text};
 
 /// A crate of a workspace, before its root file has a number.
-#[derive(Debug)]
 pub struct CrateEntry {
     pub root: VfsPath,
     pub name: Option<Text>,
@@ -26,7 +25,6 @@ impl Drop for CrateEntry {
 }
 
 /// A crate of the crate graph.
-#[derive(Debug)]
 pub struct CrateInfo {
     pub root: FileId,
     pub name: Option<Text>,
@@ -47,7 +45,7 @@ impl Drop for CrateInfo {
 }
 
 /// What became of the macros of a crate.
-#[derive(Debug, Drop)]
+#[derive(Drop)]
 pub enum MacroState {
     NotYetBuilt,
     Disabled,
@@ -59,7 +57,7 @@ pub enum MacroState {
 
 /// The crate graph: its crates by number, the variables of their environment, and what became of the macros of
 /// some of them.
-#[derive(Debug, Drop)]
+#[derive(Drop)]
 pub struct CrateData {
     pub crates: Items<CrateInfo>,
     /// None takes a variable away.

@@ -6,7 +6,6 @@ use docs_vfs::VfsPath;
 use plain::{Copied, Items, NoMemory, Text};
 
 /// What a package builds from one root file.
-#[derive(Debug)]
 pub struct Target {
     pub name: Text,
     pub kind: TargetKind,
@@ -26,7 +25,6 @@ impl Drop for Target {
 }
 
 /// A package of a workspace. In a workspace that is described as JSON its id is its label.
-#[derive(Debug)]
 pub struct Package {
     pub id: Text,
     pub manifest: VfsPath,
@@ -49,7 +47,7 @@ impl Drop for Package {
 }
 
 /// The name of a package to the tool that builds it.
-#[derive(Debug, Drop)]
+#[derive(Drop)]
 pub enum PackageSpecifier {
     Cargo { package_id: Text },
     BuildInfo { label: Text },

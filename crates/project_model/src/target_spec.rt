@@ -10,7 +10,7 @@ use docs_vfs::VfsPath;
 use plain::{Copied, Items, NoMemory, Text};
 
 /// What is told of a target to the tool that builds it.
-#[derive(Debug, Drop)]
+#[derive(Drop)]
 pub enum TargetSpec {
     Cargo {
         workspace_root: VfsPath,

@@ -10,7 +10,6 @@ use docs_vfs::{Root, VfsPath};
 use plain::{Copied, Items, NoMemory, Text, is_same};
 
 /// One workspace of a project, as it was loaded.
-#[derive(Debug)]
 pub struct ProjectWorkspace {
     pub kind: WorkspaceKind,
     pub manifest: Option<VfsPath>,

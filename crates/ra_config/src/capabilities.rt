@@ -7,7 +7,6 @@ use crate::config::Config;
 use plain::Json;
 use ra_settings::find_at;
 use serde_json::Value;
-use std::fmt;
 use text_core::{PositionEncoding, WideEncoding};
 
 /// What a client can do, as it told in `initialize`.
@@ -240,31 +239,5 @@ impl Config {
         ensures { result ≡ self.now.capabilities.encodings }
     {
         self.capabilities().encodings
-    }
-}
-
-impl fmt::Debug for Capabilities {
-    fn fmt<W: fmt::Write>(&self, f: &mut fmt::Formatter<W>) -> fmt::Result {
-        f.debug_struct("Capabilities")
-            .field("work_done_progress", &self.work_done_progress)
-            .field(
-                "server_status_notification",
-                &self.server_status_notification,
-            )
-            .field("did_save_registration", &self.did_save_registration)
-            .field(
-                "watched_files_registration",
-                &self.watched_files_registration,
-            )
-            .field("relative_pattern", &self.relative_pattern)
-            .field("semantic_tokens_refresh", &self.semantic_tokens_refresh)
-            .field("code_lens_refresh", &self.code_lens_refresh)
-            .field("inlay_hints_refresh", &self.inlay_hints_refresh)
-            .field("diagnostics_refresh", &self.diagnostics_refresh)
-            .field("text_document_diagnostic", &self.text_document_diagnostic)
-            .field("test_explorer", &self.test_explorer)
-            .field("open_server_logs", &self.open_server_logs)
-            .field("utf_8", &matches!(self.encodings, PositionEncoding::Utf8))
-            .finish()
     }
 }

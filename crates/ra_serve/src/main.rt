@@ -1,7 +1,7 @@
 //! `ra_serve`: a language server over standard input and output, with a small analysis. An editor starts `ra_serve lsp`.
 #![tactic(auto)]
 
-use program::{Program, start};
+use server::{Program, start};
 use small_analysis::SmallAnalysis;
 use std::process::ExitCode;
 

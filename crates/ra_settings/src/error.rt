@@ -10,7 +10,6 @@ use std::fmt;
 use std::marker::Model;
 
 /// A value that isn't set: where it stands, its row's name, and why.
-#[derive(Debug)]
 pub struct ConfigError {
     /// `client`, `user`, or the path of a settings file.
     pub place: Text,
@@ -31,7 +30,6 @@ impl Drop for ConfigError {
 }
 
 /// The errors of a change, in order. Their text is made once, since showing them takes no memory.
-#[derive(Debug)]
 pub struct ConfigErrors {
     errors: Items<ConfigError>,
     text: Text,
@@ -82,6 +80,12 @@ impl fmt::Display for ConfigErrors {
 
     fn fmt<W: fmt::Write>(&self, f: &mut fmt::Formatter<W>) -> fmt::Result {
         f.write_str(self.text.as_str())
+    }
+}
+
+impl fmt::Debug for ConfigErrors {
+    fn fmt<W: fmt::Write>(&self, f: &mut fmt::Formatter<W>) -> fmt::Result {
+        fmt::Display::fmt(self, f)
     }
 }
 

@@ -22,14 +22,14 @@ pub enum InvocationStrategy {
 }
 
 /// Which features of packages are on.
-#[derive(Debug, Drop)]
+#[derive(Drop)]
 pub enum CargoFeatures {
     All,
     Selected(Items<Text>),
 }
 
 /// A project that the session works on.
-#[derive(Debug, Drop)]
+#[derive(Drop)]
 pub enum LinkedProject {
     /// The path of a manifest.
     ProjectManifest(VfsPath),
@@ -41,7 +41,6 @@ pub enum LinkedProject {
 }
 
 /// How projects are discovered.
-#[derive(Debug)]
 pub struct DiscoverConfig {
     pub command: Items<Text>,
     pub progress_label: Text,
@@ -59,7 +58,7 @@ impl Drop for DiscoverConfig {
 }
 
 /// The value of a setting.
-#[derive(Debug, Drop)]
+#[derive(Drop)]
 pub enum SettingValue {
     Truth(bool),
     Text(Text),
@@ -86,7 +85,7 @@ pub enum Reason {
 }
 
 /// What a value is read as.
-#[derive(Debug, Drop)]
+#[derive(Drop)]
 pub enum Reading {
     Value(SettingValue),
     Refused(Reason),

@@ -1,7 +1,7 @@
 use plain::Text;
 
 /// Which files a client is to watch.
-#[derive(Debug, Drop)]
+#[derive(Drop)]
 pub enum Watcher {
     /// A pattern below the folder with this URL.
     Relative { base_uri: Text, pattern: Text },

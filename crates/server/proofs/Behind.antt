@@ -10,8 +10,8 @@ use Rattle.session.specs.Run.{Told, IsRun}
 use Rattle.session.specs.Meaning.{Meaning}
 use Rattle.session.specs.SessionError.{SessionError}
 use Rattle.session.specs.SessionError.TheVariants.{HostFault, WriteFault}
-use Rattle.initialization.specs.Opening.{Opens}
-use Rattle.initialization.specs.declared.opening.Opening.TheVariants.{Begun, Left}
+use Rattle.server.specs.Opening.{Opens}
+use Rattle.server.specs.declared.handshake.opening.Opening.TheVariants.{Begun, Left}
 use Rattle.server.specs.Serving.{RanSession, Welcomed, thread_count}
 use Rattle.server.proofs.Whole.{completes, left-ends, whole-begun, whole-opened}
 

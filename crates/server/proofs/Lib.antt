@@ -1,3 +1,10 @@
 pub mod Behind
+pub mod Folds
+pub mod Idle
+pub mod Openings
+pub mod Streams
+pub mod Stretches
+pub mod TakenOut
 pub mod Unstarted
 pub mod Whole
+pub mod Written

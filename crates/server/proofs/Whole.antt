@@ -13,10 +13,10 @@ use Rattle.session.specs.SessionError.TheVariants.{ClientExited, BadFrame, BadMe
 use Rattle.session.specs.Input.{Input}
 use Rattle.session.specs.Meaning.{Meaning}
 use Rattle.session.proofs.Asking.{given-append, given-giving}
-use Rattle.initialization.specs.Opening.{Opens, LeftBy, taking}
-use Rattle.initialization.specs.Stages.{Stage}
-use Rattle.initialization.specs.declared.opening.Opening.{Opening}
-use Rattle.initialization.specs.declared.opening.Opening.TheVariants.{Begun, Left}
+use Rattle.server.specs.Opening.{Opens, LeftBy, taking}
+use Rattle.server.specs.Stages.{Stage}
+use Rattle.server.specs.declared.handshake.opening.Opening.{Opening}
+use Rattle.server.specs.declared.handshake.opening.Opening.TheVariants.{Begun, Left}
 use Rattle.server.specs.Serving.{Completes}
 
 same-tail : (x y : HostCall) (xs ys : List HostCall) → x ∷ xs ≡ y ∷ ys → xs ≡ ys

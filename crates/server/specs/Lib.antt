@@ -1,5 +1,9 @@
+pub mod CommandLine
+pub mod Opening
+pub mod Replies
+pub mod Running
 pub mod Serving
+pub mod Stages
 pub mod Status
--- What a request asks for and what a run told, passed on to programs.
-pub use Rattle.session.specs.Meaning
-pub use Rattle.session.specs.Run
+pub mod Streams
+pub mod Talking

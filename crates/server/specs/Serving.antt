@@ -10,9 +10,9 @@ use Rattle.session.specs.Run.{Told, IsRun, empty_reader}
 use Rattle.session.specs.Texts.{same_text}
 use Rattle.session.specs.SessionError.{SessionError}
 use Rattle.session.specs.SessionError.TheVariants.{ClientExited, BadFrame, BadMessage, HostFault, WriteFault, Exhausted, NoMemory}
-use Rattle.initialization.specs.Opening.{Opens}
-use Rattle.initialization.specs.declared.opening.Opening.{Opening}
-use Rattle.initialization.specs.declared.opening.Opening.TheVariants.{Begun, Left}
+use Rattle.server.specs.Opening.{Opens}
+use Rattle.server.specs.declared.handshake.opening.Opening.{Opening}
+use Rattle.server.specs.declared.handshake.opening.Opening.TheVariants.{Begun, Left}
 use Rattle.server.specs.Status.{bad_words, status_of}
 use Rattle.server.specs.declared.words.Asked.{Asked}
 use Rattle.server.specs.declared.words.Asked.TheVariants.{Session, Lsp, Unknown}

@@ -1,12 +1,25 @@
-//! What a program over the session does with its words, and the statuses that it ends with.
+//! A program over the session, for any analysis: the handshake with a client, what the words of a command line ask for,
+//! the statuses that a program ends with, and its standard input, standard output and log.
+//!
+//! The whole of a server is its `main`: `start(&rt, &PROGRAM, &analysis)`. On a host and a sink of one's own it is `serve`.
 #![tactic(auto)]
 
-mod exit_status;
+mod command_line;
+mod handshake;
+mod running;
 mod serving;
+mod starting;
+mod statuses;
+mod stdio;
 mod words;
 
-pub use exit_status::{BAD_WORDS, status_of, status_text};
+pub use command_line::Words;
+pub use handshake::{Opening, initialize};
 pub use plain::NoMemory;
+pub use running::{Program, run};
 pub use serving::serve;
 pub use session::{Counter, SessionError, main_loop_from};
+pub use starting::start;
+pub use statuses::{BAD_WORDS, status_of, status_text};
+pub use stdio::{LoggingHost, StandardInput, StandardOutput};
 pub use words::{Asked, asked_by};

@@ -7,11 +7,11 @@ ghost use Rattle.session.specs.Run.{empty_reader, told_of};
 ghost use Rattle.server.specs.Serving.{asked_by, session_config, EndsWith, Serves, RanSession, Welcomed};
 ghost use Rattle.server.specs.Status.{status_of, bad_words};
 
-use crate::exit_status::{BAD_WORDS, status_of};
+use crate::handshake::{Opening, initialize};
+use crate::statuses::{BAD_WORDS, status_of};
 use crate::words::{Asked, asked_by};
 use analysis_host::Analysis;
 use docs_vfs::VfsPath;
-use initialization::{Opening, initialize};
 use plain::Text;
 use ra_config::Config;
 use session::{SessionError, main_loop, main_loop_from};

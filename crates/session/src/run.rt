@@ -24,7 +24,7 @@ use session_state::{Counter, Event, GlobalState, Input, SessionError, TurnError,
 use std::alloc::Global;
 
 // Whether the run goes on.
-#[derive(Clone, Copy, Debug, PartialEq, Eq)]
+#[derive(Clone, Copy, PartialEq, Eq)]
 enum Turned {
     Going,
     Stopped,

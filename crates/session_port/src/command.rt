@@ -49,7 +49,7 @@ pub enum LogCode {
 }
 
 /// What a session does once there is nothing else to do.
-#[derive(Debug, Drop)]
+#[derive(Drop)]
 pub enum DeferredTask {
     /// Whether this file is part of some crate.
     CheckIfIndexed(VfsPath),

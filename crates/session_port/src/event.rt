@@ -8,28 +8,28 @@ use docs_vfs::VfsPath;
 use plain::{Bytes, Copied, Items};
 
 /// What a message says of its job.
-#[derive(Clone, Debug, Drop)]
+#[derive(Clone, Drop)]
 pub enum TaskBody {
     /// The job has ended.
     Final(JobResult),
 }
 
 /// A message of a job.
-#[derive(Clone, Debug, Drop)]
+#[derive(Clone, Drop)]
 pub struct TaskMsg {
     pub job: u64,
     pub body: TaskBody,
 }
 
 /// A file that a loader tells of: its bytes, or that it has none.
-#[derive(Clone, Debug, Drop)]
+#[derive(Clone, Drop)]
 pub struct LoadedFile {
     pub path: VfsPath,
     pub contents: Option<Bytes>,
 }
 
 /// How far a loader is.
-#[derive(Clone, Copy, Debug, PartialEq, Eq, PartialOrd, Ord, Hash)]
+#[derive(Clone, Copy, PartialEq, Eq, PartialOrd, Ord, Hash)]
 pub enum LoadingProgress {
     Started,
     /// So many files are done.
@@ -38,7 +38,7 @@ pub enum LoadingProgress {
 }
 
 /// A message of a loader.
-#[derive(Clone, Debug, Drop)]
+#[derive(Clone, Drop)]
 pub enum LoaderMsg {
     /// Files that have changed.
     Changed {
@@ -59,7 +59,7 @@ pub enum LoaderMsg {
 }
 
 /// What a host gives.
-#[derive(Clone, Debug, Drop)]
+#[derive(Clone, Drop)]
 pub enum HostEvent {
     /// Bytes from the client, cut anywhere.
     Bytes(Bytes),

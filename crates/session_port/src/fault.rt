@@ -20,7 +20,7 @@ pub enum Counter {
 }
 
 /// Why a turn was broken off. The state is spent after it.
-#[derive(Clone, Copy, Debug, PartialEq, Eq)]
+#[derive(Clone, Copy, PartialEq, Eq)]
 pub enum TurnError {
     /// One more of this counter was needed than there are.
     Exhausted { counter: Counter },

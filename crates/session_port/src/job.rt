@@ -11,7 +11,7 @@ use ra_settings::LinkedProject;
 use std::alloc::AllocError;
 
 /// What a job is to find out: a request's and a check's by the analysis, the others by the host itself.
-#[derive(Debug, Drop)]
+#[derive(Drop)]
 pub enum JobKind {
     /// The answer to the request with this ticket.
     Request {
@@ -53,7 +53,7 @@ pub struct Job {
 }
 
 /// The value of a job, of the job's kind.
-#[derive(Clone, Debug, Drop)]
+#[derive(Clone, Drop)]
 pub enum JobValue {
     /// The result of a request.
     Json(Json),
@@ -70,7 +70,7 @@ pub enum JobValue {
 }
 
 /// How a job ended.
-#[derive(Clone, Debug, Drop)]
+#[derive(Clone, Drop)]
 pub enum JobResult {
     Value(JobValue),
     Fault { code: Option<i32>, message: Text },

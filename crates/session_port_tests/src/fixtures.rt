@@ -1,9 +1,7 @@
 // Jobs, and the commands to do them. Each call answers none where memory runs out.
-ghost use Rattle.std.specs.Prelude.{◌≡◌, ℕ, [], ◌∷◌, ◌++◌, None, IfSome};
-ghost use Rattle.session_port.specs.Events.{job_of as job_in};
+ghost use Rattle.std.specs.Prelude.{◌≡◌, [], ◌∷◌, ◌++◌, IfSome};
 ghost use Rattle.session_port.specs.Record.{AreRising, spawned};
 
-use crate::words::number;
 use analysis_host::{GlobalStateSnapshot, RowId, SnapshotParts, Versions, World};
 use docs_vfs::{FileId, VfsPath};
 use file_ids::FileIds;
@@ -12,12 +10,12 @@ use plain::{Items, Json, SharedJson};
 use project_model::ProjectWorkspace;
 use ra_config::Config;
 use ra_settings::LinkedProject;
-use session_port::{Command, DeferredTask, Job, JobKind, JobResult, JobValue};
+use session_port::{Command, Job, JobKind, JobResult, JobValue};
 use small_project::workspaces_of;
 use std::alloc::Global;
 use std::sync::Arc;
 
-pub fn path(alloc: Global, text: &str) -> Option<VfsPath> {
+fn path(alloc: Global, text: &str) -> Option<VfsPath> {
     VfsPath::new(alloc, text).ok()?
 }
 
@@ -71,9 +69,8 @@ fn two_files(alloc: Global) -> Items<FileId> {
     files
 }
 
-/// What a job is to find out: the workspaces of a project, builds or proc macros; a check of two files, or one of no file; else a
-/// request's question.
-pub fn kind_of(alloc: Global, word: &str) -> Option<JobKind> {
+/// What a job is to find out: builds; a check of two files, or one of no file; else a request's question.
+fn kind_of(alloc: Global, word: &str) -> Option<JobKind> {
     match word {
         "check" => Some(JobKind::ProcMacroSources {
             files: two_files(alloc),
@@ -81,17 +78,7 @@ pub fn kind_of(alloc: Global, word: &str) -> Option<JobKind> {
         "no check" => Some(JobKind::ProcMacroSources {
             files: Items::new(alloc),
         }),
-        "workspaces" => Some(JobKind::FetchWorkspaces {
-            projects: projects(alloc),
-            detached: Items::new(alloc),
-            path: None,
-            force: false,
-        }),
         "builds" => Some(JobKind::FetchBuildData { version: 1 }),
-        "macros" => Some(JobKind::LoadProcMacros {
-            paths: Items::new(alloc),
-            ignored: Items::new(alloc),
-        }),
         _ => {
             let params = SharedJson::new(alloc, Json::null()).ok()?;
             Some(JobKind::Request {
@@ -103,15 +90,11 @@ pub fn kind_of(alloc: Global, word: &str) -> Option<JobKind> {
     }
 }
 
-/// An end of a job: its value, that it stopped before the first revision or at it, else that it had no memory.
+/// An end of a job: its value, that it stopped at the first revision or behind it, else that it had no memory.
 pub fn end_of(alloc: Global, word: &str) -> JobResult {
     match word {
         "json" => JobResult::Value(JobValue::Json(Json::null())),
-        "roots" => JobResult::Value(JobValue::Roots(Items::new(alloc))),
-        "primed" => JobResult::Value(JobValue::Primed),
-        "workspaces" => JobResult::Value(JobValue::Workspaces(Items::new(alloc))),
         "builds" => JobResult::Value(JobValue::BuildData(Items::new(alloc))),
-        "macros" => JobResult::Value(JobValue::ProcMacros(Items::new(alloc))),
         "early" => JobResult::Cancelled { saw: 0 },
         "late" => JobResult::Cancelled { saw: 1 },
         _ => JobResult::NoMemory,
@@ -152,50 +135,18 @@ fn add_jobs(alloc: Global, commands: &mut Items<Command>, word: &str) -> Option<
     Some(())
 }
 
-/// No command for `nothing` and `-`, else the commands to do the jobs 7, a request's, and 9: a request's too for `jobs`, a check for `check`,
-/// and the host's own for `builds`, `workspaces` and `macros`.
+/// No command for `nothing`, else the commands to do the jobs 7, a request's, and 9: a request's too for `jobs`, a check for `check`,
+/// and the host's own for `builds`.
 pub fn commands_of(alloc: Global, word: &str) -> Option<Items<Command>>
     ensures { IfSome result (λ commands. AreRising 0 (spawned commands)) }
 {
     let mut commands = Items::new(alloc);
-    if word == "nothing" || word == "-" {
+    if word == "nothing" {
         return Some(commands);
     }
     match add_jobs(alloc, &mut commands, word) {
         Some(()) => Some(commands),
         None => {
-            drop(commands);
-            None
-        }
-    }
-}
-
-/// `v` and a version for the settings of a loader, `t` and a ticket for a timer, else a task.
-fn command_of(alloc: Global, word: &str) -> Command
-    ensures { job_in result ≡ None }
-{
-    if let Some(version) = word.strip_prefix("v") {
-        let version = version.parse::<u32>().unwrap_or(u32::MAX);
-        return Command::SetLoader {
-            load: Items::new(alloc),
-            watch: false,
-            version,
-        };
-    }
-    if let Some(ticket) = word.strip_prefix("t") {
-        return Command::Timer(number(ticket));
-    }
-    Command::Defer(DeferredTask::CheckProcMacroSources(Items::new(alloc)))
-}
-
-/// A turn with the one order that a word is.
-pub fn order_of(alloc: Global, word: &str) -> Option<Items<Command>>
-    ensures { IfSome result (λ commands. (low : ℕ) → AreRising low (spawned commands)) }
-{
-    let mut commands = Items::new(alloc);
-    match commands.push(command_of(alloc, word)) {
-        Ok(()) => Some(commands),
-        Err(_) => {
             drop(commands);
             None
         }

@@ -1,6 +1,6 @@
-// Jobs that run, and the ends that fit them.
-use crate::fixtures::{end_of, job_with, kind_of};
-use crate::words::{add, cut, number, result_text};
+// Jobs that run.
+use crate::fixtures::job_with;
+use crate::words::{cut, number, result_text};
 use analysis_host::{Cancel, Never};
 use expectations::expect_text;
 use session_peers::NullAnalysis;
@@ -97,41 +97,6 @@ fn jobs_run(rt: HostRuntime) -> Result<(), Fail> {
         let (word, rest) = cut(line, ", ");
         let (from, wanted) = cut(rest, " > ");
         expect_text(line, told_of(rt.alloc(), word, number(from)), wanted)?;
-    }
-    Ok(())
-}
-
-/// All ends.
-const ENDS: &str = "json roots primed workspaces builds macros late full";
-
-/// Adds which of these ends a job of this kind may have, each in a letter.
-fn add_fitting(alloc: Global, text: &mut String, word: &str) {
-    let Some(kind) = kind_of(alloc, word) else {
-        return;
-    };
-    for end in ENDS.split(' ') {
-        let outcome = end_of(alloc, end);
-        let fits = outcome.fits(&kind);
-        drop(outcome);
-        add(text, if fits { "y" } else { "n" });
-    }
-    drop(kind);
-}
-
-/// Kinds of jobs, and which of all ends they may have.
-const FITTING: &str = "request > ynnnnnyy
-check > nynnnnyy
-workspaces > nnnynnyy
-builds > nnnnynyy
-macros > nnnnnyyy";
-
-#[test]
-fn values_fit_their_kinds(rt: HostRuntime) -> Result<(), Fail> {
-    for line in FITTING.lines() {
-        let (word, wanted) = cut(line, " > ");
-        let mut text = String::new(rt.alloc());
-        add_fitting(rt.alloc(), &mut text, word);
-        expect_text(word, text.as_str(), wanted)?;
     }
     Ok(())
 }

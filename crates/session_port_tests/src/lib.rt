@@ -1,18 +1,14 @@
-//! Tests of `session_port`, `session_peers` and `script_hosts`. Lines of words tell the cases, and what comes of them. Calls with large
-//! contracts go through wrappers that claim nothing, or one fact, and one function alone owns a host, so that a test
-//! stays quick to prove.
+//! Tests of `session_port`, `session_peers` and `script_hosts`: jobs that run, hosts that follow a script, and peers that are lent. Lines of
+//! words tell the cases, and what comes of them. Calls with large contracts go through wrappers that claim nothing, or one fact, and one
+//! function alone owns a host, so that a test stays quick to prove.
 #![tactic(auto)]
 
 #[cfg(test)]
 mod fixtures;
 #[cfg(test)]
-mod inline;
-#[cfg(test)]
 mod jobs;
 #[cfg(test)]
-mod loader;
-#[cfg(test)]
-mod memory;
+mod lent;
 #[cfg(test)]
 mod scripts;
 #[cfg(test)]

@@ -3,7 +3,6 @@
 ghost use Rattle.session_port.specs.Record.{AreRising, spawned};
 
 use crate::fixtures::{commands_of, end_of};
-use crate::loader::loading;
 use crate::words::{add, add_calls, add_events, cut, number, numbers, push};
 use expectations::expect_text;
 use plain::{Bytes, Items};
@@ -13,11 +12,10 @@ use session_port::{Command, Host, HostError, HostEvent, TaskBody, TaskMsg};
 use std::alloc::Global;
 use std::test::Fail;
 
-/// `loading` is a loader's event, `timer` a timer's, `end` the end, `bytes` are given, and `message` is that a job has this end.
+/// `timer` is a timer's event, `end` the end, `bytes` are given, and `message` is that a job has this end.
 fn event_of(alloc: Global, words: &str) -> Option<HostEvent> {
     let (word, rest) = cut(words, " ");
     match word {
-        "loading" => Some(loading(alloc)),
         "timer" => Some(HostEvent::Timer(5)),
         "end" => Some(HostEvent::Ended),
         "bytes" => match Bytes::from_slice(alloc, rest.as_bytes()) {
@@ -83,7 +81,7 @@ fn add_order(text: &mut String, outcome: Result<(), HostError>) {
     }
 }
 
-/// Adds what a host does that follows a script: what comes of the commands, if they are ordered, so many events, and the calls. The one
+/// Adds what a host does that follows a script: what comes of the order, so many events, and the calls. The one
 /// function that owns such a host.
 fn run_script(
     alloc: Global,
@@ -91,7 +89,6 @@ fn run_script(
     script: &str,
     fails: &str,
     commands: Items<Command>,
-    is_ordered: bool,
     count: u64,
 )
     requires { AreRising 0 (spawned commands) }
@@ -105,11 +102,7 @@ fn run_script(
             return;
         }
     };
-    if is_ordered {
-        add_order(text, host.order(commands));
-    } else {
-        drop(commands);
-    }
+    add_order(text, host.order(commands));
     add_events(alloc, text, &mut host, count);
     add_calls(alloc, text, host.calls());
     drop(host);
@@ -121,17 +114,12 @@ fn run_hostile(
     text: &mut String,
     script: &str,
     commands: Items<Command>,
-    is_ordered: bool,
     count: u64,
 )
     requires { AreRising 0 (spawned commands) }
 {
     let mut host = HostileHost::new(alloc, events(alloc, script));
-    if is_ordered {
-        add_order(text, Host::<NullAnalysis>::order(&mut host, commands));
-    } else {
-        drop(commands);
-    }
+    add_order(text, Host::<NullAnalysis>::order(&mut host, commands));
     add_events(alloc, text, &mut host, count);
     add_calls(alloc, text, host.calls());
     drop(host);
@@ -151,29 +139,27 @@ fn add_case(
         return;
     };
     if kind == "script" {
-        run_script(alloc, text, script, fails, commands, orders != "-", count);
+        run_script(alloc, text, script, fails, commands, count);
     } else {
-        run_hostile(alloc, text, script, commands, orders != "-", count);
+        run_hostile(alloc, text, script, commands, count);
     }
 }
 
 /// Whether a host follows a script or gives what no honest host does; whether the jobs 7 and 9 are ordered first, the second a request's too, a
-/// check or the host's own, or nothing, or there is no order; the numbers of the calls that fail; the steps; how many events are asked for. Then
+/// check or the host's own, or nothing; the numbers of the calls that fail; the steps; how many events are asked for. Then
 /// what comes of the order, the events, each before a `|`, and the calls that were recorded: how many commands were taken, or an event.
 ///
 /// Jobs are finished, by numbers of which some name none. The order is the first call, and so the second event is the third. Job 7 is stopped by
 /// steps of which most give nothing. Job 9 is a check: it is finished as a request's, and not supplied. Job 9 is the host's own: it is not
-/// finished, and gets no end that does not fit it, but it may stop; job 7 is not supplied. The first order fails. Both hosts give a loader's
-/// messages. The last gives results that it made up.
+/// finished, and gets no end that does not fit it, but it may stop; job 7 is not supplied. The first order fails. The last gives results that it made
+/// up.
 const CASES: &str =
     "script > jobs > 3 4 > bytes ab, finish 9 8 9, finish 9, end, finish 9 7 > 8 > taken > ab|failed|failed|9: null;||ended|7: null;|ended| > 2|event|event|event|event|event|event|
 script > jobs > - > message 7 full, stop 7 0, stop 8 5, stop 7 1, stop 7 2, finish 7 9 > 4 > taken > 7: cancelled;|9: null;|ended|ended| > 2|event|event|event|event|
 script > check > - > supply 9 full, finish 9 7, finish 9 > 3 > taken > 9: roots;7: null;||ended| > 2|event|event|event|
-script > builds > - > finish 9 7, supply 7 json, supply 9 json, supply 9 early, timer, supply 9 builds, supply 9 late > 4 > taken > 7: null;|5|9: build data 0;|ended| > 2|event|event|event|event|
+script > builds > - > finish 9 7, supply 7 json, supply 9 json, supply 9 early, timer, supply 9 builds, supply 9 late > 4 > taken > 7: null;|5|9: build data;|ended| > 2|event|event|event|event|
 script > builds > - > supply 9 late > 2 > taken > 9: cancelled;|ended| > 2|event|event|
 script > nothing > 1 1 > bytes ab, finish 9 8 9, finish 9, end, finish 9 7 > 2 > failed > ab|| > event|event|
-script > - > - > loading > 2 > 3: started of 2 in /w;3: 1 of 2 in /w;3: finished of 2 in /w;loaded /w/a=one,/w/b=,;changed /w/a=two,/w/b gone,;4: finished of 0;|ended| > event|event|
-hostile > - > - > loading > 2 > 3: started of 2 in /w;3: 1 of 2 in /w;3: finished of 2 in /w;loaded /w/a=one,/w/b=,;changed /w/a=two,/w/b gone,;4: finished of 0;|ended| > event|event|
 hostile > jobs > - > message 5 json, bytes x, message 7 early > 5 > taken > 5: null;|x|7: cancelled;|ended|ended| > 2|event|event|event|event|event|";
 
 #[test]

@@ -1,5 +1,4 @@
 // Events and calls in words. Where memory runs out, less is told than a test wants.
-use crate::loader::add_loader;
 use plain::Items;
 use script_hosts::{HostileHost, ScriptHost};
 use session_peers::{NullAnalysis, RecordedCall};
@@ -46,7 +45,7 @@ pub fn add_number(alloc: Global, text: &mut String, number: u64) {
     }
 }
 
-pub fn add_bytes(text: &mut String, bytes: &[u8]) {
+fn add_bytes(text: &mut String, bytes: &[u8]) {
     match str::from_utf8(bytes) {
         Ok(read) => add(text, read),
         Err(_) => add(text, "no UTF-8"),
@@ -70,39 +69,25 @@ pub fn result_text(outcome: &JobResult) -> &'static str {
     }
 }
 
-/// Adds results, and of how many workspaces or builds each tells.
+/// Adds results.
 fn add_batch(alloc: Global, text: &mut String, batch: &[TaskMsg]) {
     for message in batch {
         let TaskBody::Final(outcome) = &message.body;
         add_number(alloc, text, message.job);
         add(text, ": ");
         add(text, result_text(outcome));
-        match outcome {
-            JobResult::Value(JobValue::Workspaces(workspaces)) => {
-                add(text, " ");
-                add_number(alloc, text, workspaces.len() as u64);
-            }
-            JobResult::Value(JobValue::BuildData(builds)) => {
-                add(text, " ");
-                add_number(alloc, text, builds.len() as u64);
-            }
-            _ => {}
-        }
         add(text, ";");
     }
 }
 
 /// Adds an event.
-pub fn add_given(alloc: Global, text: &mut String, event: &HostEvent) {
+fn add_given(alloc: Global, text: &mut String, event: &HostEvent) {
     match event {
         HostEvent::Bytes(bytes) => add_bytes(text, bytes.as_slice()),
         HostEvent::Ended => add(text, "ended"),
         HostEvent::Tasks(batch) => add_batch(alloc, text, batch.as_slice()),
-        HostEvent::Vfs(messages) => add_loader(alloc, text, messages.as_slice()),
-        HostEvent::DeferredTask(tasks) => {
-            add(text, "deferred ");
-            add_number(alloc, text, tasks.len() as u64);
-        }
+        HostEvent::Vfs(_) => add(text, "loader"),
+        HostEvent::DeferredTask(_) => add(text, "deferred"),
         HostEvent::Timer(ticket) => add_number(alloc, text, *ticket),
     }
 }

@@ -58,7 +58,7 @@ fn settings_by(alloc: Global, params: &str) -> Option<Config> {
 }
 
 /// The settings of the client of this name; without one those with the one workspace `/w`.
-fn settings(alloc: Global, client: &str) -> Option<Config> {
+pub fn settings(alloc: Global, client: &str) -> Option<Config> {
     match client {
         "" => Config::new(alloc, VfsPath::new(alloc, "/w").ok()??, 4).ok(),
         client => settings_by(alloc, params_of(client)),

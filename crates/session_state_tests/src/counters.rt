@@ -21,12 +21,17 @@ left none of jobs then deferred 0 > no more jobs
 left all then open > deferrevisetimer 1
 left one of revisions then open > deferrevisetimer 1
 left none of revisions then open > no more revisions
+left one of revisions then open then deferred
+left one of revisions then open then tell textDocument/didChange {"textDocument":{"uri":"file:///w/a.rs","version":2},"contentChanges":[{"text":"b"}]} > no more revisions
 left all then tell workspace/didChangeConfiguration null > Content-Length: 108\r\n\r\n{"id":0,"jsonrpc":"2.0","method":"workspace/configuration","params":{"items":[{"section":"rust-analyzer"}]}}
 left one of outgoing then tell workspace/didChangeConfiguration null > Content-Length: 117\r\n\r\n{"id":2147483647,"jsonrpc":"2.0","method":"workspace/configuration","params":{"items":[{"section":"rust-analyzer"}]}}
 left none of outgoing then tell workspace/didChangeConfiguration null > no more outgoing
 left all then open > deferrevisetimer 1
 left one of files then open > deferrevisetimer 1
 left none of files then open > no more files
+left one of files then open then tell textDocument/didOpen {"textDocument":{"uri":"file:///w/b.rs","version":1,"text":"b"}} > no more files
+left none of files then file /w/a.rs
+left none of files then read /w/a.rs a > no more files
 left all then start then brought /w/Cargo.toml > loadWorkerrevise
 left one of loader settings then start then brought /w/Cargo.toml > load anewWorkerrevise
 left none of loader settings then start then brought /w/Cargo.toml > no more loader settings"#;

@@ -24,7 +24,7 @@ impl Worded for VfsPath {
     }
 }
 
-/// `PATH TEXT`: a file of the loader. Without a text it is gone.
+/// `PATH TEXT`: a file of the loader. Without a text it is gone; `?` stands for bytes that are no text.
 impl Worded for LoadedFile {
     fn of(alloc: Global, words: &str) -> Option<Self> {
         let (path, text) = cut(words, " ");
@@ -35,7 +35,12 @@ impl Worded for LoadedFile {
                 contents: None,
             });
         }
-        let contents = Some(Bytes::from_slice(alloc, text.as_bytes()).ok()?);
+        let bytes = if text == "?" {
+            b"\xFF\xFE"
+        } else {
+            text.as_bytes()
+        };
+        let contents = Some(Bytes::from_slice(alloc, bytes).ok()?);
         Some(LoadedFile { path, contents })
     }
 }

@@ -8,6 +8,8 @@ mod asking;
 #[cfg(test)]
 mod building;
 #[cfg(test)]
+mod calls;
+#[cfg(test)]
 mod causes;
 #[cfg(test)]
 mod checking;
@@ -21,6 +23,8 @@ mod crates;
 mod events;
 #[cfg(test)]
 mod fetching;
+#[cfg(test)]
+mod files;
 #[cfg(test)]
 mod methods;
 #[cfg(test)]

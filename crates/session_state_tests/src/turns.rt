@@ -1,5 +1,6 @@
 // A session that is told of events in words.
-use crate::asking::Told;
+use crate::asking::{Told, cut};
+use crate::calls::answer_to;
 use crate::events::event_of;
 use crate::words::{fetch_text, shown, words};
 use session_peers::NullAnalysis;
@@ -41,10 +42,22 @@ fn cause(alloc: Global, state: &mut GlobalState) -> Option<String> {
     text
 }
 
+/// What a call besides the turns answers, and what it writes.
+fn call(alloc: Global, state: &mut GlobalState, call: &str) -> Option<String> {
+    let mut out = TurnOut::new(alloc);
+    let answer = answer_to(alloc, state, call, &mut out)?;
+    let text = words(alloc, &mut out, Ok(()));
+    drop(out);
+    let mark = if answer { "yes " } else { "no " };
+    let text = [mark, text?.as_str()].concat(alloc).ok()?;
+    String::from_str(alloc, text.as_str().trim_ascii()).ok()
+}
+
 impl Told for GlobalState {
     /// The words `settings`, `at first`, `at second`, `root`, `shown`, `graph`, `cause` and `start` are no events: they ask for the
     /// settings, for those of the first and of the second root, for the root of a file, for the workspaces and the crate graph that are
-    /// shown, for the fetch that waits in the queue, and for turn 0.
+    /// shown, for the fetch that waits in the queue, and for turn 0. Nor are `text` with a path, which asks for its text, and `call` with the
+    /// name of a call.
     fn told(&mut self, alloc: Global, event: &str) -> Option<String> {
         match event {
             "settings" | "at first" | "at second" | "root" | "shown" | "graph" => {
@@ -52,7 +65,11 @@ impl Told for GlobalState {
             }
             "cause" => cause(alloc, self),
             "start" => start(alloc, self),
-            _ => turn(alloc, self, event),
+            _ => match cut(event, " ") {
+                ("text", _) => present(alloc, self, event),
+                ("call", name) => call(alloc, self, name),
+                _ => turn(alloc, self, event),
+            },
         }
     }
 }

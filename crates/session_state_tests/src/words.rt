@@ -158,8 +158,21 @@ fn graph_name(data: &CrateData) -> &'static str {
     }
 }
 
-/// What a snapshot shows: of `root` the root in which `/w/a/b.rs` is.
+// The text of a path.
+fn text_at<'a>(snapshot: &'a GlobalStateSnapshot, path: &VfsPath) -> &'a str {
+    match snapshot.path_index(path) {
+        Ok(Some(index)) => index.text(),
+        Ok(None) => "excluded",
+        Err(_) => "none",
+    }
+}
+
+/// What a snapshot shows: of `root` the root in which `/w/a/b.rs` is, and of `text` the text of the path that is named.
 pub fn shown(alloc: Global, snapshot: &GlobalStateSnapshot, asked: &str) -> Option<String> {
+    if let Some(path) = asked.strip_prefix("text ") {
+        let path = VfsPath::new(alloc, path).ok()??;
+        return String::from_str(alloc, text_at(snapshot, &path)).ok();
+    }
     let path = VfsPath::new(alloc, "/w/a/b.rs").ok()??;
     let name = match asked {
         "settings" => settings_name(snapshot.config()),

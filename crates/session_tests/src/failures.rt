@@ -1,9 +1,10 @@
-// The same session in pieces of each size, and over a host and a sink of which one call fails.
-use crate::scripts::{Failing, NOTHING_FAILS, bodies, end_of, frame_of, ran, step, steps};
+// How runs end: over a host and a sink of which one call fails, over a sink without memory, and by their bytes.
+ghost use Rattle.std.specs.Prelude.{None, false};
+
+use crate::scripts::{given, ran, sink, steps, told};
 use expectations::{expect_same, expect_text};
-use plain::{Bytes, Items};
-use script_hosts::ScriptStep;
-use session_port::HostEvent;
+use plain::Items;
+use session_port::{HostError, Sink};
 use std::alloc::Global;
 use std::test::Fail;
 
@@ -13,70 +14,28 @@ const LINES: &str =
 finish 2
 - exit null"#;
 
-const HOVERED: &str = "{\"id\":1,\"jsonrpc\":\"2.0\",\"result\":{\"contents\":\"a\"}}\n";
-
-/// Gives these bytes in pieces of at most so many.
-fn give(
-    alloc: Global,
-    steps: &mut Items<ScriptStep>,
-    bytes: &[u8],
-    size: usize,
-) -> Result<(), Fail> {
-    let mut left = bytes;
-    for _ in 0..bytes.len() {
-        let (piece, rest) = left.split_at(size.min(left.len()));
-        if !piece.is_empty() {
-            let piece = Bytes::from_slice(alloc, piece)?;
-            steps.push(ScriptStep::Give(HostEvent::Bytes(piece)))?;
-        }
-        left = rest;
-    }
-    Ok(())
-}
-
-/// The steps of the session, with the bytes between its results in pieces of at most so many.
-fn in_pieces(alloc: Global, size: usize) -> Result<Items<ScriptStep>, Fail> {
-    let mut steps = Items::new(alloc);
-    let mut stream = String::new(alloc);
-    for line in LINES.lines() {
-        if line.starts_with("finish") {
-            give(alloc, &mut steps, stream.as_bytes(), size)?;
-            stream.clear();
-            steps.push(step(alloc, line)?)?;
-        } else {
-            stream.push_str(frame_of(alloc, line)?.as_str())?;
-        }
-    }
-    give(alloc, &mut steps, stream.as_bytes(), size)?;
-    Ok(steps)
-}
-
-#[test]
-fn pieces_of_each_size(rt: HostRuntime) -> Result<(), Fail> {
-    let alloc = rt.alloc();
-    for size in [1, 2, 3, 5, 8, 21, 22, 173, 174, 1000] {
-        let outcome = ran(alloc, in_pieces(alloc, size)?, NOTHING_FAILS)?;
-        expect_text("pieces", bodies(alloc, &outcome)?.as_str(), HOVERED)?;
-    }
-    Ok(())
-}
-
 // That a run over peers of which one call fails writes so many turns, and ends with this.
-fn writes(alloc: Global, failing: Failing, turns: usize, end: &str) -> Result<(), Fail> {
-    let outcome = ran(alloc, steps(alloc, LINES)?, failing)?;
-    expect_same("turns", &outcome.sink.turns().len(), &turns)?;
-    expect_text("how a run ends", end_of(alloc, &outcome)?.as_str(), end)
+fn writes(
+    alloc: Global,
+    host_fails: u64,
+    sink_fails: u64,
+    turns: usize,
+    end: &str,
+) -> Result<(), Fail> {
+    let mut sink = sink(alloc, sink_fails)?;
+    let fault = ran(alloc, 0, steps(alloc, LINES)?, host_fails, &mut sink)?;
+    expect_same("turns", &sink.turns().len(), &turns)?;
+    expect_text("how a run ends", told(alloc, fault)?.as_str(), end)
 }
 
 /// Each turn is written, its commands are ordered, and the next event is asked for. The first turn reads nothing, `exit` is
 /// none, and its order is the ninth call of the host.
 #[test]
 fn each_call_fails(rt: HostRuntime) -> Result<(), Fail> {
-    let alloc = rt.alloc();
-    for (sink, turns) in [(1, 0), (2, 1), (3, 2), (4, 3)] {
-        writes(alloc, Failing { host: 0, sink }, turns, "the output failed")?;
+    for (call, turns) in [(1, 0), (2, 1), (3, 2), (4, 3)] {
+        writes(rt.alloc(), 0, call, turns, "the output failed")?;
     }
-    for (host, turns) in [
+    for (call, turns) in [
         (1, 1),
         (2, 1),
         (3, 2),
@@ -87,7 +46,63 @@ fn each_call_fails(rt: HostRuntime) -> Result<(), Fail> {
         (8, 4),
         (9, 4),
     ] {
-        writes(alloc, Failing { host, sink: 0 }, turns, "the host failed")?;
+        writes(rt.alloc(), call, 0, turns, "the host failed")?;
     }
-    writes(alloc, Failing { host: 10, sink: 5 }, 4, "")
+    writes(rt.alloc(), 10, 5, 4, "")
+}
+
+/// Has no memory for any turn.
+#[derive(Drop)]
+struct Crowded;
+
+impl Sink for Crowded {
+    ghost turns = { λ _. None };
+
+    ghost faults = { λ _. 0 };
+
+    ghost spent = { λ _. false };
+
+    fn put_turn(&mut self, _bytes: &[u8]) -> Result<(), HostError> {
+        Err(HostError::NoMemory)
+    }
+}
+
+// That a session over this stream, behind so many bytes, ends with this.
+fn ends(alloc: Global, place: u64, stream: &str, end: &str) -> Result<(), Fail> {
+    let mut steps = Items::new(alloc);
+    steps.push(given(alloc, stream)?)?;
+    let mut sink = sink(alloc, 0)?;
+    let fault = ran(alloc, place, steps, 0, &mut sink)?;
+    expect_text(stream, told(alloc, fault)?.as_str(), end)
+}
+
+const EXIT: &str = "Content-Length: 33\r\n\r\n{\"jsonrpc\":\"2.0\",\"method\":\"exit\"}";
+
+/// A good frame of 62 bytes, and a bad one.
+const BAD: &str =
+    "Content-Length: 40\r\n\r\n{\"jsonrpc\":\"2.0\",\"method\":\"initialized\"}Content-Type: x\r\n\r\n";
+
+const LIST: &str = "Content-Length: 3\r\n\r\n[1]";
+
+const GONE: &str = "client exited without proper shutdown sequence";
+
+/// The last byte that is counted is that of the number 2^64 - 1.
+#[test]
+fn ends_are_told(rt: HostRuntime) -> Result<(), Fail> {
+    let len = EXIT.len() as u64;
+    for (place, stream, end) in [
+        (0, BAD, "bad frame at byte 62"),
+        (7, LIST, "bad message at byte 7"),
+        (0, "", GONE),
+        (u64::MAX - len, EXIT, ""),
+        (u64::MAX - len + 1, EXIT, "counter exhausted: Bytes"),
+    ] {
+        ends(rt.alloc(), place, stream, end)?;
+    }
+    let fault = ran(rt.alloc(), 0, Items::new(rt.alloc()), 0, &mut Crowded)?;
+    expect_text(
+        "a sink without memory",
+        told(rt.alloc(), fault)?.as_str(),
+        "out of memory",
+    )
 }

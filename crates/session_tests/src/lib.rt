@@ -1,13 +1,14 @@
-//! Tests of `session`: whole runs of `main_loop` over a host that follows a script, with the small analysis.
+//! Tests of what no stored session shows: results in another order than the jobs, files of a loader, calls that fail, signals,
+//! counters near their end. Beside them stand the method table as it is written elsewhere, and errors as they are shown.
 #![tactic(auto)]
 
 #[cfg(test)]
 mod failures;
 #[cfg(test)]
-mod files;
-#[cfg(test)]
-mod logs;
-#[cfg(test)]
 mod replies;
 #[cfg(test)]
 mod scripts;
+#[cfg(test)]
+mod streams;
+#[cfg(test)]
+mod tables;

@@ -54,12 +54,23 @@ hover
 finish 2
 finish 3";
 
+const CANCELED_AND_AGAIN_ANSWERS: &str =
+    r#"{"error":{"code":-32800,"message":"canceled by client"},"id":7,"jsonrpc":"2.0"}
+{"id":7,"jsonrpc":"2.0","result":{"contents":"a"}}
+"#;
+
 /// An id that is pending is refused, and is free again once it is answered.
 const TWICE_AND_AGAIN: &str = "hover
 hover
 finish 2
 hover
 finish 3";
+
+const TWICE_AND_AGAIN_ANSWERS: &str =
+    r#"{"error":{"code":-32600,"message":"Request id is already pending."},"id":7,"jsonrpc":"2.0"}
+{"id":7,"jsonrpc":"2.0","result":{"contents":"a"}}
+{"id":7,"jsonrpc":"2.0","result":{"contents":"a"}}
+"#;
 
 /// A completion that stopped is tried again, a hover isn't. The opening is the first revision, the change the second.
 const STOPPED: &str = r#"1 textDocument/completion {}
@@ -74,66 +85,75 @@ const STOPPED_ANSWERS: &str =
 {"id":1,"jsonrpc":"2.0","result":null}
 "#;
 
-/// After `shutdown` requests are refused, but another `shutdown`; those that wait get their answers.
+/// Requests that wait when `shutdown` comes get their answers.
 const SHUT: &str = "hover
 2 shutdown null
 finish 2
-hover
-2 shutdown null";
+hover";
 
 const SHUT_ANSWERS: &str = r#"{"id":2,"jsonrpc":"2.0","result":null}
 {"id":7,"jsonrpc":"2.0","result":{"contents":"a"}}
 {"error":{"code":-32600,"message":"Shutdown already requested."},"id":7,"jsonrpc":"2.0"}
-{"id":2,"jsonrpc":"2.0","result":null}
 "#;
 
-/// A malformed `shutdown` is none; an unknown request, and `exit` as a request, are refused at once.
-const REFUSED: &str = r#"2 shutdown [5]
-"u" x/y null
-3 exit null
-hover
-finish 2"#;
+/// Requests with a default get it while files are loading, their params unread; a request on the loop is answered as at other times.
+const LOADING: &str = r#"loading
+2 textDocument/hover null
+3 experimental/matchingBrace null
+4 experimental/matchingBrace {"textDocument":{"uri":"file:///w/a.rs"},"positions":[{"line":0,"character":7}]}
+loaded
+2 textDocument/hover null"#;
 
-const REFUSED_ANSWERS: &str =
-    r#"{"error":{"code":-32602,"message":"invalid params"},"id":2,"jsonrpc":"2.0"}
-{"error":{"code":-32601,"message":"unknown request"},"id":"u","jsonrpc":"2.0"}
-{"error":{"code":-32601,"message":"unknown request"},"id":3,"jsonrpc":"2.0"}
-{"id":7,"jsonrpc":"2.0","result":{"contents":"a"}}
+const LOADING_ANSWERS: &str = r#"{"id":2,"jsonrpc":"2.0","result":null}
+{"error":{"code":-32602,"message":"invalid params"},"id":3,"jsonrpc":"2.0"}
+{"id":4,"jsonrpc":"2.0","result":[{"character":8,"line":0}]}
+{"error":{"code":-32602,"message":"invalid params"},"id":2,"jsonrpc":"2.0"}
 "#;
 
-/// Both texts, one behind the other.
-fn joined(alloc: Global, one: &str, other: &str) -> Result<String, Fail> {
-    Ok(format!(in alloc; "{one}{other}")?)
-}
+/// A file of the loader is seen once loading has ended; an open document is the client's.
+const FILES: &str = r#"loading
+file /w/b.rs one
+- textDocument/didOpen {"textDocument":{"uri":"file:///w/c.rs","version":1,"text":"two"}}
+file /w/c.rs three
+loaded
+1 textDocument/hover {"textDocument":{"uri":"file:///w/b.rs"},"position":{"line":0,"character":0}}
+2 textDocument/hover {"textDocument":{"uri":"file:///w/c.rs"},"position":{"line":0,"character":0}}
+3 textDocument/hover {"textDocument":{"uri":"file:///w/d.rs"},"position":{"line":0,"character":0}}
+finish 2
+finish 3
+finish 4"#;
+
+const FILES_ANSWERS: &str = r#"{"id":1,"jsonrpc":"2.0","result":{"contents":"one"}}
+{"id":2,"jsonrpc":"2.0","result":{"contents":"two"}}
+{"error":{"code":-32603,"message":"file not found: /w/d.rs"},"id":3,"jsonrpc":"2.0"}
+"#;
 
 #[test]
 fn each_request_has_one_answer(rt: HostRuntime) -> Result<(), Fail> {
-    let alloc = rt.alloc();
-    let canceled = joined(alloc, CANCELED, HOVERED)?;
-    answers(alloc, "canceled", CANCELED_AND_AGAIN, canceled.as_str())?;
-    let twice = format!(in alloc; "{PENDING}{HOVERED}{HOVERED}")?;
-    answers(alloc, "twice", TWICE_AND_AGAIN, twice.as_str())?;
-    answers(alloc, "stopped", STOPPED, STOPPED_ANSWERS)?;
-    answers(alloc, "shut", SHUT, SHUT_ANSWERS)?;
-    answers(alloc, "refused", REFUSED, REFUSED_ANSWERS)
+    for (what, words, bodies) in [
+        ("canceled", CANCELED_AND_AGAIN, CANCELED_AND_AGAIN_ANSWERS),
+        ("twice", TWICE_AND_AGAIN, TWICE_AND_AGAIN_ANSWERS),
+        ("stopped", STOPPED, STOPPED_ANSWERS),
+        ("shut", SHUT, SHUT_ANSWERS),
+        ("loading", LOADING, LOADING_ANSWERS),
+        ("files", FILES, FILES_ANSWERS),
+    ] {
+        answers(rt.alloc(), what, words, bodies)?;
+    }
+    Ok(())
 }
 
-/// A line so often, with a line before it and one behind it.
+/// A line a thousand times between two.
 fn repeated(alloc: Global, first: &str, line: &str, last: &str) -> Result<String, Fail> {
-    let mut lines = String::from_str(alloc, first)?;
-    for _ in 0..1000 {
-        lines.push_str(line)?;
-    }
-    lines.push_str(last)?;
-    Ok(lines)
+    let middle = line.repeat(alloc, 1000)?;
+    Ok(format!(in alloc; "{first}{middle}{last}")?)
 }
 
 #[test]
 fn a_thousand_of_one_kind(rt: HostRuntime) -> Result<(), Fail> {
-    let alloc = rt.alloc();
-    let cancels = repeated(alloc, "hover\n", "cancel\n", "finish 2")?;
-    answers(alloc, "cancels", cancels.as_str(), CANCELED)?;
-    let hovers = repeated(alloc, "hover\n", "hover\n", "finish 2")?;
-    let refused = repeated(alloc, "", PENDING, HOVERED)?;
-    answers(alloc, "hovers", hovers.as_str(), refused.as_str())
+    let cancels = repeated(rt.alloc(), "hover\n", "cancel\n", "finish 2")?;
+    answers(rt.alloc(), "cancels", cancels.as_str(), CANCELED)?;
+    let hovers = repeated(rt.alloc(), "hover\n", "hover\n", "finish 2")?;
+    let refused = repeated(rt.alloc(), "", PENDING, HOVERED)?;
+    answers(rt.alloc(), "hovers", hovers.as_str(), refused.as_str())
 }

@@ -4,15 +4,15 @@ ghost use Rattle.std.specs.FinMap as map;
 
 use analysis_host::Analysis;
 use docs_vfs::VfsPath;
+use lsp_frame::FrameReader;
 use plain::{Bytes, Items};
 use ra_config::Config;
 use script_hosts::{ScriptHost, ScriptStep};
-use session::{SessionError, main_loop};
-use session_peers::{MemorySink, RecordedCall};
-use session_port::{Command, Host, HostEvent, LoadedFile, LoaderMsg, LoadingProgress, Sink};
+use session::{SessionError, main_loop_from};
+use session_peers::MemorySink;
+use session_port::{Host, HostEvent, LoadedFile, LoaderMsg, LoadingProgress, Sink};
 use small_analysis::SmallAnalysis;
-use std::alloc::{AllocError, Global};
-use std::fmt::Write;
+use std::alloc::Global;
 use std::test::Fail;
 
 /// The two parts of a line around the first blank.
@@ -23,11 +23,8 @@ fn cut(line: &str) -> (&str, &str) {
     }
 }
 
-/// The body of `ID METHOD PARAMS`, or of a notification where the line begins with `-`; one that begins with `{` is a body.
+/// The body of `ID METHOD PARAMS`, or of a notification where the line begins with `-`.
 fn body_of(alloc: Global, line: &str) -> Result<String, Fail> {
-    if line.starts_with("{") {
-        return Ok(String::from_str(alloc, line)?);
-    }
     let (id, rest) = cut(line);
     let (method, params) = cut(rest);
     if id == "-" {
@@ -37,7 +34,7 @@ fn body_of(alloc: Global, line: &str) -> Result<String, Fail> {
 }
 
 /// The frame of a message.
-pub fn frame_of(alloc: Global, line: &str) -> Result<String, Fail> {
+fn frame_of(alloc: Global, line: &str) -> Result<String, Fail> {
     let body = body_of(alloc, line)?;
     let len = body.len();
     Ok(format!(in alloc; "Content-Length: {len}\r\n\r\n{body}")?)
@@ -49,13 +46,13 @@ pub fn given(alloc: Global, bytes: &str) -> Result<ScriptStep, Fail> {
     Ok(ScriptStep::Give(HostEvent::Bytes(bytes)))
 }
 
-fn loader(alloc: Global, message: LoaderMsg) -> Result<HostEvent, Fail> {
+fn loader(alloc: Global, message: LoaderMsg) -> Result<ScriptStep, Fail> {
     let mut messages = Items::new(alloc);
     messages.push(message)?;
-    Ok(HostEvent::Vfs(messages))
+    Ok(ScriptStep::Give(HostEvent::Vfs(messages)))
 }
 
-fn progress(alloc: Global, n_done: LoadingProgress) -> Result<HostEvent, Fail> {
+fn progress(alloc: Global, n_done: LoadingProgress) -> Result<ScriptStep, Fail> {
     loader(
         alloc,
         LoaderMsg::Progress {
@@ -90,14 +87,14 @@ fn one(alloc: Global, number: u64) -> Result<Items<u64>, Fail> {
 
 /// `loading` and `loaded`, `file PATH TEXT`, `finish JOB`, `stop JOB REVISION`, or a message. Job 1 is the fetch that the
 /// start hands over.
-pub fn step(alloc: Global, line: &str) -> Result<ScriptStep, Fail> {
+fn step(alloc: Global, line: &str) -> Result<ScriptStep, Fail> {
     let (word, rest) = cut(line);
     match word {
-        "loading" => Ok(ScriptStep::Give(progress(alloc, LoadingProgress::Started)?)),
-        "loaded" => Ok(ScriptStep::Give(progress(alloc, LoadingProgress::Finished)?)),
+        "loading" => progress(alloc, LoadingProgress::Started),
+        "loaded" => progress(alloc, LoadingProgress::Finished),
         "file" => {
             let files = files(alloc, rest)?;
-            Ok(ScriptStep::Give(loader(alloc, LoaderMsg::Loaded { files })?))
+            loader(alloc, LoaderMsg::Loaded { files })
         }
         "finish" => Ok(ScriptStep::Finish(one(alloc, number(rest))?)),
         "stop" => {
@@ -123,10 +120,11 @@ fn settings(alloc: Global) -> Result<Config, Fail> {
     Ok(Config::new(alloc, root, 4)?)
 }
 
-// What a run over a host ends with, if it doesn't end well. This call claims nothing here.
+// What a run behind so many bytes of a stream ends with, if it doesn't end well. This call claims nothing here.
 fn fault<H: Host<A>, S: Sink, A: Analysis>(
     alloc: Global,
     config: Config,
+    place: u64,
     host: &mut H,
     sink: &mut S,
     analysis: &A,
@@ -136,62 +134,33 @@ fn fault<H: Host<A>, S: Sink, A: Analysis>(
     requires host_fresh { H.spent host.old ≡ false }
     requires sink_fresh { S.spent sink.old ≡ false }
 {
-    main_loop(alloc, config, host, sink, analysis).err()
+    let reader = FrameReader::new_at(alloc, place);
+    main_loop_from(alloc, config, reader, host, sink, analysis).err()
 }
 
-/// The calls of the host and of the sink that fail, each by its number. None has the number 0.
-#[derive(Clone, Copy)]
-pub struct Failing {
-    pub host: u64,
-    pub sink: u64,
-}
-
-pub const NOTHING_FAILS: Failing = Failing { host: 0, sink: 0 };
-
-/// What a run wrote, what it logged, each code and text on a line, and what it ended with, if it didn't end well.
-#[derive(Drop)]
-pub struct Outcome {
-    pub sink: MemorySink,
-    pub logs: String,
-    pub fault: Option<SessionError>,
-}
-
-// Adds what is logged by a turn's commands.
-fn push_logs(logs: &mut String, commands: &[Command]) -> Result<(), AllocError> {
-    for command in commands {
-        if let Command::Log(code, text) = command {
-            write!(logs, "{code:?} {}\n", text.as_str())?;
-        }
-    }
-    Ok(())
-}
-
-/// What the commands of these calls log.
-fn logs_of(alloc: Global, calls: &[RecordedCall]) -> Result<String, AllocError> {
-    let mut logs = String::new(alloc);
-    for call in calls {
-        if let Some(commands) = call.commands() {
-            push_logs(&mut logs, commands.as_slice())?;
-        }
-    }
-    Ok(logs)
-}
-
-/// A run over these steps. Each `?` lets go of settings, of lists or of a sink.
-pub fn ran(alloc: Global, steps: Items<ScriptStep>, failing: Failing) -> Result<Outcome, Fail> {
+/// What a run over these steps and this sink ends with, if it doesn't end well. The call of the host with this number fails;
+/// none has the number 0. Each `?` lets go of settings or of lists.
+pub fn ran<S: Sink>(
+    alloc: Global,
+    place: u64,
+    steps: Items<ScriptStep>,
+    fails: u64,
+    sink: &mut S,
+) -> Result<Option<SessionError>, Fail>
+    requires sink_fresh { S.spent sink.old ≡ false }
+{
     let config = settings(alloc)?;
-    let host_fails = one(alloc, failing.host)?;
-    let mut sink = MemorySink::new(alloc, one(alloc, failing.sink)?);
+    let fails = one(alloc, fails)?;
     let analysis = SmallAnalysis::new(alloc);
-    let mut host = ScriptHost::new(alloc, &analysis, steps, host_fails)?;
-    let fault = fault(alloc, config, &mut host, &mut sink, &analysis);
-    let logs = logs_of(alloc, host.calls());
+    let mut host = ScriptHost::new(alloc, &analysis, steps, fails)?;
+    let fault = fault(alloc, config, place, &mut host, sink, &analysis);
     drop(host);
-    Ok(Outcome {
-        sink,
-        logs: logs?,
-        fault,
-    })
+    Ok(fault)
+}
+
+/// A sink of which the call with this number fails; none has the number 0.
+pub fn sink(alloc: Global, fails: u64) -> Result<MemorySink, Fail> {
+    Ok(MemorySink::new(alloc, one(alloc, fails)?))
 }
 
 /// The body of the frame that a turn wrote, if it wrote one.
@@ -210,30 +179,33 @@ fn cut_head(frame: &str) -> &str {
 }
 
 /// What a run ended with, in words; none where it ended well.
-pub fn end_of(alloc: Global, outcome: &Outcome) -> Result<String, Fail> {
-    match &outcome.fault {
+pub fn told(alloc: Global, fault: Option<SessionError>) -> Result<String, Fail> {
+    match fault {
         Some(fault) => Ok(format!(in alloc; "{fault}")?),
         None => Ok(String::new(alloc)),
     }
 }
 
-/// What a run wrote, a body on each line, and a last line `failed` where it didn't end well.
-pub fn bodies(alloc: Global, outcome: &Outcome) -> Result<String, Fail> {
+/// What was written, a body on each line.
+fn bodies(alloc: Global, sink: &MemorySink) -> Result<String, Fail> {
     let mut text = String::new(alloc);
-    for turn in outcome.sink.turns() {
+    for turn in sink.turns() {
         let body = body(turn);
         if !body.is_empty() {
             text.push_str(body)?;
             text.push_str("\n")?;
         }
     }
-    if outcome.fault.is_some() {
-        text.push_str("failed\n")?;
-    }
     Ok(text)
 }
 
-/// What a run of these lines writes.
+/// What a run of these lines writes, and a last line `failed` where it doesn't end well.
 pub fn written(alloc: Global, lines: &str) -> Result<String, Fail> {
-    bodies(alloc, &ran(alloc, steps(alloc, lines)?, NOTHING_FAILS)?)
+    let mut sink = sink(alloc, 0)?;
+    let fault = ran(alloc, 0, steps(alloc, lines)?, 0, &mut sink)?;
+    let mut text = bodies(alloc, &sink)?;
+    if fault.is_some() {
+        text.push_str("failed\n")?;
+    }
+    Ok(text)
 }

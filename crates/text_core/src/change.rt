@@ -3,7 +3,7 @@ use crate::position::Range;
 use plain::Text;
 
 /// A text to put in the place of a range.
-#[derive(Clone, Debug)]
+#[derive(Clone)]
 pub struct TextEdit {
     pub range: Range,
     pub new_text: Text,
@@ -19,7 +19,7 @@ impl Drop for TextEdit {
 }
 
 /// A new text for a range of a document, or for all of it.
-#[derive(Clone, Debug)]
+#[derive(Clone)]
 pub struct ContentChange {
     pub range: Option<Range>,
     pub text: Text,
@@ -32,7 +32,7 @@ impl Drop for ContentChange {
 }
 
 /// What a completion puts into the text.
-#[derive(Clone, Copy, Debug, PartialEq, Eq)]
+#[derive(Clone, Copy, PartialEq, Eq)]
 pub enum CompletionEdit {
     None,
     Edit(Range),

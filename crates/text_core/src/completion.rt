@@ -33,7 +33,7 @@ pub enum RefMode {
 }
 
 /// What a completion's rank goes by.
-#[derive(Clone, Copy, Debug, PartialEq, Eq)]
+#[derive(Clone, Copy, PartialEq, Eq)]
 pub struct Relevance {
     pub exact_name_match: bool,
     pub is_local: bool,
@@ -49,7 +49,7 @@ pub struct Relevance {
 }
 
 /// The parts of a completion that tell whether it is the one that a client asks for.
-#[derive(Clone, Debug)]
+#[derive(Clone)]
 pub struct HashedItem {
     pub is_snippet: bool,
     pub deprecated: bool,

@@ -1,7 +1,14 @@
-//! Tests of the decisions of a reload, and of the workspaces of a session, by their public calls.
+//! Tests of what is decided over workspaces, by public calls: crate graphs, which checks restart, what is told of a session, and how far work is. Lines
+//! of words tell the cases. No call of a test claims anything.
 #![tactic(auto)]
 
 #[cfg(test)]
-mod reload_tests;
+mod graphs;
 #[cfg(test)]
-mod workspaces_tests;
+mod made;
+#[cfg(test)]
+mod names;
+#[cfg(test)]
+mod restarts;
+#[cfg(test)]
+mod statuses;

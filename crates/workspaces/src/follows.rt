@@ -6,7 +6,7 @@ use plain::{Items, Text};
 use std::alloc::{AllocError, AllocFailed};
 
 /// What follows a switch.
-#[derive(Debug, Drop)]
+#[derive(Drop)]
 pub enum Follows {
     /// Nothing.
     Nothing,

@@ -8,7 +8,7 @@ use project_model::{CrateData, MacroPath};
 
 /// A fetch of workspaces that is asked for: the path for which it is, if there is one, and whether crate data is built
 /// anew even where the workspaces are the same.
-#[derive(Debug, Drop)]
+#[derive(Drop)]
 pub struct FetchRequest {
     pub path: Option<VfsPath>,
     pub force: bool,
@@ -37,14 +37,14 @@ impl FetchRequest {
 }
 
 /// A fetch that waits for the timer with this ticket.
-#[derive(Debug, Drop)]
+#[derive(Drop)]
 pub(crate) struct WaitingFetch {
     pub(crate) ticket: u64,
     pub(crate) request: FetchRequest,
 }
 
 /// Crate data that is to get the macros of the crates that are listed, with their libraries.
-#[derive(Debug, Drop)]
+#[derive(Drop)]
 pub(crate) struct LoadRequest {
     pub(crate) crates: CrateData,
     pub(crate) listed: Items<u32>,
@@ -52,7 +52,7 @@ pub(crate) struct LoadRequest {
 }
 
 /// Crate data whose macros are being loaded.
-#[derive(Debug, Drop)]
+#[derive(Drop)]
 pub(crate) struct WaitingCrates {
     pub(crate) crates: CrateData,
     pub(crate) listed: Items<u32>,

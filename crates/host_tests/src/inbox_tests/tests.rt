@@ -2,21 +2,13 @@ use inbox::{Entry, HostEnd, ReaderEnd, WorkerEnd, open_inbox};
 use plain::{Bytes, Items};
 use session_peers::MemorySource;
 use std::alloc::Global;
-use std::sync::{Arc, Wait};
+use std::sync::Wait;
 use std::test::Fail;
 use std::thread::{self, JoinHandle, Threads};
 
 const WORKERS: u64 = 8;
 
 const EACH: u64 = 125_000;
-
-fn sends<T: Send + Drop>(x: T) {
-    drop(x)
-}
-
-fn shares<T: Sync + Drop>(x: T) {
-    drop(x)
-}
 
 // An inbox, and the next entry: calls that claim nothing.
 fn open<R: Wait>(
@@ -119,19 +111,6 @@ fn the_first_entry_tells_the_source(rt: HostRuntime) -> Result<(), Fail> {
     let (mut host, _reader) = open(&rt, alloc, &source)?;
     assert!(rt; matches!(take(&rt, &mut host), Some(Entry::Opened(_))));
     assert!(rt; take(&rt, &mut host).is_none());
-    Ok(())
-}
-
-#[test]
-fn ends_cross_threads(rt: HostRuntime) -> Result<(), Fail> {
-    let alloc = rt.alloc();
-    let source = source(alloc, b"")?;
-    let (mut host, reader) = open(&rt, alloc, &source)?;
-    sends(worker(&mut host)?);
-    sends(reader);
-    sends(Arc::try_clone(&host.inbox)?);
-    shares(Arc::try_clone(&host.inbox)?);
-    sends(host);
     Ok(())
 }
 

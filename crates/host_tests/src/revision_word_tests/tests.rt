@@ -1,17 +1,8 @@
 use analysis_host::Cancel;
 use revision_word::{Word, WordCancel, Writer};
 use std::alloc::Global;
-use std::sync::Arc;
 use std::test::Fail;
 use std::thread::{self, JoinHandle, Threads};
-
-fn sends<T: Send + Drop>(x: T) {
-    drop(x)
-}
-
-fn shares<T: Sync + Drop>(x: T) {
-    drop(x)
-}
 
 // What a worker sees of a word while it is raised: the last number, and whether no number was below one before.
 fn watch(mut cancel: WordCancel) -> (u64, bool) {
@@ -81,15 +72,5 @@ fn eight_threads_see_a_rising_word(rt: HostRuntime) -> Result<(), Fail> {
         assert!(rt; is_rising && last <= 100_000);
     }
     assert_eq!(rt; writer.number, 100_000);
-    Ok(())
-}
-
-#[test]
-fn words_and_seats_cross_threads(rt: HostRuntime) -> Result<(), Fail> {
-    let mut writer = Writer::new(rt.alloc())?;
-    sends(writer.cancel(0)?);
-    sends(Arc::try_clone(&writer.word)?);
-    shares(Arc::try_clone(&writer.word)?);
-    sends(writer);
     Ok(())
 }

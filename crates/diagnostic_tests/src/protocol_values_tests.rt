@@ -1,2 +1,0 @@
-// Tests of `protocol_values`, by its public calls alone.
-mod values;

@@ -1,4 +1,0 @@
-pub mod Replies
-pub mod Stages
-pub mod Opening
-pub mod Talking

@@ -1,9 +1,0 @@
-//! Tests of `program`, over readers and writers in memory.
-#![tactic(auto)]
-
-#[cfg(test)]
-mod editors;
-#[cfg(test)]
-mod runs;
-#[cfg(test)]
-mod streams;

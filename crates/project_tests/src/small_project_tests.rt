@@ -1,2 +1,0 @@
-// Tests of `small_project`, by its public calls alone.
-mod answers;

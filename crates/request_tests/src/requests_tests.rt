@@ -1,3 +1,0 @@
-// Tests of `requests`, by its public calls alone.
-mod files;
-mod params;

@@ -1,0 +1,7 @@
+// How a session begins: the handshake with a client, over a host and a sink.
+mod negotiation;
+mod opening;
+mod reading;
+mod replies;
+
+pub use opening::{Opening, initialize};

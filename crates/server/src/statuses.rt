@@ -1,0 +1,48 @@
+// Statuses of the program.
+ghost use Rattle.std.specs.Prelude.{◌≡◌};
+ghost use Rattle.server.specs.Status.{status_of, status_text};
+
+use session::SessionError;
+
+/// The status where the words are none that the program knows.
+pub const BAD_WORDS: u8 = 2;
+
+/// The status where the output can't be written.
+pub(crate) const WRITE_FAULT: u8 = 7;
+
+/// The status where memory has run out.
+pub(crate) const NO_MEMORY: u8 = 9;
+
+/// The status that a session ends with.
+pub fn status_of(outcome: Result<(), SessionError>) -> u8
+    ensures { result ≡ status_of outcome }
+{
+    match outcome {
+        Ok(()) => 0,
+        Err(SessionError::ClientExited) => 3,
+        Err(SessionError::BadFrame { .. }) => 4,
+        Err(SessionError::BadMessage { .. }) => 5,
+        Err(SessionError::HostFault) => 6,
+        Err(SessionError::WriteFault) => WRITE_FAULT,
+        Err(SessionError::Exhausted { .. }) => 8,
+        Err(SessionError::NoMemory) => NO_MEMORY,
+    }
+}
+
+/// What the program says of its status on standard error: nothing where all is well.
+pub fn status_text(status: u8) -> &'static str
+    ensures { result.now ≡ status_text status }
+{
+    match status {
+        0 => "",
+        BAD_WORDS => "bad words",
+        3 => "client exited without proper shutdown sequence",
+        4 => "bad frame",
+        5 => "bad message",
+        6 => "the host failed",
+        WRITE_FAULT => "the output failed",
+        8 => "counter exhausted",
+        NO_MEMORY => "out of memory",
+        _ => "failed",
+    }
+}

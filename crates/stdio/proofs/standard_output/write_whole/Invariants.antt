@@ -1,5 +1,0 @@
-use Rattle.stdio.proofs.Streams.{Written}
-use Rattle.stdio.proofs.standard_output.write_whole.Given as goal
-
-abbrev pub invariant-writing : goal.invariant-writing
-invariant-writing g l = Written (g.W.Write.contents l.fn.writer) (g.W.Write.contents l.writer) l.fn.bytes l.rest

@@ -1,0 +1,99 @@
+#!/usr/bin/env python3
+"""Runs the stored sessions: tests/run.py [-p PROGRAM].. [FILE ..]. tests/README.md says how a case is written."""
+import fcntl, os, pathlib, re, resource, signal, subprocess, sys, tempfile, termios, threading, time
+from concurrent.futures import ThreadPoolExecutor
+
+HERE = pathlib.Path(__file__).resolve().parent
+BUILT = HERE.parent / "crates/ra_serve/out/ra_serve"
+NAMED = {b"r": b"\r", b"n": b"\n", b"\\": b"\\"}
+SENT, WANTED, REST = (">", ">>"), ("<", "<<"), ("words", "pieces", "input", "output", "status", "!")
+
+def raw(text):
+    """The bytes of a text with the escapes \\r, \\n, \\\\ and \\xHH."""
+    return re.sub(rb"\\(?:x([0-9a-f]{2})|(.))", lambda m: bytes.fromhex(m[1].decode()) if m[1] else NAMED[m[2]], text)
+
+def bytes_of(word, rest):
+    return raw(rest) if len(word) == 2 else b"Content-Length: %d\r\n\r\n%s" % (len(rest), rest)
+
+def cases_of(path):
+    """The cases of a file, each a name and its lines: those before the first line `case` begin each of them."""
+    first, cases = [], []
+    for number, line in enumerate(path.read_bytes().split(b"\n"), 1):
+        word, _, rest = line.partition(b" ")
+        word = word.decode()
+        if word == "case":
+            cases.append((f"{path.stem}: {rest.decode()}", list(first)))
+        elif word in SENT + WANTED + REST:
+            (cases[-1][1] if cases else first).append((number, word, rest))
+        elif word not in ("", "#"):
+            sys.exit(f"{path}:{number}: no line begins with {word!r}")
+    return cases or [(path.stem, first)]
+
+def give(program, lines, pieces, out):
+    """Writes the input: all at once, in pieces of so many bytes, or each message once the answers before it are there."""
+    parts = [bytes_of(word, rest) for _, word, rest in lines if word in SENT]
+    before = [sum(len(bytes_of(w, r)) for n, w, r in lines if w in WANTED and n < number)
+              for number, word, _ in lines if word in SENT]
+    if pieces != "replies":
+        whole, before = b"".join(parts), []
+        size = len(whole) + 1 if pieces == "all" else int(pieces)
+        parts = [whole[at:at + size] for at in range(0, len(whole), size)]
+    try:
+        for at, part in enumerate(parts):
+            while before and program.poll() is None and os.fstat(out.fileno()).st_size < before[at]:
+                time.sleep(0.001)
+            program.stdin.write(part)
+            while pieces != "all" and program.poll() is None and any(fcntl.ioctl(program.stdin, termios.FIONREAD, bytes(4))):
+                time.sleep(0)
+        program.stdin.close()
+    except BrokenPipeError:
+        pass
+
+def run(program, lines, pieces):
+    """The status, the output and the standard error of one run."""
+    one = {word: rest.decode() for _, word, rest in lines}
+    output = one.get("output", "")
+    limit = lambda: (signal.signal(signal.SIGXFSZ, signal.SIG_IGN), resource.setrlimit(resource.RLIMIT_FSIZE, (int(output),) * 2))
+    (gone, closed), (said, err) = os.pipe(), os.pipe()
+    os.close(gone), fcntl.fcntl(err, fcntl.F_SETPIPE_SZ, 1 << 20)
+    with tempfile.TemporaryFile() as out, open("/dev/full", "wb") as full, open(said, "rb") as errors:
+        source = os.open(one["input"], os.O_RDONLY) if "input" in one else subprocess.PIPE
+        begun = subprocess.Popen([program, *map(raw, one["words"].encode().split())], bufsize=0, stdin=source, stderr=err,
+                                 stdout={"full": full, "closed": closed}.get(output, out), preexec_fn=limit if output.isdigit() else None)
+        os.close(err), os.close(closed)
+        clock = threading.Timer(60, begun.kill)
+        clock.start()
+        os.close(source) if "input" in one else give(begun, lines, pieces, out)
+        status = begun.wait()
+        clock.cancel(), out.seek(0)
+        return status, out.read(), errors.read()
+
+def difference(program, name, lines, pieces):
+    """What is otherwise than a case wants, in words."""
+    status, found, errors = run(program, lines, pieces)
+    at = f"{name} ({os.path.basename(program)}, pieces {pieces})"
+    for number, word, rest in [line for line in lines if line[1] in WANTED] + [(0, "<<", b"")]:
+        wanted, shown = bytes_of(word, rest), found[:len(rest) + 200].decode(errors="backslashreplace")
+        if not found.startswith(wanted) or not number and found:
+            return f"{at}\n  line {number or 'the last'} wants {rest.decode() or 'no more'}\n  found  {shown or 'nothing'}"
+        found = found[len(wanted):]
+    told = [(number, rest) for number, word, rest in lines if word == "!" and rest]
+    missing = len(errors.splitlines()) - len(told)
+    for (number, wanted), line in zip(told + [(0, b"")] * missing, errors.splitlines() + [b""] * -missing):
+        if wanted != line and any(word == "!" for _, word, _ in lines):
+            return f"{at}\n  line {number or 'the last'} wants {wanted.decode() or 'no more'} on standard error\n  found  {line.decode() or 'nothing'}"
+    wants = int(([b"0"] + [rest for _, word, rest in lines if word == "status"])[-1])
+    return None if status == wants else f"{at}\n  wants status {wants}, found {status}"
+
+def main(words):
+    programs = [words[at + 1] for at in range(len(words)) if words[at] == "-p"] or [str(BUILT), f"{BUILT}.by-rattle"]
+    files = [word for at, word in enumerate(words) if word != "-p" and words[at - 1:at] != ["-p"]]
+    cases = [case for path in files or sorted(HERE.glob("cases/**/*.case")) for case in cases_of(pathlib.Path(path))]
+    runs = [(program, name, lines, pieces.decode()) for name, lines in cases for program in programs
+            for pieces in dict.fromkeys(([b"all"] + [rest for _, word, rest in lines if word == "pieces"])[-1].split())]
+    with ThreadPoolExecutor(os.cpu_count()) as pool:
+        wrong = [text for text in pool.map(lambda one: difference(*one), runs) if text]
+    print(*wrong, f"{len(runs) - len(wrong)} passed, {len(wrong)} failed", sep="\n")
+    return 1 if wrong or not runs else 0
+
+sys.exit(main(sys.argv[1:]))
