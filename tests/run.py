@@ -87,6 +87,7 @@ def difference(program, name, lines, pieces):
 
 def main(words):
     programs = [words[at + 1] for at in range(len(words)) if words[at] == "-p"] or [str(BUILT), f"{BUILT}.by-rattle"]
+    all(map(os.path.exists, programs)) or sys.exit(f"one of {programs} is not there: a plain `rt ci` leaves them")
     files = [word for at, word in enumerate(words) if word != "-p" and words[at - 1:at] != ["-p"]]
     cases = [case for path in files or sorted(HERE.glob("cases/**/*.case")) for case in cases_of(pathlib.Path(path))]
     runs = [(program, name, lines, pieces.decode()) for name, lines in cases for program in programs
