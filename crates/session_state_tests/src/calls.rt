@@ -1,4 +1,6 @@
 // The calls of a session besides its turns, and its parts by themselves.
+ghost use Rattle.std.specs.Prelude.{◌≡◌, None, IfSome};
+
 use crate::asking::{agree, settings};
 use expectations::expect;
 use lsp_frame::{RequestId, Response, ResponseError};
@@ -11,7 +13,9 @@ use std::test::Fail;
 use workspaces::Workspaces;
 
 /// A refusal under no id.
-fn refusal(alloc: Global) -> Option<ResponseError> {
+fn refusal(alloc: Global) -> Option<ResponseError>
+    ensures { IfSome result (λ error. error.extra ≡ None) }
+{
     Some(ResponseError {
         code: 1,
         message: Text::from_str(alloc, "no").ok()?,
