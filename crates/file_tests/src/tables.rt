@@ -14,8 +14,8 @@ fn document(alloc: Global) -> Option<DocumentData> {
 
 /// Puts a copy of a document, and answers whether none was there.
 fn put(alloc: Global, docs: &mut MemDocs, path: &VfsPath) -> Option<bool> {
-    let document = copied(document(alloc)?)?;
     let path = path.clone().ok()?;
+    let document = copied(document(alloc)?)?;
     Some(docs.insert(path, document).ok()?.is_ok())
 }
 
@@ -43,7 +43,8 @@ fn bytes(alloc: Global) -> Option<Bytes> {
 }
 
 /// Whether contents are set at a path, and then a text that is shared.
-fn sets(alloc: Global, table: &mut FileTable, path: &VfsPath) -> Option<bool> {
+fn sets(alloc: Global, table: &mut FileTable) -> Option<bool> {
+    let path = path_at(alloc, "/a")?;
     let contents = Some(bytes(alloc)?);
     let is_set = table.set_contents(path.clone().ok()?, contents).ok()?;
     let shared = Some(SharedBytes::of_text(shared_text(alloc, "b")?));
@@ -51,17 +52,18 @@ fn sets(alloc: Global, table: &mut FileTable, path: &VfsPath) -> Option<bool> {
     Some(is_set && is_shared)
 }
 
-/// Whether contents are added at a path that has none.
-fn adds(alloc: Global, table: &mut FileTable, path: &VfsPath) -> Option<bool> {
+/// Whether contents are added at `/`, which has none.
+fn adds(alloc: Global, table: &mut FileTable) -> Option<bool> {
+    let path = VfsPath::root(alloc).ok()?;
     let shared = SharedBytes::new(alloc, bytes(alloc)?).ok()?;
-    Some(table.add_shared(path, Some(shared)).ok()?.changed)
+    Some(table.add_shared(&path, Some(shared)).ok()?.changed)
 }
 
 /// Whether a table takes contents in each way.
 pub fn takes_contents(alloc: Global) -> Option<bool> {
     let mut table = FileTable::new(alloc);
-    let set = sets(alloc, &mut table, &path_at(alloc, "/a")?);
-    let added = adds(alloc, &mut table, &VfsPath::root(alloc).ok()?);
+    let set = sets(alloc, &mut table);
+    let added = adds(alloc, &mut table);
     drop(table);
     Some(set? && added?)
 }

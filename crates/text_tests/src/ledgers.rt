@@ -52,8 +52,10 @@ fn stays<L: Ledger>(alloc: Global, steps: &mut Steps<L>) -> Option<bool> {
     ];
     let second = [(4, None), (9, None), (1, Some(8)), (8, Some(9)), (5, None)];
     let old = with_all(&SharedMap::new(alloc), &first, steps).ok()?;
-    let new = with_all(&old, &second, steps).ok()?;
-    Some(figures(&old)? == 12243543516677 && figures(&new)? == 182435667789)
+    let new = with_all(&old, &second, steps).ok();
+    let were = figures(&old);
+    drop(old);
+    Some(were? == 12243543516677 && figures(&new?)? == 182435667789)
 }
 
 /// A text, changes, the text that they leave, and how many bytes it may have. What passes that limit is dropped, if its own text does,
