@@ -109,13 +109,7 @@ fn run_script(
 }
 
 /// The same of a host that gives these events as they are.
-fn run_hostile(
-    alloc: Global,
-    text: &mut String,
-    script: &str,
-    commands: Items<Command>,
-    count: u64,
-)
+fn run_hostile(alloc: Global, text: &mut String, script: &str, commands: Items<Command>, count: u64)
     requires { AreRising 0 (spawned commands) }
 {
     let mut host = HostileHost::new(alloc, events(alloc, script));

@@ -25,7 +25,8 @@ tell workspace/didChangeConfiguration {} then answer [{"files":{"exclude":["a.rs
 tell workspace/didChangeConfiguration {} then answer [{"files":{"exclude":["a.rs"]}}] then open then tell textDocument/didClose {"textDocument":{"uri":"file:///w/a.rs"}} then file /w/a.rs text then text /w/a.rs > excluded"#;
 
 // A file that is as it was when the files were taken up last changes nothing, whatever came between.
-const SAME: &str = r#"open then tell textDocument/didClose {"textDocument":{"uri":"file:///w/a.rs"}} then file /w/a.rs a > timer 3
+const SAME: &str =
+    r#"open then tell textDocument/didClose {"textDocument":{"uri":"file:///w/a.rs"}} then file /w/a.rs a > timer 3
 loading then file /w/a.rs one then file /w/a.rs then loaded
 file /w/a.rs one then loading then file /w/a.rs two then file /w/a.rs one then loaded
 file /w/a.rs one then loading then file /w/a.rs two then loaded > deferrevise"#;
