@@ -15,7 +15,7 @@ use small_project::workspaces_of;
 use std::alloc::Global;
 use std::sync::Arc;
 
-fn path(alloc: Global, text: &str) -> Option<VfsPath> {
+pub fn path(alloc: Global, text: &str) -> Option<VfsPath> {
     VfsPath::new(alloc, text).ok()?
 }
 

@@ -1,7 +1,9 @@
 // A setting of each kind, as its call answers it.
-use crate::calls::{all_agree, cut, settings};
-use plain::{Items, Text};
-use ra_config::{CargoFeatures, Config, FilesWatcher, InvocationStrategy, LinkedProject};
+use crate::calls::{all_agree, cut, json, settings};
+use expectations::expect;
+use plain::{Items, Json, Text};
+use ra_config::{CargoFeatures, Config, FilesWatcher, InvocationStrategy, LinkedProject, Row};
+use ra_settings::{ROWS, Reading, find_at, read_value};
 use std::alloc::Global;
 use std::test::Fail;
 
@@ -130,4 +132,37 @@ checkOnSave > true > {"checkOnSave":1,"numThreads":2} > true"#;
 #[test]
 fn a_setting_of_each_kind(rt: HostRuntime) -> Result<(), Fail> {
     all_agree(rt.alloc(), KINDS, "\n", agrees)
+}
+
+/// A value of each kind.
+const EACH: &str =
+    r#"{"checkOnSave":false,"check":{"command":"c","invocationStrategy":"once","overrideCommand":["a"]},"cargo":{"extraEnv":{"a":"1","b":null},"features":["f"],"target":"t"},"files":{"exclude":["p"],"watcher":"server"},"linkedProjects":["p",{"k":1}],"procMacro":{"ignored":{"p":["m"]}},"cachePriming":{"numThreads":255},"numThreads":64,"workspace":{"discoverConfig":{"command":["c"],"progressLabel":"l","filesToWatch":["f"]}}}"#;
+
+/// Whether a row has a value in a tree, and it is the same as its copy.
+fn is_copied(alloc: Global, row: Row, config: &Config, tree: &Json) -> Option<bool> {
+    let facts = row.facts();
+    let value = find_at(tree.as_value(), facts.path)?;
+    match read_value(alloc, facts.kind, config.root_path(), value).ok()? {
+        Reading::Value(value) => Some(value.clone().ok()?.is_same(&value)),
+        Reading::Refused(_) => None,
+    }
+}
+
+/// How many rows of the tree have a value that is the same as its copy.
+fn copied(alloc: Global) -> Option<usize> {
+    let config = settings(alloc, "{}")?;
+    let tree = json(alloc, EACH)?;
+    let mut copied = 0;
+    for row in ROWS {
+        if is_copied(alloc, row, &config, &tree) == Some(true) {
+            copied += 1;
+        }
+    }
+    drop(config);
+    Some(copied)
+}
+
+#[test]
+fn values_are_copied(rt: HostRuntime) -> Result<(), Fail> {
+    expect("14 values are copied", copied(rt.alloc()) == Some(14))
 }

@@ -38,17 +38,22 @@ fn are_two(alloc: Global, config: &Config, first: u64, second: u64) -> Option<bo
 }
 
 /// Of one file the newer project takes the older one's place.
-fn discovers(alloc: Global, config: &mut Config) -> Option<bool> {
+fn discover_three(alloc: Global, config: &mut Config) -> Option<()> {
     discover_by(alloc, config, "1", "a")?;
     discover_by(alloc, config, "2", "b")?;
-    discover_by(alloc, config, "3", "a")?;
-    are_two(alloc, config, 3, 2)
+    discover_by(alloc, config, "3", "a")
 }
 
+/// Whether a copy has what was discovered.
 fn is_discovered(alloc: Global) -> Option<bool> {
     let mut config = settings(alloc, "{}")?;
-    let is = discovers(alloc, &mut config);
+    let done = discover_three(alloc, &mut config);
+    let copy = config.clone().ok();
     drop(config);
+    done?;
+    let copy = copy?;
+    let is = are_two(alloc, &copy, 3, 2);
+    drop(copy);
     is
 }
 

@@ -73,8 +73,13 @@ fn agrees(alloc: Global, line: &str) -> bool {
     let (left_out, want) = cut(rest, " > ");
     let mut out = String::new(alloc);
     let list = workspaces(alloc, words);
-    add_graph(alloc, &mut out, list.as_slice(), left_out);
+    // Of a copy, so that what workspaces hold is copied too.
+    let copy = list.clone().ok();
     drop(list);
+    if let Some(copy) = &copy {
+        add_graph(alloc, &mut out, copy.as_slice(), left_out);
+    }
+    drop(copy);
     out.as_str() == want
 }
 

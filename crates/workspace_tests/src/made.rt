@@ -51,6 +51,13 @@ pub(crate) fn put<T: Drop>(place: &mut Option<T>, value: Option<T>) {
     }
 }
 
+/// Whether a value can be copied.
+pub(crate) fn copies<T: Clone + Drop>(value: T) -> bool {
+    let copy = value.clone().ok();
+    drop(value);
+    copy.is_some()
+}
+
 /// What stands before the first mark in a text, and what stands behind it.
 pub(crate) fn cut<'a>(text: &'a str, mark: &str) -> (&'a str, &'a str) {
     match text.split_once(mark) {

@@ -1,9 +1,10 @@
 // The checks that restart for a saved file.
-use crate::made::{add, all_agree, cut, numbers, path_at, push, workspaces};
+use crate::made::{add, all_agree, copies, cut, numbers, path_at, push, workspaces};
 use check_restarts::{CheckScope, Restart, check_restarts};
 use docs_vfs::{FileId, VfsPath};
+use expectations::expect;
 use plain::Items;
-use project_model::{CrateInfo, ProjectWorkspace};
+use project_model::{CrateData, CrateInfo, MacroState, ProjectWorkspace, target_spec_for_file};
 use std::alloc::Global;
 use std::fmt::Write;
 use std::test::Fail;
@@ -54,6 +55,15 @@ fn add_restarts(out: &mut String, list: &[Restart]) {
     }
 }
 
+/// The same of a copy.
+fn add_copy(out: &mut String, list: &Items<Restart>) {
+    let copy = list.clone().ok();
+    if let Some(copy) = &copy {
+        add_restarts(out, copy.as_slice());
+    }
+    drop(copy);
+}
+
 /// Adds what restarts for a file of crates with these roots.
 fn add_told(
     alloc: Global,
@@ -79,7 +89,7 @@ fn add_told(
             check_workspace,
         );
         if let Ok(list) = &list {
-            add_restarts(out, list.as_slice());
+            add_copy(out, list);
         }
         drop(list);
     }
@@ -129,6 +139,33 @@ fn agrees(alloc: Global, line: &str) -> bool {
     );
     drop(list);
     out.as_str() == wanted
+}
+
+/// Whether the target of a file can be copied.
+fn is_target_copied(alloc: Global) -> Option<bool> {
+    let file = path_at(alloc, "/a")?;
+    let list = workspaces(alloc, WORKSPACES);
+    let target = target_spec_for_file(list.as_slice(), &file);
+    drop(list);
+    Some(copies(target.ok()??))
+}
+
+/// Whether a graph of one crate can be copied, of whose macros it is told.
+fn is_graph_copied(alloc: Global) -> bool {
+    let mut data = CrateData {
+        crates: Items::new(alloc),
+        env: Items::new(alloc),
+        macros: Items::new(alloc),
+    };
+    push(&mut data.crates, Some(crate_of(alloc, "1")));
+    push(&mut data.macros, Some((0, MacroState::NotYetBuilt)));
+    copies(data)
+}
+
+#[test]
+fn what_is_told_is_copied(rt: HostRuntime) -> Result<(), Fail> {
+    expect("a target", is_target_copied(rt.alloc()) == Some(true))?;
+    expect("a graph", is_graph_copied(rt.alloc()))
 }
 
 #[test]
