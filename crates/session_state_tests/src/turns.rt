@@ -42,14 +42,17 @@ fn cause(alloc: Global, state: &mut GlobalState) -> Option<String> {
     text
 }
 
+fn mark_of(answer: bool) -> &'static str {
+    if answer { "yes " } else { "no " }
+}
+
 /// What a call besides the turns answers, and what it writes.
 fn call(alloc: Global, state: &mut GlobalState, call: &str) -> Option<String> {
     let mut out = TurnOut::new(alloc);
     let answer = answer_to(alloc, state, call, &mut out)?;
     let text = words(alloc, &mut out, Ok(()));
     drop(out);
-    let mark = if answer { "yes " } else { "no " };
-    let text = [mark, text?.as_str()].concat(alloc).ok()?;
+    let text = [mark_of(answer), text?.as_str()].concat(alloc).ok()?;
     String::from_str(alloc, text.as_str().trim_ascii()).ok()
 }
 
