@@ -1,0 +1,779 @@
+-- A turn gives no more numbers than it may need; and one that the machine can't take needs one more of a counter than there are.
+use Rattle.std.proofs.Common.{◌≡◌, ℕ, ◌+◌, ◌-◌, ◌^◌, ◌≤◌, List, [], ◌∷◌, ◌++◌, length, Bool, true, false, refl, sym, ap, ◌∙◌, subst, inl, inr, arith, eqb-true}
+use Rattle.std.proofs.lemmas.Bool.{ltb-false}
+use Rattle.std.proofs.lemmas.List.{length-append}
+use Rattle.std.proofs.lemmas.Result.{IfOk-at_ok}
+use Rattle.std.specs.FinMap as map
+use Rattle.std.specs.Option.{option_map}
+use Rattle.std.specs.Prelude.{◌⊎◌, ◌==◌, Err, IfErr, IfOk, if◌then◌else◌, ltb, None, Ok, Option, Result, Some}
+use Rattle.docs_vfs.specs.FileUrls.{path_of}
+use Rattle.docs_vfs.specs.declared.file_kinds.ChangedFile.{ChangedFile}
+use Rattle.docs_vfs.specs.declared.file_url.UrlFault.{UrlFault}
+use Rattle.lsp_frame.specs.Outgoing.{Outgoing, number_of, without}
+use Rattle.lsp_frame.specs.declared.message.Notification.{Notification}
+use Rattle.lsp_frame.specs.declared.message.Request.{Request}
+use Rattle.lsp_frame.specs.declared.message.Message.TheVariants as lsp
+use Rattle.lsp_frame.specs.declared.message.RequestId.{RequestId}
+use Rattle.lsp_frame.specs.declared.message.Response.{Response}
+use Rattle.project_model.specs.declared.crates.CrateData.{CrateData}
+use Rattle.project_model.specs.declared.workspace.ProjectWorkspace.{ProjectWorkspace}
+use Rattle.layered_settings.specs.declared.change.ConfigChange.{ConfigChange}
+use Rattle.ra_config.specs.Config.{ConfigData}
+use Rattle.ra_config.specs.declared.capabilities.Capabilities.{Capabilities}
+use Rattle.session_port.specs.Jobs.{Jobs, after_message}
+use Rattle.session_port.specs.Working.{Working, and_then, logged, ordered, within, written}
+use Rattle.session_port.specs.declared.command.DeferredTask.{DeferredTask}
+use Rattle.session_port.specs.declared.command.DeferredTask.TheVariants.{CheckIfIndexed, CheckProcMacroSources}
+use Rattle.session_port.specs.declared.command.LogCode.{LogCode}
+use Rattle.session_port.specs.declared.command.LogCode.TheVariants.{BadPath, MalformedNotification, UnhandledNotification}
+use Rattle.session_port.specs.declared.command.Command.TheVariants.{Revise, Timer as SetTimer}
+use Rattle.method_table.specs.declared.class.PoolClass.TheVariants.{Worker}
+use Rattle.session_files.specs.Folds.{due_changes}
+use Rattle.session_port.specs.declared.event.TaskMsg.{TaskMsg}
+use Rattle.session_port.specs.declared.fault.Counter.{Counter}
+use Rattle.session_port.specs.declared.fault.Counter.TheVariants as counters
+use Rattle.notify.specs.declared.notice.DidChange.{DidChange}
+use Rattle.notify.specs.declared.notice.DidOpen.{DidOpen}
+use Rattle.notify.specs.declared.notice.Notice.{Notice}
+use Rattle.notify.specs.declared.notice.Notice.TheVariants as notices
+use Rattle.notify.specs.declared.outgo.MessageKind.{MessageKind}
+use Rattle.notify.specs.declared.outgo.Outgo.{Outgo}
+use Rattle.notify.specs.declared.outgo.Outgo.TheVariants.{CodeLensRefresh, Configuration, DiagnosticRefresh, InlayHintRefresh, SemanticTokensRefresh, ShowMessage, ShowMessageRequest}
+use Rattle.client.specs.Client.{Client}
+use Rattle.client.specs.Folds.{asked_after}
+use Rattle.client.specs.Steps.{answered, folders_changed, logged_if, notification_of}
+use Rattle.client.specs.declared.handler.ReqHandler.{ReqHandler}
+use Rattle.client.specs.declared.handler.ReqHandler.TheVariants.{Ignore, OpenLogs, Settings}
+use Rattle.desk.specs.Building.{BuildEnd, build_ended}
+use Rattle.desk.specs.Checking.{check_ended}
+use Rattle.desk.specs.Desk.{Desk}
+use Rattle.desk.specs.Fetching.{FetchEnd, fetch_ended}
+use Rattle.desk.specs.Loading.{LoadEnd, load_ended}
+use Rattle.desk.specs.Meaning.{Meaning}
+use Rattle.desk.specs.Reactions.{Reaction, cancel_row, message_row, request_row}
+use Rattle.desk.specs.Steps.{cancelled, counted as counted_at_desk, handed_over, kept as kept_at_desk, requested, taken as taken_at_desk}
+use Rattle.desk_laws.specs.Settled.{Settled}
+use Rattle.desk_laws.proofs.Refusing.{TooMany, message-errs, request-errs}
+use Rattle.desk_laws.proofs.Settling.{cancel-settles, message-settles, message-turns, request-settles, request-turns}
+use Rattle.session_files.specs.SessionFiles.{SessionFiles}
+use Rattle.session_files.specs.Steps.{changed, closed as closed_document, crates_put, edited, loaded, opened, processed}
+use Rattle.workspaces.specs.Fetches.{fetch_to_start, fire, fires, start_fetch, start_up}
+use Rattle.workspaces.specs.Switching.{decided, last_loader_version, next_version, renewed_by, switch_to, switched}
+use Rattle.workspaces.specs.Workspaces.{Workspaces}
+use Rattle.workspaces.specs.declared.follows.Follows.{Follows}
+use Rattle.workspaces.specs.declared.follows.Follows.TheVariants as follows
+use Rattle.workspaces.specs.declared.requests.FetchRequest.{FetchRequest}
+use Rattle.reload.specs.declared.switch.Switch.{Switch}
+use Rattle.reload.specs.declared.switch.Switch.TheVariants as switch
+use Rattle.session_model.specs.Building.{build_due, build_kept, end_kept, request_told, with_due_build}
+use Rattle.session_model.specs.Checking.{check_kind}
+use Rattle.session_model.specs.Crates.{builds_crates, crate_data, is_unknown, with_crates}
+use Rattle.session_model.specs.Fetching.{fetch_kept, folders_told_if, settings_told, with_fetches}
+use Rattle.session_model.specs.Hearing.{heard_of, told_by}
+use Rattle.session_model.specs.Inputs.{batch_of, cancelled_by, check_count, checks_among, file_count, files_among, files_noticed}
+use Rattle.session_model.specs.Loading.{MacroPaths, crates_loaded, load_due, load_kept, with_due_load}
+use Rattle.session_model.specs.Machine.{all_resumed, answer_taken, asked, asked_for_settings, asked_if, at_client, at_desk, at_files, at_workspaces, batched, begin_part, begun_fetches, build_handed_over, build_part}
+use Rattle.session_model.specs.Machine.{build_started, build_taken, changed_at, check_taken, client_in, closed, closed_at, closing_part, counted, crates_arrived, crates_built, desk_in, effects_done, ends_taken, fetch_waits, settings_filed, sources_deferred, event_part, fetch_handed_over}
+use Rattle.session_model.specs.Machine.{fetch_part, fetch_started, fetch_taken, files_changed, files_followed, files_in, files_part, files_processed, folders_taken, followed, happened, in_state, kept, later_parts}
+use Rattle.session_model.specs.Machine.{load_handed_over, load_started, load_taken, loader_set, noticed, opened_at, quiet_done, quiet_part, received, refreshed, register_part, resumed, revised, roots_renewed, runs_started, save_noted}
+use Rattle.session_model.specs.Machine.{saved_at, saved_file, saves_registered, start_parts, state_in, status_changed, status_done, status_kept, status_part, status_told, step, switch_done, switch_part, switched_to, taken, taken_in}
+use Rattle.session_model.specs.Machine.{text_shown, timed, timer_set, told, turned, Turning, turning, warned, watchers_registered, with_client, with_desk, with_files, with_sources, with_state, with_status}
+use Rattle.session_model.specs.RunEnds.{AreTooMany, NeedsMore, Numbers, needs_of}
+use Rattle.session_model.specs.Rows.{batch_row, machine_after, notice_row, place_after_message, row, scene_within, turn_begun}
+use Rattle.session_model.specs.Run.{begun}
+use Rattle.session_model.specs.Saving.{path_saved}
+use Rattle.session_model.specs.Sources.{change_for, client_with, further_files, parents_told}
+use Rattle.session_model.specs.State.{State, builds_scripts, columns_in, discovers, excludes_in, goes_by_folders, may_start, scene_of, snapshot_of}
+use Rattle.session_model.specs.Status.{opens_logs, shown_of, status_message, status_now, takes_status}
+use Rattle.session_model.specs.Switching.{is_switch_due, switch_by, switch_made, unless_exhausted}
+use Rattle.session_model.specs.Timing.{bring_files, effects_for, fetch_planned, renewed_if}
+use Rattle.session_model.specs.declared.facts.Facts.{Facts}
+use Rattle.session_model.specs.declared.heard.Heard.{Heard}
+use Rattle.session_model.specs.declared.heard.Heard.TheVariants.{Told, Malformed, Unhandled, Silent}
+use Rattle.session_model.specs.declared.input.Event.{Event}
+use Rattle.session_model.specs.declared.input.Event.TheVariants.{Lsp, Task, Vfs, Deferred, Timer}
+use Rattle.session_model.specs.declared.input.Input.{Input}
+use Rattle.session_model.specs.declared.input.Input.TheVariants.{Start, Next}
+use Rattle.session_laws.specs.Invariant.{place_of}
+use Rattle.session_laws.proofs.Batches.{DoesAtDesk, Stays, at, logged_if-same, or-is, place_now, rest-is, scene-is, settles-within, stays-on}
+use Rattle.session_laws.proofs.Crates.{stays}
+use Rattle.session_laws.proofs.Counting.{AtMost, Counts, become-counts, both, counts-behind, counts-if, counts-more, counts-then, counts-within, crates-count, editing-counts, files, given, given-workspaces}
+use Rattle.session_laws.proofs.Counting.{gives-desk, gives-same, gives-versions, job-counts, jobs, messages-count, next-counts, none, opening-counts, request-counts, requests, revisions, state_at, turn-counts, turns}
+use Rattle.session_laws.proofs.Events.{files-same, notification_input, noted-same}
+use Rattle.session_laws.proofs.Following.{deferred-same, further-same}
+use Rattle.session_laws.proofs.Rows.{counted-is}
+use Rattle.session_laws.proofs.Running.{build-leaves, fetch-leaves, fire-runs, folders-runs, load-leaves, planned-runs, renewed-runs, request-runs, save-runs, settings-runs}
+use Rattle.session_laws.proofs.Switching.{Moves, left_or, loader-same, made-moves, warned-same}
+use Rattle.session_laws.proofs.Telling.{answered-does, folders-do}
+
+-- from here on a step gives no more numbers than these
+abbrev Does : Numbers → Working State → Result (Working State) Counter → Type 0
+Does needs w r = Counts state_at needs (given w.state) r
+
+does-same : (needs : Numbers) (w v : Working State) → given v.state ≡ given w.state → Does needs w (Ok v)
+does-same needs w v same = gives-same needs (given w.state) (given v.state) same
+
+does-then : (a b : Numbers) (w : Working State) (r : Result (Working State) Counter) (f : Working State → Result (Working State) Counter) → Does a w r → ((v : Working State) → Does b v (f v))
+    → Does (both a b) w (and_then r f)
+does-then a b w r f p q = counts-then state_at state_at a b (given w.state) r f p (λ v is. q v)
+
+-- and then nothing changes that is counted
+then-same : (needs : Numbers) (w : Working State) (r : Result (Working State) Counter) (f : Working State → Working State) → ((v : Working State) → given (f v).state ≡ given v.state) → Does needs w r
+    → Does needs w (and_then r (λ v. Ok (f v)))
+then-same needs w (Ok v) f same h = subst (λ (n : Numbers). AtMost n (both (given w.state) needs)) (sym (same v)) h
+then-same needs w (Err counter) f same h = h
+
+from-same : (needs : Numbers) (w v : Working State) (r : Result (Working State) Counter) → given v.state ≡ given w.state → Does needs v r → Does needs w r
+from-same needs w v r same h = subst (λ (n : Numbers). Counts state_at needs n r) same h
+
+same-state : (s t : State) → t ≡ s → given t ≡ given s
+same-state s t same = ap given same
+
+-- ---- requests of the session's own
+
+asked_if-does : (wanted : Bool) (message : Outgo) (w : Working State) → Does (requests 1) w (asked_if wanted message w)
+unfolding asked_if
+asked_if-does true message w = request-counts message Ignore w
+asked_if-does false message w = does-same (requests 1) w w refl
+
+refreshed-does : (can : Capabilities) (w : Working State) → Does (requests 4) w (refreshed can w)
+unfolding refreshed
+refreshed-does can w =
+    does-then (requests 1) (requests 3) w (asked_if can.semantic_tokens_refresh SemanticTokensRefresh w) _ (asked_if-does can.semantic_tokens_refresh SemanticTokensRefresh w)
+    (λ v. does-then (requests 1) (requests 2) v (asked_if can.code_lens_refresh CodeLensRefresh v) _ (asked_if-does can.code_lens_refresh CodeLensRefresh v)
+    (λ u. does-then (requests 1) (requests 1) u (asked_if can.inlay_hints_refresh InlayHintRefresh u) (asked_if can.diagnostics_refresh DiagnosticRefresh)
+    (asked_if-does can.inlay_hints_refresh InlayHintRefresh u) (asked_if-does can.diagnostics_refresh DiagnosticRefresh)))
+
+quiet-does : (facts : Facts) (w : Working State) → Does (requests 4) w (quiet_done facts w)
+unfolding quiet_done
+quiet-does facts w =
+    counts-if state_at (requests 4) (given w.state) _ (refreshed w.state.client.settings.capabilities w) (Ok w) (refreshed-does w.state.client.settings.capabilities w) (does-same (requests 4) w w refl)
+
+registered-does : (w : Working State) → Does (requests 1) w (saves_registered w)
+unfolding saves_registered
+registered-does w = asked_if-does _ _ w
+
+watched-does : (w : Working State) → Does (requests 1) w (watchers_registered w)
+unfolding watchers_registered
+watched-does w = asked_if-does _ _ w
+
+shown-does : (button : Bool) (text : Option (List ℕ × MessageKind)) (w : Working State) → Does (requests 1) w (text_shown button text w)
+unfolding text_shown written
+shown-does true None w = does-same (requests 1) w w refl
+shown-does false None w = does-same (requests 1) w w refl
+shown-does true (Some text) w = request-counts (ShowMessageRequest text.0 text.1) OpenLogs w
+shown-does false (Some text) w = does-same (requests 1) w (written (notification_of (ShowMessage text.0 text.1)) w) refl
+
+status-does : (w : Working State) → Does (requests 1) w (status_done w)
+unfolding status_done status_kept status_changed status_told written
+status-does w =
+    let now = status_now w.state.client w.state.files w.state.workspaces in
+    then-same (requests 1) w (status_changed now w) (λ v. record v { state = with_status now v.state }) (λ v. refl)
+    (counts-if state_at (requests 1) (given w.state) _ (Ok w) (status_told now w) (does-same (requests 1) w w refl)
+    (counts-if state_at (requests 1) (given w.state) (takes_status w.state.client.settings) (Ok (written (notification_of (status_message now)) w)) _
+    (does-same (requests 1) w (written (notification_of (status_message now)) w) refl)
+    (shown-does (opens_logs w.state.client.settings w.state.workspaces) (shown_of now) w)))
+
+-- ---- the world
+
+files-do : (needs : Numbers) (w : Working State) (work : Working SessionFiles → Result (Working SessionFiles) Counter)
+    → Counts (λ (v : Working SessionFiles). with_files v.state w.state) needs (given w.state) (work (record { state = w.state.files; out = w.out })) → Does needs w (at_files work w)
+files-do needs w work h = counts-within state_at needs (given w.state) files_in with_files work w h
+
+crates-do : (crates : CrateData) (w : Working State) → Does (revisions 1) w (at_files (crates_put crates) w)
+unfolding crates_put
+crates-do crates w = files-do (revisions 1) w (crates_put crates) (become-counts (revisions 1) (given w.state) w.state _ _ (crates-count crates w.state))
+
+arrived-does : (crates : Option CrateData) (w : Working State) → Does (revisions 1) w (crates_arrived crates w)
+unfolding crates_arrived
+arrived-does None w = does-same (revisions 1) w w refl
+arrived-does (Some crates) w = crates-do crates w
+
+built-does : (built : Bool) (w : Working State) → Does (revisions 1) w (crates_built built w)
+unfolding crates_built
+built-does false w = does-same (revisions 1) w w refl
+built-does true w = crates-do (crate_data w.state.client.settings w.state.files.ids w.state.workspaces.present) w
+
+-- what follows from files that changed isn't counted
+change-asks : (change : Option ConfigChange) (client : Client) → (client_with change client).asked ≡ client.asked
+change-asks None client = refl
+change-asks (Some change) client = refl
+
+followed-same : (changes : List ChangedFile) (w : Working State) → given (files_followed changes w).state ≡ given w.state
+unfolding files_followed effects_done settings_filed fetch_waits
+followed-same [] w = refl
+followed-same (change ∷ changes) w =
+    let effects = effects_for w.state.client.settings (change ∷ changes) w.state.workspaces in
+    let filed = settings_filed effects.settings w in
+    let settings = change_for effects.settings w.state.sources w.state.workspaces.present in
+    let put : Working State = record w { state = with_sources (parents_told w.state.sources) (with_client (client_with settings w.state.client) w.state) } in
+    let deferred = sources_deferred effects.macro_sources filed in
+    given-workspaces deferred.state (fetch_planned deferred.state.desk.turns effects.fetch deferred.state.workspaces) (planned-runs deferred.state.desk.turns effects.fetch deferred.state.workspaces).versions
+    ∙ same-state put.state deferred.state (deferred-same effects.macro_sources filed ∙ further-same (further_files settings) put)
+    ∙ ap (λ (asked : Outgoing ReqHandler). record (given w.state) { requests = asked.given }) (change-asks settings w.state.client)
+
+processed-does : (w : Working State) → Does (revisions 1) w (files_processed w)
+unfolding files_processed processed
+processed-does w =
+    then-same (revisions 1) w (at_files (processed w.state.sources.roots) w) (files_followed (due_changes w.state.files)) (followed-same (due_changes w.state.files))
+    (files-do (revisions 1) w (processed w.state.sources.roots) (become-counts (revisions 1) (given w.state) w.state _ _ (turn-counts w.state.sources.roots w.state)))
+
+-- ---- a switch
+
+-- where there is nothing, this is so
+abbrev WhereNone : {X : Type 0} → Option X → Type 0 → Type 0
+WhereNone None P = P
+WhereNone (Some x) P = Unit {0}
+
+map-none : {X Y : Type 0} (f : X → Y) (o : Option X) (P : Type 0) → WhereNone o P → WhereNone (option_map f o) P
+map-none f None P h = h
+map-none f (Some x) P h = tt
+
+none-either : {X : Type 0} (o : Option X) (P Q : Type 0) → WhereNone o Q → WhereNone o (P ⊎ Q)
+none-either None P Q h = inr h
+none-either (Some x) P Q h = tt
+
+-- the loader's settings have had their last version
+abbrev HadLast : ℕ → Type 0
+HadLast version = 2 ^ 32 ≤ version + 1
+
+version-cases : (version : ℕ) (b : Bool) → (version == last_loader_version) ≡ b → WhereNone (if b then None else Some (Some (version + 1))) (HadLast version)
+version-cases version true is = let last : version ≡ 4294967295 = eqb-true _ _ is in omega (arith, last)
+version-cases version false is = tt
+
+renewed-none : (new : List ProjectWorkspace) (msrv : List (List ℕ)) (asks goes_on : Bool) (workspaces : Workspaces) → WhereNone (renewed_by new msrv asks goes_on workspaces) (HadLast workspaces.loader_version)
+renewed-none new msrv asks true workspaces =
+    map-none _ (next_version true workspaces.loader_version) (HadLast workspaces.loader_version)
+    (version-cases workspaces.loader_version (workspaces.loader_version == last_loader_version) refl)
+renewed-none new msrv asks false workspaces = tt
+
+to-none : (to : Switch) (workspaces : Workspaces) → WhereNone (switch_to to workspaces) (HadLast workspaces.loader_version)
+to-none switch.End workspaces = tt
+to-none switch.CrateData workspaces = tt
+to-none (switch.Join made) workspaces = renewed-none made [] false true workspaces
+to-none (switch.Replace new msrv asks goes_on) workspaces = renewed-none new msrv asks goes_on workspaces
+
+-- or the workspaces have
+abbrev HadLasts : Workspaces → Type 0
+HadLasts workspaces = (2 ^ 64 ≤ workspaces.version + 1) ⊎ HadLast workspaces.loader_version
+
+by-none : (settings : ConfigData) (workspaces : Workspaces) (b : Bool) → ltb workspaces.version (2 ^ 64 - 1) ≡ b
+    → WhereNone (if b then switched (discovers settings) (builds_scripts settings) workspaces else None) (HadLasts workspaces)
+by-none settings workspaces true is =
+    none-either (switched (discovers settings) (builds_scripts settings) workspaces) (2 ^ 64 ≤ workspaces.version + 1) (HadLast workspaces.loader_version)
+    (to-none (decided (discovers settings) (builds_scripts settings) workspaces) workspaces)
+by-none settings workspaces false is = let last = ltb-false workspaces.version (2 ^ 64 - 1) is in inl (omega (arith, last))
+
+-- a switch that is refused
+abbrev RefusesSwitch : Workspaces → Counter → Type 0
+RefusesSwitch workspaces counter = (counter ≡ counters.LoaderSettings) × HadLasts workspaces
+
+made-cases : (settings : ConfigData) (files : SessionFiles) (due : Bool) (made : Option (Follows × Workspaces)) (workspaces : Workspaces) → WhereNone made (HadLasts workspaces)
+    → IfErr (if due then with_crates settings files (unless_exhausted made) else Ok (follows.Nothing, workspaces)) (RefusesSwitch workspaces)
+made-cases settings files false made workspaces h = tt
+made-cases settings files true None workspaces h = (refl, h)
+made-cases settings files true (Some made) workspaces h = tt
+
+followed-does : (next : Follows) (w : Working State) → Does (requests 1) w (followed next w)
+unfolding followed roots_renewed
+followed-does follows.Nothing w = does-same (requests 1) w w refl
+followed-does follows.CrateData w = does-same (requests 1) w w refl
+followed-does (follows.Wait msrv) w = does-same (requests 1) w (warned msrv w) (same-state w.state (warned msrv w).state (warned-same msrv w))
+followed-does (follows.GoOn msrv version initial) w =
+    let v : Working State = warned msrv w in
+    then-same (requests 1) w (watchers_registered v) (λ u. roots_renewed (loader_set version u)) (λ u. same-state u.state (loader_set version u).state (loader-same version u))
+    (from-same (requests 1) w v (watchers_registered v) (same-state w.state v.state (warned-same msrv w)) (watched-does v))
+
+-- it may ask the client, build crate data, and give a version each of the workspaces and of the loader's settings
+abbrev for_switch : Numbers
+for_switch = record none { requests = 1; revisions = 1; versions = 1; settings = 1 }
+
+switch-cases : (made : Result (Follows × Workspaces) Counter) (w : Working State) → Moves w.state.workspaces (left_or w.state.workspaces made) → IfErr made (RefusesSwitch w.state.workspaces)
+    → Does for_switch w (switched_to made w)
+unfolding switched_to
+switch-cases (Err counter) w moves h = subst (AreTooMany (given w.state) for_switch) (sym h.0) h.1
+switch-cases (Ok made) w moves h =
+    let now : Working State = at_workspaces (λ before. made.1) w in
+    counts-behind state_at (record none { versions = 1; settings = 1 }) (record none { requests = 1; revisions = 1 }) (given w.state) (given now.state) _
+    (gives-versions w.state made.1 moves.version moves.settings)
+    (does-then (requests 1) (revisions 1) now (followed made.0 now) (crates_built (builds_crates w.state.client.settings made.0)) (followed-does made.0 now)
+    (built-does (builds_crates w.state.client.settings made.0)))
+
+switch-does : (w : Working State) → Does for_switch w (switch_done w)
+unfolding switch_done
+switch-does w =
+    let workspaces = w.state.workspaces in
+    let settings = w.state.client.settings in
+    switch-cases (switch_made settings w.state.files workspaces) w (made-moves settings w.state.files workspaces)
+    (made-cases settings w.state.files (is_switch_due w.state.files workspaces) (switch_by settings workspaces) workspaces (by-none settings workspaces (ltb workspaces.version (2 ^ 64 - 1)) refl))
+
+-- ---- jobs of the session's own
+
+fetch-does : (may : Bool) (w : Working State) → Does (jobs 1) w (fetch_started may w)
+unfolding fetch_started fetch_handed_over
+fetch-does may w = by_fetch (fetch_to_start may w.state.workspaces.fetches)
+  where
+    now : Working State
+    now = at_workspaces (with_fetches (start_fetch may)) w
+
+    by_fetch : (fetch : Option (List ℕ × FetchRequest)) → Does (jobs 1) w (fetch_handed_over fetch now)
+    by_fetch None = does-same (jobs 1) w now refl
+    by_fetch (Some fetch) = job-counts (snapshot_of now.state) _ now
+
+load-does : (load : Option MacroPaths) (w : Working State) → Does (jobs 1) w (load_handed_over load w)
+unfolding load_handed_over
+load-does None w = does-same (jobs 1) w w refl
+load-does (Some paths) w = job-counts (snapshot_of w.state) _ w
+
+-- no load starts where build data does
+run-does : (build : Option ℕ) (w : Working State) → Does (jobs 1) w (and_then (build_handed_over build w) (load_started build))
+unfolding build_handed_over load_started load_handed_over
+run-does None w = load-does (load_due None w.state.workspaces) (at_workspaces (with_due_load None) w)
+run-does (Some version) w =
+    then-same (jobs 1) w (build_handed_over (Some version) w) (at_workspaces (with_due_load (Some version))) (λ v. refl) (job-counts (snapshot_of w.state) _ w)
+
+runs-do : (w : Working State) → Does (jobs 1) w (runs_started w)
+unfolding runs_started build_started
+runs-do w = run-does (build_due w.state.workspaces) (at_workspaces with_due_build w)
+
+-- as many as two are
+jobs-then : (n m all : ℕ) (w : Working State) (r : Result (Working State) Counter) (f : Working State → Result (Working State) Counter) → n + m ≡ all → Does (jobs n) w r
+    → ((v : Working State) → Does (jobs m) v (f v)) → Does (jobs all) w (and_then r f)
+jobs-then n m all w r f sum p q = subst (λ k. Does (jobs k) w (and_then r f)) sum (does-then (jobs n) (jobs m) w r f p q)
+
+resumed-do : (tasks : List DeferredTask) (w : Working State) → Does (jobs (checks_among tasks)) w (all_resumed tasks w)
+unfolding resumed
+resumed-do [] w = does-same (jobs 0) w w refl
+resumed-do (CheckIfIndexed path ∷ tasks) w = resumed-do tasks w
+resumed-do (CheckProcMacroSources files ∷ tasks) w =
+    jobs-then 1 (checks_among tasks) (checks_among tasks + 1) w (at_desk (handed_over (snapshot_of w.state) Worker (check_kind (snapshot_of w.state) files)) w) (all_resumed tasks) (omega arith)
+    (job-counts (snapshot_of w.state) (check_kind (snapshot_of w.state) files) w) (resumed-do tasks)
+
+-- ---- jobs for requests
+
+few-turns : (given before now more : ℕ) → before ≡ given → now ≡ before → now ≤ given + more
+few-turns given before now more p q = omega (arith, p, q)
+
+few-jobs : (given before now n most : ℕ) → before ≡ given → now ≡ before + n → n ≤ most → now ≤ given + most
+few-jobs given before now n most p q le = omega (arith, p, q, le)
+
+many-jobs : (given before n most : ℕ) → before ≡ given → n ≤ most → 2 ^ 64 ≤ before + n → 2 ^ 64 ≤ given + most
+many-jobs given before n most p le h = omega (arith, p, le, h)
+
+-- what the desk does hands over these jobs
+desk-counts : (needs : Numbers) (s : State) (request : Option Request) (w : Working Desk) (done : Reaction) (out : Jobs) (r : Result (Working Desk) Counter) → w.state.turns ≡ s.desk.turns
+    → w.state.handed ≡ s.desk.handed → length done.jobs ≤ needs.jobs → IfOk r (λ v. Settled request w v done out) → IfErr r (TooMany w.state.handed done)
+    → Counts (λ (v : Working Desk). with_desk v.state s) needs (given s) r
+desk-counts needs s request w done out (Ok v) turns handed few settles errs =
+    gives-desk needs s v.state (few-turns s.desk.turns w.state.turns v.state.turns needs.turns turns settles.turns)
+    (few-jobs s.desk.handed w.state.handed v.state.handed (length done.jobs) needs.jobs handed settles.handed few)
+desk-counts needs s request w done out (Err counter) turns handed few settles errs =
+    subst (AreTooMany (given s) needs) (sym errs.0) (many-jobs s.desk.handed w.state.handed (length done.jobs) needs.jobs handed few errs.1)
+
+request-does : (meaning : Meaning) (s : State) (r : Request) (needs : Numbers) → length (row meaning (Next (Lsp (lsp.Request r))) (place_of s)).jobs ≤ needs.jobs
+    → Does needs (turn_begun s) (asked meaning r (turn_begun s))
+request-does meaning s r needs few =
+    let w : Working State = turn_begun s in
+    let done = request_row meaning (scene_of s) w.state.desk (s.desk.turns + 1) r in
+    let same = request-turns meaning (scene_of s) s.desk (s.desk.turns + 1) (s.desk.turns + 1) r in
+    then-same needs w (at_desk (requested meaning (scene_of s) r) w) (at_workspaces (request_told r w.state.desk))
+    (λ v. given-workspaces v.state (request_told r w.state.desk v.state.workspaces) (request-runs 0 r w.state.desk v.state.workspaces).versions)
+    (counts-within state_at needs (given w.state) desk_in with_desk (requested meaning (scene_of s) r) w
+    (desk-counts needs w.state (Some r) (at w) done s.desk.jobs (requested meaning (scene_of s) r (at w)) refl refl
+    (subst (λ (d : Reaction). length d.jobs ≤ needs.jobs) (sym same) few) (request-settles meaning (scene_of s) r (at w)) (request-errs meaning (scene_of s) r (at w))))
+
+-- ---- batches
+
+-- ends of jobs give no number
+logged-same : (code : LogCode) (text : Option (List ℕ)) (w : Working State) → given (logged_if code text w).state ≡ given w.state
+logged-same code text w = same-state w.state (logged_if code text w).state (logged_if-same code text w)
+
+fetch-same : (end : Option FetchEnd) (w : Working State) → given (fetch_taken end w).state ≡ given w.state
+unfolding fetch_taken
+fetch-same None w = refl
+fetch-same (Some found) w =
+    logged-same _ _ (at_workspaces (fetch_kept (Some found)) w) ∙ given-workspaces w.state (fetch_kept (Some found) w.state.workspaces) (fetch-leaves (Some found) w.state.workspaces).2
+
+build-same : (end : Option BuildEnd) (w : Working State) → given (build_taken end w).state ≡ given w.state
+unfolding build_taken
+build-same None w = refl
+build-same (Some made) w =
+    logged-same _ _ (at_workspaces (build_kept (Some made)) w) ∙ given-workspaces w.state (build_kept (Some made) w.state.workspaces) (build-leaves (Some made) w.state.workspaces).2
+
+-- but that of a load of macros may change the world
+ends-do : (fetched : Option FetchEnd) (built : Option BuildEnd) (checked : Option (List (List ℕ))) (loaded : Option LoadEnd) (w : Working State)
+    → Does (revisions 1) w (ends_taken fetched built checked loaded w)
+unfolding ends_taken load_taken
+ends-do fetched built checked loaded w =
+    let b : Working State = build_taken built (fetch_taken fetched w) in
+    let c : Working State = check_taken checked b in
+    let l : Working State = at_workspaces (load_kept loaded) c in
+    from-same (revisions 1) w l (crates_arrived (crates_loaded loaded c.state.workspaces) l)
+    (given-workspaces c.state (load_kept loaded c.state.workspaces) (load-leaves loaded c.state.workspaces).2 ∙ build-same built (fetch_taken fetched w) ∙ fetch-same fetched w)
+    (arrived-does (crates_loaded loaded c.state.workspaces) l)
+
+-- so many jobs and revisions
+abbrev for_messages : ℕ → ℕ → Numbers
+for_messages jobs revisions = record none { jobs = jobs; revisions = revisions }
+
+plus-none : (n : ℕ) → n + 0 ≡ n
+plus-none n = omega arith
+
+taken-does : (meaning : Meaning) (turns : ℕ) (message : TaskMsg) (w : Working State)
+    → Does (for_messages (length (message_row meaning (scene_of w.state) (record w.state.desk { turns = turns }) message).jobs) 1) w (taken meaning message w)
+unfolding taken
+taken-does meaning turns message w =
+    let scene = scene_of w.state in
+    let done = message_row meaning scene (record w.state.desk { turns = turns }) message in
+    let plain = message_row meaning scene w.state.desk message in
+    let same : length plain.jobs ≡ length done.jobs = ap (λ (d : Reaction). length d.jobs) (sym (message-turns meaning scene w.state.desk turns message)) in
+    let out = w.state.desk.jobs in
+    subst (λ n. Does (for_messages n 1) w (taken meaning message w)) (plus-none (length done.jobs))
+    (does-then (jobs (length done.jobs)) (revisions 1) w (at_desk (taken_at_desk meaning scene message) w) _
+    (counts-within state_at (jobs (length done.jobs)) (given w.state) desk_in with_desk (taken_at_desk meaning scene message) w
+    (desk-counts (jobs (length done.jobs)) w.state None (at w) plain (after_message message out) (taken_at_desk meaning scene message (at w)) refl refl (omega (arith, same))
+    (message-settles meaning scene message (at w)) (message-errs meaning scene message (at w))))
+    (ends-do (fetch_ended message out) (build_ended message out) (check_ended message out) (load_ended message out)))
+
+batch-does : (meaning : Meaning) (turns : ℕ) (s : State) (batch : List TaskMsg) (w : Working State) → Stays s w.state
+    → Does (for_messages (length (batch_row meaning batch w (place_now s turns w)).jobs) (length batch)) w (batched meaning batch w)
+batch-does meaning turns s [] w h = does-same (for_messages 0 0) w w refl
+batch-does meaning turns s (m ∷ ms) w h =
+    let place = place_now s turns w in
+    let done = message_row meaning (scene_within place w) place.desk m in
+    let rest = batch_row meaning ms (machine_after meaning m w) (place_after_message m done place) in
+    let kept = end_kept m w.state.desk.jobs w.state.workspaces in
+    let first : Numbers = for_messages (length done.jobs) 1 in
+    let others : Numbers = for_messages (length rest.jobs) (length ms) in
+    counts-more state_at (both first others) (for_messages (length (done.jobs ++ rest.jobs)) (length (m ∷ ms))) (given w.state) (batched meaning (m ∷ ms) w)
+    (record {
+      turns = omega arith;
+      jobs = omega (arith, length-append done.jobs rest.jobs);
+      requests = omega arith;
+      revisions = omega arith;
+      files = omega arith;
+      versions = omega arith;
+      settings = omega arith;
+    })
+    (counts-then state_at state_at first others (given w.state) (taken meaning m w) (batched meaning ms)
+    (subst (λ scene. Does (for_messages (length (message_row meaning scene place.desk m).jobs) 1) w (taken meaning m w)) (sym (scene-is s turns w h)) (taken-does meaning turns m w))
+    (λ v is. let a : DoesAtDesk w v done (after_message m w.state.desk.jobs) kept =
+    IfOk-at_ok (λ v. DoesAtDesk w v done (after_message m w.state.desk.jobs) kept) is (settles-within meaning s turns m w h) in
+    let next : machine_after meaning m w ≡ v = IfOk-at_ok (λ v. machine_after meaning m w ≡ v) is (or-is w (taken meaning m w)) in
+    subst (λ (r : Reaction). Does (for_messages (length r.jobs) (length ms)) v (batched meaning ms v)) (rest-is meaning s turns m ms w v done kept next a)
+    (batch-does meaning turns s ms v (stays-on s w.state v.state h a.stays))))
+
+-- ---- notifications
+
+-- what an event gives
+abbrev for_event : Meaning → State → Input → Numbers
+for_event meaning s input = record none {
+  jobs = length (row meaning input (place_of s)).jobs + check_count input;
+  requests = 1;
+  revisions = length (batch_of input);
+  files = file_count input;
+}
+
+-- files that it brings
+event-files : (meaning : Meaning) (s : State) (input : Input) (n : ℕ) (work : Working SessionFiles → Result (Working SessionFiles) Counter) → file_count input ≡ n
+    → Counts (λ (v : Working SessionFiles). with_files v.state (turn_begun s).state) (files n) (given (turn_begun s).state) (work (record { state = s.files; out = (turn_begun s).out }))
+    → Does (for_event meaning s input) (turn_begun s) (at_files work (turn_begun s))
+event-files meaning s input n work count h =
+    counts-more state_at (files n) (for_event meaning s input) (given (turn_begun s).state) (at_files work (turn_begun s))
+    (record {
+      turns = omega arith;
+      jobs = omega arith;
+      requests = omega arith;
+      revisions = omega arith;
+      files = omega (arith, count);
+      versions = omega arith;
+      settings = omega arith;
+    })
+    (files-do (files n) (turn_begun s) work h)
+
+opened-does : (meaning : Meaning) (s : State) (n : Notification) (document : DidOpen) (o : Result (List ℕ) UrlFault) → file_count (notification_input n) ≡ 1
+    → Does (for_event meaning s (notification_input n)) (turn_begun s) (opened_at o document (turn_begun s))
+unfolding opened_at opened logged ordered
+opened-does meaning s n document (Err fault) one = does-same (for_event meaning s (notification_input n)) (turn_begun s) (logged BadPath document.uri (turn_begun s)) refl
+opened-does meaning s n document (Ok path) one =
+    let excludes = excludes_in s.client.settings in
+    event-files meaning s (notification_input n) 1 (opened excludes path document.version document.text) one
+    (become-counts (files 1) (given (turn_begun s).state) (turn_begun s).state _ _ (opening-counts excludes path document.version document.text (turn_begun s).state))
+
+edited-cases : (needs before : Numbers) (s : State) (b : Bool) (r : Result (Working SessionFiles) Counter) (w : Working SessionFiles)
+    → Counts (λ (v : Working SessionFiles). with_files v.state s) needs before r → Counts (λ (v : Working SessionFiles). with_files v.state s) needs before (Ok w)
+    → Counts (λ (v : Working SessionFiles). with_files v.state s) needs before (if b then r else Ok w)
+edited-cases needs before s b r w p q = counts-if (λ (v : Working SessionFiles). with_files v.state s) needs before b r (Ok w) p q
+
+changed-does : (meaning : Meaning) (s : State) (n : Notification) (change : DidChange) (o : Result (List ℕ) UrlFault) → file_count (notification_input n) ≡ 1
+    → Does (for_event meaning s (notification_input n)) (turn_begun s) (changed_at o change (turn_begun s))
+unfolding changed_at changed edited logged ordered
+changed-does meaning s n change (Err fault) one = does-same (for_event meaning s (notification_input n)) (turn_begun s) (logged BadPath change.uri (turn_begun s)) refl
+changed-does meaning s n change (Ok path) one =
+    let columns = columns_in s.client.settings in
+    let t : State = (turn_begun s).state in
+    event-files meaning s (notification_input n) 1 (changed columns path change.version change.changes) one
+    (edited-cases (files 1) (given t) t _ _ _ (become-counts (files 1) (given t) t _ _ (editing-counts columns path change.version change.changes t)) (gives-same (files 1) (given t) (given t) refl))
+
+closed-does : (needs : Numbers) (s : State) (uri : List ℕ) (o : Result (List ℕ) UrlFault) → Does needs (turn_begun s) (closed_at o uri (turn_begun s))
+unfolding closed_at closed_document logged ordered
+closed-does needs s uri (Err fault) = does-same needs (turn_begun s) (logged BadPath uri (turn_begun s)) refl
+closed-does needs s uri (Ok path) = files-do needs (turn_begun s) (λ f. Ok (closed_document path f)) (gives-same needs (given (turn_begun s).state) (given (turn_begun s).state) refl)
+
+saved-does : (needs : Numbers) (s : State) (uri : List ℕ) (o : Result (List ℕ) UrlFault) → Does needs (turn_begun s) (Ok (saved_at o uri (turn_begun s)))
+unfolding saved_at logged ordered
+saved-does needs s uri (Err fault) = does-same needs (turn_begun s) (logged BadPath uri (turn_begun s)) refl
+saved-does needs s uri (Ok path) =
+    let w : Working State = turn_begun s in
+    let noted : Working State = save_noted (is_unknown s.files.ids path) path w in
+    does-same needs w (saved_file path w)
+    (given-workspaces noted.state (path_saved s.client.settings s.sources.roots s.files path noted.state.workspaces)
+    (save-runs 0 s.client.settings s.sources.roots s.files path noted.state.workspaces).versions ∙ same-state w.state noted.state (noted-same (is_unknown s.files.ids path) path w))
+
+-- a step of what is agreed with the client that gives no number
+client-does : (needs : Numbers) (w : Working State) (step : Working Client → Working Client) → (step (record { state = w.state.client; out = w.out })).state.asked.given ≡ w.state.client.asked.given
+    → Does needs w (at_client (λ c. Ok (step c)) w)
+client-does needs w step same =
+    counts-within state_at needs (given w.state) client_in with_client (λ c. Ok (step c)) w
+    (gives-same needs (given w.state) _ (ap (λ n. record (given w.state) { requests = n }) same))
+
+folders-does : (needs : Numbers) (s : State) (added removed : List (List ℕ)) → Does needs (turn_begun s) (folders_taken added removed (turn_begun s))
+folders-does needs s added removed =
+    let client : Working Client = record { state = s.client; out = (turn_begun s).out } in
+    then-same needs (turn_begun s) (at_client (λ c. Ok (folders_changed added removed c)) (turn_begun s)) (at_workspaces (folders_told_if (goes_by_folders s.client.settings)))
+    (λ v. given-workspaces v.state (folders_told_if (goes_by_folders s.client.settings) v.state.workspaces) (folders-runs 0 (goes_by_folders s.client.settings) v.state.workspaces).versions)
+    (client-does needs (turn_begun s) (folders_changed added removed) (ap (λ (c : Client). c.asked.given) (folders-do added removed client).is))
+
+without-same : {K : Type 0} (o : Option ℕ) (asked : Outgoing K) → (without o asked).given ≡ asked.given
+without-same None asked = refl
+without-same (Some number) asked = refl
+
+after-same : (o : Option RequestId) (asked : Outgoing ReqHandler) → (asked_after o asked).given ≡ asked.given
+after-same None asked = refl
+after-same (Some id) asked = without-same (number_of id) asked
+
+answer-does : (needs : Numbers) (s : State) (r : Response) → Does needs (turn_begun s) (answer_taken r (turn_begun s))
+answer-does needs s r =
+    let client : Working Client = record { state = s.client; out = (turn_begun s).out } in
+    then-same needs (turn_begun s) (at_client (λ c. Ok (answered r c)) (turn_begun s)) (λ v. at_workspaces (settings_told s.client.settings v.state.client.settings) v)
+    (λ v. given-workspaces v.state (settings_told s.client.settings v.state.client.settings v.state.workspaces) (settings-runs 0 s.client.settings v.state.client.settings v.state.workspaces).versions)
+    (client-does needs (turn_begun s) (answered r) (ap (λ (c : Client). c.asked.given) (answered-does r client).is ∙ after-same r.id s.client.asked))
+
+cancel-does : (meaning : Meaning) (s : State) (n : Notification) (id : RequestId) → told_by (heard_of n) ≡ Some (notices.CancelRequest id)
+    → Does (for_event meaning s (notification_input n)) (turn_begun s) (at_desk (λ d. Ok (cancelled id d)) (turn_begun s))
+cancel-does meaning s n id heard =
+    let needs = for_event meaning s (notification_input n) in
+    let w : Working State = turn_begun s in
+    let settles = cancel-settles id (at w) in
+    let jobs : length (row meaning (notification_input n) (place_of s)).jobs ≡ length (cancel_row id s.desk).jobs = ap (λ o. length (notice_row (cancelled_by o) s.desk).jobs) heard in
+    counts-within state_at needs (given w.state) desk_in with_desk (λ d. Ok (cancelled id d)) w
+    (gives-desk needs w.state (cancelled id (at w)).state (few-turns w.state.desk.turns w.state.desk.turns (cancelled id (at w)).state.turns needs.turns refl settles.turns)
+    (few-jobs w.state.desk.handed w.state.desk.handed (cancelled id (at w)).state.handed (length (cancel_row id s.desk).jobs) needs.jobs refl settles.handed (omega (arith, jobs))))
+
+told-does : (meaning : Meaning) (s : State) (n : Notification) (notice : Notice) → told_by (heard_of n) ≡ Some notice
+    → Does (for_event meaning s (notification_input n)) (turn_begun s) (told notice (turn_begun s))
+unfolding told
+told-does meaning s n (notices.CancelRequest id) heard = cancel-does meaning s n id heard
+told-does meaning s n (notices.CancelProgress token) heard = does-same (for_event meaning s (notification_input n)) (turn_begun s) (turn_begun s) refl
+told-does meaning s n (notices.DidOpen document) heard = opened-does meaning s n document (path_of document.uri) (ap files_noticed heard)
+told-does meaning s n (notices.DidChange change) heard = changed-does meaning s n change (path_of change.uri) (ap files_noticed heard)
+told-does meaning s n (notices.DidClose uri) heard = closed-does (for_event meaning s (notification_input n)) s uri (path_of uri)
+told-does meaning s n (notices.DidSave uri) heard = saved-does (for_event meaning s (notification_input n)) s uri (path_of uri)
+told-does meaning s n notices.DidChangeConfiguration heard =
+    counts-more state_at (requests 1) (for_event meaning s (notification_input n)) (given (turn_begun s).state) (at_client asked_for_settings (turn_begun s))
+    (record {
+      turns = omega arith;
+      jobs = omega arith;
+      requests = omega arith;
+      revisions = omega arith;
+      files = omega arith;
+      versions = omega arith;
+      settings = omega arith;
+    })
+    (request-counts Configuration Settings (turn_begun s))
+told-does meaning s n (notices.DidChangeWorkspaceFolders added removed) heard = folders-does (for_event meaning s (notification_input n)) s added removed
+told-does meaning s n (notices.DidChangeWatchedFiles changes) heard =
+    does-same (for_event meaning s (notification_input n)) (turn_begun s) (files_changed map.empty changes (turn_begun s))
+    (same-state (turn_begun s).state (files_changed map.empty changes (turn_begun s)).state (files-same map.empty changes (turn_begun s)))
+told-does meaning s n notices.CancelFlycheck heard = does-same (for_event meaning s (notification_input n)) (turn_begun s) (turn_begun s) refl
+told-does meaning s n notices.ClearFlycheck heard = does-same (for_event meaning s (notification_input n)) (turn_begun s) (turn_begun s) refl
+told-does meaning s n (notices.RunFlycheck uri) heard = does-same (for_event meaning s (notification_input n)) (turn_begun s) (turn_begun s) refl
+told-does meaning s n notices.AbortRunTest heard = does-same (for_event meaning s (notification_input n)) (turn_begun s) (turn_begun s) refl
+
+heard-does : (meaning : Meaning) (s : State) (n : Notification) (heard : Heard) → heard_of n ≡ heard
+    → Does (for_event meaning s (notification_input n)) (turn_begun s) (noticed heard n.method (turn_begun s))
+unfolding noticed logged ordered
+heard-does meaning s n (Told notice) is = told-does meaning s n notice (ap told_by is)
+heard-does meaning s n Malformed is = does-same (for_event meaning s (notification_input n)) (turn_begun s) (logged MalformedNotification n.method (turn_begun s)) refl
+heard-does meaning s n Unhandled is = does-same (for_event meaning s (notification_input n)) (turn_begun s) (logged UnhandledNotification n.method (turn_begun s)) refl
+heard-does meaning s n Silent is = does-same (for_event meaning s (notification_input n)) (turn_begun s) (turn_begun s) refl
+
+-- ---- events
+
+event-does : (meaning : Meaning) (s : State) (event : Event) → Does (for_event meaning s (Next event)) (turn_begun s) (happened meaning event (turn_begun s))
+unfolding happened received loaded
+event-does meaning s (Lsp (lsp.Request r)) = request-does meaning s r (for_event meaning s (Next (Lsp (lsp.Request r)))) (omega arith)
+event-does meaning s (Lsp (lsp.Notification n)) = heard-does meaning s n (heard_of n) refl
+event-does meaning s (Lsp (lsp.Response r)) = answer-does (for_event meaning s (Next (Lsp (lsp.Response r)))) s r
+event-does meaning s (Task batch) =
+    let w : Working State = turn_begun s in
+    let input : Input = Next (Task batch) in
+    counts-more state_at (for_messages (length (row meaning input (place_of s)).jobs) (length batch)) (for_event meaning s input) (given w.state) (batched meaning batch w)
+    (record {
+      turns = omega arith;
+      jobs = omega arith;
+      requests = omega arith;
+      revisions = omega arith;
+      files = omega arith;
+      versions = omega arith;
+      settings = omega arith;
+    })
+    (batch-does meaning s.desk.turns s batch w (record { client = refl; files = stays s.files; shows = record { present = refl; version = refl } }))
+event-does meaning s (Vfs messages) =
+    let w : Working State = turn_begun s in
+    let input : Input = Next (Vfs messages) in
+    then-same (for_event meaning s input) w (at_files (loaded messages) w) (λ v. at_workspaces (renewed_if (bring_files messages) v.state.desk.turns) v)
+    (λ v. given-workspaces v.state (renewed_if (bring_files messages) v.state.desk.turns v.state.workspaces) (renewed-runs (bring_files messages) v.state.desk.turns v.state.workspaces).versions)
+    (event-files meaning s input (files_among messages) (loaded messages) refl (become-counts (files (files_among messages)) (given w.state) w.state _ _ (messages-count messages w.state)))
+event-does meaning s (Deferred tasks) =
+    let w : Working State = turn_begun s in
+    let input : Input = Next (Deferred tasks) in
+    counts-more state_at (jobs (checks_among tasks)) (for_event meaning s input) (given w.state) (all_resumed tasks w)
+    (record {
+      turns = omega arith;
+      jobs = omega arith;
+      requests = omega arith;
+      revisions = omega arith;
+      files = omega arith;
+      versions = omega arith;
+      settings = omega arith;
+    })
+    (resumed-do tasks w)
+event-does meaning s (Timer ticket) =
+    does-same (for_event meaning s (Next (Timer ticket))) (turn_begun s) (timed ticket (turn_begun s)) (given-workspaces (turn_begun s).state (with_fetches (fire ticket) s.workspaces) (fire-runs 0 ticket s.workspaces).versions)
+
+counted-does : (s : State) → Does (turns 1) (begun s) (counted (begun s))
+unfolding counted counted_at_desk
+counted-does s =
+    counts-within state_at (turns 1) (given s) desk_in with_desk counted_at_desk (begun s)
+    (next-counts (λ (v : Working Desk). with_desk v.state s) (turns 1) (given s) s.desk.turns counters.Turns _ (ltb s.desk.turns (2 ^ 64 - 1)) refl
+    (gives-desk (turns 1) s (record s.desk { turns = s.desk.turns + 1 }) (omega arith) (omega arith)) (λ last. omega (arith, last)))
+
+taken_in-does : (meaning : Meaning) (s : State) (event : Event) → Does (both (turns 1) (for_event meaning s (Next event))) (begun s) (taken_in meaning event (begun s))
+unfolding taken_in
+taken_in-does meaning s event =
+    counts-then state_at state_at (turns 1) (for_event meaning s (Next event)) (given s) (counted (begun s)) (happened meaning event) (counted-does s)
+    (λ v is. let same : v ≡ turn_begun s = IfOk-at_ok (λ v. v ≡ turn_begun s) is (counted-is s) in
+    subst (λ w. Does (for_event meaning s (Next event)) w (happened meaning event w)) (sym same) (event-does meaning s event))
+
+-- ---- whole turns
+
+abbrev turning_at : Working Turning → State
+turning_at t = t.state.state
+
+-- a part of a turn
+abbrev PartDoes : Numbers → Working Turning → Result (Working Turning) Counter → Type 0
+PartDoes needs t r = Counts turning_at needs (given t.state.state) r
+
+part-does : (needs : Numbers) (part : Working State → Result (Working State) Counter) (t : Working Turning) → Does needs (record { state = t.state.state; out = t.out }) (part (record { state = t.state.state; out = t.out }))
+    → PartDoes needs t (in_state part t)
+part-does needs part t h = counts-within turning_at needs (given t.state.state) state_in with_state part t h
+
+parts-then : (a b : Numbers) (t : Working Turning) (r : Result (Working Turning) Counter) (f : Working Turning → Result (Working Turning) Counter) → PartDoes a t r
+    → ((u : Working Turning) → PartDoes b u (f u)) → PartDoes (both a b) t (and_then r f)
+parts-then a b t r f p q = counts-then turning_at turning_at a b (given t.state.state) r f p (λ u is. q u)
+
+given-if : (b : Bool) (w u v : Working State) → given u.state ≡ given w.state → given v.state ≡ given w.state → given (if b then u else v).state ≡ given w.state
+given-if true w u v p q = p
+given-if false w u v p q = q
+
+ending-does : (facts : Facts) (w : Working State) → Does none w (closed facts w)
+unfolding kept within kept_at_desk revised timer_set ordered
+ending-does facts w =
+    let now : Working State = record w { state = with_desk (record w.state.desk { jobs = _ }) w.state } in
+    let told : Working State = revised facts.revision now in
+    does-same none w (timer_set told)
+    (given-if (fires told.state.desk.turns told.state.workspaces.fetches.waiting) told (ordered (SetTimer told.state.desk.turns) told) told refl refl
+    ∙ given-if (now.state.files.host.revision == facts.revision) now now (ordered (Revise now.state.files.host.revision) now) refl refl)
+
+closing-does : (t : Working Turning) → PartDoes none t (closing_part t)
+unfolding closing_part
+closing-does t = part-does none (closed t.state.facts) t (ending-does t.state.facts _)
+
+-- the parts behind the event: a switch, the files, what the client shows, a fetch, a run of build data or a load, and a status
+abbrev for_parts : Numbers
+for_parts = record none { jobs = 2; requests = 6; revisions = 2; versions = 1; settings = 1 }
+
+later-does : (input : Input) (t : Working Turning) → PartDoes for_parts t (later_parts input t)
+unfolding switch_part files_part quiet_part fetch_part build_part status_part
+later-does input t =
+    parts-then for_switch (record none { jobs = 2; requests = 5; revisions = 1 }) t (switch_part t) _ (part-does for_switch switch_done t (switch-does _))
+    (λ t. parts-then (revisions 1) (record none { jobs = 2; requests = 5 }) t (files_part t) _ (part-does (revisions 1) files_processed t (processed-does _))
+    (λ t. parts-then (requests 4) (record none { jobs = 2; requests = 1 }) t (quiet_part t) _ (part-does (requests 4) (quiet_done t.state.facts) t (quiet-does t.state.facts _))
+    (λ t. parts-then (jobs 1) (record none { jobs = 1; requests = 1 }) t (fetch_part input t) _ (part-does (jobs 1) (fetch_started (may_start input t.state.state.client.settings)) t (fetch-does _ _))
+    (λ t. parts-then (jobs 1) (requests 1) t (build_part t) _ (part-does (jobs 1) runs_started t (runs-do _))
+    (λ t. parts-then (requests 1) none t (status_part t) closing_part (part-does (requests 1) status_done t (status-does _)) closing-does)))))
+
+begun-does : (w : Working State) → Does none w (begun_fetches w)
+unfolding begun_fetches
+begun-does w = does-same none w (at_workspaces (with_fetches (start_up (discovers w.state.client.settings))) w) refl
+
+start-does : (t : Working Turning) → PartDoes (record none { jobs = 1; requests = 2 }) t (start_parts t)
+unfolding status_part register_part begin_part fetch_part
+start-does t =
+    parts-then (requests 1) (record none { jobs = 1; requests = 1 }) t (status_part t) _ (part-does (requests 1) status_done t (status-does _))
+    (λ t. parts-then (requests 1) (jobs 1) t (register_part t) _ (part-does (requests 1) saves_registered t (registered-does _))
+    (λ t. parts-then none (jobs 1) t (begin_part t) _ (part-does none begun_fetches t (begun-does _))
+    (λ t. parts-then (jobs 1) none t (fetch_part Start t) closing_part (part-does (jobs 1) (fetch_started (may_start Start t.state.state.client.settings)) t (fetch-does _ _)) closing-does)))
+
+-- the facts are forgotten
+forgets : (needs n : Numbers) (r : Result (Working Turning) Counter) → Counts turning_at needs n r → Counts state_at needs n (and_then r turned)
+forgets needs n (Ok t) h = h
+forgets needs n (Err counter) h = h
+
+pub step-does : (meaning : Meaning) (s : State) (input : Input) → Counts state_at (needs_of meaning input (place_of s)) (given s) (step meaning input (begun s))
+unfolding step event_part
+step-does meaning s Start =
+    forgets (needs_of meaning Start (place_of s)) (given s) (start_parts (turning (begun s)))
+    (counts-more turning_at (record none { jobs = 1; requests = 2 }) (needs_of meaning Start (place_of s)) (given s) (start_parts (turning (begun s)))
+    (record {
+      turns = omega arith;
+      jobs = omega arith;
+      requests = omega arith;
+      revisions = omega arith;
+      files = omega arith;
+      versions = omega arith;
+      settings = omega arith;
+    })
+    (start-does (turning (begun s))))
+step-does meaning s (Next event) =
+    let input : Input = Next event in
+    let t : Working Turning = turning (begun s) in
+    let first : Numbers = both (turns 1) (for_event meaning s input) in
+    let turn = and_then (event_part meaning event t) (later_parts input) in
+    forgets (needs_of meaning input (place_of s)) (given s) turn
+    (counts-more turning_at (both first for_parts) (needs_of meaning input (place_of s)) (given s) turn
+    (record {
+      turns = omega arith;
+      jobs = omega arith;
+      requests = omega arith;
+      revisions = omega arith;
+      files = omega arith;
+      versions = omega arith;
+      settings = omega arith;
+    })
+    (parts-then first for_parts t (event_part meaning event t) (later_parts input) (part-does first (taken_in meaning event) t (taken_in-does meaning s event)) (later-does input)))
+
+same-err : (c d : Counter) → (let r : Result (Working State) Counter = Err c in r) ≡ Err d → c ≡ d
+same-err c d is = cc
+
+too-many : (needs n : Numbers) (r : Result (Working State) Counter) (counter : Counter) → r ≡ Err counter → Counts state_at needs n r → AreTooMany n needs counter
+too-many needs n (Ok v) counter is h = absurd cc
+too-many needs n (Err c) counter is h = subst (AreTooMany n needs) (same-err c counter is) h
+
+-- where the machine can't take a turn, one more of the counter that it names is needed than there are
+pub step-needs : (meaning : Meaning) (s : State) (input : Input) (counter : Counter) → step meaning input (begun s) ≡ Err counter → NeedsMore meaning (place_of s) input counter
+step-needs meaning s input counter refused = record {
+  refused = refused;
+  too_many = too-many (needs_of meaning input (place_of s)) (given s) (step meaning input (begun s)) counter refused (step-does meaning s input);
+}
