@@ -74,6 +74,11 @@ pub record AtMost (a b : Numbers) : Type 0 where
   pub versions : a.versions ≤ b.versions
   pub settings : a.settings ≤ b.settings
 
+pub at-most : (a b : Numbers) → a.turns ≤ b.turns → a.jobs ≤ b.jobs → a.requests ≤ b.requests → a.revisions ≤ b.revisions → a.files ≤ b.files → a.versions ≤ b.versions → a.settings ≤ b.settings
+    → AtMost a b
+at-most a b turns jobs requests revisions files versions settings =
+    record { turns = turns; jobs = jobs; requests = requests; revisions = revisions; files = files; versions = versions; settings = settings }
+
 -- those that the session gave
 abbrev pub given : State → Numbers
 given s = given_at (place_of s)
@@ -96,37 +101,20 @@ more : (limit n a b : ℕ) → limit ≤ n + a → a ≤ b → limit ≤ n + b
 more limit n a b p q = omega (arith, p, q)
 
 none-more : (before needs : Numbers) → AtMost before (both before needs)
-none-more before needs = record {
-  turns = still before.turns needs.turns;
-  jobs = still before.jobs needs.jobs;
-  requests = still before.requests needs.requests;
-  revisions = still before.revisions needs.revisions;
-  files = still before.files needs.files;
-  versions = still before.versions needs.versions;
-  settings = still before.settings needs.settings;
-}
-
--- where some are given
-gives-by : (needs before after : Numbers) → after.turns ≤ before.turns + needs.turns → after.jobs ≤ before.jobs + needs.jobs → after.requests ≤ before.requests + needs.requests
-    → after.revisions ≤ before.revisions + needs.revisions → after.files ≤ before.files + needs.files → after.versions ≤ before.versions + needs.versions
-    → after.settings ≤ before.settings + needs.settings → AtMost after (both before needs)
-gives-by needs before after turns jobs requests revisions files versions settings =
-    record { turns = turns; jobs = jobs; requests = requests; revisions = revisions; files = files; versions = versions; settings = settings }
+none-more before needs =
+    at-most _ _ (still before.turns needs.turns) (still before.jobs needs.jobs) (still before.requests needs.requests)
+    (still before.revisions needs.revisions) (still before.files needs.files)
+    (still before.versions needs.versions) (still before.settings needs.settings)
 
 -- where the numbers stay
 pub gives-same : (needs before after : Numbers) → after ≡ before → AtMost after (both before needs)
 gives-same needs before after same = subst (λ (n : Numbers). AtMost n (both before needs)) (sym same) (none-more before needs)
 
 gives-on : (a b n m k : Numbers) → AtMost m (both n a) → AtMost k (both m b) → AtMost k (both n (both a b))
-gives-on a b n m k p q = record {
-  turns = on-then n.turns m.turns k.turns a.turns b.turns p.turns q.turns;
-  jobs = on-then n.jobs m.jobs k.jobs a.jobs b.jobs p.jobs q.jobs;
-  requests = on-then n.requests m.requests k.requests a.requests b.requests p.requests q.requests;
-  revisions = on-then n.revisions m.revisions k.revisions a.revisions b.revisions p.revisions q.revisions;
-  files = on-then n.files m.files k.files a.files b.files p.files q.files;
-  versions = on-then n.versions m.versions k.versions a.versions b.versions p.versions q.versions;
-  settings = on-then n.settings m.settings k.settings a.settings b.settings p.settings q.settings;
-}
+gives-on a b n m k p q =
+    at-most _ _ (on-then n.turns m.turns k.turns a.turns b.turns p.turns q.turns) (on-then n.jobs m.jobs k.jobs a.jobs b.jobs p.jobs q.jobs) (on-then n.requests m.requests k.requests a.requests b.requests p.requests q.requests)
+    (on-then n.revisions m.revisions k.revisions a.revisions b.revisions p.revisions q.revisions) (on-then n.files m.files k.files a.files b.files p.files q.files)
+    (on-then n.versions m.versions k.versions a.versions b.versions p.versions q.versions) (on-then n.settings m.settings k.settings a.settings b.settings p.settings q.settings)
 
 many-on : (a b n m : Numbers) (counter : Counter) → AtMost m (both n a) → AreTooMany m b counter → AreTooMany n (both a b) counter
 many-on a b n m counters.Turns p h = on-then n.turns m.turns (2 ^ 64) a.turns b.turns p.turns h
@@ -168,15 +156,9 @@ counts-if of needs n false r q x y = y
 pub counts-more : {X : Type 0} (of : X → State) (a b n : Numbers) (r : Result X Counter) → AtMost a b → Counts of a n r → Counts of b n r
 counts-more of a b n (Ok x) le h =
     let now = given (of x) in
-    record {
-      turns = more now.turns n.turns a.turns b.turns h.turns le.turns;
-      jobs = more now.jobs n.jobs a.jobs b.jobs h.jobs le.jobs;
-      requests = more now.requests n.requests a.requests b.requests h.requests le.requests;
-      revisions = more now.revisions n.revisions a.revisions b.revisions h.revisions le.revisions;
-      files = more now.files n.files a.files b.files h.files le.files;
-      versions = more now.versions n.versions a.versions b.versions h.versions le.versions;
-      settings = more now.settings n.settings a.settings b.settings h.settings le.settings;
-    }
+    at-most _ _ (more now.turns n.turns a.turns b.turns h.turns le.turns) (more now.jobs n.jobs a.jobs b.jobs h.jobs le.jobs) (more now.requests n.requests a.requests b.requests h.requests le.requests)
+    (more now.revisions n.revisions a.revisions b.revisions h.revisions le.revisions) (more now.files n.files a.files b.files h.files le.files)
+    (more now.versions n.versions a.versions b.versions h.versions le.versions) (more now.settings n.settings a.settings b.settings h.settings le.settings)
 counts-more of a b n (Err counter) le h = many-more a b n counter le h
 
 put-counts : {S P : Type 0} (of : Working S → State) (needs n : Numbers) (put : P → S → S) (state : S) (r : Result (Working P) Counter)
@@ -203,7 +185,7 @@ given-workspaces s workspaces same = ap (λ (versions : ℕ × ℕ). record (giv
 pub gives-versions : (s : State) (workspaces : Workspaces) → workspaces.version ≤ s.workspaces.version + 1 → workspaces.loader_version ≤ s.workspaces.loader_version + 1
     → AtMost (given (with_workspaces workspaces s)) (both (given s) (record none { versions = 1; settings = 1 }))
 gives-versions s workspaces version settings =
-    gives-by (record none { versions = 1; settings = 1 }) (given s) _ (still s.desk.turns 0) (still s.desk.handed 0) (still s.client.asked.given 0) (still s.files.host.revision 0)
+    at-most _ _ (still s.desk.turns 0) (still s.desk.handed 0) (still s.client.asked.given 0) (still s.files.host.revision 0)
     (still (files_given s.files.table) 0) version settings
 
 -- ---- requests of the session's own
@@ -213,7 +195,7 @@ requests n = record none { requests = n }
 
 gives-requests : (s : State) (client : Client) (n : ℕ) → client.asked.given ≤ s.client.asked.given + n → AtMost (given (with_client client s)) (both (given s) (requests n))
 gives-requests s client n le =
-    gives-by (requests n) (given s) _ (still s.desk.turns 0) (still s.desk.handed 0) le (still s.files.host.revision 0) (still (files_given s.files.table) 0) (still s.workspaces.version 0)
+    at-most _ _ (still s.desk.turns 0) (still s.desk.handed 0) le (still s.files.host.revision 0) (still (files_given s.files.table) 0) (still s.workspaces.version 0)
     (still s.workspaces.loader_version 0)
 
 asked-cases : (message : Outgo) (handler : ReqHandler) (s : State) (w : Working Client) (b : Bool) → w.state ≡ s.client → (w.state.asked.given == number_limit) ≡ b
@@ -242,7 +224,7 @@ jobs n = record none { jobs = n }
 pub gives-desk : (needs : Numbers) (s : State) (desk : Desk) → desk.turns ≤ s.desk.turns + needs.turns → desk.handed ≤ s.desk.handed + needs.jobs
     → AtMost (given (with_desk desk s)) (both (given s) needs)
 gives-desk needs s desk turns jobs =
-    gives-by needs (given s) _ turns jobs (still s.client.asked.given needs.requests) (still s.files.host.revision needs.revisions) (still (files_given s.files.table) needs.files)
+    at-most _ _ turns jobs (still s.client.asked.given needs.requests) (still s.files.host.revision needs.revisions) (still (files_given s.files.table) needs.files)
     (still s.workspaces.version needs.versions) (still s.workspaces.loader_version needs.settings)
 
 pub next-counts : {Y : Type 0} (of : Y → State) (needs before : Numbers) (n : ℕ) (counter : Counter) (f : ℕ → Y) (b : Bool) → ltb n (2 ^ 64 - 1) ≡ b → AtMost (given (of (f (n + 1)))) (both before needs)
@@ -269,7 +251,7 @@ CountsFiles n s r = Counts (λ (now : SessionFiles). with_files now s) (files n)
 gives-files : (s : State) (now : SessionFiles) (n m : ℕ) → files_given now.table ≤ files_given s.files.table + n → now.host.revision ≤ s.files.host.revision + m
     → AtMost (given (with_files now s)) (both (given s) (record none { files = n; revisions = m }))
 gives-files s now n m files revisions =
-    gives-by (record none { files = n; revisions = m }) (given s) _ (still s.desk.turns 0) (still s.desk.handed 0) (still s.client.asked.given 0) revisions files
+    at-most _ _ (still s.desk.turns 0) (still s.desk.handed 0) (still s.client.asked.given 0) revisions files
     (still s.workspaces.version 0) (still s.workspaces.loader_version 0)
 
 abbrev TableGives : {X : Type 0} → (X → Files) → Files → Result X TableFault → Type 0

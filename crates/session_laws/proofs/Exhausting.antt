@@ -97,7 +97,7 @@ use Rattle.session_model.specs.declared.input.Input.TheVariants.{Start, Next}
 use Rattle.session_laws.specs.Invariant.{place_of}
 use Rattle.session_laws.proofs.Batches.{DoesAtDesk, Stays, at, logged_if-same, or-is, place_now, rest-is, scene-is, settles-within, stays-on}
 use Rattle.session_laws.proofs.Crates.{stays}
-use Rattle.session_laws.proofs.Counting.{AtMost, Counts, become-counts, both, counts-behind, counts-if, counts-more, counts-then, counts-within, crates-count, editing-counts, files, given, given-workspaces}
+use Rattle.session_laws.proofs.Counting.{AtMost, Counts, at-most, become-counts, both, counts-behind, counts-if, counts-more, counts-then, counts-within, crates-count, editing-counts, files, given, given-workspaces}
 use Rattle.session_laws.proofs.Counting.{gives-desk, gives-same, gives-versions, job-counts, jobs, messages-count, next-counts, none, opening-counts, request-counts, requests, revisions, state_at, turn-counts, turns}
 use Rattle.session_laws.proofs.Events.{files-same, notification_input, noted-same}
 use Rattle.session_laws.proofs.Following.{deferred-same, further-same}
@@ -446,15 +446,7 @@ batch-does meaning turns s (m ∷ ms) w h =
     let first : Numbers = for_messages (length done.jobs) 1 in
     let others : Numbers = for_messages (length rest.jobs) (length ms) in
     counts-more state_at (both first others) (for_messages (length (done.jobs ++ rest.jobs)) (length (m ∷ ms))) (given w.state) (batched meaning (m ∷ ms) w)
-    (record {
-      turns = omega arith;
-      jobs = omega (arith, length-append done.jobs rest.jobs);
-      requests = omega arith;
-      revisions = omega arith;
-      files = omega arith;
-      versions = omega arith;
-      settings = omega arith;
-    })
+    (at-most _ _ (omega arith) (omega (arith, length-append done.jobs rest.jobs)) (omega arith) (omega arith) (omega arith) (omega arith) (omega arith))
     (counts-then state_at state_at first others (given w.state) (taken meaning m w) (batched meaning ms)
     (subst (λ scene. Does (for_messages (length (message_row meaning scene place.desk m).jobs) 1) w (taken meaning m w)) (sym (scene-is s turns w h)) (taken-does meaning turns m w))
     (λ v is. let a : DoesAtDesk w v done (after_message m w.state.desk.jobs) kept =
@@ -480,15 +472,7 @@ event-files : (meaning : Meaning) (s : State) (input : Input) (n : ℕ) (work : 
     → Does (for_event meaning s input) (turn_begun s) (at_files work (turn_begun s))
 event-files meaning s input n work count h =
     counts-more state_at (files n) (for_event meaning s input) (given (turn_begun s).state) (at_files work (turn_begun s))
-    (record {
-      turns = omega arith;
-      jobs = omega arith;
-      requests = omega arith;
-      revisions = omega arith;
-      files = omega (arith, count);
-      versions = omega arith;
-      settings = omega arith;
-    })
+    (at-most _ _ (omega arith) (omega arith) (omega arith) (omega arith) (omega (arith, count)) (omega arith) (omega arith))
     (files-do (files n) (turn_begun s) work h)
 
 opened-does : (meaning : Meaning) (s : State) (n : Notification) (document : DidOpen) (o : Result (List ℕ) UrlFault) → file_count (notification_input n) ≡ 1
@@ -581,15 +565,7 @@ told-does meaning s n (notices.DidClose uri) heard = closed-does (for_event mean
 told-does meaning s n (notices.DidSave uri) heard = saved-does (for_event meaning s (notification_input n)) s uri (path_of uri)
 told-does meaning s n notices.DidChangeConfiguration heard =
     counts-more state_at (requests 1) (for_event meaning s (notification_input n)) (given (turn_begun s).state) (at_client asked_for_settings (turn_begun s))
-    (record {
-      turns = omega arith;
-      jobs = omega arith;
-      requests = omega arith;
-      revisions = omega arith;
-      files = omega arith;
-      versions = omega arith;
-      settings = omega arith;
-    })
+    (at-most _ _ (omega arith) (omega arith) (omega arith) (omega arith) (omega arith) (omega arith) (omega arith))
     (request-counts Configuration Settings (turn_begun s))
 told-does meaning s n (notices.DidChangeWorkspaceFolders added removed) heard = folders-does (for_event meaning s (notification_input n)) s added removed
 told-does meaning s n (notices.DidChangeWatchedFiles changes) heard =
@@ -619,15 +595,7 @@ event-does meaning s (Task batch) =
     let w : Working State = turn_begun s in
     let input : Input = Next (Task batch) in
     counts-more state_at (for_messages (length (row meaning input (place_of s)).jobs) (length batch)) (for_event meaning s input) (given w.state) (batched meaning batch w)
-    (record {
-      turns = omega arith;
-      jobs = omega arith;
-      requests = omega arith;
-      revisions = omega arith;
-      files = omega arith;
-      versions = omega arith;
-      settings = omega arith;
-    })
+    (at-most _ _ (omega arith) (omega arith) (omega arith) (omega arith) (omega arith) (omega arith) (omega arith))
     (batch-does meaning s.desk.turns s batch w (record { client = refl; files = stays s.files; shows = record { present = refl; version = refl } }))
 event-does meaning s (Vfs messages) =
     let w : Working State = turn_begun s in
@@ -639,15 +607,7 @@ event-does meaning s (Deferred tasks) =
     let w : Working State = turn_begun s in
     let input : Input = Next (Deferred tasks) in
     counts-more state_at (jobs (checks_among tasks)) (for_event meaning s input) (given w.state) (all_resumed tasks w)
-    (record {
-      turns = omega arith;
-      jobs = omega arith;
-      requests = omega arith;
-      revisions = omega arith;
-      files = omega arith;
-      versions = omega arith;
-      settings = omega arith;
-    })
+    (at-most _ _ (omega arith) (omega arith) (omega arith) (omega arith) (omega arith) (omega arith) (omega arith))
     (resumed-do tasks w)
 event-does meaning s (Timer ticket) =
     does-same (for_event meaning s (Next (Timer ticket))) (turn_begun s) (timed ticket (turn_begun s)) (given-workspaces (turn_begun s).state (with_fetches (fire ticket) s.workspaces) (fire-runs 0 ticket s.workspaces).versions)
@@ -736,15 +696,7 @@ unfolding step event_part
 step-does meaning s Start =
     forgets (needs_of meaning Start (place_of s)) (given s) (start_parts (turning (begun s)))
     (counts-more turning_at (record none { jobs = 1; requests = 2 }) (needs_of meaning Start (place_of s)) (given s) (start_parts (turning (begun s)))
-    (record {
-      turns = omega arith;
-      jobs = omega arith;
-      requests = omega arith;
-      revisions = omega arith;
-      files = omega arith;
-      versions = omega arith;
-      settings = omega arith;
-    })
+    (at-most _ _ (omega arith) (omega arith) (omega arith) (omega arith) (omega arith) (omega arith) (omega arith))
     (start-does (turning (begun s))))
 step-does meaning s (Next event) =
     let input : Input = Next event in
@@ -753,15 +705,7 @@ step-does meaning s (Next event) =
     let turn = and_then (event_part meaning event t) (later_parts input) in
     forgets (needs_of meaning input (place_of s)) (given s) turn
     (counts-more turning_at (both first for_parts) (needs_of meaning input (place_of s)) (given s) turn
-    (record {
-      turns = omega arith;
-      jobs = omega arith;
-      requests = omega arith;
-      revisions = omega arith;
-      files = omega arith;
-      versions = omega arith;
-      settings = omega arith;
-    })
+    (at-most _ _ (omega arith) (omega arith) (omega arith) (omega arith) (omega arith) (omega arith) (omega arith))
     (parts-then first for_parts t (event_part meaning event t) (later_parts input) (part-does first (taken_in meaning event) t (taken_in-does meaning s event)) (later-does input)))
 
 same-err : (c d : Counter) → (let r : Result (Working State) Counter = Err c in r) ≡ Err d → c ≡ d

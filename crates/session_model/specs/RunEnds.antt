@@ -1,5 +1,6 @@
 -- How a run ends: what its lists are then, what ended it, and when it ends well.
-use Rattle.std.specs.Prelude.{◌≡◌, ◌≤◌, ◌<◌, ℕ, ◌+◌, ◌^◌, ◌⊎◌, List, [], ◌∷◌, ◌++◌, length, Option, Some, Result, Ok, Err}
+use Rattle.std.specs.Prelude.{◌≡◌, ◌≤◌, ◌<◌, ℕ, ◌+◌, ◌^◌, ◌⊎◌, List, [], ◌∷◌, ◌++◌, length, Option, Some, Result, Ok}
+use Rattle.std.specs.Prelude.{Err}
 use Rattle.lsp_frame.specs.Outgoing.{number_limit}
 use Rattle.lsp_frame.specs.Reader.{Reader}
 use Rattle.ra_config.specs.Config.{ConfigData}
@@ -67,9 +68,9 @@ given_at place = record {
 }
 
 -- those that a turn may need. The start has no number and makes no switch. Jobs are those of the row, the checks that
--- the input brings back, a fetch, and a run of build data or a load of macros. The client may be asked for its settings,
--- to watch files, to ask anew for four things that it shows, and for a button. The world may change for each message of
--- a batch, for a switch and for the files
+-- the input brings back, a fetch, and a run of build data or a load of macros. The client may be asked for its
+-- settings, to watch files, to ask anew for four things that it shows, and for a button. The world may change for each
+-- message of a batch, for a switch and for the files
 abbrev pub needs_of : Meaning → Input → Place → Numbers
 needs_of meaning input place = record {
   turns = turns_after input 0;
@@ -116,7 +117,8 @@ EndsAt meaning config reader calls turns left (Err (BadMessage at)) =
     AllTaken calls turns × (left ≡ stops (bad_message at))
 EndsAt meaning config reader calls turns left (Err HostFault) =
     (AllTaken calls turns × (left ≡ waits ⊎ left ≡ stops exit)) ⊎ LastUntaken calls turns
-EndsAt meaning config reader calls turns left (Err WriteFault) = AllTaken calls turns × NextInput left (λ input. Unit {0})
+EndsAt meaning config reader calls turns left (Err WriteFault) =
+    AllTaken calls turns × NextInput left (λ input. Unit {0})
 EndsAt meaning config reader calls turns left (Err (Exhausted counter)) =
     AllTaken calls turns × IsUsedUp meaning config reader calls turns left counter
 EndsAt meaning config reader calls turns left (Err NoMemory) = AllTaken calls turns ⊎ LastUntaken calls turns
