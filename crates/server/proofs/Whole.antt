@@ -6,7 +6,8 @@ use Rattle.ra_config.specs.Config.{ConfigData}
 use Rattle.session_port.specs.Record.{HostCall, given_in, grown}
 use Rattle.session_port.specs.declared.event.HostEvent.{HostEvent}
 use Rattle.session.specs.Course.{Course, Stop, course_of, session_course, end_of}
-use Rattle.session.specs.Headline.{EndsByCause, IsAnswered, IsEnd}
+use Rattle.session.specs.Headline.{EndsByCause, IsAnswered}
+use Rattle.session.specs.RunEnds.{IsEnd}
 use Rattle.session.specs.Run.{Told, empty_reader, giving}
 use Rattle.session.specs.SessionError.{SessionError}
 use Rattle.session.specs.SessionError.TheVariants.{ClientExited, BadFrame, BadMessage, HostFault, WriteFault, Exhausted, NoMemory}

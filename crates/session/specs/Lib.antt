@@ -7,5 +7,6 @@ pub use Rattle.session_laws.specs.Headline
 pub use Rattle.session_laws.specs.Input
 pub use Rattle.session_laws.specs.Meaning
 pub use Rattle.session_laws.specs.Run
+pub use Rattle.session_laws.specs.RunEnds
 pub use Rattle.session_laws.specs.SessionError
 pub use Rattle.session_laws.specs.Texts

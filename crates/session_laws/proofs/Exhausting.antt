@@ -1,502 +1,723 @@
--- A turn that the machine can't take needs one more of a counter than there are.
-use Rattle.std.proofs.Common.{◌≡◌, ℕ, ◌+◌, ◌-◌, ◌^◌, ◌≤◌, ◌<◌, List, [], ◌∷◌, ◌++◌, length, refl, sym, ap, ◌∙◌, subst, inl, inr, arith, ⊎_elim}
+-- A turn gives no more numbers than it may need; and one that the machine can't take needs one more of a counter than there are.
+use Rattle.std.proofs.Common.{◌≡◌, ℕ, ◌+◌, ◌-◌, ◌^◌, ◌≤◌, List, [], ◌∷◌, ◌++◌, length, Bool, true, false, refl, sym, ap, ◌∙◌, subst, inl, inr, arith, eqb-true}
+use Rattle.std.proofs.lemmas.Bool.{ltb-false}
 use Rattle.std.proofs.lemmas.List.{length-append}
-use Rattle.std.proofs.lemmas.Result.{IfErr-at_err, IfOk-at_ok}
-use Rattle.std.specs.Prelude.{◌⊎◌, Err, IfErr, if◌then◌else◌, is_some, None, Ok, Option, Result, Some}
-use Rattle.serde_json.specs.Data.{Data}
+use Rattle.std.proofs.lemmas.Result.{IfOk-at_ok}
+use Rattle.std.specs.FinMap as map
+use Rattle.std.specs.Option.{option_map}
+use Rattle.std.specs.Prelude.{◌⊎◌, ◌==◌, Err, IfErr, IfOk, if◌then◌else◌, ltb, None, Ok, Option, Result, Some}
 use Rattle.docs_vfs.specs.FileUrls.{path_of}
+use Rattle.docs_vfs.specs.declared.file_kinds.ChangedFile.{ChangedFile}
 use Rattle.docs_vfs.specs.declared.file_url.UrlFault.{UrlFault}
+use Rattle.lsp_frame.specs.Outgoing.{Outgoing, number_of, without}
 use Rattle.lsp_frame.specs.declared.message.Notification.{Notification}
 use Rattle.lsp_frame.specs.declared.message.Request.{Request}
-use Rattle.lsp_frame.specs.declared.message.Message.TheVariants.{Request as RequestMessage, Notification as NotificationMessage, Response as ResponseMessage}
+use Rattle.lsp_frame.specs.declared.message.Message.TheVariants as lsp
+use Rattle.lsp_frame.specs.declared.message.RequestId.{RequestId}
 use Rattle.lsp_frame.specs.declared.message.Response.{Response}
-use Rattle.analysis_host.specs.SnapshotData.{SnapshotData}
-use Rattle.session_port.specs.Jobs.{after_message}
+use Rattle.project_model.specs.declared.crates.CrateData.{CrateData}
+use Rattle.project_model.specs.declared.workspace.ProjectWorkspace.{ProjectWorkspace}
+use Rattle.layered_settings.specs.declared.change.ConfigChange.{ConfigChange}
+use Rattle.ra_config.specs.Config.{ConfigData}
+use Rattle.ra_config.specs.declared.capabilities.Capabilities.{Capabilities}
+use Rattle.session_port.specs.Jobs.{Jobs, after_message}
+use Rattle.session_port.specs.Working.{Working, and_then, logged, ordered, within, written}
 use Rattle.session_port.specs.declared.command.DeferredTask.{DeferredTask}
+use Rattle.session_port.specs.declared.command.DeferredTask.TheVariants.{CheckIfIndexed, CheckProcMacroSources}
+use Rattle.session_port.specs.declared.command.LogCode.{LogCode}
+use Rattle.session_port.specs.declared.command.LogCode.TheVariants.{BadPath, MalformedNotification, UnhandledNotification}
+use Rattle.session_port.specs.declared.command.Command.TheVariants.{Revise, Timer as SetTimer}
+use Rattle.method_table.specs.declared.class.PoolClass.TheVariants.{Worker}
+use Rattle.session_files.specs.Folds.{due_changes}
 use Rattle.session_port.specs.declared.event.TaskMsg.{TaskMsg}
-use Rattle.session_port.specs.declared.job.Job.{Job}
-use Rattle.session_port.specs.Working.{Working, and_then, within}
-use Rattle.session_port.specs.Written.{nothing_done}
 use Rattle.session_port.specs.declared.fault.Counter.{Counter}
-use Rattle.session_port.specs.declared.fault.Counter.TheVariants.{LoaderSettings, Turns}
-use Rattle.notify.specs.declared.outgo.Outgo.TheVariants.{Configuration}
-use Rattle.lsp_frame.specs.Outgoing.{number_limit}
-use Rattle.client.specs.Client.{Client}
-use Rattle.client.specs.Folds.{after_asking}
-use Rattle.client.specs.Steps.{answered, folders_changed}
-use Rattle.client.specs.declared.handler.ReqHandler.TheVariants.{Settings}
+use Rattle.session_port.specs.declared.fault.Counter.TheVariants as counters
 use Rattle.notify.specs.declared.notice.DidChange.{DidChange}
 use Rattle.notify.specs.declared.notice.DidOpen.{DidOpen}
 use Rattle.notify.specs.declared.notice.Notice.{Notice}
 use Rattle.notify.specs.declared.notice.Notice.TheVariants as notices
+use Rattle.notify.specs.declared.outgo.MessageKind.{MessageKind}
+use Rattle.notify.specs.declared.outgo.Outgo.{Outgo}
+use Rattle.notify.specs.declared.outgo.Outgo.TheVariants.{CodeLensRefresh, Configuration, DiagnosticRefresh, InlayHintRefresh, SemanticTokensRefresh, ShowMessage, ShowMessageRequest}
+use Rattle.client.specs.Client.{Client}
+use Rattle.client.specs.Folds.{asked_after}
+use Rattle.client.specs.Steps.{answered, folders_changed, logged_if, notification_of}
+use Rattle.client.specs.declared.handler.ReqHandler.{ReqHandler}
+use Rattle.client.specs.declared.handler.ReqHandler.TheVariants.{Ignore, OpenLogs, Settings}
 use Rattle.desk.specs.Building.{BuildEnd, build_ended}
 use Rattle.desk.specs.Checking.{check_ended}
 use Rattle.desk.specs.Desk.{Desk}
 use Rattle.desk.specs.Fetching.{FetchEnd, fetch_ended}
 use Rattle.desk.specs.Loading.{LoadEnd, load_ended}
 use Rattle.desk.specs.Meaning.{Meaning}
-use Rattle.desk.specs.Reactions.{Reaction, message_row, request_row}
-use Rattle.desk.specs.Steps.{cancelled, requested, counted as counted_at_desk, taken as taken_at_desk}
-use Rattle.desk_laws.proofs.Refusing.{TooMany, counted-errs, err-and_then, err-weaker, message-errs, request-errs}
-use Rattle.desk_laws.proofs.Results.{IfErr-within}
-use Rattle.desk_laws.proofs.Settling.{message-turns, request-turns}
-use Rattle.session_files.specs.Folds.{after_messages, after_opening}
+use Rattle.desk.specs.Reactions.{Reaction, cancel_row, message_row, request_row}
+use Rattle.desk.specs.Steps.{cancelled, counted as counted_at_desk, handed_over, kept as kept_at_desk, requested, taken as taken_at_desk}
+use Rattle.desk_laws.specs.Settled.{Settled}
+use Rattle.desk_laws.proofs.Refusing.{TooMany, message-errs, request-errs}
+use Rattle.desk_laws.proofs.Settling.{cancel-settles, message-settles, message-turns, request-settles, request-turns}
 use Rattle.session_files.specs.SessionFiles.{SessionFiles}
-use Rattle.session_files.specs.Steps.{changed, closed as closed_document, loaded, opened, processed}
-use Rattle.status.specs.declared.status.Status.{Status}
-use Rattle.workspaces.specs.Fetches.{fetch_to_start}
+use Rattle.session_files.specs.Steps.{changed, closed as closed_document, crates_put, edited, loaded, opened, processed}
+use Rattle.workspaces.specs.Fetches.{fetch_to_start, fire, fires, start_fetch, start_up}
+use Rattle.workspaces.specs.Switching.{decided, last_loader_version, next_version, renewed_by, switch_to, switched}
+use Rattle.workspaces.specs.Workspaces.{Workspaces}
+use Rattle.workspaces.specs.declared.follows.Follows.{Follows}
+use Rattle.workspaces.specs.declared.follows.Follows.TheVariants as follows
 use Rattle.workspaces.specs.declared.requests.FetchRequest.{FetchRequest}
-use Rattle.session_model.specs.Building.{build_due, with_due_build}
-use Rattle.session_model.specs.Crates.{crates_in, times_told}
-use Rattle.session_model.specs.Fetching.{fetch_jobs}
-use Rattle.session_model.specs.Headline.{batch_row, builds_crates_in, builds_in, client_after, client_asked, client_left, client_switched, crates_told_by, fetch_in, fetches_in, files_told, jobs_resumed, loads_in, NeedsMore, Place, place_past, row, scene_at, status_after, statuses_at}
-use Rattle.session_model.specs.Machine.{all_resumed, answer_taken, asked, asked_for_settings, at_client, at_desk, at_files, at_workspaces, batched, begin_part, begun_fetches, build_part, build_taken, changed_at, check_taken, client_in, closed, closed_at}
-use Rattle.session_model.specs.Machine.{closing_part, counted, desk_in, ends_taken, event_part, fetch_part, fetch_started, fetch_taken, files_in, files_part, files_processed, folders_taken, happened, kept, later_parts, load_taken, noticed, opened_at, received}
-use Rattle.session_model.specs.Machine.{quiet_done, quiet_part, register_part, runs_started, saves_registered, start_parts, state_in, status_done, status_part, step, switch_done, switch_part, switched_to, taken, taken_in, told, turned, Turning, turning, with_client, with_desk, with_files}
-use Rattle.session_model.specs.Machine.{with_state}
-use Rattle.session_model.specs.State.{columns_in, excludes_in, may_start, scene_of, snapshot_of, State}
-use Rattle.session_model.specs.Asking.{client_refreshed_if, client_registered, client_watching}
-use Rattle.session_model.specs.Status.{client_after_status}
-use Rattle.session_model.specs.Hearing.{heard_of}
-use Rattle.session_model.specs.Loading.{MacroPaths, crates_loaded, load_due, load_kept}
+use Rattle.reload.specs.declared.switch.Switch.{Switch}
+use Rattle.reload.specs.declared.switch.Switch.TheVariants as switch
+use Rattle.session_model.specs.Building.{build_due, build_kept, end_kept, request_told, with_due_build}
+use Rattle.session_model.specs.Checking.{check_kind}
+use Rattle.session_model.specs.Crates.{builds_crates, crate_data, is_unknown, with_crates}
+use Rattle.session_model.specs.Fetching.{fetch_kept, folders_told_if, settings_told, with_fetches}
+use Rattle.session_model.specs.Hearing.{heard_of, told_by}
+use Rattle.session_model.specs.Inputs.{batch_of, cancelled_by, check_count, checks_among, file_count, files_among, files_noticed}
+use Rattle.session_model.specs.Loading.{MacroPaths, crates_loaded, load_due, load_kept, with_due_load}
+use Rattle.session_model.specs.Machine.{all_resumed, answer_taken, asked, asked_for_settings, asked_if, at_client, at_desk, at_files, at_workspaces, batched, begin_part, begun_fetches, build_handed_over, build_part}
+use Rattle.session_model.specs.Machine.{build_started, build_taken, changed_at, check_taken, client_in, closed, closed_at, closing_part, counted, crates_arrived, crates_built, desk_in, effects_done, ends_taken, fetch_waits, settings_filed, sources_deferred, event_part, fetch_handed_over}
+use Rattle.session_model.specs.Machine.{fetch_part, fetch_started, fetch_taken, files_changed, files_followed, files_in, files_part, files_processed, folders_taken, followed, happened, in_state, kept, later_parts}
+use Rattle.session_model.specs.Machine.{load_handed_over, load_started, load_taken, loader_set, noticed, opened_at, quiet_done, quiet_part, received, refreshed, register_part, resumed, revised, roots_renewed, runs_started, save_noted}
+use Rattle.session_model.specs.Machine.{saved_at, saved_file, saves_registered, start_parts, state_in, status_changed, status_done, status_kept, status_part, status_told, step, switch_done, switch_part, switched_to, taken, taken_in}
+use Rattle.session_model.specs.Machine.{text_shown, timed, timer_set, told, turned, Turning, turning, warned, watchers_registered, with_client, with_desk, with_files, with_sources, with_state, with_status}
+use Rattle.session_model.specs.RunEnds.{AreTooMany, NeedsMore, Numbers, needs_of}
+use Rattle.session_model.specs.Rows.{batch_row, machine_after, notice_row, place_after_message, row, scene_within, turn_begun}
 use Rattle.session_model.specs.Run.{begun}
+use Rattle.session_model.specs.Saving.{path_saved}
+use Rattle.session_model.specs.Sources.{change_for, client_with, further_files, parents_told}
+use Rattle.session_model.specs.State.{State, builds_scripts, columns_in, discovers, excludes_in, goes_by_folders, may_start, scene_of, snapshot_of}
+use Rattle.session_model.specs.Status.{opens_logs, shown_of, status_message, status_now, takes_status}
+use Rattle.session_model.specs.Switching.{is_switch_due, switch_by, switch_made, unless_exhausted}
+use Rattle.session_model.specs.Timing.{bring_files, effects_for, fetch_planned, renewed_if}
 use Rattle.session_model.specs.declared.facts.Facts.{Facts}
+use Rattle.session_model.specs.declared.heard.Heard.{Heard}
+use Rattle.session_model.specs.declared.heard.Heard.TheVariants.{Told, Malformed, Unhandled, Silent}
 use Rattle.session_model.specs.declared.input.Event.{Event}
 use Rattle.session_model.specs.declared.input.Event.TheVariants.{Lsp, Task, Vfs, Deferred, Timer}
 use Rattle.session_model.specs.declared.input.Input.{Input}
 use Rattle.session_model.specs.declared.input.Input.TheVariants.{Start, Next}
-use Rattle.session_model.specs.declared.heard.Heard.{Heard}
-use Rattle.session_model.specs.declared.heard.Heard.TheVariants.{Told, Malformed, Unhandled, Silent}
 use Rattle.session_laws.specs.Invariant.{place_of}
-use Rattle.session_laws.proofs.Building.{TooManyRuns, runs-errs}
-use Rattle.session_laws.proofs.Checking.{TooManyChecks, jobs_given, resume-errs}
-use Rattle.session_laws.proofs.Clients.{begun_client, left-more, registered-more, told-more, watched-more}
-use Rattle.session_laws.proofs.Crates.{arrived-errs}
-use Rattle.session_laws.proofs.Filing.{AtLast, IsFull, change_of, changed-step-errs, full-err, loaded-errs-by, opened-errs, processed-errs}
-use Rattle.session_laws.proofs.Fetching.{started-errs}
-use Rattle.session_laws.proofs.Rows.{at, begin_and_close, begins, BegunTurn, BehindTurn, build-made, build_and_on, client-behind, counted-is, counted_turn, desk-settles, DoesAtDesk, ends-note, event-fits, fetch-made, fetch_and_close, fetch_and_on}
-use Rattle.session_laws.proofs.Rows.{fetched-build, fetched-load, FetchedBehind, files-made, files_and_on, files_past, kept_past, MadeBehind, Mid, mid-switch, MidTurn, notification_input, ok-same, place_at, ready-fetch, ReadyBehind, ReadyStart, ReadyTurn}
-use Rattle.session_laws.proofs.Rows.{quiet-made, QuietTurn, quiet_and_on, ready-client, register_and_on, RegisteredTurn, registers, session_in, settled-place, status-begins, status_and_close, switch-made, taken-settles, told-now-rises}
-use Rattle.session_laws.proofs.Requests.{asked-errs, due_in, IsPast, quiet-errs, registered-errs}
-use Rattle.session_laws.proofs.Statuses.{status-errs}
-use Rattle.session_laws.proofs.Starting.{TooManyStarts}
-use Rattle.session_laws.proofs.Switching.{IsRefused, made-errs, switched-errs}
-use Rattle.session_model.specs.Switching.{switch_made}
+use Rattle.session_laws.proofs.Batches.{DoesAtDesk, Stays, at, logged_if-same, or-is, place_now, rest-is, scene-is, settles-within, stays-on}
+use Rattle.session_laws.proofs.Crates.{stays}
+use Rattle.session_laws.proofs.Counting.{AtMost, Counts, at-most, become-counts, both, counts-behind, counts-if, counts-more, counts-then, counts-within, crates-count, editing-counts, files, given, given-workspaces}
+use Rattle.session_laws.proofs.Counting.{gives-desk, gives-same, gives-versions, job-counts, jobs, messages-count, next-counts, none, opening-counts, request-counts, requests, revisions, state_at, turn-counts, turns}
+use Rattle.session_laws.proofs.Events.{files-same, notification_input, noted-same}
+use Rattle.session_laws.proofs.Following.{deferred-same, further-same}
+use Rattle.session_laws.proofs.Rows.{counted-is}
+use Rattle.session_laws.proofs.Running.{build-leaves, fetch-leaves, fire-runs, folders-runs, load-leaves, planned-runs, renewed-runs, request-runs, save-runs, settings-runs}
+use Rattle.session_laws.proofs.Switching.{Moves, left_or, loader-same, made-moves, warned-same}
+use Rattle.session_laws.proofs.Telling.{answered-does, folders-do}
 
--- ---- jobs
+-- from here on a step gives no more numbers than these
+abbrev Does : Numbers → Working State → Result (Working State) Counter → Type 0
+Does needs w r = Counts state_at needs (given w.state) r
 
--- a job too many, or crate data that comes at the last revision
-abbrev Refuses : ℕ → Reaction → ℕ → Counter → Type 0
-Refuses handed done revision counter = TooMany handed done counter ⊎ AtLast revision counter
+does-same : (needs : Numbers) (w v : Working State) → given v.state ≡ given w.state → Does needs w (Ok v)
+does-same needs w v same = gives-same needs (given w.state) (given v.state) same
 
-ends-errs : (fetched : Option FetchEnd) (built : Option BuildEnd) (checked : Option (List (List ℕ))) (loaded : Option LoadEnd) (w : Working State)
-    → IfErr (ends_taken fetched built checked loaded w) (AtLast w.state.files.host.revision)
+does-then : (a b : Numbers) (w : Working State) (r : Result (Working State) Counter) (f : Working State → Result (Working State) Counter) → Does a w r → ((v : Working State) → Does b v (f v))
+    → Does (both a b) w (and_then r f)
+does-then a b w r f p q = counts-then state_at state_at a b (given w.state) r f p (λ v is. q v)
+
+-- and then nothing changes that is counted
+then-same : (needs : Numbers) (w : Working State) (r : Result (Working State) Counter) (f : Working State → Working State) → ((v : Working State) → given (f v).state ≡ given v.state) → Does needs w r
+    → Does needs w (and_then r (λ v. Ok (f v)))
+then-same needs w (Ok v) f same h = subst (λ (n : Numbers). AtMost n (both (given w.state) needs)) (sym (same v)) h
+then-same needs w (Err counter) f same h = h
+
+from-same : (needs : Numbers) (w v : Working State) (r : Result (Working State) Counter) → given v.state ≡ given w.state → Does needs v r → Does needs w r
+from-same needs w v r same h = subst (λ (n : Numbers). Counts state_at needs n r) same h
+
+same-state : (s t : State) → t ≡ s → given t ≡ given s
+same-state s t same = ap given same
+
+-- ---- requests of the session's own
+
+asked_if-does : (wanted : Bool) (message : Outgo) (w : Working State) → Does (requests 1) w (asked_if wanted message w)
+unfolding asked_if
+asked_if-does true message w = request-counts message Ignore w
+asked_if-does false message w = does-same (requests 1) w w refl
+
+refreshed-does : (can : Capabilities) (w : Working State) → Does (requests 4) w (refreshed can w)
+unfolding refreshed
+refreshed-does can w =
+    does-then (requests 1) (requests 3) w (asked_if can.semantic_tokens_refresh SemanticTokensRefresh w) _ (asked_if-does can.semantic_tokens_refresh SemanticTokensRefresh w)
+    (λ v. does-then (requests 1) (requests 2) v (asked_if can.code_lens_refresh CodeLensRefresh v) _ (asked_if-does can.code_lens_refresh CodeLensRefresh v)
+    (λ u. does-then (requests 1) (requests 1) u (asked_if can.inlay_hints_refresh InlayHintRefresh u) (asked_if can.diagnostics_refresh DiagnosticRefresh)
+    (asked_if-does can.inlay_hints_refresh InlayHintRefresh u) (asked_if-does can.diagnostics_refresh DiagnosticRefresh)))
+
+quiet-does : (facts : Facts) (w : Working State) → Does (requests 4) w (quiet_done facts w)
+unfolding quiet_done
+quiet-does facts w =
+    counts-if state_at (requests 4) (given w.state) _ (refreshed w.state.client.settings.capabilities w) (Ok w) (refreshed-does w.state.client.settings.capabilities w) (does-same (requests 4) w w refl)
+
+registered-does : (w : Working State) → Does (requests 1) w (saves_registered w)
+unfolding saves_registered
+registered-does w = asked_if-does _ _ w
+
+watched-does : (w : Working State) → Does (requests 1) w (watchers_registered w)
+unfolding watchers_registered
+watched-does w = asked_if-does _ _ w
+
+shown-does : (button : Bool) (text : Option (List ℕ × MessageKind)) (w : Working State) → Does (requests 1) w (text_shown button text w)
+unfolding text_shown written
+shown-does true None w = does-same (requests 1) w w refl
+shown-does false None w = does-same (requests 1) w w refl
+shown-does true (Some text) w = request-counts (ShowMessageRequest text.0 text.1) OpenLogs w
+shown-does false (Some text) w = does-same (requests 1) w (written (notification_of (ShowMessage text.0 text.1)) w) refl
+
+status-does : (w : Working State) → Does (requests 1) w (status_done w)
+unfolding status_done status_kept status_changed status_told written
+status-does w =
+    let now = status_now w.state.client w.state.files w.state.workspaces in
+    then-same (requests 1) w (status_changed now w) (λ v. record v { state = with_status now v.state }) (λ v. refl)
+    (counts-if state_at (requests 1) (given w.state) _ (Ok w) (status_told now w) (does-same (requests 1) w w refl)
+    (counts-if state_at (requests 1) (given w.state) (takes_status w.state.client.settings) (Ok (written (notification_of (status_message now)) w)) _
+    (does-same (requests 1) w (written (notification_of (status_message now)) w) refl)
+    (shown-does (opens_logs w.state.client.settings w.state.workspaces) (shown_of now) w)))
+
+-- ---- the world
+
+files-do : (needs : Numbers) (w : Working State) (work : Working SessionFiles → Result (Working SessionFiles) Counter)
+    → Counts (λ (v : Working SessionFiles). with_files v.state w.state) needs (given w.state) (work (record { state = w.state.files; out = w.out })) → Does needs w (at_files work w)
+files-do needs w work h = counts-within state_at needs (given w.state) files_in with_files work w h
+
+crates-do : (crates : CrateData) (w : Working State) → Does (revisions 1) w (at_files (crates_put crates) w)
+unfolding crates_put
+crates-do crates w = files-do (revisions 1) w (crates_put crates) (become-counts (revisions 1) (given w.state) w.state _ _ (crates-count crates w.state))
+
+arrived-does : (crates : Option CrateData) (w : Working State) → Does (revisions 1) w (crates_arrived crates w)
+unfolding crates_arrived
+arrived-does None w = does-same (revisions 1) w w refl
+arrived-does (Some crates) w = crates-do crates w
+
+built-does : (built : Bool) (w : Working State) → Does (revisions 1) w (crates_built built w)
+unfolding crates_built
+built-does false w = does-same (revisions 1) w w refl
+built-does true w = crates-do (crate_data w.state.client.settings w.state.files.ids w.state.workspaces.present) w
+
+-- what follows from files that changed isn't counted
+change-asks : (change : Option ConfigChange) (client : Client) → (client_with change client).asked ≡ client.asked
+change-asks None client = refl
+change-asks (Some change) client = refl
+
+followed-same : (changes : List ChangedFile) (w : Working State) → given (files_followed changes w).state ≡ given w.state
+unfolding files_followed effects_done settings_filed fetch_waits
+followed-same [] w = refl
+followed-same (change ∷ changes) w =
+    let effects = effects_for w.state.client.settings (change ∷ changes) w.state.workspaces in
+    let filed = settings_filed effects.settings w in
+    let settings = change_for effects.settings w.state.sources w.state.workspaces.present in
+    let put : Working State = record w { state = with_sources (parents_told w.state.sources) (with_client (client_with settings w.state.client) w.state) } in
+    let deferred = sources_deferred effects.macro_sources filed in
+    given-workspaces deferred.state (fetch_planned deferred.state.desk.turns effects.fetch deferred.state.workspaces) (planned-runs deferred.state.desk.turns effects.fetch deferred.state.workspaces).versions
+    ∙ same-state put.state deferred.state (deferred-same effects.macro_sources filed ∙ further-same (further_files settings) put)
+    ∙ ap (λ (asked : Outgoing ReqHandler). record (given w.state) { requests = asked.given }) (change-asks settings w.state.client)
+
+processed-does : (w : Working State) → Does (revisions 1) w (files_processed w)
+unfolding files_processed processed
+processed-does w =
+    then-same (revisions 1) w (at_files (processed w.state.sources.roots) w) (files_followed (due_changes w.state.files)) (followed-same (due_changes w.state.files))
+    (files-do (revisions 1) w (processed w.state.sources.roots) (become-counts (revisions 1) (given w.state) w.state _ _ (turn-counts w.state.sources.roots w.state)))
+
+-- ---- a switch
+
+-- where there is nothing, this is so
+abbrev WhereNone : {X : Type 0} → Option X → Type 0 → Type 0
+WhereNone None P = P
+WhereNone (Some x) P = Unit {0}
+
+map-none : {X Y : Type 0} (f : X → Y) (o : Option X) (P : Type 0) → WhereNone o P → WhereNone (option_map f o) P
+map-none f None P h = h
+map-none f (Some x) P h = tt
+
+none-either : {X : Type 0} (o : Option X) (P Q : Type 0) → WhereNone o Q → WhereNone o (P ⊎ Q)
+none-either None P Q h = inr h
+none-either (Some x) P Q h = tt
+
+-- the loader's settings have had their last version
+abbrev HadLast : ℕ → Type 0
+HadLast version = 2 ^ 32 ≤ version + 1
+
+version-cases : (version : ℕ) (b : Bool) → (version == last_loader_version) ≡ b → WhereNone (if b then None else Some (Some (version + 1))) (HadLast version)
+version-cases version true is = let last : version ≡ 4294967295 = eqb-true _ _ is in omega (arith, last)
+version-cases version false is = tt
+
+renewed-none : (new : List ProjectWorkspace) (msrv : List (List ℕ)) (asks goes_on : Bool) (workspaces : Workspaces) → WhereNone (renewed_by new msrv asks goes_on workspaces) (HadLast workspaces.loader_version)
+renewed-none new msrv asks true workspaces =
+    map-none _ (next_version true workspaces.loader_version) (HadLast workspaces.loader_version)
+    (version-cases workspaces.loader_version (workspaces.loader_version == last_loader_version) refl)
+renewed-none new msrv asks false workspaces = tt
+
+to-none : (to : Switch) (workspaces : Workspaces) → WhereNone (switch_to to workspaces) (HadLast workspaces.loader_version)
+to-none switch.End workspaces = tt
+to-none switch.CrateData workspaces = tt
+to-none (switch.Join made) workspaces = renewed-none made [] false true workspaces
+to-none (switch.Replace new msrv asks goes_on) workspaces = renewed-none new msrv asks goes_on workspaces
+
+-- or the workspaces have
+abbrev HadLasts : Workspaces → Type 0
+HadLasts workspaces = (2 ^ 64 ≤ workspaces.version + 1) ⊎ HadLast workspaces.loader_version
+
+by-none : (settings : ConfigData) (workspaces : Workspaces) (b : Bool) → ltb workspaces.version (2 ^ 64 - 1) ≡ b
+    → WhereNone (if b then switched (discovers settings) (builds_scripts settings) workspaces else None) (HadLasts workspaces)
+by-none settings workspaces true is =
+    none-either (switched (discovers settings) (builds_scripts settings) workspaces) (2 ^ 64 ≤ workspaces.version + 1) (HadLast workspaces.loader_version)
+    (to-none (decided (discovers settings) (builds_scripts settings) workspaces) workspaces)
+by-none settings workspaces false is = let last = ltb-false workspaces.version (2 ^ 64 - 1) is in inl (omega (arith, last))
+
+-- a switch that is refused
+abbrev RefusesSwitch : Workspaces → Counter → Type 0
+RefusesSwitch workspaces counter = (counter ≡ counters.LoaderSettings) × HadLasts workspaces
+
+made-cases : (settings : ConfigData) (files : SessionFiles) (due : Bool) (made : Option (Follows × Workspaces)) (workspaces : Workspaces) → WhereNone made (HadLasts workspaces)
+    → IfErr (if due then with_crates settings files (unless_exhausted made) else Ok (follows.Nothing, workspaces)) (RefusesSwitch workspaces)
+made-cases settings files false made workspaces h = tt
+made-cases settings files true None workspaces h = (refl, h)
+made-cases settings files true (Some made) workspaces h = tt
+
+followed-does : (next : Follows) (w : Working State) → Does (requests 1) w (followed next w)
+unfolding followed roots_renewed
+followed-does follows.Nothing w = does-same (requests 1) w w refl
+followed-does follows.CrateData w = does-same (requests 1) w w refl
+followed-does (follows.Wait msrv) w = does-same (requests 1) w (warned msrv w) (same-state w.state (warned msrv w).state (warned-same msrv w))
+followed-does (follows.GoOn msrv version initial) w =
+    let v : Working State = warned msrv w in
+    then-same (requests 1) w (watchers_registered v) (λ u. roots_renewed (loader_set version u)) (λ u. same-state u.state (loader_set version u).state (loader-same version u))
+    (from-same (requests 1) w v (watchers_registered v) (same-state w.state v.state (warned-same msrv w)) (watched-does v))
+
+-- it may ask the client, build crate data, and give a version each of the workspaces and of the loader's settings
+abbrev for_switch : Numbers
+for_switch = record none { requests = 1; revisions = 1; versions = 1; settings = 1 }
+
+switch-cases : (made : Result (Follows × Workspaces) Counter) (w : Working State) → Moves w.state.workspaces (left_or w.state.workspaces made) → IfErr made (RefusesSwitch w.state.workspaces)
+    → Does for_switch w (switched_to made w)
+unfolding switched_to
+switch-cases (Err counter) w moves h = subst (AreTooMany (given w.state) for_switch) (sym h.0) h.1
+switch-cases (Ok made) w moves h =
+    let now : Working State = at_workspaces (λ before. made.1) w in
+    counts-behind state_at (record none { versions = 1; settings = 1 }) (record none { requests = 1; revisions = 1 }) (given w.state) (given now.state) _
+    (gives-versions w.state made.1 moves.version moves.settings)
+    (does-then (requests 1) (revisions 1) now (followed made.0 now) (crates_built (builds_crates w.state.client.settings made.0)) (followed-does made.0 now)
+    (built-does (builds_crates w.state.client.settings made.0)))
+
+switch-does : (w : Working State) → Does for_switch w (switch_done w)
+unfolding switch_done
+switch-does w =
+    let workspaces = w.state.workspaces in
+    let settings = w.state.client.settings in
+    switch-cases (switch_made settings w.state.files workspaces) w (made-moves settings w.state.files workspaces)
+    (made-cases settings w.state.files (is_switch_due w.state.files workspaces) (switch_by settings workspaces) workspaces (by-none settings workspaces (ltb workspaces.version (2 ^ 64 - 1)) refl))
+
+-- ---- jobs of the session's own
+
+fetch-does : (may : Bool) (w : Working State) → Does (jobs 1) w (fetch_started may w)
+unfolding fetch_started fetch_handed_over
+fetch-does may w = by_fetch (fetch_to_start may w.state.workspaces.fetches)
+  where
+    now : Working State
+    now = at_workspaces (with_fetches (start_fetch may)) w
+
+    by_fetch : (fetch : Option (List ℕ × FetchRequest)) → Does (jobs 1) w (fetch_handed_over fetch now)
+    by_fetch None = does-same (jobs 1) w now refl
+    by_fetch (Some fetch) = job-counts (snapshot_of now.state) _ now
+
+load-does : (load : Option MacroPaths) (w : Working State) → Does (jobs 1) w (load_handed_over load w)
+unfolding load_handed_over
+load-does None w = does-same (jobs 1) w w refl
+load-does (Some paths) w = job-counts (snapshot_of w.state) _ w
+
+-- no load starts where build data does
+run-does : (build : Option ℕ) (w : Working State) → Does (jobs 1) w (and_then (build_handed_over build w) (load_started build))
+unfolding build_handed_over load_started load_handed_over
+run-does None w = load-does (load_due None w.state.workspaces) (at_workspaces (with_due_load None) w)
+run-does (Some version) w =
+    then-same (jobs 1) w (build_handed_over (Some version) w) (at_workspaces (with_due_load (Some version))) (λ v. refl) (job-counts (snapshot_of w.state) _ w)
+
+runs-do : (w : Working State) → Does (jobs 1) w (runs_started w)
+unfolding runs_started build_started
+runs-do w = run-does (build_due w.state.workspaces) (at_workspaces with_due_build w)
+
+-- as many as two are
+jobs-then : (n m all : ℕ) (w : Working State) (r : Result (Working State) Counter) (f : Working State → Result (Working State) Counter) → n + m ≡ all → Does (jobs n) w r
+    → ((v : Working State) → Does (jobs m) v (f v)) → Does (jobs all) w (and_then r f)
+jobs-then n m all w r f sum p q = subst (λ k. Does (jobs k) w (and_then r f)) sum (does-then (jobs n) (jobs m) w r f p q)
+
+resumed-do : (tasks : List DeferredTask) (w : Working State) → Does (jobs (checks_among tasks)) w (all_resumed tasks w)
+unfolding resumed
+resumed-do [] w = does-same (jobs 0) w w refl
+resumed-do (CheckIfIndexed path ∷ tasks) w = resumed-do tasks w
+resumed-do (CheckProcMacroSources files ∷ tasks) w =
+    jobs-then 1 (checks_among tasks) (checks_among tasks + 1) w (at_desk (handed_over (snapshot_of w.state) Worker (check_kind (snapshot_of w.state) files)) w) (all_resumed tasks) (omega arith)
+    (job-counts (snapshot_of w.state) (check_kind (snapshot_of w.state) files) w) (resumed-do tasks)
+
+-- ---- jobs for requests
+
+few-turns : (given before now more : ℕ) → before ≡ given → now ≡ before → now ≤ given + more
+few-turns given before now more p q = omega (arith, p, q)
+
+few-jobs : (given before now n most : ℕ) → before ≡ given → now ≡ before + n → n ≤ most → now ≤ given + most
+few-jobs given before now n most p q le = omega (arith, p, q, le)
+
+many-jobs : (given before n most : ℕ) → before ≡ given → n ≤ most → 2 ^ 64 ≤ before + n → 2 ^ 64 ≤ given + most
+many-jobs given before n most p le h = omega (arith, p, le, h)
+
+-- what the desk does hands over these jobs
+desk-counts : (needs : Numbers) (s : State) (request : Option Request) (w : Working Desk) (done : Reaction) (out : Jobs) (r : Result (Working Desk) Counter) → w.state.turns ≡ s.desk.turns
+    → w.state.handed ≡ s.desk.handed → length done.jobs ≤ needs.jobs → IfOk r (λ v. Settled request w v done out) → IfErr r (TooMany w.state.handed done)
+    → Counts (λ (v : Working Desk). with_desk v.state s) needs (given s) r
+desk-counts needs s request w done out (Ok v) turns handed few settles errs =
+    gives-desk needs s v.state (few-turns s.desk.turns w.state.turns v.state.turns needs.turns turns settles.turns)
+    (few-jobs s.desk.handed w.state.handed v.state.handed (length done.jobs) needs.jobs handed settles.handed few)
+desk-counts needs s request w done out (Err counter) turns handed few settles errs =
+    subst (AreTooMany (given s) needs) (sym errs.0) (many-jobs s.desk.handed w.state.handed (length done.jobs) needs.jobs handed few errs.1)
+
+request-does : (meaning : Meaning) (s : State) (r : Request) (needs : Numbers) → length (row meaning (Next (Lsp (lsp.Request r))) (place_of s)).jobs ≤ needs.jobs
+    → Does needs (turn_begun s) (asked meaning r (turn_begun s))
+request-does meaning s r needs few =
+    let w : Working State = turn_begun s in
+    let done = request_row meaning (scene_of s) w.state.desk (s.desk.turns + 1) r in
+    let same = request-turns meaning (scene_of s) s.desk (s.desk.turns + 1) (s.desk.turns + 1) r in
+    then-same needs w (at_desk (requested meaning (scene_of s) r) w) (at_workspaces (request_told r w.state.desk))
+    (λ v. given-workspaces v.state (request_told r w.state.desk v.state.workspaces) (request-runs 0 r w.state.desk v.state.workspaces).versions)
+    (counts-within state_at needs (given w.state) desk_in with_desk (requested meaning (scene_of s) r) w
+    (desk-counts needs w.state (Some r) (at w) done s.desk.jobs (requested meaning (scene_of s) r (at w)) refl refl
+    (subst (λ (d : Reaction). length d.jobs ≤ needs.jobs) (sym same) few) (request-settles meaning (scene_of s) r (at w)) (request-errs meaning (scene_of s) r (at w))))
+
+-- ---- batches
+
+-- ends of jobs give no number
+logged-same : (code : LogCode) (text : Option (List ℕ)) (w : Working State) → given (logged_if code text w).state ≡ given w.state
+logged-same code text w = same-state w.state (logged_if code text w).state (logged_if-same code text w)
+
+fetch-same : (end : Option FetchEnd) (w : Working State) → given (fetch_taken end w).state ≡ given w.state
+unfolding fetch_taken
+fetch-same None w = refl
+fetch-same (Some found) w =
+    logged-same _ _ (at_workspaces (fetch_kept (Some found)) w) ∙ given-workspaces w.state (fetch_kept (Some found) w.state.workspaces) (fetch-leaves (Some found) w.state.workspaces).2
+
+build-same : (end : Option BuildEnd) (w : Working State) → given (build_taken end w).state ≡ given w.state
+unfolding build_taken
+build-same None w = refl
+build-same (Some made) w =
+    logged-same _ _ (at_workspaces (build_kept (Some made)) w) ∙ given-workspaces w.state (build_kept (Some made) w.state.workspaces) (build-leaves (Some made) w.state.workspaces).2
+
+-- but that of a load of macros may change the world
+ends-do : (fetched : Option FetchEnd) (built : Option BuildEnd) (checked : Option (List (List ℕ))) (loaded : Option LoadEnd) (w : Working State)
+    → Does (revisions 1) w (ends_taken fetched built checked loaded w)
 unfolding ends_taken load_taken
-ends-errs fetched built checked loaded w =
-    let v : Working State = check_taken checked (build_taken built (fetch_taken fetched w)) in
-    subst (λ (revision : ℕ). IfErr (load_taken loaded v) (AtLast revision)) (ap (λ (s : State). s.files.host.revision) (ends-note fetched built checked w).state)
-    (arrived-errs (crates_loaded loaded v.state.workspaces) (at_workspaces (load_kept loaded) v))
+ends-do fetched built checked loaded w =
+    let b : Working State = build_taken built (fetch_taken fetched w) in
+    let c : Working State = check_taken checked b in
+    let l : Working State = at_workspaces (load_kept loaded) c in
+    from-same (revisions 1) w l (crates_arrived (crates_loaded loaded c.state.workspaces) l)
+    (given-workspaces c.state (load_kept loaded c.state.workspaces) (load-leaves loaded c.state.workspaces).2 ∙ build-same built (fetch_taken fetched w) ∙ fetch-same fetched w)
+    (arrived-does (crates_loaded loaded c.state.workspaces) l)
 
-taken-errs : (meaning : Meaning) (turns : ℕ) (message : TaskMsg) (w : Working State)
-    → IfErr (taken meaning message w)
-    (Refuses w.state.desk.handed (message_row meaning (scene_of w.state) (record w.state.desk { turns = turns }) message) w.state.files.host.revision)
+-- so many jobs and revisions
+abbrev for_messages : ℕ → ℕ → Numbers
+for_messages jobs revisions = record none { jobs = jobs; revisions = revisions }
+
+plus-none : (n : ℕ) → n + 0 ≡ n
+plus-none n = omega arith
+
+taken-does : (meaning : Meaning) (turns : ℕ) (message : TaskMsg) (w : Working State)
+    → Does (for_messages (length (message_row meaning (scene_of w.state) (record w.state.desk { turns = turns }) message).jobs) 1) w (taken meaning message w)
 unfolding taken
-taken-errs meaning turns message w =
-    let done = message_row meaning (scene_of w.state) (record w.state.desk { turns = turns }) message in
-    let revision = w.state.files.host.revision in
-    let fetched : Option FetchEnd = fetch_ended message w.state.desk.jobs in
-    let built : Option BuildEnd = build_ended message w.state.desk.jobs in
-    let checked : Option (List (List ℕ)) = check_ended message w.state.desk.jobs in
-    let ended : Option LoadEnd = load_ended message w.state.desk.jobs in
-    err-and_then (at_desk (taken_at_desk meaning (scene_of w.state) message) w) (ends_taken fetched built checked ended) (Refuses w.state.desk.handed done revision)
-    (IfErr-within desk_in with_desk (taken_at_desk meaning (scene_of w.state) message) w (Refuses w.state.desk.handed done revision)
-    (err-weaker (taken_at_desk meaning (scene_of w.state) message (at w)) (TooMany w.state.desk.handed done) (Refuses w.state.desk.handed done revision)
-    (subst (λ d. IfErr (taken_at_desk meaning (scene_of w.state) message (at w)) (TooMany w.state.desk.handed d)) (sym (message-turns meaning (scene_of w.state) w.state.desk turns message))
-    (message-errs meaning (scene_of w.state) message (at w))) (λ c many. inl many)))
-    (λ v is. let a = IfOk-at_ok (λ v. DoesAtDesk w v done (after_message message w.state.desk.jobs) w.state.workspaces (Ok w.state.files)) is (desk-settles meaning turns message w) in
-    err-weaker (ends_taken fetched built checked ended v) (AtLast v.state.files.host.revision) _ (ends-errs fetched built checked ended v)
-    (λ c last. inr (subst (λ (f : SessionFiles). AtLast f.host.revision c) (sym (ok-same w.state.files v.state.files a.files)) last)))
+taken-does meaning turns message w =
+    let scene = scene_of w.state in
+    let done = message_row meaning scene (record w.state.desk { turns = turns }) message in
+    let plain = message_row meaning scene w.state.desk message in
+    let same : length plain.jobs ≡ length done.jobs = ap (λ (d : Reaction). length d.jobs) (sym (message-turns meaning scene w.state.desk turns message)) in
+    let out = w.state.desk.jobs in
+    subst (λ n. Does (for_messages n 1) w (taken meaning message w)) (plus-none (length done.jobs))
+    (does-then (jobs (length done.jobs)) (revisions 1) w (at_desk (taken_at_desk meaning scene message) w) _
+    (counts-within state_at (jobs (length done.jobs)) (given w.state) desk_in with_desk (taken_at_desk meaning scene message) w
+    (desk-counts (jobs (length done.jobs)) w.state None (at w) plain (after_message message out) (taken_at_desk meaning scene message (at w)) refl refl (omega (arith, same))
+    (message-settles meaning scene message (at w)) (message-errs meaning scene message (at w))))
+    (ends-do (fetch_ended message out) (build_ended message out) (check_ended message out) (load_ended message out)))
 
--- a batch: its first message that needs a job too many, behind those that the ones before have handed over
--- the same of a batch at a place: a job too many, or crate data that comes at the last revision
-abbrev RefusesAt : Meaning → List TaskMsg → ℕ → Place → Counter → Type 0
-RefusesAt meaning batch handed place counter =
-    TooMany handed (batch_row meaning batch place) counter ⊎ AtLast (place.revision + times_told batch place.desk.jobs place.workspaces) counter
-
-more-at : (before more : ℕ) (counter : Counter) → AtLast before counter → AtLast (before + more) counter
-more-at before more counter h = (h.0, omega (arith, h.1))
-
-later-at : (before one later : ℕ) (counter : Counter) → AtLast (before + one + later) counter → AtLast (before + (one + later)) counter
-later-at before one later counter h = (h.0, omega (arith, h.1))
-
-batch-errs : (meaning : Meaning) (turns : ℕ) (batch : List TaskMsg) (w : Working State) → IfErr (batched meaning batch w) (RefusesAt meaning batch w.state.desk.handed (place_at turns w.state))
-batch-errs meaning turns [] w = tt
-batch-errs meaning turns (m ∷ ms) w =
-    let place = place_at turns w.state in
-    let done = message_row meaning (scene_at place) place.desk m in
-    let past = place_past m done place in
-    let rest = batch_row meaning ms past in
-    let jobs = after_message m w.state.desk.jobs in
-    let both : length (done.jobs ++ rest.jobs) ≡ length done.jobs + length rest.jobs = length-append done.jobs rest.jobs in
-    let one : ℕ = if is_some (crates_in m w.state.desk.jobs w.state.workspaces) then 1 else 0 in
-    let later : ℕ = times_told ms jobs (kept_past m w.state) in
-    err-and_then (taken meaning m w) (batched meaning ms) (RefusesAt meaning (m ∷ ms) w.state.desk.handed place)
-    (err-weaker (taken meaning m w) (Refuses w.state.desk.handed done place.revision) _ (taken-errs meaning turns m w)
-    (λ c h. ⊎_elim (λ many. inl (many.0, omega (arith, many.1, both))) (λ last. inr (more-at place.revision (one + later) c last)) h))
-    (λ v is. let a = IfOk-at_ok (λ v. DoesAtDesk w v done jobs (kept_past m w.state) (files_past m w.state)) is (taken-settles meaning turns m w) in
-    let given : v.state.desk.handed ≡ w.state.desk.handed + length done.jobs = a.desk.handed in
-    err-weaker (batched meaning ms v) (RefusesAt meaning ms v.state.desk.handed past) _
-    (subst (λ p. IfErr (batched meaning ms v) (RefusesAt meaning ms v.state.desk.handed p)) (settled-place turns m w v done a) (batch-errs meaning turns ms v))
-    (λ c h. ⊎_elim (λ many. inl (many.0, omega (arith, many.1, given, both))) (λ last. inr (later-at place.revision one later c last)) h))
-
-abbrev Needs : Meaning → State → Input → Counter → Type 0
-Needs meaning s input counter = NeedsMore meaning (place_of s) input counter
-
-no-less : (handed jobs checks fetches runs : ℕ) → 2 ^ 64 ≤ handed + jobs → 2 ^ 64 ≤ handed + (jobs + checks) + fetches + runs
-no-less handed jobs checks fetches runs h = omega (arith, h)
-
--- the checks that an input brings
-abbrev checks_in : Input → State → ℕ
-checks_in input s = length (jobs_resumed input (place_of s))
-
--- the jobs of build data and of macros that a turn starts
-abbrev runs_in : Input → State → ℕ
-runs_in input s = builds_in input (place_of s) + loads_in input (place_of s)
-
-needs-jobs : (meaning : Meaning) (s : State) (input : Input) (done : Reaction) (counter : Counter) → row meaning input (place_of s) ≡ done → TooMany s.desk.handed done counter → Needs meaning s input counter
-needs-jobs meaning s input done counter is h =
-    subst (Needs meaning s input) (sym h.0)
-    (subst (λ (d : Reaction). 2 ^ 64 ≤ s.desk.handed + (length d.jobs + checks_in input s) + fetches_in input (place_of s) + runs_in input s) (sym is)
-    (no-less s.desk.handed (length done.jobs) (checks_in input s) (fetches_in input (place_of s)) (runs_in input s) h.1))
-
-read-errs : (meaning : Meaning) (s : State) (r : Request) → IfErr (asked meaning r (counted_turn s)) (Needs meaning s (Next (Lsp (RequestMessage r))))
-read-errs meaning s r =
-    let done = request_row meaning (scene_of s) (counted_turn s).state.desk (s.desk.turns + 1) r in
-    err-and_then (at_desk (requested meaning (scene_of s) r) (counted_turn s)) _ (Needs meaning s (Next (Lsp (RequestMessage r))))
-    (IfErr-within desk_in with_desk (requested meaning (scene_of s) r) (counted_turn s) _
-    (err-weaker _ (TooMany s.desk.handed done) _ (request-errs meaning (scene_of s) r (at (counted_turn s)))
-    (λ c h. needs-jobs meaning s (Next (Lsp (RequestMessage r))) done c (sym (request-turns meaning (scene_of s) s.desk (s.desk.turns + 1) (s.desk.turns + 1) r)) h)))
-    (λ v is. tt)
+batch-does : (meaning : Meaning) (turns : ℕ) (s : State) (batch : List TaskMsg) (w : Working State) → Stays s w.state
+    → Does (for_messages (length (batch_row meaning batch w (place_now s turns w)).jobs) (length batch)) w (batched meaning batch w)
+batch-does meaning turns s [] w h = does-same (for_messages 0 0) w w refl
+batch-does meaning turns s (m ∷ ms) w h =
+    let place = place_now s turns w in
+    let done = message_row meaning (scene_within place w) place.desk m in
+    let rest = batch_row meaning ms (machine_after meaning m w) (place_after_message m done place) in
+    let kept = end_kept m w.state.desk.jobs w.state.workspaces in
+    let first : Numbers = for_messages (length done.jobs) 1 in
+    let others : Numbers = for_messages (length rest.jobs) (length ms) in
+    counts-more state_at (both first others) (for_messages (length (done.jobs ++ rest.jobs)) (length (m ∷ ms))) (given w.state) (batched meaning (m ∷ ms) w)
+    (at-most _ _ (omega arith) (omega (arith, length-append done.jobs rest.jobs)) (omega arith) (omega arith) (omega arith) (omega arith) (omega arith))
+    (counts-then state_at state_at first others (given w.state) (taken meaning m w) (batched meaning ms)
+    (subst (λ scene. Does (for_messages (length (message_row meaning scene place.desk m).jobs) 1) w (taken meaning m w)) (sym (scene-is s turns w h)) (taken-does meaning turns m w))
+    (λ v is. let a : DoesAtDesk w v done (after_message m w.state.desk.jobs) kept =
+    IfOk-at_ok (λ v. DoesAtDesk w v done (after_message m w.state.desk.jobs) kept) is (settles-within meaning s turns m w h) in
+    let next : machine_after meaning m w ≡ v = IfOk-at_ok (λ v. machine_after meaning m w ≡ v) is (or-is w (taken meaning m w)) in
+    subst (λ (r : Reaction). Does (for_messages (length r.jobs) (length ms)) v (batched meaning ms v)) (rest-is meaning s turns m ms w v done kept next a)
+    (batch-does meaning turns s ms v (stays-on s w.state v.state h a.stays))))
 
 -- ---- notifications
 
--- a file needs a number where all were given
-files-errs : (meaning : Meaning) (s : State) (input : Input) (work : Working SessionFiles → Result (Working SessionFiles) Counter) (r : Result SessionFiles Counter) → files_told input (place_of s) ≡ r
-    → IfErr (work (record { state = s.files; out = nothing_done })) (λ c. IsFull c × (r ≡ Err c)) → IfErr (at_files work (counted_turn s)) (Needs meaning s input)
-files-errs meaning s input work r told errs =
-    IfErr-within files_in with_files work (counted_turn s) (Needs meaning s input)
-    (err-weaker _ (λ c. IsFull c × (r ≡ Err c)) (Needs meaning s input) errs
-    (λ c h. subst (Needs meaning s input) (sym h.0) (told ∙ full-err r c h.1 h.0)))
+-- what an event gives
+abbrev for_event : Meaning → State → Input → Numbers
+for_event meaning s input = record none {
+  jobs = length (row meaning input (place_of s)).jobs + check_count input;
+  requests = 1;
+  revisions = length (batch_of input);
+  files = file_count input;
+}
 
-open-path-errs : (meaning : Meaning) (s : State) (n : Notification) (document : DidOpen) (o : Result (List ℕ) UrlFault) → heard_of n ≡ Told (notices.DidOpen document) → path_of document.uri ≡ o
-    → IfErr (opened_at o document (counted_turn s)) (Needs meaning s (notification_input n))
-unfolding opened_at
-open-path-errs meaning s n document (Err fault) heard is = tt
-open-path-errs meaning s n document (Ok path) heard is =
+-- files that it brings
+event-files : (meaning : Meaning) (s : State) (input : Input) (n : ℕ) (work : Working SessionFiles → Result (Working SessionFiles) Counter) → file_count input ≡ n
+    → Counts (λ (v : Working SessionFiles). with_files v.state (turn_begun s).state) (files n) (given (turn_begun s).state) (work (record { state = s.files; out = (turn_begun s).out }))
+    → Does (for_event meaning s input) (turn_begun s) (at_files work (turn_begun s))
+event-files meaning s input n work count h =
+    counts-more state_at (files n) (for_event meaning s input) (given (turn_begun s).state) (at_files work (turn_begun s))
+    (at-most _ _ (omega arith) (omega arith) (omega arith) (omega arith) (omega (arith, count)) (omega arith) (omega arith))
+    (files-do (files n) (turn_begun s) work h)
+
+opened-does : (meaning : Meaning) (s : State) (n : Notification) (document : DidOpen) (o : Result (List ℕ) UrlFault) → file_count (notification_input n) ≡ 1
+    → Does (for_event meaning s (notification_input n)) (turn_begun s) (opened_at o document (turn_begun s))
+unfolding opened_at opened logged ordered
+opened-does meaning s n document (Err fault) one = does-same (for_event meaning s (notification_input n)) (turn_begun s) (logged BadPath document.uri (turn_begun s)) refl
+opened-does meaning s n document (Ok path) one =
     let excludes = excludes_in s.client.settings in
-    files-errs meaning s (notification_input n) (opened excludes path document.version document.text) (after_opening excludes path document.version document.text s.files)
-    (rw (heard, is) refl) (opened-errs excludes path document.version document.text (record { state = s.files; out = nothing_done }))
+    event-files meaning s (notification_input n) 1 (opened excludes path document.version document.text) one
+    (become-counts (files 1) (given (turn_begun s).state) (turn_begun s).state _ _ (opening-counts excludes path document.version document.text (turn_begun s).state))
 
-change-path-errs : (meaning : Meaning) (s : State) (n : Notification) (change : DidChange) (o : Result (List ℕ) UrlFault) → heard_of n ≡ Told (notices.DidChange change) → path_of change.uri ≡ o
-    → IfErr (changed_at o change (counted_turn s)) (Needs meaning s (notification_input n))
-unfolding changed_at
-change-path-errs meaning s n change (Err fault) heard is = tt
-change-path-errs meaning s n change (Ok path) heard is =
+edited-cases : (needs before : Numbers) (s : State) (b : Bool) (r : Result (Working SessionFiles) Counter) (w : Working SessionFiles)
+    → Counts (λ (v : Working SessionFiles). with_files v.state s) needs before r → Counts (λ (v : Working SessionFiles). with_files v.state s) needs before (Ok w)
+    → Counts (λ (v : Working SessionFiles). with_files v.state s) needs before (if b then r else Ok w)
+edited-cases needs before s b r w p q = counts-if (λ (v : Working SessionFiles). with_files v.state s) needs before b r (Ok w) p q
+
+changed-does : (meaning : Meaning) (s : State) (n : Notification) (change : DidChange) (o : Result (List ℕ) UrlFault) → file_count (notification_input n) ≡ 1
+    → Does (for_event meaning s (notification_input n)) (turn_begun s) (changed_at o change (turn_begun s))
+unfolding changed_at changed edited logged ordered
+changed-does meaning s n change (Err fault) one = does-same (for_event meaning s (notification_input n)) (turn_begun s) (logged BadPath change.uri (turn_begun s)) refl
+changed-does meaning s n change (Ok path) one =
     let columns = columns_in s.client.settings in
-    files-errs meaning s (notification_input n) (changed columns path change.version change.changes) (change_of columns path change.version change.changes s.files)
-    (rw (heard, is) refl) (changed-step-errs columns path change.version change.changes (record { state = s.files; out = nothing_done }))
+    let t : State = (turn_begun s).state in
+    event-files meaning s (notification_input n) 1 (changed columns path change.version change.changes) one
+    (edited-cases (files 1) (given t) t _ _ _ (become-counts (files 1) (given t) t _ _ (editing-counts columns path change.version change.changes t)) (gives-same (files 1) (given t) (given t) refl))
 
-close-path-errs : (meaning : Meaning) (s : State) (n : Notification) (uri : List ℕ) (o : Result (List ℕ) UrlFault) → IfErr (closed_at o uri (counted_turn s)) (Needs meaning s (notification_input n))
-unfolding closed_at
-close-path-errs meaning s n uri (Err fault) = tt
-close-path-errs meaning s n uri (Ok path) = IfErr-within files_in with_files (λ f. Ok (closed_document path f)) (counted_turn s) _ tt
+closed-does : (needs : Numbers) (s : State) (uri : List ℕ) (o : Result (List ℕ) UrlFault) → Does needs (turn_begun s) (closed_at o uri (turn_begun s))
+unfolding closed_at closed_document logged ordered
+closed-does needs s uri (Err fault) = does-same needs (turn_begun s) (logged BadPath uri (turn_begun s)) refl
+closed-does needs s uri (Ok path) = files-do needs (turn_begun s) (λ f. Ok (closed_document path f)) (gives-same needs (given (turn_begun s).state) (given (turn_begun s).state) refl)
 
-asking-errs : (meaning : Meaning) (s : State) (n : Notification) → heard_of n ≡ Told notices.DidChangeConfiguration
-    → IfErr (at_client asked_for_settings (counted_turn s)) (Needs meaning s (notification_input n))
-asking-errs meaning s n heard =
-    let input = notification_input n in
-    let told : (client_after input s.client).asked.given ≡ (after_asking Settings s.client).asked.given = rw heard refl in
-    let more = left-more input (place_of s) in
-    IfErr-within client_in with_client asked_for_settings (counted_turn s) (Needs meaning s input)
-    (err-weaker _ (IsPast (after_asking Settings s.client)) (Needs meaning s input)
-    (asked-errs Configuration Settings (record { state = s.client; out = nothing_done })) (λ c h. subst (Needs meaning s input) (sym h.0) (omega (arith, h.1, told, more))))
+saved-does : (needs : Numbers) (s : State) (uri : List ℕ) (o : Result (List ℕ) UrlFault) → Does needs (turn_begun s) (Ok (saved_at o uri (turn_begun s)))
+unfolding saved_at logged ordered
+saved-does needs s uri (Err fault) = does-same needs (turn_begun s) (logged BadPath uri (turn_begun s)) refl
+saved-does needs s uri (Ok path) =
+    let w : Working State = turn_begun s in
+    let noted : Working State = save_noted (is_unknown s.files.ids path) path w in
+    does-same needs w (saved_file path w)
+    (given-workspaces noted.state (path_saved s.client.settings s.sources.roots s.files path noted.state.workspaces)
+    (save-runs 0 s.client.settings s.sources.roots s.files path noted.state.workspaces).versions ∙ same-state w.state noted.state (noted-same (is_unknown s.files.ids path) path w))
 
--- no counter refuses folders and answers
-refolding-errs : (meaning : Meaning) (s : State) (input : Input) (added removed : List (List ℕ)) → IfErr (folders_taken added removed (counted_turn s)) (Needs meaning s input)
-refolding-errs meaning s input added removed =
-    err-and_then (at_client (λ c. Ok (folders_changed added removed c)) (counted_turn s)) _ (Needs meaning s input)
-    (IfErr-within client_in with_client (λ c. Ok (folders_changed added removed c)) (counted_turn s) (Needs meaning s input) tt) (λ v is. tt)
+-- a step of what is agreed with the client that gives no number
+client-does : (needs : Numbers) (w : Working State) (step : Working Client → Working Client) → (step (record { state = w.state.client; out = w.out })).state.asked.given ≡ w.state.client.asked.given
+    → Does needs w (at_client (λ c. Ok (step c)) w)
+client-does needs w step same =
+    counts-within state_at needs (given w.state) client_in with_client (λ c. Ok (step c)) w
+    (gives-same needs (given w.state) _ (ap (λ n. record (given w.state) { requests = n }) same))
 
-answer-errs : (meaning : Meaning) (s : State) (input : Input) (r : Response) → IfErr (answer_taken r (counted_turn s)) (Needs meaning s input)
-answer-errs meaning s input r =
-    err-and_then (at_client (λ c. Ok (answered r c)) (counted_turn s)) _ (Needs meaning s input)
-    (IfErr-within client_in with_client (λ c. Ok (answered r c)) (counted_turn s) (Needs meaning s input) tt) (λ v is. tt)
+folders-does : (needs : Numbers) (s : State) (added removed : List (List ℕ)) → Does needs (turn_begun s) (folders_taken added removed (turn_begun s))
+folders-does needs s added removed =
+    let client : Working Client = record { state = s.client; out = (turn_begun s).out } in
+    then-same needs (turn_begun s) (at_client (λ c. Ok (folders_changed added removed c)) (turn_begun s)) (at_workspaces (folders_told_if (goes_by_folders s.client.settings)))
+    (λ v. given-workspaces v.state (folders_told_if (goes_by_folders s.client.settings) v.state.workspaces) (folders-runs 0 (goes_by_folders s.client.settings) v.state.workspaces).versions)
+    (client-does needs (turn_begun s) (folders_changed added removed) (ap (λ (c : Client). c.asked.given) (folders-do added removed client).is))
 
-told-errs : (meaning : Meaning) (s : State) (n : Notification) (notice : Notice) → heard_of n ≡ Told notice → IfErr (told notice (counted_turn s)) (Needs meaning s (notification_input n))
+without-same : {K : Type 0} (o : Option ℕ) (asked : Outgoing K) → (without o asked).given ≡ asked.given
+without-same None asked = refl
+without-same (Some number) asked = refl
+
+after-same : (o : Option RequestId) (asked : Outgoing ReqHandler) → (asked_after o asked).given ≡ asked.given
+after-same None asked = refl
+after-same (Some id) asked = without-same (number_of id) asked
+
+answer-does : (needs : Numbers) (s : State) (r : Response) → Does needs (turn_begun s) (answer_taken r (turn_begun s))
+answer-does needs s r =
+    let client : Working Client = record { state = s.client; out = (turn_begun s).out } in
+    then-same needs (turn_begun s) (at_client (λ c. Ok (answered r c)) (turn_begun s)) (λ v. at_workspaces (settings_told s.client.settings v.state.client.settings) v)
+    (λ v. given-workspaces v.state (settings_told s.client.settings v.state.client.settings v.state.workspaces) (settings-runs 0 s.client.settings v.state.client.settings v.state.workspaces).versions)
+    (client-does needs (turn_begun s) (answered r) (ap (λ (c : Client). c.asked.given) (answered-does r client).is ∙ after-same r.id s.client.asked))
+
+cancel-does : (meaning : Meaning) (s : State) (n : Notification) (id : RequestId) → told_by (heard_of n) ≡ Some (notices.CancelRequest id)
+    → Does (for_event meaning s (notification_input n)) (turn_begun s) (at_desk (λ d. Ok (cancelled id d)) (turn_begun s))
+cancel-does meaning s n id heard =
+    let needs = for_event meaning s (notification_input n) in
+    let w : Working State = turn_begun s in
+    let settles = cancel-settles id (at w) in
+    let jobs : length (row meaning (notification_input n) (place_of s)).jobs ≡ length (cancel_row id s.desk).jobs = ap (λ o. length (notice_row (cancelled_by o) s.desk).jobs) heard in
+    counts-within state_at needs (given w.state) desk_in with_desk (λ d. Ok (cancelled id d)) w
+    (gives-desk needs w.state (cancelled id (at w)).state (few-turns w.state.desk.turns w.state.desk.turns (cancelled id (at w)).state.turns needs.turns refl settles.turns)
+    (few-jobs w.state.desk.handed w.state.desk.handed (cancelled id (at w)).state.handed (length (cancel_row id s.desk).jobs) needs.jobs refl settles.handed (omega (arith, jobs))))
+
+told-does : (meaning : Meaning) (s : State) (n : Notification) (notice : Notice) → told_by (heard_of n) ≡ Some notice
+    → Does (for_event meaning s (notification_input n)) (turn_begun s) (told notice (turn_begun s))
 unfolding told
-told-errs meaning s n (notices.CancelRequest id) heard = IfErr-within desk_in with_desk (λ d. Ok (cancelled id d)) (counted_turn s) _ tt
-told-errs meaning s n (notices.CancelProgress token) heard = tt
-told-errs meaning s n (notices.DidOpen document) heard = open-path-errs meaning s n document (path_of document.uri) heard refl
-told-errs meaning s n (notices.DidChange change) heard = change-path-errs meaning s n change (path_of change.uri) heard refl
-told-errs meaning s n (notices.DidClose uri) heard = close-path-errs meaning s n uri (path_of uri)
-told-errs meaning s n (notices.DidSave uri) heard = tt
-told-errs meaning s n notices.DidChangeConfiguration heard = asking-errs meaning s n heard
-told-errs meaning s n (notices.DidChangeWorkspaceFolders added removed) heard = refolding-errs meaning s (notification_input n) added removed
-told-errs meaning s n (notices.DidChangeWatchedFiles changes) heard = tt
-told-errs meaning s n notices.CancelFlycheck heard = tt
-told-errs meaning s n notices.ClearFlycheck heard = tt
-told-errs meaning s n (notices.RunFlycheck uri) heard = tt
-told-errs meaning s n notices.AbortRunTest heard = tt
+told-does meaning s n (notices.CancelRequest id) heard = cancel-does meaning s n id heard
+told-does meaning s n (notices.CancelProgress token) heard = does-same (for_event meaning s (notification_input n)) (turn_begun s) (turn_begun s) refl
+told-does meaning s n (notices.DidOpen document) heard = opened-does meaning s n document (path_of document.uri) (ap files_noticed heard)
+told-does meaning s n (notices.DidChange change) heard = changed-does meaning s n change (path_of change.uri) (ap files_noticed heard)
+told-does meaning s n (notices.DidClose uri) heard = closed-does (for_event meaning s (notification_input n)) s uri (path_of uri)
+told-does meaning s n (notices.DidSave uri) heard = saved-does (for_event meaning s (notification_input n)) s uri (path_of uri)
+told-does meaning s n notices.DidChangeConfiguration heard =
+    counts-more state_at (requests 1) (for_event meaning s (notification_input n)) (given (turn_begun s).state) (at_client asked_for_settings (turn_begun s))
+    (at-most _ _ (omega arith) (omega arith) (omega arith) (omega arith) (omega arith) (omega arith) (omega arith))
+    (request-counts Configuration Settings (turn_begun s))
+told-does meaning s n (notices.DidChangeWorkspaceFolders added removed) heard = folders-does (for_event meaning s (notification_input n)) s added removed
+told-does meaning s n (notices.DidChangeWatchedFiles changes) heard =
+    does-same (for_event meaning s (notification_input n)) (turn_begun s) (files_changed map.empty changes (turn_begun s))
+    (same-state (turn_begun s).state (files_changed map.empty changes (turn_begun s)).state (files-same map.empty changes (turn_begun s)))
+told-does meaning s n notices.CancelFlycheck heard = does-same (for_event meaning s (notification_input n)) (turn_begun s) (turn_begun s) refl
+told-does meaning s n notices.ClearFlycheck heard = does-same (for_event meaning s (notification_input n)) (turn_begun s) (turn_begun s) refl
+told-does meaning s n (notices.RunFlycheck uri) heard = does-same (for_event meaning s (notification_input n)) (turn_begun s) (turn_begun s) refl
+told-does meaning s n notices.AbortRunTest heard = does-same (for_event meaning s (notification_input n)) (turn_begun s) (turn_begun s) refl
 
-heard-errs : (meaning : Meaning) (s : State) (n : Notification) (heard : Heard) → heard_of n ≡ heard → IfErr (noticed heard n.method (counted_turn s)) (Needs meaning s (notification_input n))
-unfolding noticed
-heard-errs meaning s n (Told notice) is = told-errs meaning s n notice is
-heard-errs meaning s n Malformed is = tt
-heard-errs meaning s n Unhandled is = tt
-heard-errs meaning s n Silent is = tt
+heard-does : (meaning : Meaning) (s : State) (n : Notification) (heard : Heard) → heard_of n ≡ heard
+    → Does (for_event meaning s (notification_input n)) (turn_begun s) (noticed heard n.method (turn_begun s))
+unfolding noticed logged ordered
+heard-does meaning s n (Told notice) is = told-does meaning s n notice (ap told_by is)
+heard-does meaning s n Malformed is = does-same (for_event meaning s (notification_input n)) (turn_begun s) (logged MalformedNotification n.method (turn_begun s)) refl
+heard-does meaning s n Unhandled is = does-same (for_event meaning s (notification_input n)) (turn_begun s) (logged UnhandledNotification n.method (turn_begun s)) refl
+heard-does meaning s n Silent is = does-same (for_event meaning s (notification_input n)) (turn_begun s) (turn_begun s) refl
+
+-- ---- events
+
+event-does : (meaning : Meaning) (s : State) (event : Event) → Does (for_event meaning s (Next event)) (turn_begun s) (happened meaning event (turn_begun s))
+unfolding happened received loaded
+event-does meaning s (Lsp (lsp.Request r)) = request-does meaning s r (for_event meaning s (Next (Lsp (lsp.Request r)))) (omega arith)
+event-does meaning s (Lsp (lsp.Notification n)) = heard-does meaning s n (heard_of n) refl
+event-does meaning s (Lsp (lsp.Response r)) = answer-does (for_event meaning s (Next (Lsp (lsp.Response r)))) s r
+event-does meaning s (Task batch) =
+    let w : Working State = turn_begun s in
+    let input : Input = Next (Task batch) in
+    counts-more state_at (for_messages (length (row meaning input (place_of s)).jobs) (length batch)) (for_event meaning s input) (given w.state) (batched meaning batch w)
+    (at-most _ _ (omega arith) (omega arith) (omega arith) (omega arith) (omega arith) (omega arith) (omega arith))
+    (batch-does meaning s.desk.turns s batch w (record { client = refl; files = stays s.files; shows = record { present = refl; version = refl } }))
+event-does meaning s (Vfs messages) =
+    let w : Working State = turn_begun s in
+    let input : Input = Next (Vfs messages) in
+    then-same (for_event meaning s input) w (at_files (loaded messages) w) (λ v. at_workspaces (renewed_if (bring_files messages) v.state.desk.turns) v)
+    (λ v. given-workspaces v.state (renewed_if (bring_files messages) v.state.desk.turns v.state.workspaces) (renewed-runs (bring_files messages) v.state.desk.turns v.state.workspaces).versions)
+    (event-files meaning s input (files_among messages) (loaded messages) refl (become-counts (files (files_among messages)) (given w.state) w.state _ _ (messages-count messages w.state)))
+event-does meaning s (Deferred tasks) =
+    let w : Working State = turn_begun s in
+    let input : Input = Next (Deferred tasks) in
+    counts-more state_at (jobs (checks_among tasks)) (for_event meaning s input) (given w.state) (all_resumed tasks w)
+    (at-most _ _ (omega arith) (omega arith) (omega arith) (omega arith) (omega arith) (omega arith) (omega arith))
+    (resumed-do tasks w)
+event-does meaning s (Timer ticket) =
+    does-same (for_event meaning s (Next (Timer ticket))) (turn_begun s) (timed ticket (turn_begun s)) (given-workspaces (turn_begun s).state (with_fetches (fire ticket) s.workspaces) (fire-runs 0 ticket s.workspaces).versions)
+
+counted-does : (s : State) → Does (turns 1) (begun s) (counted (begun s))
+unfolding counted counted_at_desk
+counted-does s =
+    counts-within state_at (turns 1) (given s) desk_in with_desk counted_at_desk (begun s)
+    (next-counts (λ (v : Working Desk). with_desk v.state s) (turns 1) (given s) s.desk.turns counters.Turns _ (ltb s.desk.turns (2 ^ 64 - 1)) refl
+    (gives-desk (turns 1) s (record s.desk { turns = s.desk.turns + 1 }) (omega arith) (omega arith)) (λ last. omega (arith, last)))
+
+taken_in-does : (meaning : Meaning) (s : State) (event : Event) → Does (both (turns 1) (for_event meaning s (Next event))) (begun s) (taken_in meaning event (begun s))
+unfolding taken_in
+taken_in-does meaning s event =
+    counts-then state_at state_at (turns 1) (for_event meaning s (Next event)) (given s) (counted (begun s)) (happened meaning event) (counted-does s)
+    (λ v is. let same : v ≡ turn_begun s = IfOk-at_ok (λ v. v ≡ turn_begun s) is (counted-is s) in
+    subst (λ w. Does (for_event meaning s (Next event)) w (happened meaning event w)) (sym same) (event-does meaning s event))
 
 -- ---- whole turns
 
-told-last : (before told built now : ℕ) → now ≡ before + told → 2 ^ 64 - 1 ≤ now → 2 ^ 64 - 1 ≤ before + (told + built)
-told-last before told built now is h = omega (arith, is, h)
+abbrev turning_at : Working Turning → State
+turning_at t = t.state.state
 
-no-fewer : (handed checks fetches runs : ℕ) → 2 ^ 64 ≤ handed + checks → 2 ^ 64 ≤ handed + (0 + checks) + fetches + runs
-no-fewer handed checks fetches runs h = omega (arith, h)
+-- a part of a turn
+abbrev PartDoes : Numbers → Working Turning → Result (Working Turning) Counter → Type 0
+PartDoes needs t r = Counts turning_at needs (given t.state.state) r
 
--- a check that is one too many
-deferred-errs : (meaning : Meaning) (s : State) (tasks : List DeferredTask) → IfErr (all_resumed tasks (counted_turn s)) (Needs meaning s (Next (Deferred tasks)))
-deferred-errs meaning s tasks =
-    let input : Input = Next (Deferred tasks) in
-    err-weaker (all_resumed tasks (counted_turn s)) (TooManyChecks s.desk.handed (jobs_resumed input (place_of s))) (Needs meaning s input)
-    (resume-errs tasks (counted_turn s))
-    (λ c h. subst (Needs meaning s input) (sym h.0) (no-fewer s.desk.handed (checks_in input s) (fetches_in input (place_of s)) (runs_in input s) h.1))
+part-does : (needs : Numbers) (part : Working State → Result (Working State) Counter) (t : Working Turning) → Does needs (record { state = t.state.state; out = t.out }) (part (record { state = t.state.state; out = t.out }))
+    → PartDoes needs t (in_state part t)
+part-does needs part t h = counts-within turning_at needs (given t.state.state) state_in with_state part t h
 
-event-errs : (meaning : Meaning) (s : State) (event : Event) → IfErr (happened meaning event (counted_turn s)) (Needs meaning s (Next event))
-unfolding happened received
-event-errs meaning s (Lsp (RequestMessage r)) = read-errs meaning s r
-event-errs meaning s (Lsp (NotificationMessage n)) = heard-errs meaning s n (heard_of n) refl
-event-errs meaning s (Lsp (ResponseMessage r)) = answer-errs meaning s (Next (Lsp (ResponseMessage r))) r
-event-errs meaning s (Task batch) =
-    let done = batch_row meaning batch (place_of s) in
-    let input : Input = Next (Task batch) in
-    err-weaker _ (RefusesAt meaning batch s.desk.handed (place_of s)) _ (batch-errs meaning s.desk.turns batch (counted_turn s))
-    (λ c h. ⊎_elim (λ many. needs-jobs meaning s input done c refl many)
-    (λ last. subst (Needs meaning s input) (sym last.0)
-    (told-last s.files.host.revision (crates_told_by input (place_of s)) (if builds_crates_in input (place_of s) then 1 else 0) (s.files.host.revision + crates_told_by input (place_of s)) refl last.1)) h)
-event-errs meaning s (Vfs messages) =
-    err-and_then (at_files (loaded messages) (counted_turn s)) _ (Needs meaning s (Next (Vfs messages)))
-    (files-errs meaning s (Next (Vfs messages)) (loaded messages) (after_messages messages s.files) refl (loaded-errs-by messages (record { state = s.files; out = nothing_done })))
-    (λ v is. tt)
-event-errs meaning s (Deferred tasks) = deferred-errs meaning s tasks
-event-errs meaning s (Timer ticket) = tt
+parts-then : (a b : Numbers) (t : Working Turning) (r : Result (Working Turning) Counter) (f : Working Turning → Result (Working Turning) Counter) → PartDoes a t r
+    → ((u : Working Turning) → PartDoes b u (f u)) → PartDoes (both a b) t (and_then r f)
+parts-then a b t r f p q = counts-then turning_at turning_at a b (given t.state.state) r f p (λ u is. q u)
 
-turns-errs : (meaning : Meaning) (s : State) (event : Event) → IfErr (counted (begun s)) (Needs meaning s (Next event))
-unfolding counted
-turns-errs meaning s event =
-    IfErr-within desk_in with_desk counted_at_desk (begun s) (Needs meaning s (Next event))
-    (err-weaker _ (λ c. (c ≡ Turns) × (2 ^ 64 - 1 ≤ s.desk.turns)) _ (counted-errs (at (begun s))) (λ c h. subst (Needs meaning s (Next event)) (sym h.0) (omega (arith, h.1))))
+given-if : (b : Bool) (w u v : Working State) → given u.state ≡ given w.state → given v.state ≡ given w.state → given (if b then u else v).state ≡ given w.state
+given-if true w u v p q = p
+given-if false w u v p q = q
 
-input-errs : (meaning : Meaning) (s : State) (event : Event) → IfErr (taken_in meaning event (begun s)) (Needs meaning s (Next event))
-unfolding taken_in
-input-errs meaning s event =
-    err-and_then (counted (begun s)) (happened meaning event) (Needs meaning s (Next event)) (turns-errs meaning s event)
-    (λ v is. let same : v ≡ counted_turn s = IfOk-at_ok (λ v. v ≡ counted_turn s) is (counted-is s) in
-    subst (λ w. IfErr (happened meaning event w) (Needs meaning s (Next event))) (sym same) (event-errs meaning s event))
+ending-does : (facts : Facts) (w : Working State) → Does none w (closed facts w)
+unfolding kept within kept_at_desk revised timer_set ordered
+ending-does facts w =
+    let now : Working State = record w { state = with_desk (record w.state.desk { jobs = _ }) w.state } in
+    let told : Working State = revised facts.revision now in
+    does-same none w (timer_set told)
+    (given-if (fires told.state.desk.turns told.state.workspaces.fetches.waiting) told (ordered (SetTimer told.state.desk.turns) told) told refl refl
+    ∙ given-if (now.state.files.host.revision == facts.revision) now now (ordered (Revise now.state.files.host.revision) now) refl refl)
 
-event-part-errs : (meaning : Meaning) (s : State) (event : Event) → IfErr (event_part meaning event (turning (begun s))) (Needs meaning s (Next event))
-unfolding event_part
-event-part-errs meaning s event = IfErr-within state_in with_state (taken_in meaning event) (turning (begun s)) (Needs meaning s (Next event)) (input-errs meaning s event)
-
-closed-errs : (facts : Facts) (w : Working State) (P : Counter → Type 0) → IfErr (closed facts w) P
-unfolding kept within
-closed-errs facts w P = tt
-
-closing-errs : (t : Working Turning) (P : Counter → Type 0) → IfErr (closing_part t) P
+closing-does : (t : Working Turning) → PartDoes none t (closing_part t)
 unfolding closing_part
-closing-errs t P = IfErr-within state_in with_state (closed t.state.facts) t P (closed-errs t.state.facts _ P)
+closing-does t = part-does none (closed t.state.facts) t (ending-does t.state.facts _)
 
--- a request that is one too many is so of the turn
-past-needs : (meaning : Meaning) (s : State) (input : Input) (client : Client) (counter : Counter) → client.asked.given ≤ (client_left input (place_of s)).asked.given
-    → IsPast client counter → Needs meaning s input counter
-past-needs meaning s input client counter more h = subst (Needs meaning s input) (sym h.0) (omega (arith, h.1, more))
+-- the parts behind the event: a switch, the files, what the client shows, a fetch, a run of build data or a load, and a status
+abbrev for_parts : Numbers
+for_parts = record none { jobs = 2; requests = 6; revisions = 2; versions = 1; settings = 1 }
 
--- a switch needs a version more, a request more or a revision more
-switch-needs : (meaning : Meaning) (s : State) (event : Event) (u : Working State) (counter : Counter) → Mid meaning s (Next event) u
-    → IsRefused (switch_made u.state.client.settings u.state.files u.state.workspaces) u.state counter → Needs meaning s (Next event) counter
-switch-needs meaning s event u counter mid (inl refused) =
-    let is : counter ≡ LoaderSettings = IfErr-at_err (λ c. c ≡ LoaderSettings) refused (made-errs u.state.client.settings u.state.files u.state.workspaces) in
-    subst (Needs meaning s (Next event)) (sym is) (sym (mid-switch meaning s event u mid) ∙ refused ∙ ap Err is)
-switch-needs meaning s event u counter mid (inr (inl past)) =
-    let client : client_watching (switch_made u.state.client.settings u.state.files u.state.workspaces) u.state.client ≡ client_switched (Next event) (place_of s) =
-    λ i. client_watching (mid-switch meaning s event u mid i) (mid.client i) in
-    past-needs meaning s (Next event) (client_switched (Next event) (place_of s)) counter (watched-more event (place_of s)) (subst (λ (k : Client). IsPast k counter) client past)
-switch-needs meaning s event u counter mid (inr (inr last)) =
-    subst (Needs meaning s (Next event)) (sym last.0)
-    (told-last s.files.host.revision (crates_told_by (Next event) (place_of s)) (if builds_crates_in (Next event) (place_of s) then 1 else 0) u.state.files.host.revision
-    (told-now-rises meaning s event u mid) last.1)
+later-does : (input : Input) (t : Working Turning) → PartDoes for_parts t (later_parts input t)
+unfolding switch_part files_part quiet_part fetch_part build_part status_part
+later-does input t =
+    parts-then for_switch (record none { jobs = 2; requests = 5; revisions = 1 }) t (switch_part t) _ (part-does for_switch switch_done t (switch-does _))
+    (λ t. parts-then (revisions 1) (record none { jobs = 2; requests = 5 }) t (files_part t) _ (part-does (revisions 1) files_processed t (processed-does _))
+    (λ t. parts-then (requests 4) (record none { jobs = 2; requests = 1 }) t (quiet_part t) _ (part-does (requests 4) (quiet_done t.state.facts) t (quiet-does t.state.facts _))
+    (λ t. parts-then (jobs 1) (record none { jobs = 1; requests = 1 }) t (fetch_part input t) _ (part-does (jobs 1) (fetch_started (may_start input t.state.state.client.settings)) t (fetch-does _ _))
+    (λ t. parts-then (jobs 1) (requests 1) t (build_part t) _ (part-does (jobs 1) runs_started t (runs-do _))
+    (λ t. parts-then (requests 1) none t (status_part t) closing_part (part-does (requests 1) status_done t (status-does _)) closing-does)))))
 
-switch-part-errs : (meaning : Meaning) (s : State) (event : Event) (t : Working Turning) → MidTurn meaning s (Next event) t → IfErr (switch_part t) (Needs meaning s (Next event))
-unfolding switch_part switch_done
-switch-part-errs meaning s event t m =
-    let u = session_in t in
-    let made = switch_made u.state.client.settings u.state.files u.state.workspaces in
-    IfErr-within state_in with_state switch_done t (Needs meaning s (Next event))
-    (err-weaker (switched_to made u) (IsRefused made u.state) (Needs meaning s (Next event)) (switched-errs made u)
-    (λ counter refused. switch-needs meaning s event u counter m.mid refused))
+begun-does : (w : Working State) → Does none w (begun_fetches w)
+unfolding begun_fetches
+begun-does w = does-same none w (at_workspaces (with_fetches (start_up (discovers w.state.client.settings))) w) refl
 
--- the world is to change at the last revision
-files-part-errs : (meaning : Meaning) (s : State) (event : Event) (t : Working Turning) → BehindTurn meaning s event t → IfErr (files_part t) (Needs meaning s (Next event))
-unfolding files_part files_processed
-files-part-errs meaning s event t m =
-    IfErr-within state_in with_state files_processed t (Needs meaning s (Next event))
-    (err-and_then (at_files (processed t.state.state.sources.roots) (session_in t)) _ (Needs meaning s (Next event))
-    (IfErr-within files_in with_files (processed t.state.state.sources.roots) (session_in t) (Needs meaning s (Next event))
-    (err-weaker _ (AtLast t.state.state.files.host.revision) (Needs meaning s (Next event)) (processed-errs _ _)
-    (λ c h. subst (Needs meaning s (Next event)) (sym h.0) (subst (λ (n : ℕ). 2 ^ 64 - 1 ≤ n) m.behind.revision h.1))))
-    (λ v is. tt))
+start-does : (t : Working Turning) → PartDoes (record none { jobs = 1; requests = 2 }) t (start_parts t)
+unfolding status_part register_part begin_part fetch_part
+start-does t =
+    parts-then (requests 1) (record none { jobs = 1; requests = 1 }) t (status_part t) _ (part-does (requests 1) status_done t (status-does _))
+    (λ t. parts-then (requests 1) (jobs 1) t (register_part t) _ (part-does (requests 1) saves_registered t (registered-does _))
+    (λ t. parts-then none (jobs 1) t (begin_part t) _ (part-does none begun_fetches t (begun-does _))
+    (λ t. parts-then (jobs 1) none t (fetch_part Start t) closing_part (part-does (jobs 1) (fetch_started (may_start Start t.state.state.client.settings)) t (fetch-does _ _)) closing-does)))
 
-with-fetch : (handed jobs given fetches runs : ℕ) → given ≡ handed + jobs → 2 ^ 64 ≤ given + fetches → 2 ^ 64 ≤ handed + jobs + fetches + runs
-with-fetch handed jobs given fetches runs is h = omega (arith, is, h)
+-- the facts are forgotten
+forgets : (needs n : Numbers) (r : Result (Working Turning) Counter) → Counts turning_at needs n r → Counts state_at needs n (and_then r turned)
+forgets needs n (Ok t) h = h
+forgets needs n (Err counter) h = h
 
--- a fetch needs one job more
-fetch-part-errs : (meaning : Meaning) (s : State) (input : Input) (asked : Client) (last : Status) (sent : List Data) (t : Working Turning) → ReadyTurn meaning s input asked last sent t
-    → IfErr (fetch_part input t) (Needs meaning s input)
-unfolding fetch_part
-fetch-part-errs meaning s input asked last sent t ready =
-    let given = t.state.state.desk.handed in
-    let may = may_start input t.state.state.client.settings in
-    let fetch : Option (List ℕ × FetchRequest) = fetch_to_start may t.state.state.workspaces.fetches in
-    let jobs = (row meaning input (place_of s)).jobs in
-    let handed : given ≡ s.desk.handed + (length jobs + checks_in input s) =
-    ap (λ (d : Desk). d.handed) ready.made.serves.desk ∙ ap (λ (js : List Job). s.desk.handed + length js) ready.spawns
-    ∙ ap (λ (n : ℕ). s.desk.handed + n) (length-append jobs (jobs_resumed input (place_of s))) in
-    IfErr-within state_in with_state (fetch_started may) t (Needs meaning s input)
-    (err-weaker (fetch_started may (session_in t)) (TooManyStarts given fetch) (Needs meaning s input) (started-errs may (session_in t))
-    (λ c h. let many : 2 ^ 64 ≤ given + fetches_in input (place_of s) =
-    subst (λ (f : Option (List ℕ × FetchRequest)). 2 ^ 64 ≤ given + (if is_some f then 1 else 0)) (ready-fetch meaning s input asked last sent t ready) h.1 in
-    subst (Needs meaning s input) (sym h.0) (with-fetch s.desk.handed (length jobs + checks_in input s) given (fetches_in input (place_of s)) (runs_in input s) handed many)))
-
-one-fetch : (number : ℕ) (snapshot : SnapshotData) (fetch : Option (List ℕ × FetchRequest)) → length (fetch_jobs number snapshot fetch) ≡ (if is_some fetch then 1 else 0)
-one-fetch number snapshot None = refl
-one-fetch number snapshot (Some fetch) = refl
-
-with-runs : (handed jobs fetches runs given hands : ℕ) → given ≡ handed + hands → hands ≡ jobs + fetches → 2 ^ 64 ≤ given + runs → 2 ^ 64 ≤ handed + jobs + fetches + runs
-with-runs handed jobs fetches runs given hands is both h = omega (arith, is, both, h)
-
--- a run of build data needs one job more, and so does a load of macros
-build-part-errs : (meaning : Meaning) (s : State) (event : Event) (t : Working Turning) → FetchedBehind meaning s event t → IfErr (build_part t) (Needs meaning s (Next event))
-unfolding build_part
-build-part-errs meaning s event t fetched =
+pub step-does : (meaning : Meaning) (s : State) (input : Input) → Counts state_at (needs_of meaning input (place_of s)) (given s) (step meaning input (begun s))
+unfolding step event_part
+step-does meaning s Start =
+    forgets (needs_of meaning Start (place_of s)) (given s) (start_parts (turning (begun s)))
+    (counts-more turning_at (record none { jobs = 1; requests = 2 }) (needs_of meaning Start (place_of s)) (given s) (start_parts (turning (begun s)))
+    (at-most _ _ (omega arith) (omega arith) (omega arith) (omega arith) (omega arith) (omega arith) (omega arith))
+    (start-does (turning (begun s))))
+step-does meaning s (Next event) =
     let input : Input = Next event in
-    let place = place_of s in
-    let given = t.state.state.desk.handed in
-    let jobs = (row meaning input place).jobs in
-    let both = jobs_given meaning input place in
-    let fetch = fetch_jobs given (snapshot_of t.state.state) (fetch_in input place) in
-    let handed : given ≡ s.desk.handed + length (both ++ fetch) = ap (λ (d : Desk). d.handed) fetched.made.serves.desk ∙ ap (λ (js : List Job). s.desk.handed + length js) fetched.hands in
-    let all : length (both ++ fetch) ≡ length jobs + checks_in input s + fetches_in input place =
-    length-append both fetch ∙ (λ i. length-append jobs (jobs_resumed input place) i + one-fetch given (snapshot_of t.state.state) (fetch_in input place) i) in
-    let build : Option ℕ = build_due t.state.state.workspaces in
-    let load : Option MacroPaths = load_due build (with_due_build t.state.state.workspaces) in
-    let ones : Option ℕ → Option MacroPaths → ℕ = λ b l. (if is_some b then 1 else 0) + (if is_some l then 1 else 0) in
-    let runs : ones build load ≡ runs_in input s = λ i. ones (fetched-build meaning s event t fetched i) (fetched-load meaning s event t fetched i) in
-    IfErr-within state_in with_state runs_started t (Needs meaning s input)
-    (err-weaker (runs_started (session_in t)) (TooManyRuns given build load) (Needs meaning s input) (runs-errs (session_in t))
-    (λ c h. let many : 2 ^ 64 ≤ given + runs_in input s = subst (λ (n : ℕ). 2 ^ 64 ≤ given + n) runs h.1 in
-    subst (Needs meaning s input) (sym h.0)
-    (with-runs s.desk.handed (length jobs + checks_in input s) (fetches_in input place) (runs_in input s) given (length (both ++ fetch)) handed all many)))
+    let t : Working Turning = turning (begun s) in
+    let first : Numbers = both (turns 1) (for_event meaning s input) in
+    let turn = and_then (event_part meaning event t) (later_parts input) in
+    forgets (needs_of meaning input (place_of s)) (given s) turn
+    (counts-more turning_at (both first for_parts) (needs_of meaning input (place_of s)) (given s) turn
+    (at-most _ _ (omega arith) (omega arith) (omega arith) (omega arith) (omega arith) (omega arith) (omega arith))
+    (parts-then first for_parts t (event_part meaning event t) (later_parts input) (part-does first (taken_in meaning event) t (taken_in-does meaning s event)) (later-does input)))
 
--- what is shown may ask the client
-quiet-part-errs : (meaning : Meaning) (s : State) (event : Event) (t : Working Turning) → ReadyBehind meaning s event t → IfErr (quiet_part t) (Needs meaning s (Next event))
-unfolding quiet_part
-quiet-part-errs meaning s event t ready =
-    let u = session_in t in
-    IfErr-within state_in with_state (quiet_done t.state.facts) t (Needs meaning s (Next event))
-    (err-weaker (quiet_done t.state.facts u) (IsPast (client_refreshed_if (due_in t.state.facts u.state) u.state.client)) (Needs meaning s (Next event)) (quiet-errs t.state.facts u)
-    (λ c h. past-needs meaning s (Next event) (client_asked (Next event) (place_of s)) c (told-more event (place_of s))
-    (subst (λ (k : Client). IsPast k c) (ready-client meaning s event t ready) h)))
+same-err : (c d : Counter) → (let r : Result (Working State) Counter = Err c in r) ≡ Err d → c ≡ d
+same-err c d is = cc
 
--- so may a status
-status-part-errs : (meaning : Meaning) (s : State) (event : Event) (t : Working Turning) → MadeBehind meaning s event t → IfErr (status_part t) (Needs meaning s (Next event))
-unfolding status_part
-status-part-errs meaning s event t m =
-    let u = session_in t in
-    let client = client_after_status u.state.status u.state.files u.state.workspaces u.state.client in
-    IfErr-within state_in with_state status_done t (Needs meaning s (Next event))
-    (err-weaker (status_done u) (IsPast client) (Needs meaning s (Next event)) (status-errs u)
-    (λ c h. subst (Needs meaning s (Next event)) (sym h.0) (subst (λ (k : Client). number_limit < k.asked.given) (client-behind meaning s event t m) h.1)))
-
-begin-status-errs : (meaning : Meaning) (s : State) → IfErr (status_part (turning (begun s))) (Needs meaning s Start)
-unfolding status_part
-begin-status-errs meaning s =
-    IfErr-within state_in with_state status_done (turning (begun s)) (Needs meaning s Start)
-    (err-weaker (status_done (begun s)) (IsPast (begun_client s)) (Needs meaning s Start) (status-errs (begun s))
-    (λ c h. past-needs meaning s Start (begun_client s) c (registered-more (begun_client s)) h))
-
--- so may the registration of saved documents
-register-part-errs : (meaning : Meaning) (s : State) (t : Working Turning) → BegunTurn s t → IfErr (register_part t) (Needs meaning s Start)
-unfolding register_part
-register-part-errs meaning s t b =
-    IfErr-within state_in with_state saves_registered t (Needs meaning s Start)
-    (err-weaker (saves_registered (session_in t)) (IsPast (client_registered t.state.state.client)) (Needs meaning s Start) (registered-errs (session_in t))
-    (λ c h. subst (Needs meaning s Start) (sym h.0) (subst (λ (x : State). number_limit < (client_registered x.client).asked.given) b.state h.1)))
-
-begin-errs : (t : Working Turning) (P : Counter → Type 0) → IfErr (begin_part t) P
-unfolding begin_part begun_fetches
-begin-errs t P = IfErr-within state_in with_state begun_fetches t P tt
-
-begin-close-errs : (meaning : Meaning) (s : State) (t : Working Turning) → RegisteredTurn s t → IfErr (begin_and_close t) (Needs meaning s Start)
-begin-close-errs meaning s t b =
-    err-and_then (begin_part t) fetch_and_close (Needs meaning s Start) (begin-errs t (Needs meaning s Start))
-    (λ u is. err-and_then (fetch_part Start u) closing_part (Needs meaning s Start)
-    (fetch-part-errs meaning s Start (client_left Start (place_of s)) (status_after Start (place_of s)) (statuses_at Start (place_of s)) u (IfOk-at_ok (ReadyStart meaning s) is (begins meaning s t b)))
-    (λ v is. closing-errs v (Needs meaning s Start)))
-
-register-on-errs : (meaning : Meaning) (s : State) (t : Working Turning) → BegunTurn s t → IfErr (register_and_on t) (Needs meaning s Start)
-register-on-errs meaning s t b =
-    err-and_then (register_part t) begin_and_close (Needs meaning s Start) (register-part-errs meaning s t b)
-    (λ u is. begin-close-errs meaning s u (IfOk-at_ok (RegisteredTurn s) is (registers s t b)))
-
-status-close-errs : (meaning : Meaning) (s : State) (event : Event) (t : Working Turning) → MadeBehind meaning s event t → IfErr (status_and_close t) (Needs meaning s (Next event))
-status-close-errs meaning s event t m =
-    err-and_then (status_part t) closing_part (Needs meaning s (Next event)) (status-part-errs meaning s event t m) (λ u is. closing-errs u (Needs meaning s (Next event)))
-
-build-on-errs : (meaning : Meaning) (s : State) (event : Event) (t : Working Turning) → FetchedBehind meaning s event t → IfErr (build_and_on t) (Needs meaning s (Next event))
-build-on-errs meaning s event t fetched =
-    err-and_then (build_part t) status_and_close (Needs meaning s (Next event)) (build-part-errs meaning s event t fetched)
-    (λ u is. status-close-errs meaning s event u (IfOk-at_ok (MadeBehind meaning s event) is (build-made meaning s event t fetched)))
-
-fetch-on-errs : (meaning : Meaning) (s : State) (event : Event) (t : Working Turning) → QuietTurn meaning s event t → IfErr (fetch_and_on event t) (Needs meaning s (Next event))
-fetch-on-errs meaning s event t ready =
-    err-and_then (fetch_part (Next event) t) build_and_on (Needs meaning s (Next event))
-    (fetch-part-errs meaning s (Next event) (client_asked (Next event) (place_of s)) s.status [] t ready)
-    (λ u is. build-on-errs meaning s event u
-    (IfOk-at_ok (FetchedBehind meaning s event) is (fetch-made meaning s (Next event) (client_asked (Next event) (place_of s)) s.status [] t ready)))
-
-quiet-on-errs : (meaning : Meaning) (s : State) (event : Event) (t : Working Turning) → ReadyBehind meaning s event t → IfErr (quiet_and_on event t) (Needs meaning s (Next event))
-quiet-on-errs meaning s event t ready =
-    err-and_then (quiet_part t) (fetch_and_on event) (Needs meaning s (Next event)) (quiet-part-errs meaning s event t ready)
-    (λ u is. fetch-on-errs meaning s event u (IfOk-at_ok (QuietTurn meaning s event) is (quiet-made meaning s event t ready)))
-
-files-on-errs : (meaning : Meaning) (s : State) (event : Event) (t : Working Turning) → BehindTurn meaning s event t → IfErr (files_and_on event t) (Needs meaning s (Next event))
-files-on-errs meaning s event t behind =
-    err-and_then (files_part t) (quiet_and_on event) (Needs meaning s (Next event)) (files-part-errs meaning s event t behind)
-    (λ u made. quiet-on-errs meaning s event u (IfOk-at_ok (ReadyBehind meaning s event) made (files-made meaning s event t behind)))
-
-step-errs : (meaning : Meaning) (s : State) (input : Input) → IfErr (step meaning input (begun s)) (Needs meaning s input)
-unfolding step
-step-errs meaning s Start =
-    err-and_then (start_parts (turning (begun s))) turned (Needs meaning s Start)
-    (err-and_then (status_part (turning (begun s))) register_and_on (Needs meaning s Start) (begin-status-errs meaning s)
-    (λ t is. register-on-errs meaning s t (IfOk-at_ok (BegunTurn s) is (status-begins s)))) (λ v is. tt)
-step-errs meaning s (Next event) =
-    err-and_then (and_then (event_part meaning event (turning (begun s))) (later_parts (Next event))) turned (Needs meaning s (Next event))
-    (err-and_then (event_part meaning event (turning (begun s))) (later_parts (Next event)) (Needs meaning s (Next event)) (event-part-errs meaning s event)
-    (λ t is. let mid : MidTurn meaning s (Next event) t = IfOk-at_ok (MidTurn meaning s (Next event)) is (event-fits meaning s event) in
-    err-and_then (switch_part t) (files_and_on event) (Needs meaning s (Next event)) (switch-part-errs meaning s event t mid)
-    (λ u behind. files-on-errs meaning s event u (IfOk-at_ok (BehindTurn meaning s event) behind (switch-made meaning s event t mid)))))
-    (λ v is. tt)
+too-many : (needs n : Numbers) (r : Result (Working State) Counter) (counter : Counter) → r ≡ Err counter → Counts state_at needs n r → AreTooMany n needs counter
+too-many needs n (Ok v) counter is h = absurd cc
+too-many needs n (Err c) counter is h = subst (AreTooMany n needs) (same-err c counter is) h
 
 -- where the machine can't take a turn, one more of the counter that it names is needed than there are
 pub step-needs : (meaning : Meaning) (s : State) (input : Input) (counter : Counter) → step meaning input (begun s) ≡ Err counter → NeedsMore meaning (place_of s) input counter
-step-needs meaning s input counter refused = IfErr-at_err (Needs meaning s input) refused (step-errs meaning s input)
+step-needs meaning s input counter refused = record {
+  refused = refused;
+  too_many = too-many (needs_of meaning input (place_of s)) (given s) (step meaning input (begun s)) counter refused (step-does meaning s input);
+}

@@ -1,8 +1,5 @@
-use Rattle.session_laws.proofs.InProgress.{fetching-beginning, steps-keep-fetching}
+use Rattle.session_laws.proofs.Answered.{runs-stand}
 use Rattle.session_laws.proofs.laws.fetches_in_progress_are_out.Goals as goal
 
-pub returns-clause-beginning : goal.returns-clause-beginning
-returns-clause-beginning c = fetching-beginning
-
-pub returns-clause-kept : goal.returns-clause-kept
-returns-clause-kept c = steps-keep-fetching
+pub returns : goal.returns
+returns c = λ meaning settings turns last runs. (runs-stand meaning settings turns last runs).runs.fetching

@@ -1,8 +1,5 @@
-use Rattle.session_laws.proofs.InProgress.{loading-beginning, steps-keep-loading}
+use Rattle.session_laws.proofs.Answered.{runs-stand}
 use Rattle.session_laws.proofs.laws.loads_in_progress_are_out.Goals as goal
 
-pub returns-clause-beginning : goal.returns-clause-beginning
-returns-clause-beginning c = loading-beginning
-
-pub returns-clause-kept : goal.returns-clause-kept
-returns-clause-kept c = steps-keep-loading
+pub returns : goal.returns
+returns c = λ meaning settings turns last runs. (runs-stand meaning settings turns last runs).runs.loading

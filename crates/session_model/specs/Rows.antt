@@ -1,0 +1,111 @@
+-- The reply table: what a turn is to do for requests, by its input and by what the lists say before it.
+use Rattle.std.specs.Prelude.{ℕ, ◌+◌, ◌-◌, List, [], ◌∷◌, Option, None, Some}
+use Rattle.std.specs.Result.{result_unwrap_or}
+use Rattle.lsp_frame.specs.declared.message.Message.TheVariants as lsp
+use Rattle.lsp_frame.specs.declared.message.RequestId.{RequestId}
+use Rattle.analysis_host.specs.SnapshotData.{SnapshotData}
+use Rattle.session_port.specs.Record.{spawned}
+use Rattle.session_port.specs.declared.event.TaskMsg.{TaskMsg}
+use Rattle.session_port.specs.Working.{Working}
+use Rattle.session_port.specs.Written.{responses_in}
+use Rattle.desk.specs.Desk.{Desk}
+use Rattle.desk.specs.Folds.{asked_among, desk_past}
+use Rattle.desk.specs.Meaning.{Meaning}
+use Rattle.desk.specs.Reactions.{Reaction, silent, joined, cancel_row, message_row, request_row}
+use Rattle.desk.specs.Scene.{Scene}
+use Rattle.session_model.specs.Hearing.{heard_of, told_by}
+use Rattle.session_model.specs.Inputs.{cancelled_by}
+use Rattle.session_model.specs.Machine.{taken}
+use Rattle.session_model.specs.Places.{Place, next_turn}
+use Rattle.session_model.specs.Run.{Turn, begun}
+use Rattle.session_model.specs.State.{State, snapshot_of}
+use Rattle.session_model.specs.declared.input.Event.TheVariants.{Lsp, Task, Vfs, Deferred, Timer}
+use Rattle.session_model.specs.declared.input.Input.{Input}
+use Rattle.session_model.specs.declared.input.Input.TheVariants.{Start, Next}
+
+-- ---- within a turn
+
+-- the machine in a turn that takes an event, before it does: the turn is counted
+abbrev pub turn_begun : State → Working State
+turn_begun s = begun (record s { desk = record s.desk { turns = s.desk.turns + 1 } })
+
+-- the machine after a message of a batch; as before it, where the message needs one more of a counter than there are
+abbrev pub machine_after : Meaning → TaskMsg → Working State → Working State
+machine_after meaning message w = result_unwrap_or (taken meaning message w) w
+
+-- after messages, one after another
+abbrev pub machine_after_all : Meaning → List TaskMsg → Working State → Working State
+machine_after_all meaning [] w = w
+machine_after_all meaning (message ∷ messages) w = machine_after_all meaning messages (machine_after meaning message w)
+
+-- within the next turn, behind these messages of its batch
+abbrev pub machine_within : Meaning → List TaskMsg → Place → Working State
+machine_within meaning earlier place = machine_after_all meaning earlier (turn_begun place.rest)
+
+-- the revision rises within a turn as the machine's does
+abbrev pub revision_within : Place → Working State → ℕ
+revision_within place w = place.revision + (w.state.files.host.revision - place.rest.files.host.revision)
+
+-- what a job works on that is handed over within a turn, where the machine has come to this: a batch changes no
+-- documents
+abbrev pub snapshot_within : Place → Working State → SnapshotData
+snapshot_within place w = record (snapshot_of w.state) {
+  versions = place.documents.versions;
+  revision = revision_within place w;
+}
+
+-- what a request meets that is given to a job then, once more or for the first time
+abbrev pub scene_within : Place → Working State → Scene
+scene_within place w = record {
+  snapshot = snapshot_within place w;
+  loading = place.loading;
+  incomplete = w.state.workspaces.incomplete;
+}
+
+-- what a job works on that is handed over at the beginning of a turn
+abbrev pub snapshot_at : Place → SnapshotData
+snapshot_at place = record (snapshot_of place.rest) {
+  versions = place.documents.versions;
+  revision = place.revision;
+}
+
+-- what a request meets that is read then
+abbrev pub scene_at : Place → Scene
+scene_at place = record {
+  snapshot = snapshot_at place;
+  loading = place.loading;
+  incomplete = place.rest.workspaces.incomplete;
+}
+
+-- ---- the rows
+
+-- the responses that a turn writes, and the jobs that it hands over for requests
+abbrev pub reaction_of : Turn → Reaction
+reaction_of turn = record { responses = responses_in turn.messages; jobs = asked_among (spawned turn.commands) }
+
+-- a notification: one that cancels a pending request answers it
+abbrev pub notice_row : Option RequestId → Desk → Reaction
+notice_row None desk = silent
+notice_row (Some id) desk = cancel_row id desk
+
+-- what a message of a batch leaves for the next one
+abbrev pub place_after_message : TaskMsg → Reaction → Place → Place
+place_after_message message done place = record place { desk = desk_past message done place.desk }
+
+-- a batch: each message on what the machine makes of the ones before it
+abbrev pub batch_row : Meaning → List TaskMsg → Working State → Place → Reaction
+batch_row meaning [] w place = silent
+batch_row meaning (message ∷ messages) w place =
+    let done = message_row meaning (scene_within place w) place.desk message in
+    joined done (batch_row meaning messages (machine_after meaning message w) (place_after_message message done place))
+
+-- what a turn does, by its input and what the lists say before it: on the documents of all earlier inputs
+abbrev pub row : Meaning → Input → Place → Reaction
+row meaning Start place = silent
+row meaning (Next (Lsp (lsp.Request r))) place = request_row meaning (scene_at place) place.desk (next_turn place) r
+row meaning (Next (Lsp (lsp.Notification n))) place = notice_row (cancelled_by (told_by (heard_of n))) place.desk
+row meaning (Next (Lsp (lsp.Response r))) place = silent
+row meaning (Next (Task batch)) place = batch_row meaning batch (turn_begun place.rest) place
+row meaning (Next (Vfs messages)) place = silent
+row meaning (Next (Deferred tasks)) place = silent
+row meaning (Next (Timer ticket)) place = silent
