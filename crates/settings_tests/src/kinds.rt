@@ -152,10 +152,10 @@ fn is_copied(alloc: Global, row: Row, config: &Config, tree: &Json) -> Option<bo
 fn copied(alloc: Global) -> Option<usize> {
     let config = settings(alloc, "{}")?;
     let tree = json(alloc, EACH)?;
-    let mut copied = 0;
+    let mut copied = 0_usize;
     for row in ROWS {
         if is_copied(alloc, row, &config, &tree) == Some(true) {
-            copied += 1;
+            copied = copied.saturating_add(1);
         }
     }
     drop(config);
