@@ -4,7 +4,7 @@ ghost use Rattle.docs_vfs.specs.FileUrls.{path_of};
 ghost use Rattle.session_port.specs.Meets.{Meets, Gives};
 ghost use Rattle.session_model.specs.FilesFolds.{changed_files, has_changed};
 ghost use Rattle.session_model.specs.FilesSteps.{changed, closed as closed_document, loaded, opened, processed};
-ghost use Rattle.session_model.specs.Machine.{at_files, brought, changed_at, closed_at, files_done, files_followed, files_processed, opened_at};
+ghost use Rattle.session_model.specs.Machine.{at_files, brought, changed_at, closed_at, files_done, files_followed, files_processed, opened_at, some_processed};
 ghost use Rattle.session_model.specs.State.{columns_in, excludes_in};
 ghost use Rattle.session_model.specs.Timing.{bring_files, brings_files};
 
@@ -178,12 +178,12 @@ pub fn process_changes(store: &mut Store, out: &mut TurnOut) -> Result<bool, Tur
 
 /// The same behind the event of a turn, unless files are loading.
 #[tactic(auto, unfolding(session_model::specs::Machine::files_done))]
-pub fn process(store: &mut Store, out: &mut TurnOut) -> Result<(), TurnError>
-    ensures { Meets result (files_done (record { state = store.old; out = out.old })) store.new out.new }
+pub fn process(store: &mut Store, out: &mut TurnOut) -> Result<bool, TurnError>
+    ensures meets { Meets result (files_done (record { state = store.old; out = out.old })) store.new out.new }
+    ensures some { IfOk result (λ some. some ≡ some_processed store.old.files) }
 {
     if store.files.is_loading() {
-        return Ok(());
+        return Ok(false);
     }
-    process_changes(store, out)?;
-    Ok(())
+    process_changes(store, out)
 }
