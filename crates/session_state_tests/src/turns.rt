@@ -41,16 +41,32 @@ fn cause(alloc: Global, state: &mut GlobalState) -> Option<String> {
     text
 }
 
+/// Whether files have changed, and what is ordered where they are processed.
+fn processed(alloc: Global, state: &mut GlobalState) -> Option<String> {
+    let mut out = TurnOut::new(alloc);
+    let (some, done) = match state.process_changes(&mut out) {
+        Ok(some) => (some, Ok(())),
+        Err(error) => (false, Err(error)),
+    };
+    let text = words(alloc, &mut out, done);
+    drop(out);
+    if some {
+        return ["changed ", text?.as_str()].concat(alloc).ok();
+    }
+    text
+}
+
 impl Told for GlobalState {
-    /// The words `settings`, `at first`, `at second`, `root`, `shown`, `graph`, `cause` and `start` are no events: they ask for the
-    /// settings, for those of the first and of the second root, for the root of a file, for the workspaces and the crate graph that are
-    /// shown, for the fetch that waits in the queue, and for turn 0.
+    /// The words `settings`, `at first`, `at second`, `root`, `shown`, `graph`, `cause`, `process` and `start` are no events: they ask for
+    /// the settings, for those of the first and of the second root, for the root of a file, for the workspaces and the crate graph that are
+    /// shown, for the fetch that waits in the queue, for the processing of files, and for turn 0.
     fn told(&mut self, alloc: Global, event: &str) -> Option<String> {
         match event {
             "settings" | "at first" | "at second" | "root" | "shown" | "graph" => {
                 present(alloc, self, event)
             }
             "cause" => cause(alloc, self),
+            "process" => processed(alloc, self),
             "start" => start(alloc, self),
             _ => turn(alloc, self, event),
         }
