@@ -257,7 +257,7 @@ none-among (file ∷ list) none =
     among file list first rest
   where
     among : (file : ChangedFile) (list : List ChangedFile) → is_settings_file file.path ≡ false → settings_among list ≡ [] → settings_among (file ∷ list) ≡ []
-    among file list no rest = rw no rest
+    among file list other rest = rw other rest
 
 -- the client once the settings files among some have been filed
 abbrev pub filed_client : List SettingsFile → State → Client
@@ -273,7 +273,7 @@ settled-none (Some pairs) b is = absurd (true≢false (sym is))
 
 by-settled : (b : Bool) (files : List SettingsFile) (s : State) → is_settled files s.sources ≡ b
     → (client_with (if b then None else Some (change_of s.files.host.world.roots s.sources.parents s.workspaces.present files)) s.client).settings.settings.parents
-      ≡ parents_after s.sources.parents (parents_in s)
+    ≡ parents_after s.sources.parents (parents_in s)
 by-settled true files s is = sym (ap (λ o. parents_after o (parents_in s)) (settled-none s.sources.parents (length files == 0) is))
 by-settled false files s is = changed-parents (change_of s.files.host.world.roots s.sources.parents s.workspaces.present files) s.client
 

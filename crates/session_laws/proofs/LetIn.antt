@@ -53,7 +53,7 @@ use Rattle.desk.specs.Loading.{LoadEnd, load_ended}
 use Rattle.desk.specs.Meaning.{Meaning}
 use Rattle.desk.specs.Steps.{cancelled, counted as counted_at_desk, handed_over, kept as kept_at_desk, requested, taken as taken_at_desk}
 use Rattle.desk_laws.proofs.Results.{IfOk-and_then, IfOk-if, IfOk-weaker, IfOk-within}
-use Rattle.session_files.specs.Folds.{after_closing, changed_files}
+use Rattle.session_files.specs.Folds.{after_closing, changed_files, is_open}
 use Rattle.session_files.specs.SessionFiles.{SessionFiles}
 use Rattle.session_files.specs.Steps.{changed, closed as closed_document, crates_put, loaded, opened, processed}
 use Rattle.session_files.proofs.SoundLemmas.{closing_keeps, editing_keeps, messages_keep, opening_keeps}
@@ -244,16 +244,14 @@ after-parents (Some Settings) r settings = answered-parents (settings_in r) sett
 
 -- the settings become others, and nothing enters
 told-alters : (s t : State) → t.files.host ≡ s.files.host → t.sources ≡ s.sources → parents_in t ≡ parents_in s → Alters true s t
-told-alters s t host sources parents =
-    let still = alters-still true s (record s { files = t.files; sources = t.sources }) (record { host = host; sources = sources; settings = refl; errors = refl }) in
-    record {
-      entries = [];
-      enters = still.enters;
-      present = tt;
-      roots = still.roots;
-      parents = inl (ap (λ (x : Sources). x.parents) sources, parents);
-      settings = λ silent. absurd (true≢false silent);
-    }
+told-alters s t host sources parents = record {
+  entries = [];
+  enters = subst (Enters [] s.files.host) (sym host) (enters-none s.files.host);
+  present = tt;
+  roots = ap (λ (x : Sources). x.roots) sources;
+  parents = inl (ap (λ (x : Sources). x.parents) sources, parents);
+  settings = λ silent. absurd (true≢false silent);
+}
 
 answer-alters : (r : Response) (w : Working State) → IfOk (answer_taken r w) (AltersTo true w)
 answer-alters r w =
@@ -360,7 +358,7 @@ files-alter tells w =
       present = files-present roots list;
       roots = f.roots;
       parents = f.parents;
-      settings = λ silent none waits. f.settings (none-filed roots list none) waits;
+      settings = λ silent none waits. let kept = f.settings (none-filed roots list none) waits in record { settings = kept.settings; errors = kept.errors };
     })))
     (λ u a. a)
 
@@ -541,41 +539,38 @@ unfolding quiet_done
 quiet-still facts w = IfOk-if _ _ (Ok w) (StillTo w) (refreshed-still w.state.client.settings.capabilities w) (still-none w.state)
 
 fetch-still : (may : Bool) (w : Working State) → IfOk (fetch_started may w) (StillTo w)
-unfolding fetch_started
+unfolding fetch_started fetch_handed_over
 fetch-still may w = handed (fetch_to_start may w.state.workspaces.fetches)
   where
     v : Working State
     v = at_workspaces (with_fetches (start_fetch may)) w
 
     handed : (request : Option (List ℕ × FetchRequest)) → IfOk (fetch_handed_over request v) (StillTo w)
-    unfolding fetch_handed_over
     handed None = workspaces-still (with_fetches (start_fetch may)) w
     handed (Some request) =
         IfOk-weaker _ (StillTo v) (StillTo w) (desk-still (handed_over (snapshot_of v.state) Worker (fetch_kind v.state.client.settings request.1)) v)
         (λ u q. still-on w.state v.state u.state (workspaces-still (with_fetches (start_fetch may)) w) q)
 
 build-still : (w : Working State) → IfOk (build_started w) (StillTo w)
-unfolding build_started
+unfolding build_started build_handed_over
 build-still w = handed (build_due w.state.workspaces)
   where
     v : Working State
     v = at_workspaces with_due_build w
 
     handed : (version : Option ℕ) → IfOk (build_handed_over version v) (StillTo w)
-    unfolding build_handed_over
     handed None = workspaces-still with_due_build w
     handed (Some version) =
         IfOk-weaker _ (StillTo v) (StillTo w) (desk-still (handed_over (snapshot_of v.state) Worker (FetchBuildData version)) v) (λ u q. still-on w.state v.state u.state (workspaces-still with_due_build w) q)
 
 load-still : (build : Option ℕ) (w : Working State) → IfOk (load_started build w) (StillTo w)
-unfolding load_started
+unfolding load_started load_handed_over
 load-still build w = handed (load_due build w.state.workspaces)
   where
     v : Working State
     v = at_workspaces (with_due_load build) w
 
     handed : (paths : Option MacroPaths) → IfOk (load_handed_over paths v) (StillTo w)
-    unfolding load_handed_over
     handed None = workspaces-still (with_due_load build) w
     handed (Some paths) =
         IfOk-weaker _ (StillTo v) (StillTo w) (desk-still (handed_over (snapshot_of v.state) Worker (load_kind v.state.client.settings paths)) v)
@@ -668,7 +663,7 @@ unfolding status_part register_part begin_part fetch_part closing_part saves_reg
 start-still t =
     rest (status_part t) _ t (still-part status_done t (status-still _))
     (λ t. rest (register_part t) _ t (still-part saves_registered t (asked_if-still _ _ _))
-    (λ t. rest (begin_part t) _ t (still-part begun_fetches t (workspaces-still (with_fetches (start_up (discovers t.state.state.client.settings))) _))
+    (λ t. rest (begin_part t) _ t (still-part begun_fetches t (workspaces-still (with_fetches (start_up (discovers t.state.state.client.settings))) (record { state = t.state.state; out = t.out })))
     (λ t. rest (fetch_part Start t) closing_part t (still-part (fetch_started (may_start Start t.state.state.client.settings)) t (fetch-still (may_start Start t.state.state.client.settings) _))
     (λ t. still-part (closed t.state.facts) t (closed-turn-still t.state.facts _)))))
   where

@@ -71,7 +71,7 @@ unfolding sources_deferred ordered
 deferred-same None w = refl
 deferred-same (Some files) w = refl
 
-further-same : (paths : List (List ℕ)) (w : Working State) → (further_logged paths w).state ≡ w.state
+pub further-same : (paths : List (List ℕ)) (w : Working State) → (further_logged paths w).state ≡ w.state
 unfolding further_logged logged ordered
 further-same [] w = refl
 further-same (path ∷ paths) w = further-same paths (logged SecondSettingsFile path w)

@@ -16,7 +16,20 @@ use Rattle.lsp_frame.specs.declared.message.Message.TheVariants.{Request as Requ
 use Rattle.project_model.specs.declared.crates.CrateData.{CrateData}
 use Rattle.session_files.specs.Texts.{file_change}
 use Rattle.session_model.specs.Hearing.{heard_of, told_by}
+use Rattle.analysis_host.specs.SnapshotData.{SnapshotData}
+use Rattle.docs_vfs.specs.Roots.{is_local_at, root_of}
+use Rattle.layered_settings.specs.declared.change.ConfigChange.{ConfigChange}
+use Rattle.layered_settings.specs.declared.change.SettingsFile.{SettingsFile as RootFile}
+use Rattle.session_files.specs.Current.{IsCurrent, IsSound, IsTaken}
+use Rattle.session_files.specs.Folds.{has_changed}
+use Rattle.session_port.specs.Jobs.{fitting_job}
+use Rattle.session_port.specs.declared.event.TaskMsg.{TaskMsg}
+use Rattle.session_port.specs.declared.job.Job.{Job}
+use Rattle.session_model.specs.Machine.{Turning}
+use Rattle.session_model.specs.Sources.{client_with}
 use Rattle.session_model.specs.State.{State}
+use Rattle.session_model.specs.Status.{is_quiescent}
+use Rattle.session_laws.specs.Invariant.{is_load}
 use Rattle.session_model.specs.declared.input.Event.TheVariants.{Lsp, Task, Vfs, Deferred, Timer}
 use Rattle.session_model.specs.declared.input.Input.{Input}
 use Rattle.session_model.specs.declared.input.Input.TheVariants.{Start, Next}
@@ -116,3 +129,49 @@ pub record LetsIn (old new : State) : Type 0 where
   pub enters : Enters (in_event ++ behind) old.files.host new.files.host
   pub before : ArePresent old.sources.roots in_event
   pub after : ArePresent new.sources.roots behind
+
+-- ---- macros that come
+
+-- the load of macros that this message ends is in progress, and crate data waits for it
+pub record EndsWait (message : TaskMsg) (s : State) : Type 0 where
+  pub job : Job
+  pub fits : fitting_job message s.desk.jobs ≡ Some job
+  pub loads : is_load job.kind ≡ true
+  pub in_progress : s.workspaces.loads.queue.in_progress ≡ true
+  pub waits : is_some s.workspaces.loads.waiting ≡ true
+
+-- crate data has entered with its macros, and behind it the files that had changed, loading or not: the roots are those that are present, the texts those of
+-- the present contents, and nothing of the files is left to be processed. It is one revision more, and one more where files had changed
+pub record BringsFiles (old new : State) : Type 0 where
+  pub roots : new.files.host.world.roots ≡ old.sources.roots
+  pub current : IsSound old.files → IsCurrent new.files
+  pub taken : IsTaken new.files
+  pub revision : new.files.host.revision ≡ old.files.host.revision + 1 + (if has_changed old.files then 1 else 0)
+
+-- what a message of a job does to the files: nothing, or this
+abbrev pub MayBringFiles : State → State → Type 0
+MayBringFiles old new = (new.files ≡ old.files) ⊎ BringsFiles old new
+
+-- ---- local files
+
+-- settings files are those of the local roots in which they are
+abbrev pub AreOfRoots : List Root → List RootFile → Type 0
+AreOfRoots roots [] = Unit {0}
+AreOfRoots roots (file ∷ files) = ((file.root ≡ root_of roots file.path) × (is_local_at roots file.root ≡ true)) × AreOfRoots roots files
+
+abbrev pub IsOfRoots : List Root → Option ConfigChange → Type 0
+IsOfRoots roots None = Unit {0}
+IsOfRoots roots (Some change) = AreOfRoots roots change.workspace_toml × AreOfRoots roots change.crate_toml
+
+-- the settings are another by a change whose files are those of the local roots of this snapshot
+pub record FilesSettings (snapshot : SnapshotData) (old new : State) : Type 0 where
+  pub change : Option ConfigChange
+  pub client : new.client ≡ client_with change old.client
+  pub roots : IsOfRoots snapshot.world.roots change
+
+-- ---- what is shown
+
+-- the session is quiescent, and wasn't before the event, or files that had changed were processed behind it
+pub record IsShownAnew (t : Turning) : Type 0 where
+  pub quiescent : is_quiescent t.state.files t.state.workspaces ≡ true
+  pub since : (t.facts.quiescent ≡ false) ⊎ (t.facts.processed ≡ true)
