@@ -1,22 +1,20 @@
 -- What macros bring, of which roots settings files are, and when what is shown is asked for anew.
-use Rattle.std.proofs.Common.{◌≡◌, ℕ, ◌+◌, List, [], ◌∷◌, Bool, true, false, refl, sym, ap, ◌∙◌, subst, arith, inl, inr, true≢false}
-use Rattle.std.specs.Prelude.{◌⊎◌, ◌&&◌, ◌||◌, not, Option, None, Some, is_some, option_and_then, option_map, Result, Ok, Err, IfOk, if◌then◌else◌}
-use Rattle.std.specs.List.{cons_option, filter_map}
+use Rattle.std.proofs.Common.{◌≡◌, ℕ, ◌+◌, List, [], ◌∷◌, Bool, true, false, refl, sym, ap, ◌∙◌, subst, arith, inl, inr}
+use Rattle.std.specs.Prelude.{◌⊎◌, ◌&&◌, ◌||◌, not, Option, None, Some, is_some, option_and_then, option_map, Result, Ok, IfOk, if◌then◌else◌}
+use Rattle.std.specs.List.{cons_option}
 use Rattle.std.specs.FinMap as map
 use Rattle.std.proofs.lemmas.Result.{IfOk-at_ok}
 use Rattle.docs_vfs.specs.Roots.{is_local_at, root_of}
 use Rattle.docs_vfs.specs.declared.source_roots.Root.{Root}
-use Rattle.layered_settings.specs.declared.change.ConfigChange.{ConfigChange}
 use Rattle.layered_settings.specs.declared.change.SettingsFile.{SettingsFile as RootFile}
 use Rattle.project_model.specs.declared.crates.CrateData.{CrateData}
 use Rattle.project_model.specs.declared.workspace.ProjectWorkspace.{ProjectWorkspace}
 use Rattle.change_effects.specs.Filing.{change_of, crate_file, crate_files, file_in, is_at_workspace, text_in, workspace_file, workspace_files}
 use Rattle.change_effects.specs.declared.effects.SettingsFile.{SettingsFile}
-use Rattle.session_port.specs.Jobs.{Jobs, final_of, fits_final, fitting_job}
+use Rattle.session_port.specs.Jobs.{final_of, fits_final}
 use Rattle.session_port.specs.Working.{Working, and_then}
 use Rattle.session_port.specs.declared.event.TaskMsg.{TaskMsg}
 use Rattle.session_port.specs.declared.fault.Counter.{Counter}
-use Rattle.session_port.specs.declared.job.Job.{Job}
 use Rattle.session_port.specs.declared.job.JobKind.{JobKind}
 use Rattle.session_port.specs.declared.job.JobKind.TheVariants.{Request as RequestJob, ProcMacroSources, FetchWorkspaces, FetchBuildData, LoadProcMacros}
 use Rattle.session_port.specs.declared.job.JobResult.{JobResult}
@@ -26,9 +24,8 @@ use Rattle.desk.specs.Fetching.{FetchEnd, fetch_ended}
 use Rattle.desk.specs.Loading.{LoadEnd, load_end_of, load_ended, load_told}
 use Rattle.desk.specs.Meaning.{Meaning}
 use Rattle.desk.specs.Steps.{taken as taken_at_desk}
-use Rattle.desk_laws.proofs.Fitting.{after_message-some}
 use Rattle.desk_laws.proofs.Results.{IfOk-and_then, IfOk-weaker, IfOk-within}
-use Rattle.session_files.specs.Current.{IsCurrent, IsSound, IsTaken}
+use Rattle.session_files.specs.Current.{IsSound}
 use Rattle.session_files.specs.Folds.{after_crates, after_processing, changed_files, have_come_or_gone, has_changed}
 use Rattle.session_files.specs.SessionFiles.{SessionFiles}
 use Rattle.session_files.specs.Steps.{crates_put, processed}
@@ -37,11 +34,10 @@ use Rattle.workspaces.specs.Loads.{loaded_crates, macros_of, macros_put, listed_
 use Rattle.workspaces.specs.Workspaces.{Loads, Workspaces}
 use Rattle.workspaces.specs.declared.requests.WaitingCrates.{WaitingCrates}
 use Rattle.session_model.specs.Building.{build_kept}
-use Rattle.session_model.specs.Checking.{check_kept}
 use Rattle.session_model.specs.Fetching.{fetch_kept}
 use Rattle.session_model.specs.Loading.{crates_loaded, load_kept}
 use Rattle.session_model.specs.Machine.{Turning, at_desk, at_files, at_workspaces, build_taken, check_taken, files_done, knowing, crates_arrived, desk_in, ends_taken, fetch_taken, files_followed, files_in, files_part, files_processed}
-use Rattle.session_model.specs.Machine.{files_processed_if, further_logged, in_state, load_taken, macros_taken, quiet_done, quiet_part, refreshed, settings_filed, some_processed, state_in, taken, with_client, with_desk, with_files, with_sources, with_state}
+use Rattle.session_model.specs.Machine.{files_processed_if, in_state, load_taken, macros_taken, quiet_done, refreshed, settings_filed, some_processed, state_in, taken, with_client, with_desk, with_files, with_sources, with_state}
 use Rattle.session_model.specs.Asking.{is_refresh_due}
 use Rattle.session_model.specs.Sources.{change_for, client_with, further_files, is_settled, parents_told}
 use Rattle.session_model.specs.State.{Sources, State, scene_of, snapshot_of}

@@ -1,21 +1,19 @@
 -- What each part of a turn lets into the world, and what it makes of the settings.
-use Rattle.std.proofs.Common.{◌≡◌, ℕ, ◌+◌, ◌-◌, ◌^◌, List, [], ◌∷◌, ◌++◌, length, map, Bool, true, false, cond, ltb, refl, sym, ap, ◌∙◌, subst, arith, append-nil, append_assoc, inl, inr, true≢false}
-use Rattle.std.specs.Prelude.{◌⊎◌, ◌&&◌, ◌||◌, ◌==◌, not, Option, None, Some, is_none, is_some, unwrap_or, Result, Ok, Err, IfOk, if◌then◌else◌}
+use Rattle.std.proofs.Common.{◌≡◌, ℕ, ◌+◌, ◌-◌, ◌^◌, List, [], ◌∷◌, ◌++◌, length, map, Bool, true, false, ltb, refl, sym, ap, ◌∙◌, subst, arith, inl, inr, true≢false}
+use Rattle.std.specs.Prelude.{◌⊎◌, ◌&&◌, ◌||◌, ◌==◌, not, Option, None, Some, is_none, unwrap_or, Result, Ok, Err, if◌then◌else◌}
 use Rattle.std.specs.FinMap as finmap
-use Rattle.std.specs.List.{filter_map, list_any}
+use Rattle.std.specs.List.{list_any}
 use Rattle.std.proofs.lemmas.List.{length-append}
 use Rattle.analysis_host.specs.HostData.{HostData, with_change, with_files}
 use Rattle.analysis_host.specs.declared.host.WorldFault.{WorldFault}
 use Rattle.analysis_host.specs.declared.host.WorldFault.TheVariants.{Exhausted}
 use Rattle.analysis_host.specs.declared.text_entry.TextEntry.{TextEntry}
-use Rattle.change_effects.specs.Changes.{is_settings_file, settings_of}
+use Rattle.change_effects.specs.Changes.{is_settings_file}
 use Rattle.change_effects.specs.Effects.{settings_among}
 use Rattle.change_effects.specs.Filing.{change_of}
-use Rattle.change_effects.specs.declared.effects.ChangeEffects.{ChangeEffects}
 use Rattle.change_effects.specs.declared.effects.SettingsFile.{SettingsFile}
 use Rattle.client.specs.Client.{Client}
 use Rattle.client.specs.Folds.{after_change}
-use Rattle.docs_vfs.specs.Files.{changes}
 use Rattle.docs_vfs.specs.Paths.{path_cmp}
 use Rattle.docs_vfs.specs.declared.file_kinds.ChangeKind.{ChangeKind}
 use Rattle.docs_vfs.specs.declared.file_kinds.ChangeKind.TheVariants.{Create, Modify, Delete}
@@ -25,15 +23,14 @@ use Rattle.layered_settings.specs.Change.{after, parents_after}
 use Rattle.layered_settings.specs.Search.{Parents}
 use Rattle.layered_settings.specs.declared.change.ConfigChange.{ConfigChange}
 use Rattle.project_model.specs.declared.crates.CrateData.{CrateData}
-use Rattle.project_model.specs.declared.workspace.ProjectWorkspace.{ProjectWorkspace}
 use Rattle.ra_config.specs.Config.{ConfigData}
 use Rattle.session_files.specs.Folds.{after_crates, after_processing, changed_files, crates_with, have_come_or_gone, is_modification, taken_up, with_changes, world_change, world_put}
 use Rattle.session_files.specs.SessionFiles.{SessionFiles}
 use Rattle.session_files.specs.Texts.{file_change}
 use Rattle.session_port.specs.declared.fault.Counter.{Counter}
-use Rattle.session_model.specs.Sources.{change_for, client_with, is_settled, parents_told}
+use Rattle.session_model.specs.Sources.{change_for, client_with, is_settled}
 use Rattle.session_model.specs.State.{Sources, State}
-use Rattle.session_laws.specs.Entering.{ArePresent, AreEntries, Enters, Entry, IsEntry, KeepsSettings, brings_roots, comes_or_goes, crates_after, hold_settings, holds_settings, roots_after, texts_after}
+use Rattle.session_laws.specs.Entering.{ArePresent, AreEntries, Enters, Entry, KeepsSettings, brings_roots, comes_or_goes, crates_after, hold_settings, holds_settings, roots_after, texts_after}
 
 -- ---- entries, one after another
 

@@ -1,7 +1,7 @@
 -- What a whole turn lets into the world, and what it makes of the settings: its parts, one after another.
-use Rattle.std.proofs.Common.{◌≡◌, ℕ, List, [], ◌∷◌, ◌++◌, Bool, true, false, refl, sym, ap, ◌∙◌, subst, append-nil, append_assoc, inl, inr, true≢false}
+use Rattle.std.proofs.Common.{◌≡◌, ℕ, List, [], ◌∷◌, Bool, true, false, refl, sym, ap, ◌∙◌, subst, inl, inr, true≢false}
 use Rattle.plain.specs.Texts.{text_cmp}
-use Rattle.std.specs.Prelude.{◌⊎◌, ◌==◌, ℤ, Option, None, Some, is_some, Result, Ok, Err, IfOk, if◌then◌else◌}
+use Rattle.std.specs.Prelude.{◌⊎◌, ◌==◌, Option, None, Some, is_some, Result, Ok, Err, IfOk, if◌then◌else◌}
 use Rattle.std.specs.FinMap as map
 use Rattle.std.proofs.lemmas.Result.{IfOk-at_ok}
 use Rattle.docs_vfs.specs.FileUrls.{path_of}
@@ -26,14 +26,13 @@ use Rattle.session_port.specs.declared.command.LogCode.{LogCode}
 use Rattle.session_port.specs.declared.command.LogCode.TheVariants.{BuildError, FetchError, SecondSettingsFile, UnknownSave}
 use Rattle.session_port.specs.declared.event.LoaderMsg.{LoaderMsg}
 use Rattle.session_port.specs.declared.event.TaskMsg.{TaskMsg}
-use Rattle.session_port.specs.Working.{Working, and_then, logged, ordered, within, written}
+use Rattle.session_port.specs.Working.{Working, and_then, logged, ordered, written}
 use Rattle.session_port.specs.declared.fault.Counter.{Counter}
 use Rattle.change_effects.specs.Effects.{settings_among}
 use Rattle.change_effects.specs.declared.effects.ChangeEffects.{ChangeEffects}
-use Rattle.change_effects.specs.declared.effects.SettingsFile.{SettingsFile}
 use Rattle.client.specs.Answers.{settings_in}
 use Rattle.client.specs.Client.{Client}
-use Rattle.client.specs.Folds.{after_answer, after_asking, after_folders, client_change, follows, settings_after, with_client as settings_with}
+use Rattle.client.specs.Folds.{after_asking, follows, settings_after, with_client as settings_with}
 use Rattle.client.specs.Steps.{answered, asked_for, folders_changed, logged_if, notification_of}
 use Rattle.client.specs.declared.handler.ReqHandler.{ReqHandler}
 use Rattle.client.specs.declared.handler.ReqHandler.TheVariants.{Ignore, OpenLogs, Settings}
@@ -56,7 +55,7 @@ use Rattle.desk_laws.proofs.Results.{IfOk-and_then, IfOk-if, IfOk-weaker, IfOk-w
 use Rattle.session_files.specs.Folds.{after_closing, changed_files, is_open}
 use Rattle.session_files.specs.SessionFiles.{SessionFiles}
 use Rattle.session_files.specs.Steps.{changed, closed as closed_document, crates_put, loaded, opened, processed}
-use Rattle.session_files.proofs.SoundLemmas.{closing_keeps, editing_keeps, messages_keep, opening_keeps}
+use Rattle.session_files.proofs.SoundLemmas.{closing_keeps, messages_keep, opening_keeps}
 use Rattle.status.specs.declared.status.Status.{Status}
 use Rattle.status.specs.Same.{is_same_status}
 use Rattle.workspaces.specs.Fetches.{fetch_to_start, fire, fires, start_fetch, start_up}
@@ -82,13 +81,13 @@ use Rattle.session_model.specs.Machine.{crates_arrived, crates_built, desk_in, e
 use Rattle.session_model.specs.Machine.{file_changed, files_changed, files_done, files_followed, files_in, files_part, files_processed, files_processed_if, folders_taken, followed, further_logged}
 use Rattle.session_model.specs.Machine.{happened, in_state, kept, knowing, later_parts, load_handed_over, prime_part, publish_part, load_started, load_taken, loader_set, macros_taken, noticed, opened_at, quiet_done, quiet_part}
 use Rattle.session_model.specs.Machine.{received, refreshed, register_part, resumed, revised, roots_renewed, runs_started, save_noted, saved_at, saves_registered, settings_filed, some_processed, sources_deferred}
-use Rattle.session_model.specs.Machine.{start_parts, state_in, status_changed, status_done, status_kept, status_part, status_told, step, switch_done, switch_part, switched_to, taken, taken_in, text_shown, timed, timer_set, told}
+use Rattle.session_model.specs.Machine.{start_parts, state_in, status_changed, status_done, status_kept, status_part, status_told, step, switch_done, switch_part, switched_to, taken, taken_in, text_shown, timer_set, told}
 use Rattle.session_model.specs.Machine.{turned, Turning, turning, warned, watchers_registered, with_client, with_desk, with_files, with_sources, with_state, with_status}
 use Rattle.session_model.specs.Run.{Turn, Steps, begun}
-use Rattle.session_model.specs.Sources.{change_for, client_with, further_files, parents_told, sources_now}
-use Rattle.session_model.specs.State.{Sources, State, columns_in, discovers, excludes_in, fetch_kind, goes_by_folders, may_start, scene_of, snapshot_of, watched_names}
+use Rattle.session_model.specs.Sources.{change_for, further_files, parents_told, sources_now}
+use Rattle.session_model.specs.State.{Sources, State, columns_in, discovers, excludes_in, fetch_kind, goes_by_folders, may_start, scene_of, snapshot_of}
 use Rattle.session_model.specs.Switching.{switch_made}
-use Rattle.session_model.specs.Timing.{bring_files, effects_for, fetch_planned, renewed_if}
+use Rattle.session_model.specs.Timing.{bring_files, effects_for, renewed_if}
 use Rattle.session_model.specs.declared.facts.Facts.{Facts}
 use Rattle.session_model.specs.declared.heard.Heard.{Heard}
 use Rattle.session_model.specs.declared.heard.Heard.TheVariants.{Told, Malformed, Unhandled, Silent}
@@ -96,11 +95,11 @@ use Rattle.session_model.specs.declared.input.Event.{Event}
 use Rattle.session_model.specs.declared.input.Event.TheVariants.{Lsp, Task, Vfs, Deferred, Timer}
 use Rattle.session_model.specs.declared.input.Input.{Input}
 use Rattle.session_model.specs.declared.input.Input.TheVariants.{Start, Next}
-use Rattle.session_laws.specs.Entering.{ArePresent, Enters, Entry, KeepsSettings, LetsIn, hold_settings, tells_folders, tells_settings}
-use Rattle.session_laws.proofs.Entered.{Alters, Still, TellsParents, alters-on, alters-still, crates-alter, enters-none, enters-on, files_entries, filed-parents, filed-same, filed_client, files-present, keeps-settings-on, none-filed, parents_in}
-use Rattle.session_laws.proofs.Entered.{present-on, processing-enters, still-none, still-on, still-same}
+use Rattle.session_laws.specs.Entering.{ArePresent, Enters, KeepsSettings, LetsIn, tells_folders, tells_settings}
+use Rattle.session_laws.proofs.Entered.{Alters, Still, TellsParents, alters-on, alters-still, crates-alter, enters-none, enters-on, files_entries, filed-parents, filed-same, filed_client, files-present, none-filed, parents_in}
+use Rattle.session_laws.proofs.Entered.{processing-enters, still-none, still-on}
 use Rattle.session_laws.proofs.Documented.{edits-keep}
-use Rattle.session_laws.proofs.Filing.{DoesForFiles, Processes, PutsCrates, changed-does, change_of, closed-does, crates-put, loaded-does, ok-from, opened-does, processed-does}
+use Rattle.session_laws.proofs.Filing.{DoesForFiles, Processes, PutsCrates, changed-does, closed-does, crates-put, loaded-does, ok-from, opened-does, processed-does}
 use Rattle.session_laws.proofs.Telling.{DoesForClient, answered-does, asked-does, folders-do}
 
 -- what holds of each outcome

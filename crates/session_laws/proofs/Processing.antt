@@ -1,14 +1,12 @@
 -- What files that are processed within the event of a turn do: nobody is answered, and nothing that snapshots show changes where no file has.
-use Rattle.std.proofs.Common.{◌≡◌, ℕ, List, [], ◌∷◌, Bool, true, false, refl, sym, ap, ◌∙◌, subst, inl, inr}
-use Rattle.std.specs.Prelude.{◌⊎◌, Option, None, Some, Ok, IfOk, if◌then◌else◌}
+use Rattle.std.proofs.Common.{◌≡◌, ℕ, List, [], ◌∷◌, Bool, refl, sym, ap, ◌∙◌, subst}
+use Rattle.std.specs.Prelude.{Option, None, Some, Ok, IfOk, if◌then◌else◌}
 use Rattle.docs_vfs.specs.declared.file_kinds.ChangedFile.{ChangedFile}
 use Rattle.docs_vfs.specs.declared.file_kinds.FileId.{FileId}
-use Rattle.session_port.specs.declared.command.Command.TheVariants.{Defer}
 use Rattle.session_port.specs.declared.command.DeferredTask.TheVariants.{CheckProcMacroSources}
 use Rattle.session_port.specs.declared.command.LogCode.TheVariants.{SecondSettingsFile}
 use Rattle.session_port.specs.Working.{Working, logged, ordered}
 use Rattle.change_effects.specs.declared.effects.ChangeEffects.{ChangeEffects}
-use Rattle.client.specs.Client.{Client}
 use Rattle.desk.specs.Desk.{Desk}
 use Rattle.desk.specs.Reactions.{silent}
 use Rattle.desk_laws.specs.Settled.{Settled}
@@ -16,7 +14,6 @@ use Rattle.desk_laws.proofs.Results.{IfOk-and_then, IfOk-weaker, IfOk-within}
 use Rattle.desk_laws.proofs.Settling.{defer-settles, log-settles, nothing-settles, settled-on}
 use Rattle.session_files.specs.Current.{IsCurrent, IsSound, IsTaken}
 use Rattle.session_files.specs.Folds.{changed_files}
-use Rattle.session_files.specs.SessionFiles.{SessionFiles}
 use Rattle.session_files.specs.Steps.{processed}
 use Rattle.session_files.proofs.SoundLemmas.{processing_does, taken_none}
 use Rattle.workspaces.specs.Fetches.{is_served, waits_from}
@@ -27,10 +24,10 @@ use Rattle.session_model.specs.Machine.{with_client, with_files, with_sources}
 use Rattle.session_model.specs.Sources.{change_for, client_with, further_files, parents_told}
 use Rattle.session_model.specs.State.{State}
 use Rattle.session_model.specs.Timing.{effects_for, fetch_planned}
-use Rattle.session_laws.proofs.Crates.{KeepsFiles, processing-keeps, stays}
+use Rattle.session_laws.proofs.Crates.{KeepsFiles, processing-keeps}
 use Rattle.session_laws.proofs.Filing.{Processes, processed-does}
 use Rattle.session_laws.proofs.Following.{followed-does}
-use Rattle.session_laws.proofs.Running.{SameRuns, same-runs}
+use Rattle.session_laws.proofs.Running.{SameRuns}
 
 -- the desk, and what was written and ordered
 abbrev pub at : Working State → Working Desk
