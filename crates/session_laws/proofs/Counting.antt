@@ -4,7 +4,7 @@ use Rattle.std.proofs.lemmas.Bool.{leb-true, ltb-false}
 use Rattle.std.proofs.lemmas.List.{length-append}
 use Rattle.std.specs.FinMap as map
 use Rattle.std.specs.Prelude.{◌==◌, ◌||◌, ℤ, Err, if◌then◌else◌, is_some, ltb, None, Ok, Option, Result, Some}
-use Rattle.docs_vfs.specs.Files.{Files, and_then as and_then_table, changes, contents_at, file_id_of, is_full, is_marked, kept_at, kept_of, mark_in, next_file, number_in, put_at, put_in, same_contents, set_in}
+use Rattle.docs_vfs.specs.Files.{Files, and_then as and_then_table, contents_at, file_id_of, is_full, is_marked, kept_at, kept_of, mark_in, next_file, number_in, put_at, put_in, same_contents, set_in}
 use Rattle.docs_vfs.specs.declared.file_kinds.ChangedFile.{ChangedFile}
 use Rattle.docs_vfs.specs.declared.file_kinds.FileId.{FileId}
 use Rattle.docs_vfs.specs.declared.file_kinds.FileRow.{FileRow}
@@ -34,8 +34,8 @@ use Rattle.notify.specs.declared.outgo.Outgo.{Outgo}
 use Rattle.desk.specs.Desk.{Desk}
 use Rattle.desk.specs.Steps.{handed_over}
 use Rattle.session_files.specs.Changing.{text_after}
-use Rattle.session_files.specs.Folds.{after_changed, after_crates, after_each_changed, after_each_loaded, after_editing, after_loaded, after_message, after_messages, after_opening, after_processing, after_turn}
-use Rattle.session_files.specs.Folds.{contents_put, is_excluded, is_open, made_of, mark_put, table_put, taken_up, text_edited, text_put, version_put, with_changes, with_table, world_put}
+use Rattle.session_files.specs.Folds.{after_changed, after_crates, after_each_changed, after_each_loaded, after_editing, after_loaded, after_message, after_messages, after_opening, after_processing}
+use Rattle.session_files.specs.Folds.{changed_files, contents_put, is_excluded, is_open, made_of, mark_put, table_put, taken_up, text_edited, text_put, version_put, with_changes, with_table, world_put}
 use Rattle.session_files.specs.SessionFiles.{SessionFiles}
 use Rattle.session_files.specs.Steps.{become}
 use Rattle.session_files.specs.Texts.{holds_text}
@@ -386,15 +386,13 @@ list-counts : (roots : List Root) (list : List ChangedFile) (s : State) → Coun
 list-counts roots [] s = gives-same (revisions 1) (given s) (given s) refl
 list-counts roots (file ∷ later) s = world-counts s _ (taken_up s.files) (ltb s.files.host.revision (2 ^ 64 - 1)) refl refl refl
 
-pub turn-counts : (roots : List Root) (s : State) → Counts (λ (v : SessionFiles). with_files v s) (revisions 1) (given s) (after_turn roots s.files)
-unfolding after_turn after_processing
-turn-counts roots s =
-    counts-if (λ (v : SessionFiles). with_files v s) (revisions 1) (given s) s.files.loading (Ok s.files) (with_changes roots (changes s.files.table) (taken_up s.files)) (gives-same (revisions 1) (given s) (given s) refl)
-    (list-counts roots (changes s.files.table) s)
+pub processing-counts : (roots : List Root) (s : State) → Counts (λ (v : SessionFiles). with_files v s) (revisions 1) (given s) (after_processing roots s.files)
+unfolding after_processing
+processing-counts roots s = list-counts roots (changed_files s.files) s
 
-pub crates-count : (crates : CrateData) (s : State) → Counts (λ (v : SessionFiles). with_files v s) (revisions 1) (given s) (after_crates crates s.files)
+pub crates-count : (roots : List Root) (crates : CrateData) (s : State) → Counts (λ (v : SessionFiles). with_files v s) (revisions 1) (given s) (after_crates roots crates s.files)
 unfolding after_crates
-crates-count crates s = world-counts s _ s.files (ltb s.files.host.revision (2 ^ 64 - 1)) refl refl refl
+crates-count roots crates s = world-counts s _ s.files (ltb s.files.host.revision (2 ^ 64 - 1)) refl refl refl
 
 pub become-counts : (needs before : Numbers) (s : State) (r : Result SessionFiles Counter) (w : Working SessionFiles) → Counts (λ (v : SessionFiles). with_files v s) needs before r
     → Counts (λ (v : Working SessionFiles). with_files v.state s) needs before (become r w)

@@ -5,10 +5,11 @@ use Rattle.std.proofs.lemmas.List.{length-append}
 use Rattle.std.proofs.lemmas.Result.{IfOk-at_ok}
 use Rattle.std.specs.FinMap as map
 use Rattle.std.specs.Option.{option_map}
-use Rattle.std.specs.Prelude.{◌⊎◌, ◌==◌, Err, IfErr, IfOk, if◌then◌else◌, ltb, None, Ok, Option, Result, Some}
+use Rattle.std.specs.Prelude.{◌⊎◌, ◌==◌, Err, IfErr, IfOk, if◌then◌else◌, is_some, ltb, None, Ok, Option, Result, Some}
 use Rattle.docs_vfs.specs.FileUrls.{path_of}
 use Rattle.docs_vfs.specs.declared.file_kinds.ChangedFile.{ChangedFile}
 use Rattle.docs_vfs.specs.declared.file_url.UrlFault.{UrlFault}
+use Rattle.docs_vfs.specs.declared.source_roots.Root.{Root}
 use Rattle.lsp_frame.specs.Outgoing.{Outgoing, number_of, without}
 use Rattle.lsp_frame.specs.declared.message.Notification.{Notification}
 use Rattle.lsp_frame.specs.declared.message.Request.{Request}
@@ -28,7 +29,7 @@ use Rattle.session_port.specs.declared.command.LogCode.{LogCode}
 use Rattle.session_port.specs.declared.command.LogCode.TheVariants.{BadPath, MalformedNotification, UnhandledNotification}
 use Rattle.session_port.specs.declared.command.Command.TheVariants.{Revise, Timer as SetTimer}
 use Rattle.method_table.specs.declared.class.PoolClass.TheVariants.{Worker}
-use Rattle.session_files.specs.Folds.{due_changes}
+use Rattle.session_files.specs.Folds.{changed_files}
 use Rattle.session_port.specs.declared.event.TaskMsg.{TaskMsg}
 use Rattle.session_port.specs.declared.fault.Counter.{Counter}
 use Rattle.session_port.specs.declared.fault.Counter.TheVariants as counters
@@ -65,7 +66,7 @@ use Rattle.workspaces.specs.declared.follows.Follows.TheVariants as follows
 use Rattle.workspaces.specs.declared.requests.FetchRequest.{FetchRequest}
 use Rattle.reload.specs.declared.switch.Switch.{Switch}
 use Rattle.reload.specs.declared.switch.Switch.TheVariants as switch
-use Rattle.session_model.specs.Building.{build_due, build_kept, end_kept, request_told, with_due_build}
+use Rattle.session_model.specs.Building.{build_due, build_kept, request_told, with_due_build}
 use Rattle.session_model.specs.Checking.{check_kind}
 use Rattle.session_model.specs.Crates.{builds_crates, crate_data, is_unknown, with_crates}
 use Rattle.session_model.specs.Fetching.{fetch_kept, folders_told_if, settings_told, with_fetches}
@@ -74,9 +75,9 @@ use Rattle.session_model.specs.Inputs.{batch_of, cancelled_by, check_count, chec
 use Rattle.session_model.specs.Loading.{MacroPaths, crates_loaded, load_due, load_kept, with_due_load}
 use Rattle.session_model.specs.Machine.{all_resumed, answer_taken, asked, asked_for_settings, asked_if, at_client, at_desk, at_files, at_workspaces, batched, begin_part, begun_fetches, build_handed_over, build_part}
 use Rattle.session_model.specs.Machine.{build_started, build_taken, changed_at, check_taken, client_in, closed, closed_at, closing_part, counted, crates_arrived, crates_built, desk_in, effects_done, ends_taken, fetch_waits, settings_filed, sources_deferred, event_part, fetch_handed_over}
-use Rattle.session_model.specs.Machine.{fetch_part, fetch_started, fetch_taken, files_changed, files_followed, files_in, files_part, files_processed, folders_taken, followed, happened, in_state, kept, later_parts}
-use Rattle.session_model.specs.Machine.{load_handed_over, load_started, load_taken, loader_set, noticed, opened_at, quiet_done, quiet_part, received, refreshed, register_part, resumed, revised, roots_renewed, runs_started, save_noted}
-use Rattle.session_model.specs.Machine.{saved_at, saved_file, saves_registered, start_parts, state_in, status_changed, status_done, status_kept, status_part, status_told, step, switch_done, switch_part, switched_to, taken, taken_in}
+use Rattle.session_model.specs.Machine.{fetch_part, fetch_started, fetch_taken, files_changed, files_done, files_followed, files_in, files_part, files_processed, files_processed_if, folders_taken, followed, happened, in_state, kept, knowing, later_parts}
+use Rattle.session_model.specs.Machine.{load_handed_over, load_started, load_taken, loader_set, macros_taken, noticed, opened_at, quiet_done, quiet_part, received, refreshed, register_part, resumed, revised, roots_renewed, runs_started, save_noted}
+use Rattle.session_model.specs.Machine.{saved_at, saved_file, saves_registered, some_processed, start_parts, state_in, status_changed, status_done, status_kept, status_part, status_told, step, switch_done, switch_part, switched_to, taken, taken_in}
 use Rattle.session_model.specs.Machine.{text_shown, timed, timer_set, told, turned, Turning, turning, warned, watchers_registered, with_client, with_desk, with_files, with_sources, with_state, with_status}
 use Rattle.session_model.specs.RunEnds.{AreTooMany, NeedsMore, Numbers, needs_of}
 use Rattle.session_model.specs.Rows.{batch_row, machine_after, notice_row, place_after_message, row, scene_within, turn_begun}
@@ -95,12 +96,12 @@ use Rattle.session_model.specs.declared.input.Event.TheVariants.{Lsp, Task, Vfs,
 use Rattle.session_model.specs.declared.input.Input.{Input}
 use Rattle.session_model.specs.declared.input.Input.TheVariants.{Start, Next}
 use Rattle.session_laws.specs.Invariant.{place_of}
-use Rattle.session_laws.proofs.Batches.{DoesAtDesk, Stays, at, logged_if-same, or-is, place_now, rest-is, scene-is, settles-within, stays-on}
-use Rattle.session_laws.proofs.Crates.{stays}
+use Rattle.session_laws.proofs.Batches.{DoesAtDesk, Stays, logged_if-same, or-is, place_now, rest-is, scene-is, settles-within, stays-on, stays-same}
 use Rattle.session_laws.proofs.Counting.{AtMost, Counts, at-most, become-counts, both, counts-behind, counts-if, counts-more, counts-then, counts-within, crates-count, editing-counts, files, given, given-workspaces}
-use Rattle.session_laws.proofs.Counting.{gives-desk, gives-same, gives-versions, job-counts, jobs, messages-count, next-counts, none, opening-counts, request-counts, requests, revisions, state_at, turn-counts, turns}
+use Rattle.session_laws.proofs.Counting.{gives-desk, gives-same, gives-versions, job-counts, jobs, messages-count, next-counts, none, opening-counts, processing-counts, request-counts, requests, revisions, state_at, turns}
 use Rattle.session_laws.proofs.Events.{files-same, notification_input, noted-same}
 use Rattle.session_laws.proofs.Following.{deferred-same, further-same}
+use Rattle.session_laws.proofs.Processing.{at}
 use Rattle.session_laws.proofs.Rows.{counted-is}
 use Rattle.session_laws.proofs.Running.{build-leaves, fetch-leaves, fire-runs, folders-runs, load-leaves, planned-runs, renewed-runs, request-runs, save-runs, settings-runs}
 use Rattle.session_laws.proofs.Switching.{Moves, left_or, loader-same, made-moves, warned-same}
@@ -180,19 +181,19 @@ files-do : (needs : Numbers) (w : Working State) (work : Working SessionFiles �
     → Counts (λ (v : Working SessionFiles). with_files v.state w.state) needs (given w.state) (work (record { state = w.state.files; out = w.out })) → Does needs w (at_files work w)
 files-do needs w work h = counts-within state_at needs (given w.state) files_in with_files work w h
 
-crates-do : (crates : CrateData) (w : Working State) → Does (revisions 1) w (at_files (crates_put crates) w)
+crates-do : (roots : List Root) (crates : CrateData) (w : Working State) → Does (revisions 1) w (at_files (crates_put roots crates) w)
 unfolding crates_put
-crates-do crates w = files-do (revisions 1) w (crates_put crates) (become-counts (revisions 1) (given w.state) w.state _ _ (crates-count crates w.state))
+crates-do roots crates w = files-do (revisions 1) w (crates_put roots crates) (become-counts (revisions 1) (given w.state) w.state _ _ (crates-count roots crates w.state))
 
 arrived-does : (crates : Option CrateData) (w : Working State) → Does (revisions 1) w (crates_arrived crates w)
 unfolding crates_arrived
 arrived-does None w = does-same (revisions 1) w w refl
-arrived-does (Some crates) w = crates-do crates w
+arrived-does (Some crates) w = crates-do w.state.sources.roots crates w
 
 built-does : (built : Bool) (w : Working State) → Does (revisions 1) w (crates_built built w)
 unfolding crates_built
 built-does false w = does-same (revisions 1) w w refl
-built-does true w = crates-do (crate_data w.state.client.settings w.state.files.ids w.state.workspaces.present) w
+built-does true w = crates-do w.state.sources.roots (crate_data w.state.client.settings w.state.files.ids w.state.workspaces.present) w
 
 -- what follows from files that changed isn't counted
 change-asks : (change : Option ConfigChange) (client : Client) → (client_with change client).asked ≡ client.asked
@@ -205,7 +206,7 @@ followed-same [] w = refl
 followed-same (change ∷ changes) w =
     let effects = effects_for w.state.client.settings (change ∷ changes) w.state.workspaces in
     let filed = settings_filed effects.settings w in
-    let settings = change_for effects.settings w.state.sources w.state.workspaces.present in
+    let settings = change_for effects.settings w.state.files.host.world.roots w.state.sources w.state.workspaces.present in
     let put : Working State = record w { state = with_sources (parents_told w.state.sources) (with_client (client_with settings w.state.client) w.state) } in
     let deferred = sources_deferred effects.macro_sources filed in
     given-workspaces deferred.state (fetch_planned deferred.state.desk.turns effects.fetch deferred.state.workspaces) (planned-runs deferred.state.desk.turns effects.fetch deferred.state.workspaces).versions
@@ -215,8 +216,17 @@ followed-same (change ∷ changes) w =
 processed-does : (w : Working State) → Does (revisions 1) w (files_processed w)
 unfolding files_processed processed
 processed-does w =
-    then-same (revisions 1) w (at_files (processed w.state.sources.roots) w) (files_followed (due_changes w.state.files)) (followed-same (due_changes w.state.files))
-    (files-do (revisions 1) w (processed w.state.sources.roots) (become-counts (revisions 1) (given w.state) w.state _ _ (turn-counts w.state.sources.roots w.state)))
+    then-same (revisions 1) w (at_files (processed w.state.sources.roots) w) (files_followed (changed_files w.state.files)) (followed-same (changed_files w.state.files))
+    (files-do (revisions 1) w (processed w.state.sources.roots) (become-counts (revisions 1) (given w.state) w.state _ _ (processing-counts w.state.sources.roots w.state)))
+
+processed_if-does : (b : Bool) (w : Working State) → Does (revisions 1) w (files_processed_if b w)
+unfolding files_processed_if
+processed_if-does true w = processed-does w
+processed_if-does false w = does-same (revisions 1) w w refl
+
+done-does : (w : Working State) → Does (revisions 1) w (files_done w)
+unfolding files_done
+done-does w = counts-if state_at (revisions 1) (given w.state) w.state.files.loading (Ok w) (files_processed w) (does-same (revisions 1) w w refl) (processed-does w)
 
 -- ---- a switch
 
@@ -400,17 +410,18 @@ build-same None w = refl
 build-same (Some made) w =
     logged-same _ _ (at_workspaces (build_kept (Some made)) w) ∙ given-workspaces w.state (build_kept (Some made) w.state.workspaces) (build-leaves (Some made) w.state.workspaces).2
 
--- but that of a load of macros may change the world
+-- but that of a load of macros may change the world, by crate data and by the files behind it
 ends-do : (fetched : Option FetchEnd) (built : Option BuildEnd) (checked : Option (List (List ℕ))) (loaded : Option LoadEnd) (w : Working State)
-    → Does (revisions 1) w (ends_taken fetched built checked loaded w)
-unfolding ends_taken load_taken
+    → Does (revisions 2) w (ends_taken fetched built checked loaded w)
+unfolding ends_taken load_taken macros_taken
 ends-do fetched built checked loaded w =
     let b : Working State = build_taken built (fetch_taken fetched w) in
     let c : Working State = check_taken checked b in
     let l : Working State = at_workspaces (load_kept loaded) c in
-    from-same (revisions 1) w l (crates_arrived (crates_loaded loaded c.state.workspaces) l)
+    let crates : Option CrateData = crates_loaded loaded c.state.workspaces in
+    from-same (revisions 2) w l (and_then (crates_arrived crates l) (files_processed_if (is_some crates)))
     (given-workspaces c.state (load_kept loaded c.state.workspaces) (load-leaves loaded c.state.workspaces).2 ∙ build-same built (fetch_taken fetched w) ∙ fetch-same fetched w)
-    (arrived-does (crates_loaded loaded c.state.workspaces) l)
+    (does-then (revisions 1) (revisions 1) l (crates_arrived crates l) (files_processed_if (is_some crates)) (arrived-does crates l) (processed_if-does (is_some crates)))
 
 -- so many jobs and revisions
 abbrev for_messages : ℕ → ℕ → Numbers
@@ -420,7 +431,7 @@ plus-none : (n : ℕ) → n + 0 ≡ n
 plus-none n = omega arith
 
 taken-does : (meaning : Meaning) (turns : ℕ) (message : TaskMsg) (w : Working State)
-    → Does (for_messages (length (message_row meaning (scene_of w.state) (record w.state.desk { turns = turns }) message).jobs) 1) w (taken meaning message w)
+    → Does (for_messages (length (message_row meaning (scene_of w.state) (record w.state.desk { turns = turns }) message).jobs) 2) w (taken meaning message w)
 unfolding taken
 taken-does meaning turns message w =
     let scene = scene_of w.state in
@@ -428,31 +439,30 @@ taken-does meaning turns message w =
     let plain = message_row meaning scene w.state.desk message in
     let same : length plain.jobs ≡ length done.jobs = ap (λ (d : Reaction). length d.jobs) (sym (message-turns meaning scene w.state.desk turns message)) in
     let out = w.state.desk.jobs in
-    subst (λ n. Does (for_messages n 1) w (taken meaning message w)) (plus-none (length done.jobs))
-    (does-then (jobs (length done.jobs)) (revisions 1) w (at_desk (taken_at_desk meaning scene message) w) _
+    subst (λ n. Does (for_messages n 2) w (taken meaning message w)) (plus-none (length done.jobs))
+    (does-then (jobs (length done.jobs)) (revisions 2) w (at_desk (taken_at_desk meaning scene message) w) _
     (counts-within state_at (jobs (length done.jobs)) (given w.state) desk_in with_desk (taken_at_desk meaning scene message) w
     (desk-counts (jobs (length done.jobs)) w.state None (at w) plain (after_message message out) (taken_at_desk meaning scene message (at w)) refl refl (omega (arith, same))
     (message-settles meaning scene message (at w)) (message-errs meaning scene message (at w))))
     (ends-do (fetch_ended message out) (build_ended message out) (check_ended message out) (load_ended message out)))
 
 batch-does : (meaning : Meaning) (turns : ℕ) (s : State) (batch : List TaskMsg) (w : Working State) → Stays s w.state
-    → Does (for_messages (length (batch_row meaning batch w (place_now s turns w)).jobs) (length batch)) w (batched meaning batch w)
+    → Does (for_messages (length (batch_row meaning batch w (place_now s turns w)).jobs) (length batch + length batch)) w (batched meaning batch w)
 batch-does meaning turns s [] w h = does-same (for_messages 0 0) w w refl
 batch-does meaning turns s (m ∷ ms) w h =
     let place = place_now s turns w in
     let done = message_row meaning (scene_within place w) place.desk m in
     let rest = batch_row meaning ms (machine_after meaning m w) (place_after_message m done place) in
-    let kept = end_kept m w.state.desk.jobs w.state.workspaces in
-    let first : Numbers = for_messages (length done.jobs) 1 in
-    let others : Numbers = for_messages (length rest.jobs) (length ms) in
-    counts-more state_at (both first others) (for_messages (length (done.jobs ++ rest.jobs)) (length (m ∷ ms))) (given w.state) (batched meaning (m ∷ ms) w)
+    let first : Numbers = for_messages (length done.jobs) 2 in
+    let others : Numbers = for_messages (length rest.jobs) (length ms + length ms) in
+    counts-more state_at (both first others) (for_messages (length (done.jobs ++ rest.jobs)) (length (m ∷ ms) + length (m ∷ ms))) (given w.state) (batched meaning (m ∷ ms) w)
     (at-most _ _ (omega arith) (omega (arith, length-append done.jobs rest.jobs)) (omega arith) (omega arith) (omega arith) (omega arith) (omega arith))
     (counts-then state_at state_at first others (given w.state) (taken meaning m w) (batched meaning ms)
-    (subst (λ scene. Does (for_messages (length (message_row meaning scene place.desk m).jobs) 1) w (taken meaning m w)) (sym (scene-is s turns w h)) (taken-does meaning turns m w))
-    (λ v is. let a : DoesAtDesk w v done (after_message m w.state.desk.jobs) kept =
-    IfOk-at_ok (λ v. DoesAtDesk w v done (after_message m w.state.desk.jobs) kept) is (settles-within meaning s turns m w h) in
+    (subst (λ scene. Does (for_messages (length (message_row meaning scene place.desk m).jobs) 2) w (taken meaning m w)) (sym (scene-is s turns w h)) (taken-does meaning turns m w))
+    (λ v is. let a : DoesAtDesk w v done (after_message m w.state.desk.jobs) =
+    IfOk-at_ok (λ v. DoesAtDesk w v done (after_message m w.state.desk.jobs)) is (settles-within meaning s turns m w h) in
     let next : machine_after meaning m w ≡ v = IfOk-at_ok (λ v. machine_after meaning m w ≡ v) is (or-is w (taken meaning m w)) in
-    subst (λ (r : Reaction). Does (for_messages (length r.jobs) (length ms)) v (batched meaning ms v)) (rest-is meaning s turns m ms w v done kept next a)
+    subst (λ (r : Reaction). Does (for_messages (length r.jobs) (length ms + length ms)) v (batched meaning ms v)) (rest-is meaning s turns m ms w v done next a)
     (batch-does meaning turns s ms v (stays-on s w.state v.state h a.stays))))
 
 -- ---- notifications
@@ -462,7 +472,7 @@ abbrev for_event : Meaning → State → Input → Numbers
 for_event meaning s input = record none {
   jobs = length (row meaning input (place_of s)).jobs + check_count input;
   requests = 1;
-  revisions = length (batch_of input);
+  revisions = length (batch_of input) + length (batch_of input);
   files = file_count input;
 }
 
@@ -511,8 +521,8 @@ saved-does needs s uri (Ok path) =
     let w : Working State = turn_begun s in
     let noted : Working State = save_noted (is_unknown s.files.ids path) path w in
     does-same needs w (saved_file path w)
-    (given-workspaces noted.state (path_saved s.client.settings s.sources.roots s.files path noted.state.workspaces)
-    (save-runs 0 s.client.settings s.sources.roots s.files path noted.state.workspaces).versions ∙ same-state w.state noted.state (noted-same (is_unknown s.files.ids path) path w))
+    (given-workspaces noted.state (path_saved s.client.settings s.files path noted.state.workspaces)
+    (save-runs 0 s.client.settings s.files path noted.state.workspaces).versions ∙ same-state w.state noted.state (noted-same (is_unknown s.files.ids path) path w))
 
 -- a step of what is agreed with the client that gives no number
 client-does : (needs : Numbers) (w : Working State) (step : Working Client → Working Client) → (step (record { state = w.state.client; out = w.out })).state.asked.given ≡ w.state.client.asked.given
@@ -594,9 +604,9 @@ event-does meaning s (Lsp (lsp.Response r)) = answer-does (for_event meaning s (
 event-does meaning s (Task batch) =
     let w : Working State = turn_begun s in
     let input : Input = Next (Task batch) in
-    counts-more state_at (for_messages (length (row meaning input (place_of s)).jobs) (length batch)) (for_event meaning s input) (given w.state) (batched meaning batch w)
+    counts-more state_at (for_messages (length (row meaning input (place_of s)).jobs) (length batch + length batch)) (for_event meaning s input) (given w.state) (batched meaning batch w)
     (at-most _ _ (omega arith) (omega arith) (omega arith) (omega arith) (omega arith) (omega arith) (omega arith))
-    (batch-does meaning s.desk.turns s batch w (record { client = refl; files = stays s.files; shows = record { present = refl; version = refl } }))
+    (batch-does meaning s.desk.turns s batch w (stays-same s (turn_begun s).state refl refl (record { present = refl; version = refl })))
 event-does meaning s (Vfs messages) =
     let w : Working State = turn_begun s in
     let input : Input = Next (Vfs messages) in
@@ -643,6 +653,12 @@ parts-then : (a b : Numbers) (t : Working Turning) (r : Result (Working Turning)
     → ((u : Working Turning) → PartDoes b u (f u)) → PartDoes (both a b) t (and_then r f)
 parts-then a b t r f p q = counts-then turning_at turning_at a b (given t.state.state) r f p (λ u is. q u)
 
+-- and then nothing changes that is counted
+parts-same : (needs : Numbers) (t : Working Turning) (r : Result (Working Turning) Counter) (f : Working Turning → Working Turning) → ((u : Working Turning) → given (f u).state.state ≡ given u.state.state)
+    → PartDoes needs t r → PartDoes needs t (and_then r (λ u. Ok (f u)))
+parts-same needs t (Ok u) f same h = subst (λ (n : Numbers). AtMost n (both (given t.state.state) needs)) (sym (same u)) h
+parts-same needs t (Err counter) f same h = h
+
 given-if : (b : Bool) (w u v : Working State) → given u.state ≡ given w.state → given v.state ≡ given w.state → given (if b then u else v).state ≡ given w.state
 given-if true w u v p q = p
 given-if false w u v p q = q
@@ -664,11 +680,17 @@ closing-does t = part-does none (closed t.state.facts) t (ending-does t.state.fa
 abbrev for_parts : Numbers
 for_parts = record none { jobs = 2; requests = 6; revisions = 2; versions = 1; settings = 1 }
 
+files_part-does : (t : Working Turning) → PartDoes (revisions 1) t (files_part t)
+unfolding files_part
+files_part-does t =
+    parts-same (revisions 1) t (in_state files_done t) (knowing (some_processed t.state.state.files)) (λ u. refl)
+    (part-does (revisions 1) files_done t (done-does _))
+
 later-does : (input : Input) (t : Working Turning) → PartDoes for_parts t (later_parts input t)
-unfolding switch_part files_part quiet_part fetch_part build_part status_part
+unfolding switch_part quiet_part fetch_part build_part status_part
 later-does input t =
     parts-then for_switch (record none { jobs = 2; requests = 5; revisions = 1 }) t (switch_part t) _ (part-does for_switch switch_done t (switch-does _))
-    (λ t. parts-then (revisions 1) (record none { jobs = 2; requests = 5 }) t (files_part t) _ (part-does (revisions 1) files_processed t (processed-does _))
+    (λ t. parts-then (revisions 1) (record none { jobs = 2; requests = 5 }) t (files_part t) _ (files_part-does t)
     (λ t. parts-then (requests 4) (record none { jobs = 2; requests = 1 }) t (quiet_part t) _ (part-does (requests 4) (quiet_done t.state.facts) t (quiet-does t.state.facts _))
     (λ t. parts-then (jobs 1) (record none { jobs = 1; requests = 1 }) t (fetch_part input t) _ (part-does (jobs 1) (fetch_started (may_start input t.state.state.client.settings)) t (fetch-does _ _))
     (λ t. parts-then (jobs 1) (requests 1) t (build_part t) _ (part-does (jobs 1) runs_started t (runs-do _))
