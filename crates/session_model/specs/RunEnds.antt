@@ -69,14 +69,14 @@ given_at place = record {
 
 -- those that a turn may need. The start has no number and makes no switch. Jobs are those of the row, the checks that
 -- the input brings back, a fetch, and a run of build data or a load of macros. The client may be asked for its
--- settings, to watch files, to ask anew for four things that it shows, and for a button. The world may change twice for
--- each message of a batch, by crate data and by the files behind it, and then for a switch and for the files
+-- settings, to watch files, to ask anew for four things that it shows, and for a button. The world may change for each
+-- message of a batch, for a switch and for the files
 abbrev pub needs_of : Meaning → Input → Place → Numbers
 needs_of meaning input place = record {
   turns = turns_after input 0;
   jobs = length (row meaning input place).jobs + check_count input + 2;
   requests = 7;
-  revisions = length (batch_of input) + length (batch_of input) + 2;
+  revisions = length (batch_of input) + 2;
   files = file_count input;
   versions = turns_after input 0;
   settings = turns_after input 0;
