@@ -27,6 +27,8 @@ use Rattle.method_table.specs.declared.request.StateRequest.{StateRequest}
 use Rattle.dispatch.specs.Responses.{response_with}
 use Rattle.session_port.specs.Jobs.{Jobs, ticket_of, final_of, fitting_job, after_message}
 use Rattle.session_port.specs.Record.{spawned}
+use Rattle.session_port.specs.declared.command.Command.TheVariants.{Defer}
+use Rattle.session_port.specs.declared.command.DeferredTask.{DeferredTask}
 use Rattle.session_port.specs.declared.command.LogCode.{LogCode}
 use Rattle.session_port.specs.declared.command.LogCode.TheVariants.{UnknownRequest}
 use Rattle.session_port.specs.declared.event.TaskMsg.{TaskMsg}
@@ -114,6 +116,22 @@ answer-settles id response w is = record {
   others = λ number_of passes. refl;
   turns = refl;
   pending = ap (λ o. closed_with o w.state.pending) (sym is);
+  out = refl;
+  handed = omega arith;
+  shutdown = refl;
+}
+
+-- a task that is put off
+pub defer-settles : (task : DeferredTask) (w : Working Desk) → Settled None w (ordered (Defer task) w) silent w.state.jobs
+unfolding ordered
+defer-settles task w = record {
+  written = sym (append-nil _);
+  responses = sym (append-nil _);
+  spawns = spawned-append w.out.commands _;
+  asked = refl;
+  others = λ number_of passes. passed-append number_of w.out.commands _ (passes.defers task);
+  turns = refl;
+  pending = refl;
   out = refl;
   handed = omega arith;
   shutdown = refl;

@@ -6,7 +6,8 @@ use Rattle.lsp_frame.specs.declared.message.Request.{Request}
 use Rattle.session_port.specs.Jobs.{Jobs}
 use Rattle.session_port.specs.Record.{spawned}
 use Rattle.session_port.specs.declared.command.Command.{Command}
-use Rattle.session_port.specs.declared.command.Command.TheVariants.{Spawn, Log}
+use Rattle.session_port.specs.declared.command.Command.TheVariants.{Defer, Spawn, Log}
+use Rattle.session_port.specs.declared.command.DeferredTask.{DeferredTask}
 use Rattle.session_port.specs.declared.command.LogCode.{LogCode}
 use Rattle.session_port.specs.declared.job.Job.{Job}
 use Rattle.session_port.specs.Working.{Working}
@@ -15,13 +16,14 @@ use Rattle.desk.specs.Desk.{Desk}
 use Rattle.desk.specs.Folds.{asked_among, pending_after, shutdown_after}
 use Rattle.desk.specs.Reactions.{Reaction}
 
--- neither a job nor a log line has the number that is asked of commands
+-- neither a job nor a log line nor a task that is put off has the number that is asked of commands
 pub record PassesOver (number_of : Command → Option ℕ) : Type 0 where
   pub jobs : (job : Job) → number_of (Spawn job) ≡ None
   pub logs : (code : LogCode) (text : List ℕ) → number_of (Log code text) ≡ None
+  pub defers : (task : DeferredTask) → number_of (Defer task) ≡ None
 
 -- between these two these responses were written, no other message, and these jobs handed over, and this request, if any, was read by the turn that is counted. These jobs
--- of earlier turns are out, nothing was ordered but jobs and log lines, and the turns stay
+-- of earlier turns are out, nothing was ordered but jobs, log lines and tasks that are put off, and the turns stay
 pub record Settled (request : Option Request) (w v : Working Desk) (done : Reaction) (jobs : Jobs) : Type 0 where
   pub written : v.out.messages ≡ w.out.messages ++ map ResponseMessage done.responses
   pub responses : responses_in v.out.messages ≡ responses_in w.out.messages ++ done.responses

@@ -4,7 +4,7 @@ use Rattle.std.proofs.lemmas.Bool.{leb-true, ltb-false}
 use Rattle.std.proofs.lemmas.List.{length-append}
 use Rattle.std.specs.FinMap as map
 use Rattle.std.specs.Prelude.{◌==◌, ◌||◌, ℤ, Err, if◌then◌else◌, is_some, ltb, None, Ok, Option, Result, Some}
-use Rattle.docs_vfs.specs.Files.{Files, and_then as and_then_table, changes, contents_at, file_id_of, is_full, is_marked, kept_at, kept_of, mark_in, next_file, number_in, put_at, put_in, same_contents, set_in}
+use Rattle.docs_vfs.specs.Files.{Files, and_then as and_then_table, contents_at, file_id_of, is_full, is_marked, kept_at, kept_of, mark_in, next_file, number_in, put_at, put_in, same_contents, set_in}
 use Rattle.docs_vfs.specs.declared.file_kinds.ChangedFile.{ChangedFile}
 use Rattle.docs_vfs.specs.declared.file_kinds.FileId.{FileId}
 use Rattle.docs_vfs.specs.declared.file_kinds.FileRow.{FileRow}
@@ -34,8 +34,9 @@ use Rattle.notify.specs.declared.outgo.Outgo.{Outgo}
 use Rattle.desk.specs.Desk.{Desk}
 use Rattle.desk.specs.Steps.{handed_over}
 use Rattle.session_files.specs.Changing.{text_after}
-use Rattle.session_files.specs.Folds.{after_changed, after_crates, after_each_changed, after_each_loaded, after_editing, after_loaded, after_message, after_messages, after_opening, after_processing, after_turn}
-use Rattle.session_files.specs.Folds.{contents_put, is_excluded, is_open, made_of, mark_put, table_put, taken_up, text_edited, text_put, version_put, with_changes, with_table, world_put}
+use Rattle.session_files.proofs.SoundLemmas.{taken_none}
+use Rattle.session_files.specs.Folds.{after_changed, after_crates, after_each_changed, after_each_loaded, after_editing, after_loaded, after_message, after_messages, after_opening, after_processing}
+use Rattle.session_files.specs.Folds.{are_some, changed_files, contents_put, has_changed, is_excluded, is_open, made_of, mark_put, table_put, taken_up, text_edited, text_put, version_put, with_changes, with_table, world_put}
 use Rattle.session_files.specs.SessionFiles.{SessionFiles}
 use Rattle.session_files.specs.Steps.{become}
 use Rattle.session_files.specs.Texts.{holds_text}
@@ -100,7 +101,7 @@ on-then n m k a b p q = omega (arith, p, q)
 more : (limit n a b : ℕ) → limit ≤ n + a → a ≤ b → limit ≤ n + b
 more limit n a b p q = omega (arith, p, q)
 
-none-more : (before needs : Numbers) → AtMost before (both before needs)
+pub none-more : (before needs : Numbers) → AtMost before (both before needs)
 none-more before needs =
     at-most _ _ (still before.turns needs.turns) (still before.jobs needs.jobs) (still before.requests needs.requests)
     (still before.revisions needs.revisions) (still before.files needs.files)
@@ -110,7 +111,7 @@ none-more before needs =
 pub gives-same : (needs before after : Numbers) → after ≡ before → AtMost after (both before needs)
 gives-same needs before after same = subst (λ (n : Numbers). AtMost n (both before needs)) (sym same) (none-more before needs)
 
-gives-on : (a b n m k : Numbers) → AtMost m (both n a) → AtMost k (both m b) → AtMost k (both n (both a b))
+pub gives-on : (a b n m k : Numbers) → AtMost m (both n a) → AtMost k (both m b) → AtMost k (both n (both a b))
 gives-on a b n m k p q =
     at-most _ _ (on-then n.turns m.turns k.turns a.turns b.turns p.turns q.turns) (on-then n.jobs m.jobs k.jobs a.jobs b.jobs p.jobs q.jobs) (on-then n.requests m.requests k.requests a.requests b.requests p.requests q.requests)
     (on-then n.revisions m.revisions k.revisions a.revisions b.revisions p.revisions q.revisions) (on-then n.files m.files k.files a.files b.files p.files q.files)
@@ -177,6 +178,21 @@ counts-within of needs n get put step w h = put-counts of needs n put w.state (s
 abbrev pub state_at : Working State → State
 state_at w = w.state
 
+-- files that have changed are to be processed once
+abbrev pub pending : SessionFiles → ℕ
+pending files = if has_changed files then 1 else 0
+
+-- the session, with the revision that it comes to where the files that have changed are processed
+abbrev pub ahead : State → State
+ahead s = record s { files = record s.files { host = record s.files.host { revision = s.files.host.revision + pending s.files } } }
+
+abbrev pub state_ahead : Working State → State
+state_ahead w = ahead w.state
+
+-- those that were given, with that revision
+abbrev pub held : State → Numbers
+held s = given (ahead s)
+
 -- workspaces that get no version
 pub given-workspaces : (s : State) (workspaces : Workspaces) → versions_of workspaces ≡ versions_of s.workspaces → given (with_workspaces workspaces s) ≡ given s
 given-workspaces s workspaces same = ap (λ (versions : ℕ × ℕ). record (given s) { versions = versions.0; settings = versions.1 }) same
@@ -207,11 +223,11 @@ asked-cases message handler s w true its all =
 asked-cases message handler s w false its some =
     let same = ap (λ (c : Client). c.asked.given) its in gives-requests s (after_asking handler w.state) 1 (omega (arith, same))
 
-pub request-counts : (message : Outgo) (handler : ReqHandler) (w : Working State) → Counts state_at (requests 1) (given w.state) (at_client (asked_for message handler) w)
+pub request-counts : (message : Outgo) (handler : ReqHandler) (w : Working State) → Counts state_ahead (requests 1) (held w.state) (at_client (asked_for message handler) w)
 unfolding asked_for
 request-counts message handler w =
-    counts-within state_at (requests 1) (given w.state) client_in with_client (asked_for message handler) w
-    (asked-cases message handler w.state (record { state = w.state.client; out = w.out }) (w.state.client.asked.given == number_limit) refl refl)
+    counts-within state_ahead (requests 1) (held w.state) client_in with_client (asked_for message handler) w
+    (asked-cases message handler (ahead w.state) (record { state = w.state.client; out = w.out }) (w.state.client.asked.given == number_limit) refl refl)
 
 -- ---- the turn's number, and jobs
 
@@ -232,12 +248,12 @@ pub next-counts : {Y : Type 0} (of : Y → State) (needs before : Numbers) (n : 
 next-counts of needs before n counter f true is gives short = gives
 next-counts of needs before n counter f false is gives short = short (ltb-false n (2 ^ 64 - 1) is)
 
-pub job-counts : (snapshot : SnapshotData) (kind : JobKind) (w : Working State) → Counts state_at (jobs 1) (given w.state) (at_desk (handed_over snapshot Worker kind) w)
+pub job-counts : (snapshot : SnapshotData) (kind : JobKind) (w : Working State) → Counts state_ahead (jobs 1) (held w.state) (at_desk (handed_over snapshot Worker kind) w)
 unfolding ordered
 job-counts snapshot kind w =
-    counts-within state_at (jobs 1) (given w.state) desk_in with_desk (handed_over snapshot Worker kind) w
-    (next-counts (λ (v : Working Desk). with_desk v.state w.state) (jobs 1) (given w.state) w.state.desk.handed counters.Jobs _ (ltb w.state.desk.handed (2 ^ 64 - 1)) refl
-    (gives-desk (jobs 1) w.state (record w.state.desk { handed = w.state.desk.handed + 1 }) (omega arith) (omega arith)) (λ last. omega (arith, last)))
+    counts-within state_ahead (jobs 1) (held w.state) desk_in with_desk (handed_over snapshot Worker kind) w
+    (next-counts (λ (v : Working Desk). with_desk v.state (ahead w.state)) (jobs 1) (held w.state) w.state.desk.handed counters.Jobs _ (ltb w.state.desk.handed (2 ^ 64 - 1)) refl
+    (gives-desk (jobs 1) (ahead w.state) (record w.state.desk { handed = w.state.desk.handed + 1 }) (omega arith) (omega arith)) (λ last. omega (arith, last)))
 
 -- ---- the numbers of files
 
@@ -375,26 +391,47 @@ messages-count (message ∷ later) s =
 abbrev pub revisions : ℕ → Numbers
 revisions n = record none { revisions = n }
 
-world-counts : (s : State) (host : HostData) (now : SessionFiles) (b : Bool) → ltb s.files.host.revision (2 ^ 64 - 1) ≡ b → host.revision ≡ s.files.host.revision + 1
-    → files_given now.table ≡ files_given s.files.table
-    → Counts (λ (v : SessionFiles). with_files v s) (revisions 1) (given s) (world_put (if b then Ok host else Err Exhausted) now)
-world-counts s host now true is once table =
-    gives-files s (record now { host = host }) 0 1 (omega (arith, table)) (omega (arith, once))
-world-counts s host now false is once table = let last = ltb-false s.files.host.revision (2 ^ 64 - 1) is in omega (arith, last)
+-- the session with these files, and with the revision that it comes to
+abbrev pub files_ahead : State → SessionFiles → State
+files_ahead s files = ahead (with_files files s)
 
-list-counts : (roots : List Root) (list : List ChangedFile) (s : State) → Counts (λ (v : SessionFiles). with_files v s) (revisions 1) (given s) (with_changes roots list (taken_up s.files))
-list-counts roots [] s = gives-same (revisions 1) (given s) (given s) refl
-list-counts roots (file ∷ later) s = world-counts s _ (taken_up s.files) (ltb s.files.host.revision (2 ^ 64 - 1)) refl refl refl
+-- one revision more, and these files are to be processed then
+world-counts : (s : State) (host : HostData) (now : SessionFiles) (n : ℕ) (b : Bool) → ltb s.files.host.revision (2 ^ 64 - 1) ≡ b → host.revision ≡ s.files.host.revision + 1
+    → files_given now.table ≡ files_given s.files.table → pending now + 1 ≤ pending s.files + n
+    → Counts (files_ahead s) (revisions n) (held s) (world_put (if b then Ok host else Err Exhausted) now)
+world-counts s host now n true is once table few =
+    at-most _ _ (still s.desk.turns 0) (still s.desk.handed 0) (still s.client.asked.given 0) (omega (arith, once, few)) (omega (arith, table))
+    (still s.workspaces.version 0) (still s.workspaces.loader_version 0)
+world-counts s host now n false is once table few = let last = ltb-false s.files.host.revision (2 ^ 64 - 1) is in omega (arith, last, few)
 
-pub turn-counts : (roots : List Root) (s : State) → Counts (λ (v : SessionFiles). with_files v s) (revisions 1) (given s) (after_turn roots s.files)
-unfolding after_turn after_processing
-turn-counts roots s =
-    counts-if (λ (v : SessionFiles). with_files v s) (revisions 1) (given s) s.files.loading (Ok s.files) (with_changes roots (changes s.files.table) (taken_up s.files)) (gives-same (revisions 1) (given s) (given s) refl)
-    (list-counts roots (changes s.files.table) s)
+-- nothing is left to be processed
+none-pending : (files : SessionFiles) → pending (taken_up files) ≡ 0
+none-pending files = ap (λ (list : List ChangedFile). if are_some list then 1 else 0) (taken_none (taken_up files) refl)
 
-pub crates-count : (crates : CrateData) (s : State) → Counts (λ (v : SessionFiles). with_files v s) (revisions 1) (given s) (after_crates crates s.files)
+list-counts : (roots : List Root) (list : List ChangedFile) (s : State) → changed_files s.files ≡ list
+    → Counts (files_ahead s) none (held s) (with_changes roots list (taken_up s.files))
+list-counts roots [] s is =
+    let left : pending (taken_up s.files) ≡ 0 = none-pending s.files in
+    at-most _ _ (still s.desk.turns 0) (still s.desk.handed 0) (still s.client.asked.given 0) (omega (arith, left)) (still (files_given s.files.table) 0)
+    (still s.workspaces.version 0) (still s.workspaces.loader_version 0)
+list-counts roots (file ∷ later) s is =
+    let left : pending (taken_up s.files) ≡ 0 = none-pending s.files in
+    let some : pending s.files ≡ 1 = ap (λ (list : List ChangedFile). if are_some list then 1 else 0) is in
+    world-counts s _ (taken_up s.files) 0 (ltb s.files.host.revision (2 ^ 64 - 1)) refl refl refl (omega (arith, left, some))
+
+-- files that are processed give the revision that was to come
+pub processing-counts : (roots : List Root) (s : State) → Counts (files_ahead s) none (held s) (after_processing roots s.files)
+unfolding after_processing
+processing-counts roots s = list-counts roots (changed_files s.files) s refl
+
+pub crates-count : (roots : List Root) (crates : CrateData) (s : State) → Counts (files_ahead s) (revisions 1) (held s) (after_crates roots crates s.files)
 unfolding after_crates
-crates-count crates s = world-counts s _ s.files (ltb s.files.host.revision (2 ^ 64 - 1)) refl refl refl
+crates-count roots crates s = world-counts s _ s.files 1 (ltb s.files.host.revision (2 ^ 64 - 1)) refl refl refl (omega arith)
+
+pub become-ahead : (needs before : Numbers) (s : State) (r : Result SessionFiles Counter) (w : Working SessionFiles) → Counts (files_ahead s) needs before r
+    → Counts (λ (v : Working SessionFiles). files_ahead s v.state) needs before (become r w)
+become-ahead needs before s (Ok now) w h = h
+become-ahead needs before s (Err counter) w h = h
 
 pub become-counts : (needs before : Numbers) (s : State) (r : Result SessionFiles Counter) (w : Working SessionFiles) → Counts (λ (v : SessionFiles). with_files v s) needs before r
     → Counts (λ (v : Working SessionFiles). with_files v.state s) needs before (become r w)

@@ -5,10 +5,11 @@ use Rattle.std.proofs.lemmas.List.{length-append}
 use Rattle.std.proofs.lemmas.Result.{IfOk-at_ok}
 use Rattle.std.specs.FinMap as map
 use Rattle.std.specs.Option.{option_map}
-use Rattle.std.specs.Prelude.{◌⊎◌, ◌==◌, Err, IfErr, IfOk, if◌then◌else◌, ltb, None, Ok, Option, Result, Some}
+use Rattle.std.specs.Prelude.{◌⊎◌, ◌==◌, Err, IfErr, IfOk, if◌then◌else◌, is_some, ltb, None, Ok, Option, Result, Some}
 use Rattle.docs_vfs.specs.FileUrls.{path_of}
 use Rattle.docs_vfs.specs.declared.file_kinds.ChangedFile.{ChangedFile}
 use Rattle.docs_vfs.specs.declared.file_url.UrlFault.{UrlFault}
+use Rattle.docs_vfs.specs.declared.source_roots.Root.{Root}
 use Rattle.lsp_frame.specs.Outgoing.{Outgoing, number_of, without}
 use Rattle.lsp_frame.specs.declared.message.Notification.{Notification}
 use Rattle.lsp_frame.specs.declared.message.Request.{Request}
@@ -28,7 +29,7 @@ use Rattle.session_port.specs.declared.command.LogCode.{LogCode}
 use Rattle.session_port.specs.declared.command.LogCode.TheVariants.{BadPath, MalformedNotification, UnhandledNotification}
 use Rattle.session_port.specs.declared.command.Command.TheVariants.{Revise, Timer as SetTimer}
 use Rattle.method_table.specs.declared.class.PoolClass.TheVariants.{Worker}
-use Rattle.session_files.specs.Folds.{due_changes}
+use Rattle.session_files.specs.Folds.{changed_files, has_changed}
 use Rattle.session_port.specs.declared.event.TaskMsg.{TaskMsg}
 use Rattle.session_port.specs.declared.fault.Counter.{Counter}
 use Rattle.session_port.specs.declared.fault.Counter.TheVariants as counters
@@ -65,7 +66,7 @@ use Rattle.workspaces.specs.declared.follows.Follows.TheVariants as follows
 use Rattle.workspaces.specs.declared.requests.FetchRequest.{FetchRequest}
 use Rattle.reload.specs.declared.switch.Switch.{Switch}
 use Rattle.reload.specs.declared.switch.Switch.TheVariants as switch
-use Rattle.session_model.specs.Building.{build_due, build_kept, end_kept, request_told, with_due_build}
+use Rattle.session_model.specs.Building.{build_due, build_kept, request_told, with_due_build}
 use Rattle.session_model.specs.Checking.{check_kind}
 use Rattle.session_model.specs.Crates.{builds_crates, crate_data, is_unknown, with_crates}
 use Rattle.session_model.specs.Fetching.{fetch_kept, folders_told_if, settings_told, with_fetches}
@@ -74,10 +75,10 @@ use Rattle.session_model.specs.Inputs.{batch_of, cancelled_by, check_count, chec
 use Rattle.session_model.specs.Loading.{MacroPaths, crates_loaded, load_due, load_kept, with_due_load}
 use Rattle.session_model.specs.Machine.{all_resumed, answer_taken, asked, asked_for_settings, asked_if, at_client, at_desk, at_files, at_workspaces, batched, begin_part, begun_fetches, build_handed_over, build_part}
 use Rattle.session_model.specs.Machine.{build_started, build_taken, changed_at, check_taken, client_in, closed, closed_at, closing_part, counted, crates_arrived, crates_built, desk_in, effects_done, ends_taken, fetch_waits, settings_filed, sources_deferred, event_part, fetch_handed_over}
-use Rattle.session_model.specs.Machine.{fetch_part, fetch_started, fetch_taken, files_changed, files_followed, files_in, files_part, files_processed, folders_taken, followed, happened, in_state, kept, later_parts}
-use Rattle.session_model.specs.Machine.{load_handed_over, load_started, load_taken, loader_set, noticed, opened_at, quiet_done, quiet_part, received, refreshed, register_part, resumed, revised, roots_renewed, runs_started, save_noted}
-use Rattle.session_model.specs.Machine.{saved_at, saved_file, saves_registered, start_parts, state_in, status_changed, status_done, status_kept, status_part, status_told, step, switch_done, switch_part, switched_to, taken, taken_in}
-use Rattle.session_model.specs.Machine.{text_shown, timed, timer_set, told, turned, Turning, turning, warned, watchers_registered, with_client, with_desk, with_files, with_sources, with_state, with_status}
+use Rattle.session_model.specs.Machine.{fetch_part, fetch_started, fetch_taken, files_changed, files_done, files_followed, files_in, files_part, files_processed, files_processed_if, folders_taken, followed, happened, in_state, kept, knowing, later_parts}
+use Rattle.session_model.specs.Machine.{load_handed_over, load_started, load_taken, loader_set, macros_taken, noticed, opened_at, quiet_done, quiet_part, received, refreshed, register_part, resumed, revised, roots_renewed, runs_started, save_noted}
+use Rattle.session_model.specs.Machine.{saved_at, saved_file, saves_registered, some_processed, start_parts, state_in, status_changed, status_done, status_kept, status_part, status_told, step, switch_done, switch_part, switched_to, taken, taken_in}
+use Rattle.session_model.specs.Machine.{text_shown, timed, timer_set, told, turned, Turning, turning, warned, watchers_registered, with_client, with_desk, with_files, with_sources, with_state, with_status, with_workspaces}
 use Rattle.session_model.specs.RunEnds.{AreTooMany, NeedsMore, Numbers, needs_of}
 use Rattle.session_model.specs.Rows.{batch_row, machine_after, notice_row, place_after_message, row, scene_within, turn_begun}
 use Rattle.session_model.specs.Run.{begun}
@@ -95,39 +96,42 @@ use Rattle.session_model.specs.declared.input.Event.TheVariants.{Lsp, Task, Vfs,
 use Rattle.session_model.specs.declared.input.Input.{Input}
 use Rattle.session_model.specs.declared.input.Input.TheVariants.{Start, Next}
 use Rattle.session_laws.specs.Invariant.{place_of}
-use Rattle.session_laws.proofs.Batches.{DoesAtDesk, Stays, at, logged_if-same, or-is, place_now, rest-is, scene-is, settles-within, stays-on}
-use Rattle.session_laws.proofs.Crates.{stays}
-use Rattle.session_laws.proofs.Counting.{AtMost, Counts, at-most, become-counts, both, counts-behind, counts-if, counts-more, counts-then, counts-within, crates-count, editing-counts, files, given, given-workspaces}
-use Rattle.session_laws.proofs.Counting.{gives-desk, gives-same, gives-versions, job-counts, jobs, messages-count, next-counts, none, opening-counts, request-counts, requests, revisions, state_at, turn-counts, turns}
+use Rattle.session_laws.proofs.Batches.{DoesAtDesk, Stays, logged_if-same, or-is, place_now, rest-is, scene-is, settles-within, stays-on, stays-same}
+use Rattle.session_laws.proofs.Counting.{AtMost, Counts, ahead, at-most, become-ahead, become-counts, both, counts-behind, counts-if, counts-more, counts-then, counts-within, crates-count, editing-counts, files, files_ahead, given, given-workspaces}
+use Rattle.session_laws.proofs.Counting.{gives-desk, gives-on, gives-same, gives-versions, held, job-counts, jobs, many-more, messages-count, next-counts, none, none-more, opening-counts, processing-counts, request-counts, requests, revisions, state_ahead, state_at, turns}
 use Rattle.session_laws.proofs.Events.{files-same, notification_input, noted-same}
 use Rattle.session_laws.proofs.Following.{deferred-same, further-same}
+use Rattle.session_laws.proofs.Processing.{at}
 use Rattle.session_laws.proofs.Rows.{counted-is}
-use Rattle.session_laws.proofs.Running.{build-leaves, fetch-leaves, fire-runs, folders-runs, load-leaves, planned-runs, renewed-runs, request-runs, save-runs, settings-runs}
+use Rattle.session_laws.proofs.Running.{versions_of, build-leaves, fetch-leaves, fire-runs, folders-runs, load-leaves, planned-runs, renewed-runs, request-runs, save-runs, settings-runs}
 use Rattle.session_laws.proofs.Switching.{Moves, left_or, loader-same, made-moves, warned-same}
 use Rattle.session_laws.proofs.Telling.{answered-does, folders-do}
 
 -- from here on a step gives no more numbers than these
 abbrev Does : Numbers → Working State → Result (Working State) Counter → Type 0
-Does needs w r = Counts state_at needs (given w.state) r
+Does needs w r = Counts state_ahead needs (held w.state) r
 
-does-same : (needs : Numbers) (w v : Working State) → given v.state ≡ given w.state → Does needs w (Ok v)
-does-same needs w v same = gives-same needs (given w.state) (given v.state) same
+does-same : (needs : Numbers) (w v : Working State) → held v.state ≡ held w.state → Does needs w (Ok v)
+does-same needs w v same = gives-same needs (held w.state) (held v.state) same
 
 does-then : (a b : Numbers) (w : Working State) (r : Result (Working State) Counter) (f : Working State → Result (Working State) Counter) → Does a w r → ((v : Working State) → Does b v (f v))
     → Does (both a b) w (and_then r f)
-does-then a b w r f p q = counts-then state_at state_at a b (given w.state) r f p (λ v is. q v)
+does-then a b w r f p q = counts-then state_ahead state_ahead a b (held w.state) r f p (λ v is. q v)
 
 -- and then nothing changes that is counted
-then-same : (needs : Numbers) (w : Working State) (r : Result (Working State) Counter) (f : Working State → Working State) → ((v : Working State) → given (f v).state ≡ given v.state) → Does needs w r
+then-same : (needs : Numbers) (w : Working State) (r : Result (Working State) Counter) (f : Working State → Working State) → ((v : Working State) → held (f v).state ≡ held v.state) → Does needs w r
     → Does needs w (and_then r (λ v. Ok (f v)))
-then-same needs w (Ok v) f same h = subst (λ (n : Numbers). AtMost n (both (given w.state) needs)) (sym (same v)) h
+then-same needs w (Ok v) f same h = subst (λ (n : Numbers). AtMost n (both (held w.state) needs)) (sym (same v)) h
 then-same needs w (Err counter) f same h = h
 
-from-same : (needs : Numbers) (w v : Working State) (r : Result (Working State) Counter) → given v.state ≡ given w.state → Does needs v r → Does needs w r
-from-same needs w v r same h = subst (λ (n : Numbers). Counts state_at needs n r) same h
+from-same : (needs : Numbers) (w v : Working State) (r : Result (Working State) Counter) → held v.state ≡ held w.state → Does needs v r → Does needs w r
+from-same needs w v r same h = subst (λ (n : Numbers). Counts state_ahead needs n r) same h
 
-same-state : (s t : State) → t ≡ s → given t ≡ given s
-same-state s t same = ap given same
+held-workspaces : (s : State) (workspaces : Workspaces) → versions_of workspaces ≡ versions_of s.workspaces → held (with_workspaces workspaces s) ≡ held s
+held-workspaces s workspaces same = given-workspaces (ahead s) workspaces same
+
+same-state : (s t : State) → t ≡ s → held t ≡ held s
+same-state s t same = ap held same
 
 -- ---- requests of the session's own
 
@@ -147,7 +151,7 @@ refreshed-does can w =
 quiet-does : (facts : Facts) (w : Working State) → Does (requests 4) w (quiet_done facts w)
 unfolding quiet_done
 quiet-does facts w =
-    counts-if state_at (requests 4) (given w.state) _ (refreshed w.state.client.settings.capabilities w) (Ok w) (refreshed-does w.state.client.settings.capabilities w) (does-same (requests 4) w w refl)
+    counts-if state_ahead (requests 4) (held w.state) _ (refreshed w.state.client.settings.capabilities w) (Ok w) (refreshed-does w.state.client.settings.capabilities w) (does-same (requests 4) w w refl)
 
 registered-does : (w : Working State) → Does (requests 1) w (saves_registered w)
 unfolding saves_registered
@@ -169,54 +173,71 @@ unfolding status_done status_kept status_changed status_told written
 status-does w =
     let now = status_now w.state.client w.state.files w.state.workspaces in
     then-same (requests 1) w (status_changed now w) (λ v. record v { state = with_status now v.state }) (λ v. refl)
-    (counts-if state_at (requests 1) (given w.state) _ (Ok w) (status_told now w) (does-same (requests 1) w w refl)
-    (counts-if state_at (requests 1) (given w.state) (takes_status w.state.client.settings) (Ok (written (notification_of (status_message now)) w)) _
+    (counts-if state_ahead (requests 1) (held w.state) _ (Ok w) (status_told now w) (does-same (requests 1) w w refl)
+    (counts-if state_ahead (requests 1) (held w.state) (takes_status w.state.client.settings) (Ok (written (notification_of (status_message now)) w)) _
     (does-same (requests 1) w (written (notification_of (status_message now)) w) refl)
     (shown-does (opens_logs w.state.client.settings w.state.workspaces) (shown_of now) w)))
 
 -- ---- the world
 
+-- the same with the revisions that were given
+abbrev Gives : Numbers → Working State → Result (Working State) Counter → Type 0
+Gives needs w r = Counts state_at needs (given w.state) r
+
 files-do : (needs : Numbers) (w : Working State) (work : Working SessionFiles → Result (Working SessionFiles) Counter)
-    → Counts (λ (v : Working SessionFiles). with_files v.state w.state) needs (given w.state) (work (record { state = w.state.files; out = w.out })) → Does needs w (at_files work w)
+    → Counts (λ (v : Working SessionFiles). with_files v.state w.state) needs (given w.state) (work (record { state = w.state.files; out = w.out })) → Gives needs w (at_files work w)
 files-do needs w work h = counts-within state_at needs (given w.state) files_in with_files work w h
 
-crates-do : (crates : CrateData) (w : Working State) → Does (revisions 1) w (at_files (crates_put crates) w)
+world-do : (needs : Numbers) (w : Working State) (work : Working SessionFiles → Result (Working SessionFiles) Counter)
+    → Counts (λ (v : Working SessionFiles). files_ahead w.state v.state) needs (held w.state) (work (record { state = w.state.files; out = w.out })) → Does needs w (at_files work w)
+world-do needs w work h = counts-within state_ahead needs (held w.state) files_in with_files work w h
+
+crates-do : (roots : List Root) (crates : CrateData) (w : Working State) → Does (revisions 1) w (at_files (crates_put roots crates) w)
 unfolding crates_put
-crates-do crates w = files-do (revisions 1) w (crates_put crates) (become-counts (revisions 1) (given w.state) w.state _ _ (crates-count crates w.state))
+crates-do roots crates w = world-do (revisions 1) w (crates_put roots crates) (become-ahead (revisions 1) (held w.state) w.state _ _ (crates-count roots crates w.state))
 
 arrived-does : (crates : Option CrateData) (w : Working State) → Does (revisions 1) w (crates_arrived crates w)
 unfolding crates_arrived
 arrived-does None w = does-same (revisions 1) w w refl
-arrived-does (Some crates) w = crates-do crates w
+arrived-does (Some crates) w = crates-do w.state.sources.roots crates w
 
 built-does : (built : Bool) (w : Working State) → Does (revisions 1) w (crates_built built w)
 unfolding crates_built
 built-does false w = does-same (revisions 1) w w refl
-built-does true w = crates-do (crate_data w.state.client.settings w.state.files.ids w.state.workspaces.present) w
+built-does true w = crates-do w.state.sources.roots (crate_data w.state.client.settings w.state.files.ids w.state.workspaces.present) w
 
 -- what follows from files that changed isn't counted
 change-asks : (change : Option ConfigChange) (client : Client) → (client_with change client).asked ≡ client.asked
 change-asks None client = refl
 change-asks (Some change) client = refl
 
-followed-same : (changes : List ChangedFile) (w : Working State) → given (files_followed changes w).state ≡ given w.state
+followed-same : (changes : List ChangedFile) (w : Working State) → held (files_followed changes w).state ≡ held w.state
 unfolding files_followed effects_done settings_filed fetch_waits
 followed-same [] w = refl
 followed-same (change ∷ changes) w =
     let effects = effects_for w.state.client.settings (change ∷ changes) w.state.workspaces in
     let filed = settings_filed effects.settings w in
-    let settings = change_for effects.settings w.state.sources w.state.workspaces.present in
+    let settings = change_for effects.settings w.state.files.host.world.roots w.state.sources w.state.workspaces.present in
     let put : Working State = record w { state = with_sources (parents_told w.state.sources) (with_client (client_with settings w.state.client) w.state) } in
     let deferred = sources_deferred effects.macro_sources filed in
-    given-workspaces deferred.state (fetch_planned deferred.state.desk.turns effects.fetch deferred.state.workspaces) (planned-runs deferred.state.desk.turns effects.fetch deferred.state.workspaces).versions
+    held-workspaces deferred.state (fetch_planned deferred.state.desk.turns effects.fetch deferred.state.workspaces) (planned-runs deferred.state.desk.turns effects.fetch deferred.state.workspaces).versions
     ∙ same-state put.state deferred.state (deferred-same effects.macro_sources filed ∙ further-same (further_files settings) put)
-    ∙ ap (λ (asked : Outgoing ReqHandler). record (given w.state) { requests = asked.given }) (change-asks settings w.state.client)
+    ∙ ap (λ (asked : Outgoing ReqHandler). record (held w.state) { requests = asked.given }) (change-asks settings w.state.client)
 
-processed-does : (w : Working State) → Does (revisions 1) w (files_processed w)
+processed-does : (w : Working State) → Does none w (files_processed w)
 unfolding files_processed processed
 processed-does w =
-    then-same (revisions 1) w (at_files (processed w.state.sources.roots) w) (files_followed (due_changes w.state.files)) (followed-same (due_changes w.state.files))
-    (files-do (revisions 1) w (processed w.state.sources.roots) (become-counts (revisions 1) (given w.state) w.state _ _ (turn-counts w.state.sources.roots w.state)))
+    then-same none w (at_files (processed w.state.sources.roots) w) (files_followed (changed_files w.state.files)) (followed-same (changed_files w.state.files))
+    (world-do none w (processed w.state.sources.roots) (become-ahead none (held w.state) w.state _ _ (processing-counts w.state.sources.roots w.state)))
+
+processed_if-does : (b : Bool) (w : Working State) → Does none w (files_processed_if b w)
+unfolding files_processed_if
+processed_if-does true w = processed-does w
+processed_if-does false w = does-same none w w refl
+
+done-does : (w : Working State) → Does none w (files_done w)
+unfolding files_done
+done-does w = counts-if state_ahead none (held w.state) w.state.files.loading (Ok w) (files_processed w) (does-same none w w refl) (processed-does w)
 
 -- ---- a switch
 
@@ -291,11 +312,11 @@ for_switch = record none { requests = 1; revisions = 1; versions = 1; settings =
 switch-cases : (made : Result (Follows × Workspaces) Counter) (w : Working State) → Moves w.state.workspaces (left_or w.state.workspaces made) → IfErr made (RefusesSwitch w.state.workspaces)
     → Does for_switch w (switched_to made w)
 unfolding switched_to
-switch-cases (Err counter) w moves h = subst (AreTooMany (given w.state) for_switch) (sym h.0) h.1
+switch-cases (Err counter) w moves h = subst (AreTooMany (held w.state) for_switch) (sym h.0) h.1
 switch-cases (Ok made) w moves h =
     let now : Working State = at_workspaces (λ before. made.1) w in
-    counts-behind state_at (record none { versions = 1; settings = 1 }) (record none { requests = 1; revisions = 1 }) (given w.state) (given now.state) _
-    (gives-versions w.state made.1 moves.version moves.settings)
+    counts-behind state_ahead (record none { versions = 1; settings = 1 }) (record none { requests = 1; revisions = 1 }) (held w.state) (held now.state) _
+    (gives-versions (ahead w.state) made.1 moves.version moves.settings)
     (does-then (requests 1) (revisions 1) now (followed made.0 now) (crates_built (builds_crates w.state.client.settings made.0)) (followed-does made.0 now)
     (built-does (builds_crates w.state.client.settings made.0)))
 
@@ -377,40 +398,41 @@ request-does meaning s r needs few =
     let done = request_row meaning (scene_of s) w.state.desk (s.desk.turns + 1) r in
     let same = request-turns meaning (scene_of s) s.desk (s.desk.turns + 1) (s.desk.turns + 1) r in
     then-same needs w (at_desk (requested meaning (scene_of s) r) w) (at_workspaces (request_told r w.state.desk))
-    (λ v. given-workspaces v.state (request_told r w.state.desk v.state.workspaces) (request-runs 0 r w.state.desk v.state.workspaces).versions)
-    (counts-within state_at needs (given w.state) desk_in with_desk (requested meaning (scene_of s) r) w
-    (desk-counts needs w.state (Some r) (at w) done s.desk.jobs (requested meaning (scene_of s) r (at w)) refl refl
+    (λ v. held-workspaces v.state (request_told r w.state.desk v.state.workspaces) (request-runs 0 r w.state.desk v.state.workspaces).versions)
+    (counts-within state_ahead needs (held w.state) desk_in with_desk (requested meaning (scene_of s) r) w
+    (desk-counts needs (ahead w.state) (Some r) (at w) done s.desk.jobs (requested meaning (scene_of s) r (at w)) refl refl
     (subst (λ (d : Reaction). length d.jobs ≤ needs.jobs) (sym same) few) (request-settles meaning (scene_of s) r (at w)) (request-errs meaning (scene_of s) r (at w))))
 
 -- ---- batches
 
 -- ends of jobs give no number
-logged-same : (code : LogCode) (text : Option (List ℕ)) (w : Working State) → given (logged_if code text w).state ≡ given w.state
+logged-same : (code : LogCode) (text : Option (List ℕ)) (w : Working State) → held (logged_if code text w).state ≡ held w.state
 logged-same code text w = same-state w.state (logged_if code text w).state (logged_if-same code text w)
 
-fetch-same : (end : Option FetchEnd) (w : Working State) → given (fetch_taken end w).state ≡ given w.state
+fetch-same : (end : Option FetchEnd) (w : Working State) → held (fetch_taken end w).state ≡ held w.state
 unfolding fetch_taken
 fetch-same None w = refl
 fetch-same (Some found) w =
-    logged-same _ _ (at_workspaces (fetch_kept (Some found)) w) ∙ given-workspaces w.state (fetch_kept (Some found) w.state.workspaces) (fetch-leaves (Some found) w.state.workspaces).2
+    logged-same _ _ (at_workspaces (fetch_kept (Some found)) w) ∙ held-workspaces w.state (fetch_kept (Some found) w.state.workspaces) (fetch-leaves (Some found) w.state.workspaces).2
 
-build-same : (end : Option BuildEnd) (w : Working State) → given (build_taken end w).state ≡ given w.state
+build-same : (end : Option BuildEnd) (w : Working State) → held (build_taken end w).state ≡ held w.state
 unfolding build_taken
 build-same None w = refl
 build-same (Some made) w =
-    logged-same _ _ (at_workspaces (build_kept (Some made)) w) ∙ given-workspaces w.state (build_kept (Some made) w.state.workspaces) (build-leaves (Some made) w.state.workspaces).2
+    logged-same _ _ (at_workspaces (build_kept (Some made)) w) ∙ held-workspaces w.state (build_kept (Some made) w.state.workspaces) (build-leaves (Some made) w.state.workspaces).2
 
--- but that of a load of macros may change the world
+-- but that of a load of macros may bring crate data into the world
 ends-do : (fetched : Option FetchEnd) (built : Option BuildEnd) (checked : Option (List (List ℕ))) (loaded : Option LoadEnd) (w : Working State)
     → Does (revisions 1) w (ends_taken fetched built checked loaded w)
-unfolding ends_taken load_taken
+unfolding ends_taken load_taken macros_taken
 ends-do fetched built checked loaded w =
     let b : Working State = build_taken built (fetch_taken fetched w) in
     let c : Working State = check_taken checked b in
     let l : Working State = at_workspaces (load_kept loaded) c in
-    from-same (revisions 1) w l (crates_arrived (crates_loaded loaded c.state.workspaces) l)
-    (given-workspaces c.state (load_kept loaded c.state.workspaces) (load-leaves loaded c.state.workspaces).2 ∙ build-same built (fetch_taken fetched w) ∙ fetch-same fetched w)
-    (arrived-does (crates_loaded loaded c.state.workspaces) l)
+    let crates : Option CrateData = crates_loaded loaded c.state.workspaces in
+    from-same (revisions 1) w l (and_then (crates_arrived crates l) (files_processed_if (is_some crates)))
+    (held-workspaces c.state (load_kept loaded c.state.workspaces) (load-leaves loaded c.state.workspaces).2 ∙ build-same built (fetch_taken fetched w) ∙ fetch-same fetched w)
+    (does-then (revisions 1) none l (crates_arrived crates l) (files_processed_if (is_some crates)) (arrived-does crates l) (processed_if-does (is_some crates)))
 
 -- so many jobs and revisions
 abbrev for_messages : ℕ → ℕ → Numbers
@@ -430,8 +452,8 @@ taken-does meaning turns message w =
     let out = w.state.desk.jobs in
     subst (λ n. Does (for_messages n 1) w (taken meaning message w)) (plus-none (length done.jobs))
     (does-then (jobs (length done.jobs)) (revisions 1) w (at_desk (taken_at_desk meaning scene message) w) _
-    (counts-within state_at (jobs (length done.jobs)) (given w.state) desk_in with_desk (taken_at_desk meaning scene message) w
-    (desk-counts (jobs (length done.jobs)) w.state None (at w) plain (after_message message out) (taken_at_desk meaning scene message (at w)) refl refl (omega (arith, same))
+    (counts-within state_ahead (jobs (length done.jobs)) (held w.state) desk_in with_desk (taken_at_desk meaning scene message) w
+    (desk-counts (jobs (length done.jobs)) (ahead w.state) None (at w) plain (after_message message out) (taken_at_desk meaning scene message (at w)) refl refl (omega (arith, same))
     (message-settles meaning scene message (at w)) (message-errs meaning scene message (at w))))
     (ends-do (fetch_ended message out) (build_ended message out) (check_ended message out) (load_ended message out)))
 
@@ -442,17 +464,16 @@ batch-does meaning turns s (m ∷ ms) w h =
     let place = place_now s turns w in
     let done = message_row meaning (scene_within place w) place.desk m in
     let rest = batch_row meaning ms (machine_after meaning m w) (place_after_message m done place) in
-    let kept = end_kept m w.state.desk.jobs w.state.workspaces in
     let first : Numbers = for_messages (length done.jobs) 1 in
     let others : Numbers = for_messages (length rest.jobs) (length ms) in
-    counts-more state_at (both first others) (for_messages (length (done.jobs ++ rest.jobs)) (length (m ∷ ms))) (given w.state) (batched meaning (m ∷ ms) w)
+    counts-more state_ahead (both first others) (for_messages (length (done.jobs ++ rest.jobs)) (length (m ∷ ms))) (held w.state) (batched meaning (m ∷ ms) w)
     (at-most _ _ (omega arith) (omega (arith, length-append done.jobs rest.jobs)) (omega arith) (omega arith) (omega arith) (omega arith) (omega arith))
-    (counts-then state_at state_at first others (given w.state) (taken meaning m w) (batched meaning ms)
+    (counts-then state_ahead state_ahead first others (held w.state) (taken meaning m w) (batched meaning ms)
     (subst (λ scene. Does (for_messages (length (message_row meaning scene place.desk m).jobs) 1) w (taken meaning m w)) (sym (scene-is s turns w h)) (taken-does meaning turns m w))
-    (λ v is. let a : DoesAtDesk w v done (after_message m w.state.desk.jobs) kept =
-    IfOk-at_ok (λ v. DoesAtDesk w v done (after_message m w.state.desk.jobs) kept) is (settles-within meaning s turns m w h) in
+    (λ v is. let a : DoesAtDesk w v done (after_message m w.state.desk.jobs) =
+    IfOk-at_ok (λ v. DoesAtDesk w v done (after_message m w.state.desk.jobs)) is (settles-within meaning s turns m w h) in
     let next : machine_after meaning m w ≡ v = IfOk-at_ok (λ v. machine_after meaning m w ≡ v) is (or-is w (taken meaning m w)) in
-    subst (λ (r : Reaction). Does (for_messages (length r.jobs) (length ms)) v (batched meaning ms v)) (rest-is meaning s turns m ms w v done kept next a)
+    subst (λ (r : Reaction). Does (for_messages (length r.jobs) (length ms)) v (batched meaning ms v)) (rest-is meaning s turns m ms w v done next a)
     (batch-does meaning turns s ms v (stays-on s w.state v.state h a.stays))))
 
 -- ---- notifications
@@ -466,19 +487,22 @@ for_event meaning s input = record none {
   files = file_count input;
 }
 
+gives-none : (needs : Numbers) (w v : Working State) → given v.state ≡ given w.state → Gives needs w (Ok v)
+gives-none needs w v same = gives-same needs (given w.state) (given v.state) same
+
 -- files that it brings
 event-files : (meaning : Meaning) (s : State) (input : Input) (n : ℕ) (work : Working SessionFiles → Result (Working SessionFiles) Counter) → file_count input ≡ n
     → Counts (λ (v : Working SessionFiles). with_files v.state (turn_begun s).state) (files n) (given (turn_begun s).state) (work (record { state = s.files; out = (turn_begun s).out }))
-    → Does (for_event meaning s input) (turn_begun s) (at_files work (turn_begun s))
+    → Gives (for_event meaning s input) (turn_begun s) (at_files work (turn_begun s))
 event-files meaning s input n work count h =
     counts-more state_at (files n) (for_event meaning s input) (given (turn_begun s).state) (at_files work (turn_begun s))
     (at-most _ _ (omega arith) (omega arith) (omega arith) (omega arith) (omega (arith, count)) (omega arith) (omega arith))
     (files-do (files n) (turn_begun s) work h)
 
 opened-does : (meaning : Meaning) (s : State) (n : Notification) (document : DidOpen) (o : Result (List ℕ) UrlFault) → file_count (notification_input n) ≡ 1
-    → Does (for_event meaning s (notification_input n)) (turn_begun s) (opened_at o document (turn_begun s))
+    → Gives (for_event meaning s (notification_input n)) (turn_begun s) (opened_at o document (turn_begun s))
 unfolding opened_at opened logged ordered
-opened-does meaning s n document (Err fault) one = does-same (for_event meaning s (notification_input n)) (turn_begun s) (logged BadPath document.uri (turn_begun s)) refl
+opened-does meaning s n document (Err fault) one = gives-none (for_event meaning s (notification_input n)) (turn_begun s) (logged BadPath document.uri (turn_begun s)) refl
 opened-does meaning s n document (Ok path) one =
     let excludes = excludes_in s.client.settings in
     event-files meaning s (notification_input n) 1 (opened excludes path document.version document.text) one
@@ -490,19 +514,43 @@ edited-cases : (needs before : Numbers) (s : State) (b : Bool) (r : Result (Work
 edited-cases needs before s b r w p q = counts-if (λ (v : Working SessionFiles). with_files v.state s) needs before b r (Ok w) p q
 
 changed-does : (meaning : Meaning) (s : State) (n : Notification) (change : DidChange) (o : Result (List ℕ) UrlFault) → file_count (notification_input n) ≡ 1
-    → Does (for_event meaning s (notification_input n)) (turn_begun s) (changed_at o change (turn_begun s))
+    → Gives (for_event meaning s (notification_input n)) (turn_begun s) (changed_at o change (turn_begun s))
 unfolding changed_at changed edited logged ordered
-changed-does meaning s n change (Err fault) one = does-same (for_event meaning s (notification_input n)) (turn_begun s) (logged BadPath change.uri (turn_begun s)) refl
+changed-does meaning s n change (Err fault) one = gives-none (for_event meaning s (notification_input n)) (turn_begun s) (logged BadPath change.uri (turn_begun s)) refl
 changed-does meaning s n change (Ok path) one =
     let columns = columns_in s.client.settings in
     let t : State = (turn_begun s).state in
     event-files meaning s (notification_input n) 1 (changed columns path change.version change.changes) one
     (edited-cases (files 1) (given t) t _ _ _ (become-counts (files 1) (given t) t _ _ (editing-counts columns path change.version change.changes t)) (gives-same (files 1) (given t) (given t) refl))
 
-closed-does : (needs : Numbers) (s : State) (uri : List ℕ) (o : Result (List ℕ) UrlFault) → Does needs (turn_begun s) (closed_at o uri (turn_begun s))
+closed-does : (needs : Numbers) (s : State) (uri : List ℕ) (o : Result (List ℕ) UrlFault) → Gives needs (turn_begun s) (closed_at o uri (turn_begun s))
 unfolding closed_at closed_document logged ordered
-closed-does needs s uri (Err fault) = does-same needs (turn_begun s) (logged BadPath uri (turn_begun s)) refl
+closed-does needs s uri (Err fault) = gives-none needs (turn_begun s) (logged BadPath uri (turn_begun s)) refl
 closed-does needs s uri (Ok path) = files-do needs (turn_begun s) (λ f. Ok (closed_document path f)) (gives-same needs (given (turn_begun s).state) (given (turn_begun s).state) refl)
+
+-- from here on an event gives no more than these and the revision of files that have changed behind it
+abbrev EventDoes : Numbers → Working State → Result (Working State) Counter → Type 0
+EventDoes needs w r = Counts state_ahead (both needs (revisions 1)) (given w.state) r
+
+one-pending : (b : Bool) (revision most : ℕ) → revision ≤ most → revision + (if b then 1 else 0) ≤ most + 1
+one-pending true revision most le = omega (arith, le)
+one-pending false revision most le = omega (arith, le)
+
+more-held : (s : State) → AtMost (held s) (both (given s) (revisions 1))
+more-held s =
+    at-most _ _ (omega arith) (omega arith) (omega arith) (one-pending (has_changed s.files) s.files.host.revision s.files.host.revision (omega arith)) (omega arith) (omega arith) (omega arith)
+
+-- where it changes files
+event-gives : (needs : Numbers) (w : Working State) (r : Result (Working State) Counter) → Gives needs w r → EventDoes needs w r
+event-gives needs w (Ok v) h = gives-on needs (revisions 1) (given w.state) (given v.state) (held v.state) h (more-held v.state)
+event-gives needs w (Err counter) h = many-more needs (both needs (revisions 1)) (given w.state) counter (none-more needs (revisions 1)) h
+
+-- where it doesn't
+event-holds : (needs : Numbers) (w : Working State) (r : Result (Working State) Counter) → Does needs w r → EventDoes needs w r
+event-holds needs w r h =
+    counts-more state_ahead (both (revisions 1) needs) (both needs (revisions 1)) (given w.state) r
+    (at-most _ _ (omega arith) (omega arith) (omega arith) (omega arith) (omega arith) (omega arith) (omega arith))
+    (counts-behind state_ahead (revisions 1) needs (given w.state) (held w.state) r (more-held w.state) h)
 
 saved-does : (needs : Numbers) (s : State) (uri : List ℕ) (o : Result (List ℕ) UrlFault) → Does needs (turn_begun s) (Ok (saved_at o uri (turn_begun s)))
 unfolding saved_at logged ordered
@@ -511,21 +559,21 @@ saved-does needs s uri (Ok path) =
     let w : Working State = turn_begun s in
     let noted : Working State = save_noted (is_unknown s.files.ids path) path w in
     does-same needs w (saved_file path w)
-    (given-workspaces noted.state (path_saved s.client.settings s.sources.roots s.files path noted.state.workspaces)
-    (save-runs 0 s.client.settings s.sources.roots s.files path noted.state.workspaces).versions ∙ same-state w.state noted.state (noted-same (is_unknown s.files.ids path) path w))
+    (held-workspaces noted.state (path_saved s.client.settings s.files path noted.state.workspaces)
+    (save-runs 0 s.client.settings s.files path noted.state.workspaces).versions ∙ same-state w.state noted.state (noted-same (is_unknown s.files.ids path) path w))
 
 -- a step of what is agreed with the client that gives no number
 client-does : (needs : Numbers) (w : Working State) (step : Working Client → Working Client) → (step (record { state = w.state.client; out = w.out })).state.asked.given ≡ w.state.client.asked.given
     → Does needs w (at_client (λ c. Ok (step c)) w)
 client-does needs w step same =
-    counts-within state_at needs (given w.state) client_in with_client (λ c. Ok (step c)) w
-    (gives-same needs (given w.state) _ (ap (λ n. record (given w.state) { requests = n }) same))
+    counts-within state_ahead needs (held w.state) client_in with_client (λ c. Ok (step c)) w
+    (gives-same needs (held w.state) _ (ap (λ n. record (held w.state) { requests = n }) same))
 
 folders-does : (needs : Numbers) (s : State) (added removed : List (List ℕ)) → Does needs (turn_begun s) (folders_taken added removed (turn_begun s))
 folders-does needs s added removed =
     let client : Working Client = record { state = s.client; out = (turn_begun s).out } in
     then-same needs (turn_begun s) (at_client (λ c. Ok (folders_changed added removed c)) (turn_begun s)) (at_workspaces (folders_told_if (goes_by_folders s.client.settings)))
-    (λ v. given-workspaces v.state (folders_told_if (goes_by_folders s.client.settings) v.state.workspaces) (folders-runs 0 (goes_by_folders s.client.settings) v.state.workspaces).versions)
+    (λ v. held-workspaces v.state (folders_told_if (goes_by_folders s.client.settings) v.state.workspaces) (folders-runs 0 (goes_by_folders s.client.settings) v.state.workspaces).versions)
     (client-does needs (turn_begun s) (folders_changed added removed) (ap (λ (c : Client). c.asked.given) (folders-do added removed client).is))
 
 without-same : {K : Type 0} (o : Option ℕ) (asked : Outgoing K) → (without o asked).given ≡ asked.given
@@ -540,7 +588,7 @@ answer-does : (needs : Numbers) (s : State) (r : Response) → Does needs (turn_
 answer-does needs s r =
     let client : Working Client = record { state = s.client; out = (turn_begun s).out } in
     then-same needs (turn_begun s) (at_client (λ c. Ok (answered r c)) (turn_begun s)) (λ v. at_workspaces (settings_told s.client.settings v.state.client.settings) v)
-    (λ v. given-workspaces v.state (settings_told s.client.settings v.state.client.settings v.state.workspaces) (settings-runs 0 s.client.settings v.state.client.settings v.state.workspaces).versions)
+    (λ v. held-workspaces v.state (settings_told s.client.settings v.state.client.settings v.state.workspaces) (settings-runs 0 s.client.settings v.state.client.settings v.state.workspaces).versions)
     (client-does needs (turn_begun s) (answered r) (ap (λ (c : Client). c.asked.given) (answered-does r client).is ∙ after-same r.id s.client.asked))
 
 cancel-does : (meaning : Meaning) (s : State) (n : Notification) (id : RequestId) → told_by (heard_of n) ≡ Some (notices.CancelRequest id)
@@ -550,102 +598,153 @@ cancel-does meaning s n id heard =
     let w : Working State = turn_begun s in
     let settles = cancel-settles id (at w) in
     let jobs : length (row meaning (notification_input n) (place_of s)).jobs ≡ length (cancel_row id s.desk).jobs = ap (λ o. length (notice_row (cancelled_by o) s.desk).jobs) heard in
-    counts-within state_at needs (given w.state) desk_in with_desk (λ d. Ok (cancelled id d)) w
-    (gives-desk needs w.state (cancelled id (at w)).state (few-turns w.state.desk.turns w.state.desk.turns (cancelled id (at w)).state.turns needs.turns refl settles.turns)
+    counts-within state_ahead needs (held w.state) desk_in with_desk (λ d. Ok (cancelled id d)) w
+    (gives-desk needs (ahead w.state) (cancelled id (at w)).state (few-turns w.state.desk.turns w.state.desk.turns (cancelled id (at w)).state.turns needs.turns refl settles.turns)
     (few-jobs w.state.desk.handed w.state.desk.handed (cancelled id (at w)).state.handed (length (cancel_row id s.desk).jobs) needs.jobs refl settles.handed (omega (arith, jobs))))
 
 told-does : (meaning : Meaning) (s : State) (n : Notification) (notice : Notice) → told_by (heard_of n) ≡ Some notice
-    → Does (for_event meaning s (notification_input n)) (turn_begun s) (told notice (turn_begun s))
+    → EventDoes (for_event meaning s (notification_input n)) (turn_begun s) (told notice (turn_begun s))
 unfolding told
-told-does meaning s n (notices.CancelRequest id) heard = cancel-does meaning s n id heard
-told-does meaning s n (notices.CancelProgress token) heard = does-same (for_event meaning s (notification_input n)) (turn_begun s) (turn_begun s) refl
-told-does meaning s n (notices.DidOpen document) heard = opened-does meaning s n document (path_of document.uri) (ap files_noticed heard)
-told-does meaning s n (notices.DidChange change) heard = changed-does meaning s n change (path_of change.uri) (ap files_noticed heard)
-told-does meaning s n (notices.DidClose uri) heard = closed-does (for_event meaning s (notification_input n)) s uri (path_of uri)
-told-does meaning s n (notices.DidSave uri) heard = saved-does (for_event meaning s (notification_input n)) s uri (path_of uri)
+told-does meaning s n (notices.CancelRequest id) heard =
+    event-holds (for_event meaning s (notification_input n)) (turn_begun s) (told (notices.CancelRequest id) (turn_begun s))
+    (cancel-does meaning s n id heard)
+told-does meaning s n (notices.CancelProgress token) heard =
+    event-holds (for_event meaning s (notification_input n)) (turn_begun s) (told (notices.CancelProgress token) (turn_begun s))
+    (does-same (for_event meaning s (notification_input n)) (turn_begun s) (turn_begun s) refl)
+told-does meaning s n (notices.DidOpen document) heard =
+    event-gives (for_event meaning s (notification_input n)) (turn_begun s) (told (notices.DidOpen document) (turn_begun s))
+    (opened-does meaning s n document (path_of document.uri) (ap files_noticed heard))
+told-does meaning s n (notices.DidChange change) heard =
+    event-gives (for_event meaning s (notification_input n)) (turn_begun s) (told (notices.DidChange change) (turn_begun s))
+    (changed-does meaning s n change (path_of change.uri) (ap files_noticed heard))
+told-does meaning s n (notices.DidClose uri) heard =
+    event-gives (for_event meaning s (notification_input n)) (turn_begun s) (told (notices.DidClose uri) (turn_begun s))
+    (closed-does (for_event meaning s (notification_input n)) s uri (path_of uri))
+told-does meaning s n (notices.DidSave uri) heard =
+    event-holds (for_event meaning s (notification_input n)) (turn_begun s) (told (notices.DidSave uri) (turn_begun s))
+    (saved-does (for_event meaning s (notification_input n)) s uri (path_of uri))
 told-does meaning s n notices.DidChangeConfiguration heard =
-    counts-more state_at (requests 1) (for_event meaning s (notification_input n)) (given (turn_begun s).state) (at_client asked_for_settings (turn_begun s))
+    event-holds (for_event meaning s (notification_input n)) (turn_begun s) (told notices.DidChangeConfiguration (turn_begun s))
+    (counts-more state_ahead (requests 1) (for_event meaning s (notification_input n)) (held (turn_begun s).state) (at_client asked_for_settings (turn_begun s))
     (at-most _ _ (omega arith) (omega arith) (omega arith) (omega arith) (omega arith) (omega arith) (omega arith))
-    (request-counts Configuration Settings (turn_begun s))
-told-does meaning s n (notices.DidChangeWorkspaceFolders added removed) heard = folders-does (for_event meaning s (notification_input n)) s added removed
+    (request-counts Configuration Settings (turn_begun s)))
+told-does meaning s n (notices.DidChangeWorkspaceFolders added removed) heard =
+    event-holds (for_event meaning s (notification_input n)) (turn_begun s) (told (notices.DidChangeWorkspaceFolders added removed) (turn_begun s))
+    (folders-does (for_event meaning s (notification_input n)) s added removed)
 told-does meaning s n (notices.DidChangeWatchedFiles changes) heard =
-    does-same (for_event meaning s (notification_input n)) (turn_begun s) (files_changed map.empty changes (turn_begun s))
-    (same-state (turn_begun s).state (files_changed map.empty changes (turn_begun s)).state (files-same map.empty changes (turn_begun s)))
-told-does meaning s n notices.CancelFlycheck heard = does-same (for_event meaning s (notification_input n)) (turn_begun s) (turn_begun s) refl
-told-does meaning s n notices.ClearFlycheck heard = does-same (for_event meaning s (notification_input n)) (turn_begun s) (turn_begun s) refl
-told-does meaning s n (notices.RunFlycheck uri) heard = does-same (for_event meaning s (notification_input n)) (turn_begun s) (turn_begun s) refl
-told-does meaning s n notices.AbortRunTest heard = does-same (for_event meaning s (notification_input n)) (turn_begun s) (turn_begun s) refl
+    event-holds (for_event meaning s (notification_input n)) (turn_begun s) (told (notices.DidChangeWatchedFiles changes) (turn_begun s))
+    (does-same (for_event meaning s (notification_input n)) (turn_begun s) (files_changed map.empty changes (turn_begun s))
+    (same-state (turn_begun s).state (files_changed map.empty changes (turn_begun s)).state (files-same map.empty changes (turn_begun s))))
+told-does meaning s n notices.CancelFlycheck heard =
+    event-holds (for_event meaning s (notification_input n)) (turn_begun s) (told notices.CancelFlycheck (turn_begun s))
+    (does-same (for_event meaning s (notification_input n)) (turn_begun s) (turn_begun s) refl)
+told-does meaning s n notices.ClearFlycheck heard =
+    event-holds (for_event meaning s (notification_input n)) (turn_begun s) (told notices.ClearFlycheck (turn_begun s))
+    (does-same (for_event meaning s (notification_input n)) (turn_begun s) (turn_begun s) refl)
+told-does meaning s n (notices.RunFlycheck uri) heard =
+    event-holds (for_event meaning s (notification_input n)) (turn_begun s) (told (notices.RunFlycheck uri) (turn_begun s))
+    (does-same (for_event meaning s (notification_input n)) (turn_begun s) (turn_begun s) refl)
+told-does meaning s n notices.AbortRunTest heard =
+    event-holds (for_event meaning s (notification_input n)) (turn_begun s) (told notices.AbortRunTest (turn_begun s))
+    (does-same (for_event meaning s (notification_input n)) (turn_begun s) (turn_begun s) refl)
 
 heard-does : (meaning : Meaning) (s : State) (n : Notification) (heard : Heard) → heard_of n ≡ heard
-    → Does (for_event meaning s (notification_input n)) (turn_begun s) (noticed heard n.method (turn_begun s))
+    → EventDoes (for_event meaning s (notification_input n)) (turn_begun s) (noticed heard n.method (turn_begun s))
 unfolding noticed logged ordered
 heard-does meaning s n (Told notice) is = told-does meaning s n notice (ap told_by is)
-heard-does meaning s n Malformed is = does-same (for_event meaning s (notification_input n)) (turn_begun s) (logged MalformedNotification n.method (turn_begun s)) refl
-heard-does meaning s n Unhandled is = does-same (for_event meaning s (notification_input n)) (turn_begun s) (logged UnhandledNotification n.method (turn_begun s)) refl
-heard-does meaning s n Silent is = does-same (for_event meaning s (notification_input n)) (turn_begun s) (turn_begun s) refl
+heard-does meaning s n Malformed is =
+    event-holds (for_event meaning s (notification_input n)) (turn_begun s) (noticed Malformed n.method (turn_begun s))
+    (does-same (for_event meaning s (notification_input n)) (turn_begun s) (logged MalformedNotification n.method (turn_begun s)) refl)
+heard-does meaning s n Unhandled is =
+    event-holds (for_event meaning s (notification_input n)) (turn_begun s) (noticed Unhandled n.method (turn_begun s))
+    (does-same (for_event meaning s (notification_input n)) (turn_begun s) (logged UnhandledNotification n.method (turn_begun s)) refl)
+heard-does meaning s n Silent is =
+    event-holds (for_event meaning s (notification_input n)) (turn_begun s) (noticed Silent n.method (turn_begun s))
+    (does-same (for_event meaning s (notification_input n)) (turn_begun s) (turn_begun s) refl)
 
 -- ---- events
 
-event-does : (meaning : Meaning) (s : State) (event : Event) → Does (for_event meaning s (Next event)) (turn_begun s) (happened meaning event (turn_begun s))
+gives-then : (needs : Numbers) (w : Working State) (r : Result (Working State) Counter) (f : Working State → Working State) → ((v : Working State) → given (f v).state ≡ given v.state)
+    → Gives needs w r → Gives needs w (and_then r (λ v. Ok (f v)))
+gives-then needs w (Ok v) f same h = subst (λ (n : Numbers). AtMost n (both (given w.state) needs)) (sym (same v)) h
+gives-then needs w (Err counter) f same h = h
+
+event-does : (meaning : Meaning) (s : State) (event : Event) → EventDoes (for_event meaning s (Next event)) (turn_begun s) (happened meaning event (turn_begun s))
 unfolding happened received loaded
-event-does meaning s (Lsp (lsp.Request r)) = request-does meaning s r (for_event meaning s (Next (Lsp (lsp.Request r)))) (omega arith)
+event-does meaning s (Lsp (lsp.Request r)) =
+    event-holds (for_event meaning s (Next (Lsp (lsp.Request r)))) (turn_begun s) (happened meaning (Lsp (lsp.Request r)) (turn_begun s))
+    (request-does meaning s r (for_event meaning s (Next (Lsp (lsp.Request r)))) (omega arith))
 event-does meaning s (Lsp (lsp.Notification n)) = heard-does meaning s n (heard_of n) refl
-event-does meaning s (Lsp (lsp.Response r)) = answer-does (for_event meaning s (Next (Lsp (lsp.Response r)))) s r
+event-does meaning s (Lsp (lsp.Response r)) =
+    event-holds (for_event meaning s (Next (Lsp (lsp.Response r)))) (turn_begun s) (happened meaning (Lsp (lsp.Response r)) (turn_begun s))
+    (answer-does (for_event meaning s (Next (Lsp (lsp.Response r)))) s r)
 event-does meaning s (Task batch) =
     let w : Working State = turn_begun s in
     let input : Input = Next (Task batch) in
-    counts-more state_at (for_messages (length (row meaning input (place_of s)).jobs) (length batch)) (for_event meaning s input) (given w.state) (batched meaning batch w)
+    event-holds (for_event meaning s (Next (Task batch))) (turn_begun s) (happened meaning (Task batch) (turn_begun s))
+    (counts-more state_ahead (for_messages (length (row meaning input (place_of s)).jobs) (length batch)) (for_event meaning s input) (held w.state) (batched meaning batch w)
     (at-most _ _ (omega arith) (omega arith) (omega arith) (omega arith) (omega arith) (omega arith) (omega arith))
-    (batch-does meaning s.desk.turns s batch w (record { client = refl; files = stays s.files; shows = record { present = refl; version = refl } }))
+    (batch-does meaning s.desk.turns s batch w (stays-same s (turn_begun s).state refl refl (record { present = refl; version = refl }))))
 event-does meaning s (Vfs messages) =
     let w : Working State = turn_begun s in
     let input : Input = Next (Vfs messages) in
-    then-same (for_event meaning s input) w (at_files (loaded messages) w) (λ v. at_workspaces (renewed_if (bring_files messages) v.state.desk.turns) v)
+    event-gives (for_event meaning s (Next (Vfs messages))) (turn_begun s) (happened meaning (Vfs messages) (turn_begun s))
+    (gives-then (for_event meaning s input) w (at_files (loaded messages) w) (λ v. at_workspaces (renewed_if (bring_files messages) v.state.desk.turns) v)
     (λ v. given-workspaces v.state (renewed_if (bring_files messages) v.state.desk.turns v.state.workspaces) (renewed-runs (bring_files messages) v.state.desk.turns v.state.workspaces).versions)
-    (event-files meaning s input (files_among messages) (loaded messages) refl (become-counts (files (files_among messages)) (given w.state) w.state _ _ (messages-count messages w.state)))
+    (event-files meaning s input (files_among messages) (loaded messages) refl (become-counts (files (files_among messages)) (given w.state) w.state _ _ (messages-count messages w.state))))
 event-does meaning s (Deferred tasks) =
     let w : Working State = turn_begun s in
     let input : Input = Next (Deferred tasks) in
-    counts-more state_at (jobs (checks_among tasks)) (for_event meaning s input) (given w.state) (all_resumed tasks w)
+    event-holds (for_event meaning s (Next (Deferred tasks))) (turn_begun s) (happened meaning (Deferred tasks) (turn_begun s))
+    (counts-more state_ahead (jobs (checks_among tasks)) (for_event meaning s input) (held w.state) (all_resumed tasks w)
     (at-most _ _ (omega arith) (omega arith) (omega arith) (omega arith) (omega arith) (omega arith) (omega arith))
-    (resumed-do tasks w)
+    (resumed-do tasks w))
 event-does meaning s (Timer ticket) =
-    does-same (for_event meaning s (Next (Timer ticket))) (turn_begun s) (timed ticket (turn_begun s)) (given-workspaces (turn_begun s).state (with_fetches (fire ticket) s.workspaces) (fire-runs 0 ticket s.workspaces).versions)
+    event-holds (for_event meaning s (Next (Timer ticket))) (turn_begun s) (happened meaning (Timer ticket) (turn_begun s))
+    (does-same (for_event meaning s (Next (Timer ticket))) (turn_begun s) (timed ticket (turn_begun s)) (held-workspaces (turn_begun s).state (with_fetches (fire ticket) s.workspaces) (fire-runs 0 ticket s.workspaces).versions))
 
-counted-does : (s : State) → Does (turns 1) (begun s) (counted (begun s))
+counted-does : (s : State) → Gives (turns 1) (begun s) (counted (begun s))
 unfolding counted counted_at_desk
 counted-does s =
     counts-within state_at (turns 1) (given s) desk_in with_desk counted_at_desk (begun s)
     (next-counts (λ (v : Working Desk). with_desk v.state s) (turns 1) (given s) s.desk.turns counters.Turns _ (ltb s.desk.turns (2 ^ 64 - 1)) refl
     (gives-desk (turns 1) s (record s.desk { turns = s.desk.turns + 1 }) (omega arith) (omega arith)) (λ last. omega (arith, last)))
 
-taken_in-does : (meaning : Meaning) (s : State) (event : Event) → Does (both (turns 1) (for_event meaning s (Next event))) (begun s) (taken_in meaning event (begun s))
+taken_in-does : (meaning : Meaning) (s : State) (event : Event)
+    → Counts state_ahead (both (turns 1) (both (for_event meaning s (Next event)) (revisions 1))) (given s) (taken_in meaning event (begun s))
 unfolding taken_in
 taken_in-does meaning s event =
-    counts-then state_at state_at (turns 1) (for_event meaning s (Next event)) (given s) (counted (begun s)) (happened meaning event) (counted-does s)
+    let needs = for_event meaning s (Next event) in
+    counts-then state_at state_ahead (turns 1) (both needs (revisions 1)) (given s) (counted (begun s)) (happened meaning event) (counted-does s)
     (λ v is. let same : v ≡ turn_begun s = IfOk-at_ok (λ v. v ≡ turn_begun s) is (counted-is s) in
-    subst (λ w. Does (for_event meaning s (Next event)) w (happened meaning event w)) (sym same) (event-does meaning s event))
+    subst (λ w. EventDoes needs w (happened meaning event w)) (sym same) (event-does meaning s event))
 
 -- ---- whole turns
 
-abbrev turning_at : Working Turning → State
-turning_at t = t.state.state
+abbrev turning_ahead : Working Turning → State
+turning_ahead t = ahead t.state.state
 
 -- a part of a turn
 abbrev PartDoes : Numbers → Working Turning → Result (Working Turning) Counter → Type 0
-PartDoes needs t r = Counts turning_at needs (given t.state.state) r
+PartDoes needs t r = Counts turning_ahead needs (held t.state.state) r
 
 part-does : (needs : Numbers) (part : Working State → Result (Working State) Counter) (t : Working Turning) → Does needs (record { state = t.state.state; out = t.out }) (part (record { state = t.state.state; out = t.out }))
     → PartDoes needs t (in_state part t)
-part-does needs part t h = counts-within turning_at needs (given t.state.state) state_in with_state part t h
+part-does needs part t h = counts-within turning_ahead needs (held t.state.state) state_in with_state part t h
 
 parts-then : (a b : Numbers) (t : Working Turning) (r : Result (Working Turning) Counter) (f : Working Turning → Result (Working Turning) Counter) → PartDoes a t r
     → ((u : Working Turning) → PartDoes b u (f u)) → PartDoes (both a b) t (and_then r f)
-parts-then a b t r f p q = counts-then turning_at turning_at a b (given t.state.state) r f p (λ u is. q u)
+parts-then a b t r f p q = counts-then turning_ahead turning_ahead a b (held t.state.state) r f p (λ u is. q u)
 
-given-if : (b : Bool) (w u v : Working State) → given u.state ≡ given w.state → given v.state ≡ given w.state → given (if b then u else v).state ≡ given w.state
-given-if true w u v p q = p
-given-if false w u v p q = q
+-- and then nothing changes that is counted
+parts-same : (needs : Numbers) (t : Working Turning) (r : Result (Working Turning) Counter) (f : Working Turning → Working Turning) → ((u : Working Turning) → held (f u).state.state ≡ held u.state.state)
+    → PartDoes needs t r → PartDoes needs t (and_then r (λ u. Ok (f u)))
+parts-same needs t (Ok u) f same h = subst (λ (n : Numbers). AtMost n (both (held t.state.state) needs)) (sym (same u)) h
+parts-same needs t (Err counter) f same h = h
+
+held-if : (b : Bool) (w u v : Working State) → held u.state ≡ held w.state → held v.state ≡ held w.state → held (if b then u else v).state ≡ held w.state
+held-if true w u v p q = p
+held-if false w u v p q = q
 
 ending-does : (facts : Facts) (w : Working State) → Does none w (closed facts w)
 unfolding kept within kept_at_desk revised timer_set ordered
@@ -653,8 +752,8 @@ ending-does facts w =
     let now : Working State = record w { state = with_desk (record w.state.desk { jobs = _ }) w.state } in
     let told : Working State = revised facts.revision now in
     does-same none w (timer_set told)
-    (given-if (fires told.state.desk.turns told.state.workspaces.fetches.waiting) told (ordered (SetTimer told.state.desk.turns) told) told refl refl
-    ∙ given-if (now.state.files.host.revision == facts.revision) now now (ordered (Revise now.state.files.host.revision) now) refl refl)
+    (held-if (fires told.state.desk.turns told.state.workspaces.fetches.waiting) told (ordered (SetTimer told.state.desk.turns) told) told refl refl
+    ∙ held-if (now.state.files.host.revision == facts.revision) now now (ordered (Revise now.state.files.host.revision) now) refl refl)
 
 closing-does : (t : Working Turning) → PartDoes none t (closing_part t)
 unfolding closing_part
@@ -662,13 +761,19 @@ closing-does t = part-does none (closed t.state.facts) t (ending-does t.state.fa
 
 -- the parts behind the event: a switch, the files, what the client shows, a fetch, a run of build data or a load, and a status
 abbrev for_parts : Numbers
-for_parts = record none { jobs = 2; requests = 6; revisions = 2; versions = 1; settings = 1 }
+for_parts = record none { jobs = 2; requests = 6; revisions = 1; versions = 1; settings = 1 }
+
+files_part-does : (t : Working Turning) → PartDoes none t (files_part t)
+unfolding files_part
+files_part-does t =
+    parts-same none t (in_state files_done t) (knowing (some_processed t.state.state.files)) (λ u. refl)
+    (part-does none files_done t (done-does _))
 
 later-does : (input : Input) (t : Working Turning) → PartDoes for_parts t (later_parts input t)
-unfolding switch_part files_part quiet_part fetch_part build_part status_part
+unfolding switch_part quiet_part fetch_part build_part status_part
 later-does input t =
-    parts-then for_switch (record none { jobs = 2; requests = 5; revisions = 1 }) t (switch_part t) _ (part-does for_switch switch_done t (switch-does _))
-    (λ t. parts-then (revisions 1) (record none { jobs = 2; requests = 5 }) t (files_part t) _ (part-does (revisions 1) files_processed t (processed-does _))
+    parts-then for_switch (record none { jobs = 2; requests = 5 }) t (switch_part t) _ (part-does for_switch switch_done t (switch-does _))
+    (λ t. parts-then none (record none { jobs = 2; requests = 5 }) t (files_part t) _ (files_part-does t)
     (λ t. parts-then (requests 4) (record none { jobs = 2; requests = 1 }) t (quiet_part t) _ (part-does (requests 4) (quiet_done t.state.facts) t (quiet-does t.state.facts _))
     (λ t. parts-then (jobs 1) (record none { jobs = 1; requests = 1 }) t (fetch_part input t) _ (part-does (jobs 1) (fetch_started (may_start input t.state.state.client.settings)) t (fetch-does _ _))
     (λ t. parts-then (jobs 1) (requests 1) t (build_part t) _ (part-does (jobs 1) runs_started t (runs-do _))
@@ -687,31 +792,33 @@ start-does t =
     (λ t. parts-then (jobs 1) none t (fetch_part Start t) closing_part (part-does (jobs 1) (fetch_started (may_start Start t.state.state.client.settings)) t (fetch-does _ _)) closing-does)))
 
 -- the facts are forgotten
-forgets : (needs n : Numbers) (r : Result (Working Turning) Counter) → Counts turning_at needs n r → Counts state_at needs n (and_then r turned)
+forgets : (needs n : Numbers) (r : Result (Working Turning) Counter) → Counts turning_ahead needs n r → Counts state_ahead needs n (and_then r turned)
 forgets needs n (Ok t) h = h
 forgets needs n (Err counter) h = h
 
-pub step-does : (meaning : Meaning) (s : State) (input : Input) → Counts state_at (needs_of meaning input (place_of s)) (given s) (step meaning input (begun s))
+pub step-does : (meaning : Meaning) (s : State) (input : Input) → Counts state_ahead (needs_of meaning input (place_of s)) (given s) (step meaning input (begun s))
 unfolding step event_part
 step-does meaning s Start =
+    let start : Numbers = record none { jobs = 1; requests = 2 } in
     forgets (needs_of meaning Start (place_of s)) (given s) (start_parts (turning (begun s)))
-    (counts-more turning_at (record none { jobs = 1; requests = 2 }) (needs_of meaning Start (place_of s)) (given s) (start_parts (turning (begun s)))
+    (counts-more turning_ahead (both (revisions 1) start) (needs_of meaning Start (place_of s)) (given s) (start_parts (turning (begun s)))
     (at-most _ _ (omega arith) (omega arith) (omega arith) (omega arith) (omega arith) (omega arith) (omega arith))
-    (start-does (turning (begun s))))
+    (counts-behind turning_ahead (revisions 1) start (given s) (held s) (start_parts (turning (begun s))) (more-held s) (start-does (turning (begun s)))))
 step-does meaning s (Next event) =
     let input : Input = Next event in
     let t : Working Turning = turning (begun s) in
-    let first : Numbers = both (turns 1) (for_event meaning s input) in
+    let first : Numbers = both (turns 1) (both (for_event meaning s input) (revisions 1)) in
     let turn = and_then (event_part meaning event t) (later_parts input) in
     forgets (needs_of meaning input (place_of s)) (given s) turn
-    (counts-more turning_at (both first for_parts) (needs_of meaning input (place_of s)) (given s) turn
+    (counts-more turning_ahead (both first for_parts) (needs_of meaning input (place_of s)) (given s) turn
     (at-most _ _ (omega arith) (omega arith) (omega arith) (omega arith) (omega arith) (omega arith) (omega arith))
-    (parts-then first for_parts t (event_part meaning event t) (later_parts input) (part-does first (taken_in meaning event) t (taken_in-does meaning s event)) (later-does input)))
+    (counts-then turning_ahead turning_ahead first for_parts (given s) (event_part meaning event t) (later_parts input)
+    (counts-within turning_ahead first (given s) state_in with_state (taken_in meaning event) t (taken_in-does meaning s event)) (λ u is. later-does input u)))
 
 same-err : (c d : Counter) → (let r : Result (Working State) Counter = Err c in r) ≡ Err d → c ≡ d
 same-err c d is = cc
 
-too-many : (needs n : Numbers) (r : Result (Working State) Counter) (counter : Counter) → r ≡ Err counter → Counts state_at needs n r → AreTooMany n needs counter
+too-many : (needs n : Numbers) (r : Result (Working State) Counter) (counter : Counter) → r ≡ Err counter → Counts state_ahead needs n r → AreTooMany n needs counter
 too-many needs n (Ok v) counter is h = absurd cc
 too-many needs n (Err c) counter is h = subst (AreTooMany n needs) (same-err c counter is) h
 

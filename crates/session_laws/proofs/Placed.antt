@@ -17,7 +17,7 @@ use Rattle.session_model.specs.declared.input.Input.{Input}
 use Rattle.session_model.specs.declared.input.Input.TheVariants.{Start, Next}
 use Rattle.session_model.specs.RunEnds.{needs_of}
 use Rattle.session_laws.specs.Invariant.{IsOfTurns, WaitsOfTurns, place_of}
-use Rattle.session_laws.proofs.Counting.{Counts, given, state_at}
+use Rattle.session_laws.proofs.Counting.{Counts, given, state_ahead}
 use Rattle.session_laws.proofs.Exhausting.{step-does}
 use Rattle.session_laws.proofs.Rows.{Closes, step-closes}
 
@@ -44,7 +44,7 @@ as-turns Start version turns now gives le = omega (arith, gives, le)
 as-turns (Next event) version turns now gives le = omega (arith, gives, le)
 
 step-cases : (meaning : Meaning) (input : Input) (turns : ℕ) (s : State) (r : Result (Working State) Counter) → IfOk r (Closes meaning s input)
-    → Counts state_at (needs_of meaning input (place_of s)) (given s) r → IsInTurn turns s → IsInTurn (turns_after input turns) (result_unwrap_or r (begun s)).state
+    → Counts state_ahead (needs_of meaning input (place_of s)) (given s) r → IsInTurn turns s → IsInTurn (turns_after input turns) (result_unwrap_or r (begun s)).state
 step-cases meaning input turns s (Ok v) closes counts h =
     let number : v.state.desk.turns ≡ turns_after input s.desk.turns = ap (λ (d : Desk). d.turns) closes.desk in
     record {

@@ -1,5 +1,5 @@
 -- What holds between turns: of the jobs that are out for requests, and of what queries see of the files.
-use Rattle.std.specs.Prelude.{◌≡◌, ◌≤◌, ℕ, ◌⊎◌, List, [], ◌∷◌, ◌++◌, Contains, false, Option, None, Some}
+use Rattle.std.specs.Prelude.{◌≡◌, ◌≤◌, ℕ, ◌⊎◌, List, [], ◌∷◌, ◌++◌, Contains, true, false, Option, None, Some}
 use Rattle.std.specs.FinMap as map
 use Rattle.std.specs.Option.{option_map}
 use Rattle.docs_vfs.specs.Files.{contents_of}
@@ -34,13 +34,20 @@ pub record ComesBehind (earlier batch : List TaskMsg) : Type 0 where
 abbrev pub AreEarlier : List TaskMsg → List TaskMsg → Type 0
 AreEarlier earlier batch = ((batch ≡ []) × (earlier ≡ [])) ⊎ ComesBehind earlier batch
 
+-- the texts and the settings are those of this place; or files are loading, and all that has changed of them went into
+-- the world, and the settings files among it into the settings, behind crate data that came with its macros
+abbrev pub ShowsFiles : Place → SnapshotData → Type 0
+ShowsFiles place snapshot =
+    ((snapshot.world.texts ≡ place.rest.files.host.world.texts) × (snapshot.config ≡ place.rest.client.settings))
+    ⊎ ((place.loading ≡ true) × ((path : List ℕ)
+    → map.get snapshot.world.texts path ≡ entry_of (contents_of (place.documents.kept path))))
+
 -- a snapshot shows the documents, the files, the settings and the workspaces of this place; its crate graph and its
 -- revision may be later ones
 pub record ShowsDocuments (place : Place) (snapshot : SnapshotData) : Type 0 where
-  pub texts : snapshot.world.texts ≡ place.rest.files.host.world.texts
+  pub files : ShowsFiles place snapshot
   pub file_ids : snapshot.file_ids ≡ place.rest.files.ids
   pub versions : snapshot.versions ≡ place.documents.versions
-  pub config : snapshot.config ≡ place.rest.client.settings
   pub workspaces : snapshot.workspaces ≡ place.rest.workspaces.present
   pub workspaces_version : snapshot.workspaces_version ≡ place.rest.workspaces.version
   pub later : place.revision ≤ snapshot.revision

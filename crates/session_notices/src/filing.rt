@@ -2,9 +2,9 @@
 ghost use Rattle.std.specs.Prelude.{◌≡◌, ◌<◌, ◌^◌, length, Ok, IfOk};
 ghost use Rattle.docs_vfs.specs.FileUrls.{path_of};
 ghost use Rattle.session_port.specs.Meets.{Meets, Gives};
-ghost use Rattle.session_model.specs.FilesFolds.{due_changes, is_due};
+ghost use Rattle.session_model.specs.FilesFolds.{changed_files, has_changed};
 ghost use Rattle.session_model.specs.FilesSteps.{changed, closed as closed_document, loaded, opened, processed};
-ghost use Rattle.session_model.specs.Machine.{at_files, brought, changed_at, closed_at, files_followed, files_processed, opened_at};
+ghost use Rattle.session_model.specs.Machine.{at_files, brought, changed_at, closed_at, files_done, files_followed, files_processed, opened_at, some_processed};
 ghost use Rattle.session_model.specs.State.{columns_in, excludes_in};
 ghost use Rattle.session_model.specs.Timing.{bring_files, brings_files};
 
@@ -138,11 +138,11 @@ pub fn on_loader(
     renew_timer_if(store, brings, out)
 }
 
-// What has changed goes into the world, unless files are loading, and with files that came or went the source roots.
-// Answers the files that have changed.
+// What has changed goes into the world, and with files that came or went the source roots. Answers the files that have
+// changed.
 fn take_up(store: &mut Store, out: &mut TurnOut) -> Result<Items<ChangedFile>, TurnError>
     ensures meets { Meets result (at_files (processed store.old.sources.roots) (record { state = store.old; out = out.old })) store.new out.new }
-    ensures changed { IfOk result (λ changed. changed ≡ due_changes store.old.files) }
+    ensures changed { IfOk result (λ changed. changed ≡ changed_files store.old.files) }
 {
     store.files.process(&store.roots, out)
 }
@@ -163,23 +163,27 @@ fn follow_files(
     do_effects(store, effects, out)
 }
 
-/// What has changed goes into the world, unless files are loading: one change, and so one revision. The settings files
-/// among it go into the settings, and the fetch that it asks for waits for a timer. Answers whether something has
-/// changed. After an `Err` the state is spent.
+/// What has changed goes into the world: one change, and so one revision. The settings files among it go into the
+/// settings, and the fetch that it asks for waits for a timer. Answers whether something has changed, also while files are
+/// loading. After an `Err` the state is spent.
 #[tactic(auto, unfolding(session_model::specs::Machine::files_processed))]
 pub fn process_changes(store: &mut Store, out: &mut TurnOut) -> Result<bool, TurnError>
     ensures meets { Meets result (files_processed (record { state = store.old; out = out.old })) store.new out.new }
-    ensures some { IfOk result (λ some. some ≡ is_due store.old.files) }
+    ensures some { IfOk result (λ some. some ≡ has_changed store.old.files) }
 {
     let changed = take_up(store, out)?;
     follow_files(store, &changed, out)?;
     Ok(!changed.is_empty())
 }
 
-/// The same behind the event of a turn.
-pub fn process(store: &mut Store, out: &mut TurnOut) -> Result<(), TurnError>
-    ensures { Meets result (files_processed (record { state = store.old; out = out.old })) store.new out.new }
+/// The same behind the event of a turn, unless files are loading.
+#[tactic(auto, unfolding(session_model::specs::Machine::files_done))]
+pub fn process(store: &mut Store, out: &mut TurnOut) -> Result<bool, TurnError>
+    ensures meets { Meets result (files_done (record { state = store.old; out = out.old })) store.new out.new }
+    ensures some { IfOk result (λ some. some ≡ some_processed store.old.files) }
 {
-    process_changes(store, out)?;
-    Ok(())
+    if store.files.is_loading() {
+        return Ok(false);
+    }
+    process_changes(store, out)
 }

@@ -63,10 +63,11 @@ fn cause_with(alloc: Global, cause: &str, path: &VfsPath) -> Result<Text, AllocE
 
 // The root at which the settings of a file are read: its own, where that is local.
 fn settings_root(store: &Store, path: &VfsPath) -> Option<u32>
-    ensures { result ≡ settings_root store.now.sources.roots path.now }
+    ensures { result ≡ settings_root store.now.files.host.world.roots path.now }
 {
-    let root = store.roots.root_of(path);
-    if store.roots.is_local(root) {
+    let roots = store.files.roots();
+    let root = roots.root_of(path);
+    if roots.is_local(root) {
         Some(root)
     } else {
         None
@@ -75,7 +76,7 @@ fn settings_root(store: &Store, path: &VfsPath) -> Option<u32>
 
 // Whether saving a file may ask for build data.
 fn builds_on_save(store: &Store, path: &VfsPath) -> bool
-    ensures { result ≡ builds_on_save store.now.client.settings store.now.sources.roots path.now }
+    ensures { result ≡ builds_on_save store.now.client.settings store.now.files.host.world.roots path.now }
 {
     store
         .client
@@ -134,7 +135,7 @@ fn fetch_saved(
 
 // What a saved file asks for that is in the table and isn't excluded.
 fn ask_by_save(store: &mut Store, path: VfsPath, out: &mut TurnOut) -> Result<(), TurnError>
-    ensures { Gives result (at_workspaces (asked_by_save store.old.client.settings store.old.sources.roots path) (record { state = store.old; out = out.old })) store.new out.new }
+    ensures { Gives result (at_workspaces (asked_by_save store.old.client.settings store.old.files.host.world.roots path) (record { state = store.old; out = out.old })) store.new out.new }
 {
     let cause = save_cause(store, &path)?;
     let saves = builds_on_save(store, &path);
@@ -162,7 +163,7 @@ fn note_save(
 
 // A file that isn't in the table, or is excluded, asks for nothing.
 fn ask_if_loaded(store: &mut Store, path: VfsPath, out: &mut TurnOut) -> Result<(), TurnError>
-    ensures { Gives result (at_workspaces (path_saved store.old.client.settings store.old.sources.roots store.old.files path) (record { state = store.old; out = out.old })) store.new out.new }
+    ensures { Gives result (at_workspaces (path_saved store.old.client.settings store.old.files path) (record { state = store.old; out = out.old })) store.new out.new }
 {
     if !store.is_loaded(&path)? {
         return Ok(());

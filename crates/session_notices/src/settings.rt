@@ -14,23 +14,24 @@ use session_model::TurnError;
 use session_port::{LogCode, TurnOut};
 use session_store::Store;
 
-// Whether the settings have the parents of the roots, and no settings file has changed.
+// Whether the settings have the parents of the roots that are present, and no settings file has changed.
 fn is_settled(store: &Store, files: &Items<SettingsFile>) -> bool
     ensures { result ≡ is_settled files.now store.now.sources }
 {
     store.parents.is_none() && files.is_empty()
 }
 
-// The change of settings that settings files are, with the parents of the roots, which the settings have from then on.
+// The change of settings that settings files are by the roots of the world, with the parents of the roots that are present,
+// which the settings have from then on.
 fn take_change(store: &mut Store, files: &[SettingsFile]) -> Result<ConfigChange, NoMemory>
     ensures change { IfOk result (λ change. change
-        ≡ change_of store.old.sources.roots store.old.sources.parents store.old.workspaces.present files.now) }
+        ≡ change_of store.old.files.host.world.roots store.old.sources.parents store.old.workspaces.present files.now) }
     ensures after { OnOk result (store.new ≡ record store.old { sources = parents_told store.old.sources }) }
 {
     let parents = store.parents.take();
     settings_change(
         store.alloc,
-        &store.roots,
+        store.files.roots(),
         parents,
         store.workspaces.present(),
         files,

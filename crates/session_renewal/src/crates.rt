@@ -133,9 +133,9 @@ pub(crate) fn put_crates(
     crates: CrateData,
     out: &mut TurnOut,
 ) -> Result<(), TurnError>
-    ensures { Meets result (at_files (crates_put crates) (record { state = store.old; out = out.old })) store.new out.new }
+    ensures { Meets result (at_files (crates_put store.old.sources.roots crates) (record { state = store.old; out = out.old })) store.new out.new }
 {
-    store.files.put_crates(crates, out)
+    store.files.put_crates(&store.roots, crates, out)
 }
 
 // Where this flag is set, crate data of the workspaces that are present goes into the world, without its macros.

@@ -1,8 +1,8 @@
 // Loads of the macros of workspaces.
-ghost use Rattle.std.specs.Prelude.{◌≡◌, IfOk, OnOk};
+ghost use Rattle.std.specs.Prelude.{◌≡◌, is_some, IfOk, OnOk};
 ghost use Rattle.session_port.specs.Meets.{Meets};
 ghost use Rattle.session_model.specs.Loading.{crates_loaded, load_kept, load_kind};
-ghost use Rattle.session_model.specs.Machine.{crates_arrived, load_handed_over, load_started, load_taken};
+ghost use Rattle.session_model.specs.Machine.{crates_arrived, load_handed_over, load_started, macros_taken};
 
 use crate::crates::put_crates;
 use plain::{Items, NoMemory, Text};
@@ -40,7 +40,7 @@ fn end_load(store: &mut Store, end: Option<LoadEnd>) -> Result<Option<CrateData>
     store.workspaces.end_load(told)
 }
 
-// Crate data that comes goes into the world.
+// Crate data that comes goes into the world, with the roots that are present.
 #[tactic(auto, unfolding(session_model::specs::Machine::crates_arrived))]
 fn let_in(store: &mut Store, crates: Option<CrateData>, out: &mut TurnOut) -> Result<(), TurnError>
     ensures { Meets result (crates_arrived crates (record { state = store.old; out = out.old })) store.new out.new }
@@ -51,17 +51,21 @@ fn let_in(store: &mut Store, crates: Option<CrateData>, out: &mut TurnOut) -> Re
     }
 }
 
-/// The end of a load of macros is told to the workspaces, and crate data that waited for it goes into the world.
-#[tactic(auto, unfolding(session_model::specs::Machine::load_taken))]
-pub fn take_load(
+/// The end of a load of macros is told to the workspaces, and crate data that waited for it goes into the world. Answers
+/// whether there was some.
+#[tactic(auto, unfolding(session_model::specs::Machine::macros_taken))]
+pub fn take_macros(
     store: &mut Store,
     end: Option<LoadEnd>,
     out: &mut TurnOut,
-) -> Result<(), TurnError>
-    ensures { Meets result (load_taken end (record { state = store.old; out = out.old })) store.new out.new }
+) -> Result<bool, TurnError>
+    ensures meets { Meets result (macros_taken end (record { state = store.old; out = out.old })) store.new out.new }
+    ensures came { IfOk result (λ came. came ≡ is_some (crates_loaded end store.old.workspaces)) }
 {
     let crates = end_load(store, end)?;
-    let_in(store, crates, out)
+    let came = crates.is_some();
+    let_in(store, crates, out)?;
+    Ok(came)
 }
 
 // What the job of a load of these libraries is to find.

@@ -10,7 +10,7 @@ ghost use Rattle.session_port.specs.Working.{written};
 ghost use Rattle.session_model.specs.ClientSteps.{asked_for, notification_of};
 ghost use Rattle.session_model.specs.Meaning.{Meaning, meaning_of};
 ghost use Rattle.session_model.specs.DeskSteps.{responded, cancelled};
-ghost use Rattle.session_model.specs.FilesFolds.{is_due};
+ghost use Rattle.session_model.specs.FilesFolds.{has_changed};
 ghost use Rattle.workspaces.specs.Fetches.{fetch_to_start, start_fetch};
 ghost use Rattle.session_model.specs.Fetching.{with_fetches};
 ghost use Rattle.session_model.specs.Machine.{answer_taken, at_client, files_processed, step, with_workspaces};
@@ -171,12 +171,12 @@ impl GlobalState {
         session_renewal::dequeue_fetch(&mut self.store, may)
     }
 
-    /// What has changed goes into the world, unless files are loading: one change, and so one revision. The settings files
-    /// among it go into the settings, and the fetch that it asks for waits for a timer. Answers whether something has
-    /// changed. After an `Err` the state is spent.
+    /// What has changed goes into the world: one change, and so one revision. The settings files among it go into the
+    /// settings, and the fetch that it asks for waits for a timer. Answers whether something has changed, also while files
+    /// are loading. After an `Err` the state is spent.
     pub fn process_changes(&mut self, out: &mut TurnOut) -> Result<bool, TurnError>
         ensures meets { Meets result (files_processed (record { state = self.old; out = out.old })) self.new out.new }
-        ensures some { IfOk result (λ some. some ≡ is_due self.old.files) }
+        ensures some { IfOk result (λ some. some ≡ has_changed self.old.files) }
     {
         session_notices::process_changes(&mut self.store, out)
     }

@@ -5,17 +5,17 @@ ghost use Rattle.session_port.specs.Meets.{Meets};
 ghost use Rattle.session_model.specs.Meaning.{meaning_of};
 ghost use Rattle.session_model.specs.Building.{is_rebuild, rebuilds};
 ghost use Rattle.session_model.specs.Fetching.{is_reload, reloads};
-ghost use Rattle.session_model.specs.Machine.{asked, batched, ends_taken, received, taken};
+ghost use Rattle.session_model.specs.Machine.{asked, batched, ends_taken, files_processed_if, load_taken, received, taken};
 
 use analysis_host::Analysis;
 use lsp_frame::{Message, Request};
 use method_table::{REBUILD_PROC_MACROS, RELOAD_WORKSPACE, RowId, is_unit, row_of};
 use plain::Items;
-use session_model::{Ends, TurnError};
-use session_notices::{complete_request, on_notification};
+use session_model::{Ends, LoadEnd, TurnError};
+use session_notices::{complete_request, on_notification, process_changes};
 use session_port::{TaskMsg, TurnOut};
 use session_renewal::{
-    rebuild_macros_if, reload_if, take_build, take_check, take_fetch, take_load,
+    rebuild_macros_if, reload_if, take_build, take_check, take_fetch, take_macros,
 };
 use session_store::Store;
 
@@ -89,6 +89,26 @@ pub(crate) fn on_message<A: Analysis>(
         Message::Notification(notification) => on_notification(store, notification, out),
         Message::Response(response) => complete_request(store, response, out),
     }
+}
+
+// Where this flag is set, the files are processed.
+#[tactic(auto, unfolding(session_model::specs::Machine::files_processed_if))]
+fn process_if(store: &mut Store, wanted: bool, out: &mut TurnOut) -> Result<(), TurnError>
+    ensures { Meets result (files_processed_if wanted (record { state = store.old; out = out.old })) store.new out.new }
+{
+    if wanted {
+        process_changes(store, out)?;
+    }
+    Ok(())
+}
+
+// The end of a load of macros. Behind crate data that comes with them the files are processed, also while some are loading.
+#[tactic(auto, unfolding(session_model::specs::Machine::load_taken))]
+fn take_load(store: &mut Store, end: Option<LoadEnd>, out: &mut TurnOut) -> Result<(), TurnError>
+    ensures { Meets result (load_taken end (record { state = store.old; out = out.old })) store.new out.new }
+{
+    let came = take_macros(store, end, out)?;
+    process_if(store, came, out)
 }
 
 // What a message of a job ends is told to the workspaces.

@@ -96,6 +96,19 @@ fn facts(store: &Store, out: &TurnOut) -> Facts
         revision: store.files.revision(),
         ordered: out.commands().len(),
         quiescent: store.is_quiescent(),
+        processed: false,
+    }
+}
+
+// The facts before a turn, and whether files were processed behind its event.
+fn knowing(before: Facts, processed: bool) -> Facts
+    ensures { result ≡ record before { processed = processed } }
+{
+    Facts {
+        revision: before.revision,
+        ordered: before.ordered,
+        quiescent: before.quiescent,
+        processed,
     }
 }
 
@@ -122,10 +135,11 @@ pub(crate) fn handle_event<A: Analysis>(
 ) -> Result<(), TurnError>
     ensures { Meets result (step (meaning_of A.decodes A.answer) (Next event) (record { state = store.old; out = out.old })) store.new out.new }
 {
-    let facts = facts(store, out);
+    let before = facts(store, out);
     take_in(store, event, analysis, out)?;
     switch_workspaces(store, out)?;
-    process(store, out)?;
+    let processed = process(store, out)?;
+    let facts = knowing(before, processed);
     refresh(store, facts, out)?;
     let may = store.may_fetch();
     start_fetch(store, may, out)?;

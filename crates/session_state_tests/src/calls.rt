@@ -45,7 +45,7 @@ fn complete(state: &mut GlobalState, out: &mut TurnOut) -> Option<bool> {
 }
 
 /// What a call answers, or that it went well: `respond`, and `completed` ask of ticket 1, `cancel` of id 5, `complete` of the session's
-/// request 0; `request` and `notification` send one; `process` takes up what has changed, and `quiescent` asks for rest.
+/// request 0; `request` and `notification` send one; and `quiescent` asks for rest.
 pub fn answer_to(
     alloc: Global,
     state: &mut GlobalState,
@@ -62,14 +62,12 @@ pub fn answer_to(
         }
         "notification" => Some(state.send_notification(Outgo::EndRunTest, out).is_ok()),
         "complete" => complete(state, out),
-        "process" => state.process_changes(out).ok(),
         "quiescent" => Some(state.is_quiescent()),
         _ => None,
     }
 }
 
-// What each call answers and writes: to a request that waits and to one that doesn't; a request and a notification of the session's own; and
-// that nothing is left to be taken up behind a turn.
+// What each call answers and writes: to a request that waits and to one that doesn't; and a request and a notification of the session's own.
 const CALLS: &str = r#"ask textDocument/hover {"a":1} then call completed > no
 ask textDocument/hover {"a":1} then call respond > yes Content-Length: 58\r\n\r\n{"error":{"code":1,"message":"no"},"id":5,"jsonrpc":"2.0"}
 ask textDocument/hover {"a":1} then call respond then call completed > yes
@@ -81,8 +79,6 @@ call request then call request > yes Content-Length: 62\r\n\r\n{"id":1,"jsonrpc"
 call request then call complete > yes
 call complete > yes log
 call notification > yes Content-Length: 52\r\n\r\n{"jsonrpc":"2.0","method":"experimental/endRunTest"}
-open then call process > no
-loading then file /w/a.rs a then call process > no
 call quiescent > yes
 start then call quiescent > no
 start then fetched then call quiescent > yes"#;

@@ -38,10 +38,23 @@ start then brought /w/Cargo.toml then builds second then ask rust-analyzer/rebui
 start then brought /w/Cargo.toml then ask rust-analyzer/reloadWorkspace null then builds second then brought third /w/Cargo.toml > Worker
 start then tell workspace/didChangeConfiguration {} then answer [{"procMacro":{"enable":false}}] then brought /w/Cargo.toml then builds second > Content-Length: 201\r\n\r\n{"jsonrpc":"2.0","method":"window/showMessage","params":{"message":"Failed to run build scripts of some packages.\n\nPlease refer to the language server logs for more details on the errors.","type":2}}build errorload anewrevise"#;
 
+// Where macros come, files that have changed are processed with the crate data, also while others are loading: a settings file among them holds from then on. Other
+// files wait until none are loading.
+const LOADING: &str =
+    r#"start then brought /w/Cargo.toml then builds second then loading then file /x/b.rs a
+start then brought /w/Cargo.toml then builds second then loading then file /x/b.rs a then macros third > deferrevisetimer 5
+start then brought /w/Cargo.toml then builds second then loading then file /x/b.rs a then stopped third > deferrevisetimer 5
+start then brought /w/Cargo.toml then builds second then loading then file /x/b.rs a then macros third then loaded
+start then brought /w/Cargo.toml then builds second then loading then macros third > revise
+start then brought /w/Cargo.toml then builds second then loading then file /x/b.rs a then macros second > log
+start then brought /w/Cargo.toml then builds second then loading then file /w/rust-analyzer.toml checkOnSave = false then at first > checked, diagnosed
+start then brought /w/Cargo.toml then builds second then loading then file /w/rust-analyzer.toml checkOnSave = false then macros third then at first > unchecked, diagnosed"#;
+
 #[test]
 fn crate_data_goes_into_the_world(rt: HostRuntime) -> Result<(), Fail> {
     agree(rt.alloc(), GRAPHS)?;
     agree(rt.alloc(), LOADS)?;
+    agree(rt.alloc(), LOADING)?;
     agree(rt.alloc(), INCOMPLETE)?;
     agree(rt.alloc(), FORCED)
 }

@@ -33,8 +33,20 @@ open then timer 1 then read /w/a.rs a
 tell workspace/didChangeConfiguration {} then answer [{"cargo":{"autoreload":false}}] then open then timer 3 > Content-Length: 176\r\n\r\n{"jsonrpc":"2.0","method":"window/showMessage","params":{"message":"Auto-reloading is disabled and the workspace has changed, a manual workspace reload is required.","type":2}}
 tell workspace/didChangeConfiguration {} then answer [{"cargo":{"autoreload":false}}] then open then timer 3 then file /w/b.rs a > deferrevise"#;
 
+// Whether files have changed since they were last processed is answered while files are loading too; where none are loading, nothing is left to be processed behind
+// a turn.
+const PROCESSED: &str = r#"process
+open then process
+file /w/b.rs a then process
+loading then process
+loading then file /w/b.rs a then process > changed defer
+loading then file /w/b.rs a then process then process
+loading then file /w/b.rs a then file /w/b.rs then process
+loading then file /w/b.rs a then loaded then process"#;
+
 #[test]
 fn changed_files_ask_for_fetches(rt: HostRuntime) -> Result<(), Fail> {
     agree(rt.alloc(), CHANGES)?;
-    agree(rt.alloc(), TIMERS)
+    agree(rt.alloc(), TIMERS)?;
+    agree(rt.alloc(), PROCESSED)
 }

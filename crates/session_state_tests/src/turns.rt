@@ -56,17 +56,33 @@ fn call(alloc: Global, state: &mut GlobalState, call: &str) -> Option<String> {
     String::from_str(alloc, text.as_str().trim_ascii()).ok()
 }
 
+/// Whether files have changed, and what is ordered where they are processed.
+fn processed(alloc: Global, state: &mut GlobalState) -> Option<String> {
+    let mut out = TurnOut::new(alloc);
+    let (some, done) = match state.process_changes(&mut out) {
+        Ok(some) => (some, Ok(())),
+        Err(error) => (false, Err(error)),
+    };
+    let text = words(alloc, &mut out, done);
+    drop(out);
+    if some {
+        return ["changed ", text?.as_str()].concat(alloc).ok();
+    }
+    text
+}
+
 impl Told for GlobalState {
-    /// The words `settings`, `at first`, `at second`, `root`, `shown`, `graph`, `cause` and `start` are no events: they ask for the
-    /// settings, for those of the first and of the second root, for the root of a file, for the workspaces and the crate graph that are
-    /// shown, for the fetch that waits in the queue, and for turn 0. Nor are `text` with a path, which asks for its text, and `call` with the
-    /// name of a call.
+    /// The words `settings`, `at first`, `at second`, `root`, `shown`, `graph`, `cause`, `process` and `start` are no events: they ask for
+    /// the settings, for those of the first and of the second root, for the root of a file, for the workspaces and the crate graph that are
+    /// shown, for the fetch that waits in the queue, for the processing of files, and for turn 0. Nor are `text` with a path, which asks for
+    /// its text, and `call` with the name of a call.
     fn told(&mut self, alloc: Global, event: &str) -> Option<String> {
         match event {
             "settings" | "at first" | "at second" | "root" | "shown" | "graph" => {
                 present(alloc, self, event)
             }
             "cause" => cause(alloc, self),
+            "process" => processed(alloc, self),
             "start" => start(alloc, self),
             _ => match cut(event, " ") {
                 ("text", _) => present(alloc, self, event),

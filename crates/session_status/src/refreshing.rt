@@ -3,7 +3,7 @@ ghost use Rattle.std.specs.Prelude.{◌≡◌};
 ghost use Rattle.notify.specs.Writing.{HoldsPlain};
 ghost use Rattle.session_port.specs.Meets.{Meets};
 ghost use Rattle.session_model.specs.Asking.{is_refresh_due};
-ghost use Rattle.session_model.specs.Machine.{asked_if, has_new_world, quiet_done, refreshed};
+ghost use Rattle.session_model.specs.Machine.{asked_if, quiet_done, refreshed};
 ghost use Rattle.session_model.specs.Status.{is_quiescent};
 
 use notify::Outgo;
@@ -44,14 +44,14 @@ fn ask_refreshes(store: &mut Store, out: &mut TurnOut) -> Result<(), TurnError>
     ask_if(store, diagnostics, Outgo::DiagnosticRefresh, out)
 }
 
-// Whether the session has come to be quiescent, or is and its world is another than before the event.
+// Whether the session has come to be quiescent, or is and files were processed behind the event.
 fn is_refresh_due(store: &Store, facts: Facts) -> bool
-    ensures { result ≡ is_refresh_due facts.quiescent (is_quiescent store.now.files store.now.workspaces) (has_new_world facts store.now) }
+    ensures { result ≡ is_refresh_due facts.quiescent (is_quiescent store.now.files store.now.workspaces) facts.processed }
 {
-    store.is_quiescent() && (!facts.quiescent || store.files.revision() != facts.revision)
+    store.is_quiescent() && (!facts.quiescent || facts.processed)
 }
 
-/// In a session that has come to be quiescent, and in one that is and whose world has changed.
+/// In a session that has come to be quiescent, and in one that is and whose files were processed behind the event.
 #[tactic(auto, unfolding(session_model::specs::Machine::quiet_done))]
 pub fn refresh(store: &mut Store, facts: Facts, out: &mut TurnOut) -> Result<(), TurnError>
     ensures { Meets result (quiet_done facts (record { state = store.old; out = out.old })) store.new out.new }

@@ -11,7 +11,7 @@ use Rattle.session_port.specs.Written.{Written}
 use Rattle.session_port.specs.declared.fault.Counter.{Counter}
 use Rattle.session_port.specs.declared.fault.TurnError.{TurnError}
 use Rattle.session_model.specs.SessionFiles.{SessionFiles}
-use Rattle.session_model.specs.FilesSteps.{changed, opened, processed}
+use Rattle.session_model.specs.FilesSteps.{changed, opened}
 use Rattle.session_model.specs.Machine.{at_files, files_in, with_files}
 use Rattle.session_model.specs.State.{State}
 
@@ -35,7 +35,7 @@ pub changed_as : {T : Type 0} (result : Result T TurnError) (columns asked : Pos
 changed_as result columns asked path version told changes w files out same is h =
     subst (λ (c : PositionEncoding). Meets result (changed c path told changes w) files out) same (subst (λ (v : ℤ). Meets result (changed columns path v changes w) files out) is h)
 
--- files that are processed by these roots
-pub processed_as : {T : Type 0} (result : Result T TurnError) (roots asked : List Root) (w : Working SessionFiles) (files : SessionFiles) (out : Written)
-    → roots ≡ asked → Meets result (processed roots w) files out → Meets result (processed asked w) files out
-processed_as result roots asked w files out same h = subst (λ (xs : List Root). Meets result (processed xs w) files out) same h
+-- a step by these roots
+pub roots_as : {T : Type 0} (step : List Root → Working SessionFiles → Result (Working SessionFiles) Counter) (result : Result T TurnError) (roots asked : List Root) (w : Working SessionFiles)
+    (files : SessionFiles) (out : Written) → roots ≡ asked → Meets result (step roots w) files out → Meets result (step asked w) files out
+roots_as step result roots asked w files out same h = subst (λ (xs : List Root). Meets result (step xs w) files out) same h

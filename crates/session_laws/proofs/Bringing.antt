@@ -1,0 +1,343 @@
+-- What macros bring, of which roots settings files are, and when what is shown is asked for anew.
+use Rattle.std.proofs.Common.{◌≡◌, ℕ, ◌+◌, List, [], ◌∷◌, Bool, true, false, refl, sym, ap, ◌∙◌, subst, arith, inl, inr}
+use Rattle.std.specs.Prelude.{◌⊎◌, ◌&&◌, ◌||◌, not, Option, None, Some, is_some, option_and_then, option_map, Result, Ok, IfOk, if◌then◌else◌}
+use Rattle.std.specs.List.{cons_option}
+use Rattle.std.specs.FinMap as map
+use Rattle.std.proofs.lemmas.Result.{IfOk-at_ok}
+use Rattle.docs_vfs.specs.Roots.{is_local_at, root_of}
+use Rattle.docs_vfs.specs.declared.source_roots.Root.{Root}
+use Rattle.layered_settings.specs.declared.change.SettingsFile.{SettingsFile as RootFile}
+use Rattle.project_model.specs.declared.crates.CrateData.{CrateData}
+use Rattle.project_model.specs.declared.workspace.ProjectWorkspace.{ProjectWorkspace}
+use Rattle.change_effects.specs.Filing.{change_of, crate_file, crate_files, file_in, is_at_workspace, text_in, workspace_file, workspace_files}
+use Rattle.change_effects.specs.declared.effects.SettingsFile.{SettingsFile}
+use Rattle.session_port.specs.Jobs.{final_of, fits_final}
+use Rattle.session_port.specs.Working.{Working, and_then}
+use Rattle.session_port.specs.declared.event.TaskMsg.{TaskMsg}
+use Rattle.session_port.specs.declared.fault.Counter.{Counter}
+use Rattle.session_port.specs.declared.job.JobKind.{JobKind}
+use Rattle.session_port.specs.declared.job.JobKind.TheVariants.{Request as RequestJob, ProcMacroSources, FetchWorkspaces, FetchBuildData, LoadProcMacros}
+use Rattle.session_port.specs.declared.job.JobResult.{JobResult}
+use Rattle.desk.specs.Building.{BuildEnd, build_ended}
+use Rattle.desk.specs.Checking.{check_ended}
+use Rattle.desk.specs.Fetching.{FetchEnd, fetch_ended}
+use Rattle.desk.specs.Loading.{LoadEnd, load_end_of, load_ended, load_told}
+use Rattle.desk.specs.Meaning.{Meaning}
+use Rattle.desk.specs.Steps.{taken as taken_at_desk}
+use Rattle.desk_laws.proofs.Results.{IfOk-and_then, IfOk-weaker, IfOk-within}
+use Rattle.session_files.specs.Current.{IsSound}
+use Rattle.session_files.specs.Folds.{after_crates, after_processing, changed_files, have_come_or_gone, has_changed}
+use Rattle.session_files.specs.SessionFiles.{SessionFiles}
+use Rattle.session_files.specs.Steps.{crates_put, processed}
+use Rattle.session_files.proofs.SoundLemmas.{crates_keep, processing_does}
+use Rattle.workspaces.specs.Loads.{loaded_crates, macros_of, macros_put, listed_for}
+use Rattle.workspaces.specs.Workspaces.{Loads, Workspaces}
+use Rattle.workspaces.specs.declared.requests.WaitingCrates.{WaitingCrates}
+use Rattle.session_model.specs.Building.{build_kept}
+use Rattle.session_model.specs.Fetching.{fetch_kept}
+use Rattle.session_model.specs.Loading.{crates_loaded, load_kept}
+use Rattle.session_model.specs.Machine.{Turning, at_desk, at_files, at_workspaces, build_taken, check_taken, files_done, knowing, crates_arrived, desk_in, ends_taken, fetch_taken, files_followed, files_in, files_part, files_processed}
+use Rattle.session_model.specs.Machine.{files_processed_if, in_state, load_taken, macros_taken, quiet_done, refreshed, settings_filed, some_processed, state_in, taken, with_client, with_desk, with_files, with_sources, with_state}
+use Rattle.session_model.specs.Asking.{is_refresh_due}
+use Rattle.session_model.specs.Sources.{change_for, client_with, further_files, is_settled, parents_told}
+use Rattle.session_model.specs.State.{Sources, State, scene_of, snapshot_of}
+use Rattle.session_model.specs.declared.facts.Facts.{Facts}
+use Rattle.session_port.specs.Written.{Written}
+use Rattle.session_port.specs.declared.command.LogCode.TheVariants.{BuildError, FetchError}
+use Rattle.session_model.specs.Status.{build_fault, fetch_fault, is_quiescent}
+use Rattle.session_laws.specs.Entering.{AreOfRoots, BringsFiles, EndsWait, FilesSettings, IsOfRoots, IsShownAnew, MayBringFiles}
+use Rattle.session_laws.specs.Invariant.{is_load}
+use Rattle.session_laws.proofs.Filing.{Processes, PutsCrates, crates-put, ok-from, processed-does}
+use Rattle.session_laws.proofs.Following.{followed-does, further-same}
+use Rattle.session_laws.proofs.Batches.{logged_if-same}
+use Rattle.session_laws.proofs.OneOut.{fit-true, true-false}
+use Rattle.session_laws.proofs.Running.{build-leaves, fetch-leaves, load-has-end}
+
+-- ---- files that are processed
+
+-- the files are those that the processing leaves
+abbrev AreProcessed : Working State → Working State → Type 0
+AreProcessed w v = after_processing w.state.sources.roots w.state.files ≡ Ok v.state.files
+
+processed-is : (w : Working State) → IfOk (files_processed w) (AreProcessed w)
+unfolding files_processed
+processed-is w =
+    let roots = w.state.sources.roots in
+    let list = changed_files w.state.files in
+    IfOk-and_then (at_files (processed roots) w) (λ v. Ok (files_followed list v)) (λ v. AreProcessed w (files_followed list v)) (AreProcessed w)
+    (IfOk-within files_in with_files (processed roots) w (λ v. AreProcessed w (files_followed list v))
+    (IfOk-weaker _ (Processes roots (record { state = w.state.files; out = w.out })) _ (processed-does roots (record { state = w.state.files; out = w.out }))
+    (λ p done.
+    let v : Working State = record { state = with_files p.state w.state; out = p.out } in
+    let ok : SessionFiles → Result SessionFiles Counter = λ files. Ok files in
+    done.is ∙ ap ok (sym (followed-does list v).files))))
+    (λ u a. a)
+
+-- ---- crate data that comes with its macros
+
+both-roots : (b : Bool) (roots old : List Root) → old ≡ roots → (if b then roots else old) ≡ roots
+both-roots true roots old is = refl
+both-roots false roots old is = is
+
+counted : (b : Bool) (before mid after : ℕ) → mid ≡ before + 1 → after ≡ (if b then mid + 1 else mid) → after ≡ before + 1 + (if b then 1 else 0)
+counted true before mid after p q = omega (arith, p, q)
+counted false before mid after p q = omega (arith, p, q)
+
+brought-files : (crates : CrateData) (s t : State) (files : SessionFiles) → after_crates s.sources.roots crates s.files ≡ Ok files → after_processing s.sources.roots files ≡ Ok t.files → BringsFiles s t
+brought-files crates s t files first second =
+    let roots = s.sources.roots in
+    let c = crates_keep roots crates s.files files first in
+    let p = processing_does roots files t.files second in
+    let same : has_changed files ≡ has_changed s.files = ap has_changed c.rest in
+    record {
+      roots = p.renewed ∙ both-roots (have_come_or_gone (changed_files files)) roots files.host.world.roots c.roots_are;
+      current = λ sound. p.current (c.sound sound);
+      taken = ap (λ (f : SessionFiles). f.table.before) p.rest;
+      revision = counted (has_changed s.files) s.files.host.revision files.host.revision t.files.host.revision c.revision
+          (p.revision ∙ ap (λ b. if b then files.host.revision + 1 else files.host.revision) same);
+    }
+
+-- what crate data that comes, or none, does to the files
+abbrev Brings : Option CrateData → State → State → Type 0
+Brings None s t = t.files ≡ s.files
+Brings (Some crates) s t = BringsFiles s t
+
+arrive-brings : (crates : Option CrateData) (w : Working State) → IfOk (and_then (crates_arrived crates w) (files_processed_if (is_some crates))) (λ v. Brings crates w.state v.state)
+unfolding crates_arrived files_processed_if
+arrive-brings None w = refl
+arrive-brings (Some crates) w =
+    let roots = w.state.sources.roots in
+    IfOk-and_then (at_files (crates_put roots crates) w) files_processed (λ v. (after_crates roots crates w.state.files ≡ Ok v.state.files) × (v.state.sources.roots ≡ roots)) (λ v. BringsFiles w.state v.state)
+    (IfOk-within files_in with_files (crates_put roots crates) w _
+    (IfOk-weaker _ (PutsCrates roots crates (record { state = w.state.files; out = w.out })) _ (crates-put roots crates (record { state = w.state.files; out = w.out })) (λ v p. (p.is, refl))))
+    (λ v (is, same). IfOk-weaker (files_processed v) (AreProcessed v) (λ u. BringsFiles w.state u.state) (processed-is v)
+    (λ u done. brought-files crates w.state u.state v.state.files is (subst (λ (rs : List Root). after_processing rs v.state.files ≡ Ok u.state.files) same done)))
+
+-- what the end of a load brings, where the workspaces were these before it
+abbrev Ending : Option LoadEnd → Workspaces → State → State → Type 0
+Ending end workspaces s t = Brings (crates_loaded end workspaces) s t
+
+load-brings : (end : Option LoadEnd) (w : Working State) → IfOk (load_taken end w) (λ v. Ending end w.state.workspaces w.state v.state)
+unfolding load_taken macros_taken
+load-brings end w =
+    let v : Working State = at_workspaces (load_kept end) w in
+    IfOk-weaker (and_then (crates_arrived (crates_loaded end w.state.workspaces) v) (files_processed_if (is_some (crates_loaded end w.state.workspaces)))) (λ u. Brings (crates_loaded end w.state.workspaces) v.state u.state) _
+    (arrive-brings (crates_loaded end w.state.workspaces) v) (λ u b. from (crates_loaded end w.state.workspaces) u.state b)
+  where
+    from : (crates : Option CrateData) (t : State) → Brings crates (at_workspaces (load_kept end) w).state t → Brings crates w.state t
+    from None t b = b
+    from (Some crates) t b = record { roots = b.roots; current = b.current; taken = b.taken; revision = b.revision }
+
+-- the files, the roots that are present and the loads are the same
+record Before (s t : State) : Type 0 where
+  files : t.files ≡ s.files
+  sources : t.sources ≡ s.sources
+  loads : t.workspaces.loads ≡ s.workspaces.loads
+
+before-on : (s t u : State) → Before s t → Before t u → Before s u
+before-on s t u p q = record { files = q.files ∙ p.files; sources = q.sources ∙ p.sources; loads = q.loads ∙ p.loads }
+
+fetch-before : (end : Option FetchEnd) (w : Working State) → Before w.state (fetch_taken end w).state
+unfolding fetch_taken
+fetch-before None w = record { files = refl; sources = refl; loads = refl }
+fetch-before (Some found) w =
+    let v : Working State = at_workspaces (fetch_kept (Some found)) w in
+    let same = logged_if-same FetchError (fetch_fault v.state.client.settings v.state.workspaces) v in
+    record {
+      files = ap (λ (s : State). s.files) same;
+      sources = ap (λ (s : State). s.sources) same;
+      loads = ap (λ (s : State). s.workspaces.loads) same ∙ (fetch-leaves (Some found) w.state.workspaces).1;
+    }
+
+build-before : (end : Option BuildEnd) (w : Working State) → Before w.state (build_taken end w).state
+unfolding build_taken
+build-before None w = record { files = refl; sources = refl; loads = refl }
+build-before (Some made) w =
+    let v : Working State = at_workspaces (build_kept (Some made)) w in
+    let same = logged_if-same BuildError (build_fault v.state.workspaces) v in
+    record {
+      files = ap (λ (s : State). s.files) same;
+      sources = ap (λ (s : State). s.sources) same;
+      loads = ap (λ (s : State). s.workspaces.loads) same ∙ (build-leaves (Some made) w.state.workspaces).1;
+    }
+
+-- what a message does, by the crate data that it brings
+brings-before : (crates : Option CrateData) (s t u : State) → Before s t → Brings crates t u → Brings crates s u
+brings-before None s t u same b = b ∙ same.files
+brings-before (Some crates) s t u same b = record {
+  roots = b.roots ∙ ap (λ (x : Sources). x.roots) same.sources;
+  current = λ sound. b.current (subst IsSound (sym same.files) sound);
+  taken = b.taken;
+  revision = b.revision ∙ ap (λ (f : SessionFiles). f.host.revision + 1 + (if has_changed f then 1 else 0)) same.files;
+}
+
+abbrev MessageBrings : TaskMsg → State → State → Type 0
+MessageBrings message s t = Brings (crates_loaded (load_ended message s.desk.jobs) s.workspaces) s t
+
+-- by the loads alone
+loads-alone : (end : Option LoadEnd) (s t : Workspaces) → t.loads ≡ s.loads → crates_loaded end t ≡ crates_loaded end s
+loads-alone None s t same = refl
+loads-alone (Some told) s t same = ap (λ (l : Loads). if l.queue.in_progress then loaded_crates told l else None) same
+
+ends-bring : (fetched : Option FetchEnd) (built : Option BuildEnd) (checked : Option (List (List ℕ))) (loaded : Option LoadEnd) (w : Working State)
+    → IfOk (ends_taken fetched built checked loaded w) (λ v. Brings (crates_loaded loaded w.state.workspaces) w.state v.state)
+unfolding ends_taken
+ends-bring fetched built checked loaded w =
+    let f : Working State = fetch_taken fetched w in
+    let b : Working State = build_taken built f in
+    let c : Working State = check_taken checked b in
+    let before : Before w.state c.state = before-on w.state b.state c.state (before-on w.state f.state b.state (fetch-before fetched w) (build-before built f)) (record { files = refl; sources = refl; loads = refl }) in
+    IfOk-weaker (load_taken loaded c) (λ v. Ending loaded c.state.workspaces c.state v.state) _ (load-brings loaded c)
+    (λ u e. brings-before (crates_loaded loaded w.state.workspaces) w.state c.state u.state before
+    (subst (λ (crates : Option CrateData). Brings crates c.state u.state) (loads-alone loaded w.state.workspaces c.state.workspaces before.loads) e))
+
+message-brings : (meaning : Meaning) (message : TaskMsg) (w : Working State) → IfOk (taken meaning message w) (λ v. MessageBrings message w.state v.state)
+unfolding taken
+message-brings meaning message w =
+    let jobs = w.state.desk.jobs in
+    let loaded = load_ended message jobs in
+    IfOk-and_then (at_desk (taken_at_desk meaning (scene_of w.state) message) w) (ends_taken (fetch_ended message jobs) (build_ended message jobs) (check_ended message jobs) loaded)
+    (λ v. Before w.state v.state × (v.state.workspaces ≡ w.state.workspaces)) (λ v. MessageBrings message w.state v.state)
+    (IfOk-within desk_in with_desk (taken_at_desk meaning (scene_of w.state) message) w _
+    (ok-from (taken_at_desk meaning (scene_of w.state) message (record { state = w.state.desk; out = w.out })) _ (λ v is. (record { files = refl; sources = refl; loads = refl }, refl))))
+    (λ v (before, same). IfOk-weaker (ends_taken (fetch_ended message jobs) (build_ended message jobs) (check_ended message jobs) loaded v) (λ u. Brings (crates_loaded loaded v.state.workspaces) v.state u.state) _
+    (ends-bring (fetch_ended message jobs) (build_ended message jobs) (check_ended message jobs) loaded v)
+    (λ u b. brings-before (crates_loaded loaded w.state.workspaces) w.state v.state u.state before
+    (subst (λ (ws : Workspaces). Brings (crates_loaded loaded ws) v.state u.state) same b)))
+
+may-bring : (crates : Option CrateData) (s t : State) → Brings crates s t → MayBringFiles s t
+may-bring None s t b = inl b
+may-bring (Some crates) s t b = inr b
+
+pub message-may-bring : (meaning : Meaning) (message : TaskMsg) (w v : Working State) → taken meaning message w ≡ Ok v → MayBringFiles w.state v.state
+message-may-bring meaning message w v is =
+    may-bring (crates_loaded (load_ended message w.state.desk.jobs) w.state.workspaces) w.state v.state
+    (IfOk-at_ok (λ (v : Working State). MessageBrings message w.state v.state) is (message-brings meaning message w))
+
+-- a final message of a load says how it ended
+final-told : (kind : JobKind) (final : Option JobResult) → is_load kind ≡ true → fits_final kind final ≡ true → (told : LoadEnd) × (option_and_then (load_end_of kind) final ≡ Some told)
+final-told kind None loads fit = true-false (sym fit)
+final-told (RequestJob ticket row params) (Some result) loads fit = true-false (sym loads)
+final-told (ProcMacroSources files) (Some result) loads fit = true-false (sym loads)
+final-told (FetchWorkspaces projects detached path force) (Some result) loads fit = true-false (sym loads)
+final-told (FetchBuildData version) (Some result) loads fit = true-false (sym loads)
+final-told (LoadProcMacros paths ignored) (Some result) loads fit = load-has-end result fit
+
+-- and crate data that waits comes with it
+waiting-comes : (b : Bool) (o : Option WaitingCrates) (f : WaitingCrates → CrateData) → b ≡ true → is_some o ≡ true → (crates : CrateData) × ((if b then option_map f o else None) ≡ Some crates)
+waiting-comes b None f busy some = true-false (sym some)
+waiting-comes b (Some crates) f busy some = (f crates, ap (λ c. if c then Some (f crates) else None) busy)
+
+pub ended-brings : (meaning : Meaning) (message : TaskMsg) (w v : Working State) → taken meaning message w ≡ Ok v → EndsWait message w.state → BringsFiles w.state v.state
+ended-brings meaning message w v is ends =
+    let fit = fit-true message.body (map.get w.state.desk.jobs message.job) ends.job ends.fits in
+    let told = final-told ends.job.kind (final_of message.body) ends.loads fit in
+    let loads : Loads = w.state.workspaces.loads in
+    let comes = waiting-comes loads.queue.in_progress loads.waiting (macros_put (macros_of told.0 (listed_for loads.waiting))) ends.in_progress ends.waits in
+    let ended : load_ended message w.state.desk.jobs ≡ Some told.0 = ap (load_told message) ends.fits ∙ told.1 in
+    let crates : crates_loaded (load_ended message w.state.desk.jobs) w.state.workspaces ≡ Some comes.0 = ap (λ (o : Option LoadEnd). crates_loaded o w.state.workspaces) ended ∙ comes.1 in
+    subst (λ (o : Option CrateData). Brings o w.state v.state) crates (IfOk-at_ok (λ (v : Working State). MessageBrings message w.state v.state) is (message-brings meaning message w))
+
+-- ---- of which roots settings files are
+
+abbrev OfRoot : List Root → RootFile → Type 0
+OfRoot roots file = (file.root ≡ root_of roots file.path) × (is_local_at roots file.root ≡ true)
+
+some-same : (x y : RootFile) → Some x ≡ Some y → x ≡ y
+some-same x y e = cc
+
+none-some : {P : Type 0} (x : RootFile) → None ≡ Some x → P
+none-some x e = absurd cc
+
+by-local : (roots : List Root) (made found : RootFile) (b : Bool) → is_local_at roots made.root ≡ b → made.root ≡ root_of roots made.path → (if b then Some made else None) ≡ Some found → OfRoot roots found
+by-local roots made found true local root is = subst (OfRoot roots) (some-same made found is) (root, local)
+by-local roots made found false local root is = none-some found is
+
+in-root : (roots : List Root) (file : SettingsFile) (found : RootFile) → file_in roots file ≡ Some found → OfRoot roots found
+in-root roots file found is =
+    by-local roots (record { root = root_of roots file.path; path = file.path; text = text_in file.contents }) found (is_local_at roots (root_of roots file.path)) refl refl is
+
+at-workspace : (b : Bool) (roots : List Root) (file : SettingsFile) (found : RootFile) → (if b then file_in roots file else None) ≡ Some found → OfRoot roots found
+at-workspace true roots file found is = in-root roots file found is
+at-workspace false roots file found is = none-some found is
+
+at-crate : (b : Bool) (roots : List Root) (file : SettingsFile) (found : RootFile) → (if b then None else file_in roots file) ≡ Some found → OfRoot roots found
+at-crate true roots file found is = none-some found is
+at-crate false roots file found is = in-root roots file found is
+
+cons-roots : (roots : List Root) (o : Option RootFile) (rest : List RootFile) → ((found : RootFile) → o ≡ Some found → OfRoot roots found) → AreOfRoots roots rest → AreOfRoots roots (cons_option o rest)
+cons-roots roots None rest each others = others
+cons-roots roots (Some found) rest each others = (each found refl, others)
+
+workspace-roots : (roots : List Root) (workspaces : List ProjectWorkspace) (files : List SettingsFile) → AreOfRoots roots (workspace_files roots workspaces files)
+workspace-roots roots workspaces [] = tt
+workspace-roots roots workspaces (file ∷ files) =
+    cons-roots roots (workspace_file roots workspaces file) (workspace_files roots workspaces files) (at-workspace (is_at_workspace workspaces file.path) roots file) (workspace-roots roots workspaces files)
+
+crate-roots : (roots : List Root) (workspaces : List ProjectWorkspace) (files : List SettingsFile) → AreOfRoots roots (crate_files roots workspaces files)
+crate-roots roots workspaces [] = tt
+crate-roots roots workspaces (file ∷ files) =
+    cons-roots roots (crate_file roots workspaces file) (crate_files roots workspaces files) (at-crate (is_at_workspace workspaces file.path) roots file) (crate-roots roots workspaces files)
+
+change-roots : (b : Bool) (roots : List Root) (parents : Option (List (ℕ × ℕ))) (workspaces : List ProjectWorkspace) (files : List SettingsFile)
+    → IsOfRoots roots (if b then None else Some (change_of roots parents workspaces files))
+change-roots true roots parents workspaces files = tt
+change-roots false roots parents workspaces files = (workspace-roots roots workspaces files, crate-roots roots workspaces files)
+
+pub filed-by-roots : (files : List SettingsFile) (w : Working State) → FilesSettings (snapshot_of w.state) w.state (settings_filed files w).state
+unfolding settings_filed
+filed-by-roots files w =
+    let roots = w.state.files.host.world.roots in
+    let change = change_for files roots w.state.sources w.state.workspaces.present in
+    let put : Working State = record w { state = with_sources (parents_told w.state.sources) (with_client (client_with change w.state.client) w.state) } in
+    record {
+      change = change;
+      client = ap (λ (s : State). s.client) (further-same (further_files change) put);
+      roots = change-roots (is_settled files w.state.sources) roots w.state.sources.parents w.state.workspaces.present files;
+    }
+
+-- ---- what is shown
+
+pub part-knows : (t : Working Turning) → IfOk (files_part t) (λ v. v.state.facts ≡ record t.state.facts { processed = not t.state.state.files.loading && has_changed t.state.state.files })
+unfolding files_part
+part-knows t =
+    IfOk-and_then (in_state files_done t) (λ v. Ok (knowing (some_processed t.state.state.files) v)) (λ v. v.state.facts ≡ t.state.facts) _
+    (IfOk-within state_in with_state files_done t _ (ok-from (files_done (record { state = t.state.state; out = t.out })) _ (λ v is. refl)))
+    (λ v same. ap (λ (f : Facts). record f { processed = some_processed t.state.state.files }) same)
+
+quiet-by : (due was now done : Bool) → is_refresh_due was now done ≡ due → ((now ≡ true) × ((was ≡ false) ⊎ (done ≡ true)) → ⊥) → due ≡ false
+quiet-by true was true true is none = absurd (none (refl, inr refl))
+quiet-by true false true false is none = absurd (none (refl, inl refl))
+quiet-by true true true false is none = sym is
+quiet-by true was false done is none = sym is
+quiet-by false was now done is none = refl
+
+due-by : (was now done : Bool) → now ≡ true → (was ≡ false) ⊎ (done ≡ true) → is_refresh_due was now done ≡ true
+due-by was now done quiet (inl new) = λ i. quiet i && (not (new i) || done)
+due-by was now done quiet (inr some) = (λ i. quiet i && (not was || some i)) ∙ or-true was
+  where
+    or-true : (b : Bool) → (not b || true) ≡ true
+    or-true true = refl
+    or-true false = refl
+
+-- what is asked for where this flag is set
+abbrev if_due : Bool → Working State → Result (Working State) Counter
+if_due due w = if due then refreshed w.state.client.settings.capabilities w else Ok w
+
+quiet-is : (facts : Facts) (w : Working State) (due : Bool) → is_refresh_due facts.quiescent (is_quiescent w.state.files w.state.workspaces) facts.processed ≡ due → quiet_done facts w ≡ if_due due w
+unfolding quiet_done
+quiet-is facts w due is = ap (λ b. if_due b w) is
+
+session_in : Working Turning → Working State
+session_in t = record { state = t.state.state; out = t.out }
+
+pub shown-anew : (t : Turning) (out : Written) → IsShownAnew t → quiet_done t.facts (record { state = t.state; out = out }) ≡ refreshed t.state.client.settings.capabilities (record { state = t.state; out = out })
+shown-anew t out anew =
+    quiet-is t.facts (record { state = t.state; out = out }) true (due-by t.facts.quiescent (is_quiescent t.state.files t.state.workspaces) t.facts.processed anew.quiescent anew.since)
+
+pub not-shown : (t : Turning) (out : Written) → (IsShownAnew t → ⊥) → quiet_done t.facts (record { state = t.state; out = out }) ≡ Ok (record { state = t.state; out = out })
+not-shown t out none =
+    let now = is_quiescent t.state.files t.state.workspaces in
+    let due = is_refresh_due t.facts.quiescent now t.facts.processed in
+    let not_due : due ≡ false = quiet-by due t.facts.quiescent now t.facts.processed refl (λ h. none (record { quiescent = h.0; since = h.1 })) in
+    quiet-is t.facts (record { state = t.state; out = out }) false not_due
