@@ -56,6 +56,10 @@ fn call(alloc: Global, state: &mut GlobalState, call: &str) -> Option<String> {
     String::from_str(alloc, text.as_str().trim_ascii()).ok()
 }
 
+fn changed_of(some: bool) -> &'static str {
+    if some { "changed " } else { "" }
+}
+
 /// Whether files have changed, and what is ordered where they are processed.
 fn processed(alloc: Global, state: &mut GlobalState) -> Option<String> {
     let mut out = TurnOut::new(alloc);
@@ -65,10 +69,8 @@ fn processed(alloc: Global, state: &mut GlobalState) -> Option<String> {
     };
     let text = words(alloc, &mut out, done);
     drop(out);
-    if some {
-        return ["changed ", text?.as_str()].concat(alloc).ok();
-    }
-    text
+    let text = [changed_of(some), text?.as_str()].concat(alloc).ok()?;
+    String::from_str(alloc, text.as_str()).ok()
 }
 
 impl Told for GlobalState {
