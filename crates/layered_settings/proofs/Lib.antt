@@ -1,3 +1,4 @@
 pub mod SearchLaws
 pub mod PathEnds
 pub mod Unnamed
+pub mod ParentPairs

@@ -1,5 +1,6 @@
 -- A change of settings.
-use Rattle.std.specs.Prelude.{◌≡◌, ℕ, List, [], ◌∷◌, ◌++◌, Option, Some, None, is_some, if◌then◌else◌, codes}
+use Rattle.std.specs.Prelude.{◌≡◌, ℕ, ◌==◌, ◌&&◌, Bool, List, [], ◌∷◌, ◌++◌, Option, Some, None, is_some, if◌then◌else◌, codes}
+use Rattle.std.specs.Cmp.Lexicographic.{pointwise}
 use Rattle.std.specs.FinMap as finmap
 use Rattle.std.specs.Ordering.{nat_cmp}
 use Rattle.serde_json.specs.Data.{Data, object, no_members}
@@ -76,6 +77,14 @@ put_parents made (pair ∷ pairs) = put_parents (put_first made pair) pairs
 -- the parents by root
 abbrev pub parents_of : List (ℕ × ℕ) → Parents
 parents_of pairs = put_parents finmap.empty pairs
+
+-- both lists have the same pairs, in order
+abbrev pub same_pairs : List (ℕ × ℕ) → List (ℕ × ℕ) → Bool
+same_pairs = pointwise (λ p q. p.0 == q.0 && p.1 == q.1)
+
+-- the parents are just those of these pairs: each root with its parent is in both, and none besides
+unfoldable pub has_parents : Parents → List (ℕ × ℕ) → Bool
+has_parents parents pairs = same_pairs (finmap.entries parents) (finmap.entries (parents_of pairs))
 
 abbrev pub parents_after : Option (List (ℕ × ℕ)) → Parents → Parents
 parents_after None old = old

@@ -4,7 +4,7 @@ ghost use Rattle.std.specs.FinMap as map;
 ghost use Rattle.ra_settings.specs.Layers.{nothing_set};
 ghost use Rattle.ra_settings.specs.declared.layer.Source.{Source};
 ghost use Rattle.layered_settings.specs.Order.{by_path};
-ghost use Rattle.layered_settings.specs.Change.{after, over, passed_over, errors_after, put_first, parents_of, parents_after, HasChanged, text_layer, text_errors, not_toml, files_after, files_errors, tree_in, client_after, client_errors, user_after, user_errors, held, put_files, tell_files};
+ghost use Rattle.layered_settings.specs.Change.{after, over, passed_over, errors_after, put_first, parents_of, parents_after, has_parents, HasChanged, text_layer, text_errors, not_toml, files_after, files_errors, tree_in, client_after, client_errors, user_after, user_errors, held, put_files, tell_files};
 
 use crate::settings::{Files, Parents, Settings, SettingsParts};
 use docs_vfs::VfsPath;
@@ -396,6 +396,16 @@ pub struct ChangedSettings {
 }
 
 impl Settings {
+    /// Whether the parents are just those of these pairs, of which the first of a root holds.
+    #[tactic(auto, using(crate::proofs::ParentPairs::has_parents_if_equal), unfolding(crate::specs::Change::has_parents))]
+    pub fn has_parents(&self, alloc: Global, pairs: &[(u32, u32)]) -> Result<bool, AllocError>
+        ensures has { IfOk result (λ has. has ≡ has_parents self.now.parents pairs.now) }
+        ensures truth { IfOk result (λ has. IsTrue has ↔ (self.now.parents ≡ parents_of pairs.now)) }
+    {
+        let parents = parents_of(alloc, pairs)?;
+        Ok(self.parents().is_same(&parents))
+    }
+
     /// Reads what a change brings.
     fn read_change(
         &self,

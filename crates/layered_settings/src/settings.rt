@@ -1,10 +1,10 @@
 // What is set, by where it comes from, and how a value is searched.
-ghost use Rattle.std.specs.Prelude.{◌≡◌, ◌<◌, option_to_list, IfSome, IfOk};
+ghost use Rattle.std.specs.Prelude.{◌≡◌, ◌<◌, bytes_eq, option_to_list, IfSome, IfOk};
 ghost use Rattle.std.specs.Option.{option_copied};
 ghost use Rattle.std.specs.FinMap as map;
 ghost use Rattle.ra_settings.specs.Facts.{facts_of};
 ghost use Rattle.ra_settings.specs.Values.{kind_of};
-ghost use Rattle.layered_settings.specs.Change.{no_settings};
+ghost use Rattle.layered_settings.specs.Change.{no_settings, same_pairs};
 ghost use Rattle.layered_settings.specs.Search.{parent_of, layers_at, layers_of, roots_from, path, first_in, setting};
 
 use crate::shared_layer::SharedLayer;
@@ -108,6 +108,38 @@ impl Clone for Files {
     }
 }
 
+// Whether both have the same roots.
+fn have_same_roots(one: &ByNumber<u32>, other: &ByNumber<u32>) -> bool
+    ensures { result ≡ bytes_eq (map.keys one.now) (map.keys other.now) }
+{
+    let mut others = other.keys();
+    for root in one.keys() {
+        let Some(other_root) = others.next() else {
+            return false;
+        };
+        if *root != *other_root {
+            return false;
+        }
+    }
+    others.next().is_none()
+}
+
+// Whether both have the same parents, in the order of their roots.
+fn have_same_parents(one: &ByNumber<u32>, other: &ByNumber<u32>) -> bool
+    ensures { result ≡ bytes_eq (map.values one.now) (map.values other.now) }
+{
+    let mut others = other.values();
+    for parent in one.values() {
+        let Some(other_parent) = others.next() else {
+            return false;
+        };
+        if *parent != *other_parent {
+            return false;
+        }
+    }
+    others.next().is_none()
+}
+
 /// The parent of each root that has one. A clone shares them.
 pub(crate) struct Parents {
     parents: Arc<ByNumber<u32>, Global>,
@@ -154,6 +186,15 @@ impl Parents {
             Some(parent) => Some(*parent),
             None => None,
         }
+    }
+
+    /// Whether these are the same: each root with its parent is in both.
+    #[tactic(auto, using(crate::proofs::ParentPairs::pairs_are_same_by_parts))]
+    pub(crate) fn is_same(&self, other: &ByNumber<u32>) -> bool
+        ensures { result ≡ same_pairs (map.entries self.now) (map.entries other.now) }
+    {
+        let parents: &ByNumber<u32> = &self.parents;
+        have_same_roots(parents, other) && have_same_parents(parents, other)
     }
 }
 

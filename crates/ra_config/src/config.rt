@@ -1,6 +1,6 @@
 ghost use Rattle.std.specs.Prelude.{◌≡◌, ◌↔◌, ◌++◌, None, IsTrue, IfOk, OnOk, OnErr};
 ghost use Rattle.ra_config.specs.Projects.{with_discovered, without};
-ghost use Rattle.layered_settings.specs.Change.{after, errors_after, passed_over, HasChanged};
+ghost use Rattle.layered_settings.specs.Change.{after, errors_after, has_parents, passed_over, HasChanged};
 ghost use Rattle.ra_config.specs.Config.{config_at, projects_of, roots_used, HaveSameSources};
 ghost use Rattle.layered_settings.specs.Search.{setting};
 
@@ -179,6 +179,14 @@ impl Config {
             changed: changed.changed,
             passed_over: changed.passed_over,
         })
+    }
+
+    /// Whether the parents of the roots are just those of these pairs, of which the first of a root
+    /// holds.
+    pub fn has_parents(&self, alloc: Global, pairs: &[(u32, u32)]) -> Result<bool, AllocError>
+        ensures { IfOk result (λ has. has ≡ has_parents self.now.settings.parents pairs.now) }
+    {
+        self.settings.has_parents(alloc, pairs)
     }
 
     /// Adds roots of workspaces after those that are there.
