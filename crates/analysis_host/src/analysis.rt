@@ -1,21 +1,24 @@
 // What answers a question on a snapshot.
-ghost use Rattle.std.specs.Prelude.{◌≡◌, ◌≤◌, Bool, None, IfOk, OnOk};
-ghost use Rattle.serde_json.specs.Data.{Data};
+ghost use Rattle.std.specs.Prelude.{◌≡◌, ◌≤◌, Bool, true, None, IfOk, OnOk};
+ghost use Rattle.plain.specs.Plain.{is_plain};
+ghost use Rattle.serde_json.specs.Data.{Data, object};
 ghost use Rattle.analysis_host.specs.Answers.{Finding, Answers, IsOutcomeOf};
 ghost use Rattle.analysis_host.specs.Polls.{HasPolled};
 ghost use Rattle.analysis_host.specs.SnapshotData.{SnapshotData};
 ghost use Rattle.analysis_host.specs.declared.ask.Ask.{Ask};
+ghost use Rattle.analysis_host.specs.declared.server_info.ServerInfo.{ServerInfo};
 ghost use Rattle.method_table.specs.declared.row_id.RowId.{RowId};
 
 use crate::ask::{Ask, Outcome};
 use crate::cancel::Cancel;
+use crate::server_info::ServerInfo;
 use crate::snapshot::GlobalStateSnapshot;
 use method_table::RowId;
 use plain::Json;
-use std::alloc::AllocError;
+use std::alloc::{AllocError, Global};
 
-/// An analysis. What it reads and answers depends on its type alone: on the snapshot and the question, and never
-/// on the value or on how a snapshot is kept.
+/// An analysis. What it reads, answers and says of itself depends on its type alone: on the snapshot and the
+/// question, and never on the value or on how a snapshot is kept.
 pub trait Analysis: Drop {
     /// Whether a row's params can be read.
     ghost decodes: { RowId → Data → Bool };
@@ -23,9 +26,18 @@ pub trait Analysis: Drop {
     /// What a question on a snapshot comes to.
     ghost answer: { SnapshotData → Ask → Finding };
 
+    /// What the server says of itself.
+    ghost server_info: { ServerInfo };
+
     /// Whether a row's params can be read.
     fn decodes(&self, row: RowId, params: &Json) -> bool
         ensures { result ≡ decodes row params.now };
+
+    /// What the server says of itself, whichever value is asked.
+    fn server_info(alloc: Global) -> Result<ServerInfo, AllocError>
+        ensures value { IfOk result (λ info. info ≡ server_info) }
+        // An answer can hold what it can do.
+        ensures plain { IfOk result (λ info. is_plain (object info.capabilities) ≡ true) };
 
     /// What the question comes to, unless a poll says that it is out of date.
     fn query<C: Cancel>(

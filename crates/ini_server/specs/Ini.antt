@@ -2,12 +2,13 @@
 use Rattle.std.specs.Prelude.{ℕ, ◌-◌, ◌==◌, ◌||◌, ◌&&◌, Bool, false, true, not, nat_le, nat_lt, is_some, List, [], ◌∷◌, codes, length, take, drop, if◌then◌else◌, Option, Some, None, Result, Ok, Err}
 use Rattle.std.specs.Char.{is_ascii_whitespace}
 use Rattle.std.specs.List.{after_first, before_first, position_or_len, prefix_len, suffix_len}
-use Rattle.serde_json.specs.Data.{Data, null, string, object, member, no_members}
+use Rattle.serde_json.specs.Data.{Data, null, boolean, string, object, put, member, no_members}
 use Rattle.analysis_host.specs.Answers.{Finding, answer}
 use Rattle.analysis_host.specs.SnapshotData.{SnapshotData, encoding_of}
 use Rattle.analysis_host.specs.declared.ask.Ask.{Ask}
 use Rattle.analysis_host.specs.declared.ask.Ask.TheVariants.{Request, CratesOf, Prime}
 use Rattle.analysis_host.specs.declared.ask.Answer.TheVariants.{Json, Roots, Primed}
+use Rattle.analysis_host.specs.declared.server_info.ServerInfo.{ServerInfo}
 use Rattle.method_table.specs.Rows.{default_of}
 use Rattle.method_table.specs.declared.named.TheConstants.{HOVER}
 use Rattle.method_table.specs.declared.row_id.RowId.{RowId}
@@ -111,3 +112,7 @@ abbrev pub ini_answer : SnapshotData → Ask → Finding
 ini_answer snapshot (Request row params) = ini_request snapshot row params
 ini_answer snapshot (CratesOf file) = answer (Roots [])
 ini_answer snapshot Prime = answer Primed
+
+-- what a server with this analysis says of itself
+abbrev pub ini_info : ServerInfo
+ini_info = record { name = codes "ini_server"; version = codes "0.1.0"; capabilities = put (codes "hoverProvider") (boolean true) no_members }

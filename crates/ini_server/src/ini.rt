@@ -1,10 +1,12 @@
 // Hovers on `.ini` files.
 ghost use Rattle.std.specs.Prelude.{◌≡◌, None, IfOk, option_copied};
 ghost use Rattle.analysis_host.specs.Answers.{Answers, IsPlainOutcome};
-ghost use Rattle.ini_server.specs.Ini.{hover_in, ini_answer, ini_decodes, ini_request, is_key, is_on_key, value_at};
+ghost use Rattle.ini_server.specs.Ini.{hover_in, ini_answer, ini_decodes, ini_info, ini_request, is_key, is_on_key, value_at};
 ghost use Rattle.text_core.specs.Lines.{line_text};
 
-use analysis_host::{Analysis, Answer, Ask, Cancel, GlobalStateSnapshot, Outcome, RowId};
+use analysis_host::{
+    Analysis, Answer, Ask, Cancel, GlobalStateSnapshot, Outcome, RowId, ServerInfo,
+};
 use method_table::{HOVER, default_of};
 use plain::{Items, Json, NoMemory, Text};
 use requests::{malformed, nothing, position_of, refusal, text_of, uri_of};
@@ -108,8 +110,17 @@ impl Analysis for Ini {
 
     ghost answer = { ini_answer };
 
+    ghost server_info = { ini_info };
+
     fn decodes(&self, row: RowId, params: &Json) -> bool {
         row != HOVER || uri_of(params).is_some() && position_of(params).is_some()
+    }
+
+    fn server_info(alloc: Global) -> Result<ServerInfo, NoMemory> {
+        let mut info = ServerInfo::new(alloc, "ini_server", "0.1.0")?;
+        info.capabilities
+            .put(alloc, "hoverProvider", Json::from_bool(true))?;
+        Ok(info)
     }
 
     fn query<C: Cancel>(

@@ -1,22 +1,30 @@
 // An analysis that knows nothing.
-use analysis_host::{Analysis, Answer, Ask, Cancel, GlobalStateSnapshot, Outcome, RowId};
+use analysis_host::{
+    Analysis, Answer, Ask, Cancel, GlobalStateSnapshot, Outcome, RowId, ServerInfo,
+};
 use plain::{Items, Json};
 use std::alloc::{AllocError, Global};
 
-/// Reads all params, answers null to every request, and knows of no crate.
+/// Reads all params, answers null to every request, knows of no crate, and announces nothing.
 #[derive(Drop)]
 pub struct NullAnalysis(pub Global);
 
 impl Analysis for NullAnalysis {
     ghost use Rattle.std.specs.Prelude.{true};
-    ghost use Rattle.session_peers.specs.Null.{null_answer};
+    ghost use Rattle.session_peers.specs.Null.{null_answer, null_info};
 
     ghost decodes = { λ _ _. true };
 
     ghost answer = { λ _ ask. null_answer ask };
 
+    ghost server_info = { null_info };
+
     fn decodes(&self, _row: RowId, _params: &Json) -> bool {
         true
+    }
+
+    fn server_info(alloc: Global) -> Result<ServerInfo, AllocError> {
+        ServerInfo::new(alloc, "null", "1")
     }
 
     /// Polls once.

@@ -1,7 +1,7 @@
 -- What the small analysis answers.
 use Rattle.std.specs.Prelude.{◌≡◌, ℕ, ◌==◌, ◌&&◌, Bool, true, is_some, List, codes, if◌then◌else◌, Option, Some, None}
 use Rattle.plain.specs.Plain.{is_plain}
-use Rattle.serde_json.specs.Data.{Data, null, string, object, member, no_members}
+use Rattle.serde_json.specs.Data.{Data, null, boolean, string, object, put, member, no_members}
 use Rattle.analysis_host.specs.Answers.{Finding, answer}
 use Rattle.analysis_host.specs.SnapshotData.{SnapshotData, encoding_of}
 use Rattle.analysis_host.specs.declared.ask.Ask.{Ask}
@@ -9,6 +9,7 @@ use Rattle.analysis_host.specs.declared.ask.Ask.TheVariants.{Request, CratesOf, 
 use Rattle.analysis_host.specs.declared.ask.Answer.TheVariants.{Json, Primed}
 use Rattle.analysis_host.specs.declared.ask.Outcome.{Outcome}
 use Rattle.analysis_host.specs.declared.ask.Outcome.TheVariants.{Value, Fault, Cancelled}
+use Rattle.analysis_host.specs.declared.server_info.ServerInfo.{ServerInfo}
 use Rattle.method_table.specs.Rows.{class_of, default_of}
 use Rattle.method_table.specs.declared.class.Class.{Class}
 use Rattle.method_table.specs.declared.class.Class.TheVariants.{OnLoop, Formatting, Identity}
@@ -106,3 +107,7 @@ abbrev pub stopped_by : Outcome → Option ℕ
 stopped_by (Value value) = None
 stopped_by (Fault code message) = None
 stopped_by (Cancelled saw) = Some saw
+
+-- what a server with this analysis says of itself
+abbrev pub small_info : ServerInfo
+small_info = record { name = codes "ra_serve"; version = codes "1"; capabilities = put (codes "hoverProvider") (boolean true) no_members }

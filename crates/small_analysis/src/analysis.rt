@@ -2,12 +2,14 @@
 ghost use Rattle.std.specs.Prelude.{◌≡◌, None, IfOk, OnOk};
 ghost use Rattle.analysis_host.specs.Answers.{Answers, IsOutcomeOf, IsPlainOutcome};
 ghost use Rattle.analysis_host.specs.Polls.{Counts, HasPolled};
-ghost use Rattle.small_analysis.specs.Small.{class_value, is_hover, is_matching_brace, plain_answer, request_answer, row_value, small_decodes, small_answer, stopped_by};
+ghost use Rattle.small_analysis.specs.Small.{class_value, is_hover, is_matching_brace, plain_answer, request_answer, row_value, small_answer, small_decodes, small_info, stopped_by};
 
 use crate::hover::hover_of;
 use crate::matching_brace::braces_of;
 use crate::roots::crates_of;
-use analysis_host::{Analysis, Answer, Ask, Cancel, GlobalStateSnapshot, Outcome, RowId};
+use analysis_host::{
+    Analysis, Answer, Ask, Cancel, GlobalStateSnapshot, Outcome, RowId, ServerInfo,
+};
 use method_table::{Class, HOVER, MATCHING_BRACE, class_of, default_of};
 use plain::Json;
 use requests::{has_positions, malformed, position_of, uri_of};
@@ -106,6 +108,8 @@ impl Analysis for SmallAnalysis {
 
     ghost answer = { small_answer };
 
+    ghost server_info = { small_info };
+
     fn decodes(&self, row: RowId, params: &Json) -> bool {
         if is_hover(row) {
             uri_of(params).is_some() && position_of(params).is_some()
@@ -114,6 +118,13 @@ impl Analysis for SmallAnalysis {
         } else {
             true
         }
+    }
+
+    fn server_info(alloc: Global) -> Result<ServerInfo, AllocError> {
+        let mut info = ServerInfo::new(alloc, "ra_serve", "1")?;
+        info.capabilities
+            .put(alloc, "hoverProvider", Json::from_bool(true))?;
+        Ok(info)
     }
 
     /// Polls once, before its work.
