@@ -1,12 +1,14 @@
-ghost use Rattle.std.specs.Prelude.{ℕ, ◌≡◌, ◌≤◌, ◌<◌, All, false, length, Ok, IfOk};
+ghost use Rattle.std.specs.Prelude.{ℕ, ◌≡◌, ◌≤◌, ◌<◌, All, false, length, Ok, Err, IfOk, IfSome, IsNone};
 ghost use Rattle.std.specs.Prelude.{◌⊎◌, IfErr, OnOk, MatchOption, List, ◌++◌, ◌∷◌, [], ◌&&◌, true};
 ghost use Rattle.std.specs.List.{list_any, list_all};
+ghost use Rattle.std.specs.Result.{result_ok};
 ghost use Rattle.percent_encoding.specs.Percent.{percent_decode};
 ghost use Rattle.percent_encoding.specs.AsciiSet.{should_percent_encode};
 ghost use Rattle.docs_vfs.specs.declared.file_url.TheConstants.{ESCAPED};
 ghost use Rattle.docs_vfs.specs.Paths.{is_slash};
 ghost use Rattle.std.specs.Str.{is_utf8};
 ghost use Rattle.docs_vfs.specs.FileUrls.{is_escaped, is_plain, is_plain_path, max_url, url_front, url_of, path_of, path_of_parts, path_of_segments, url_segments, decoded_segments, is_text_segment, joined, begins_with_drive, fault_by, decode_fault_by, Answers, LacksText};
+ghost use Rattle.docs_vfs.specs.declared.file_url.UrlFault.{UrlFault};
 ghost use Rattle.docs_vfs.specs.declared.file_url.UrlFault.TheVariants.{NoMemory, NotFile};
 
 use crate::path::VfsPath;
@@ -188,6 +190,19 @@ pub fn path_of_url(alloc: Global, url: &str) -> Result<VfsPath, UrlFault>
     match Url::parse(alloc, url) {
         Ok(url) => path_of_url_parts(alloc, &url),
         Err(e) => Err(fault_of(e)),
+    }
+}
+
+/// The path that a text names as a `file` URL, or none, for whatever reason.
+pub fn path_named(alloc: Global, url: &str) -> Result<Option<VfsPath>, AllocError>
+    ensures value { IfOk result (λ path. path ≡ result_ok (path_of url.now)) }
+    ensures some { IfOk result (λ path. IfSome path (λ path. path_of url.now ≡ Ok path)) }
+    ensures none { IfOk result (λ path. IsNone path → (fault : UrlFault) × (path_of url.now ≡ Err fault)) }
+{
+    match path_of_url(alloc, url) {
+        Ok(path) => Ok(Some(path)),
+        Err(UrlFault::NoMemory) => Err(AllocError),
+        Err(UrlFault::NotFile | UrlFault::HasHost | UrlFault::NotText) => Ok(None),
     }
 }
 

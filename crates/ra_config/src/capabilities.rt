@@ -1,7 +1,7 @@
 // What a client can do.
 ghost use Rattle.std.specs.Prelude.{◌≡◌, map, option_map};
 ghost use Rattle.serde_json.specs.View.{view, items_view};
-ghost use Rattle.ra_config.specs.Capabilities.{client_at, is_true_at, is_text, lists_text, takes_utf_8, encoding_of, no_capabilities, capabilities_of};
+ghost use Rattle.ra_config.specs.Capabilities.{client_at, is_true_at, is_text, taken_encoding, first_taken, encoding_of, no_capabilities, capabilities_of};
 
 use crate::config::Config;
 use plain::Json;
@@ -65,34 +65,37 @@ fn is_text(value: &Value, text: &str) -> bool
     }
 }
 
-// Whether one of the items is this text.
-fn lists_text(items: &Vec<Value>, text: &str) -> bool
-    ensures { result ≡ lists_text text.now (items_view items.now.items) }
+// An encoding that the server takes where the client lists it, by its name.
+fn taken_encoding(name: &Value) -> Option<PositionEncoding>
+    ensures { result ≡ taken_encoding (view name.now) }
 {
-    for item in items {
-        if is_text(item, text) {
-            return true;
-        }
+    if is_text(name, "utf-8") {
+        Some(PositionEncoding::Utf8)
+    } else if is_text(name, "utf-32") {
+        Some(PositionEncoding::Wide(WideEncoding::Utf32))
+    } else {
+        None
     }
-    false
 }
 
-fn takes_utf_8(params: &Value) -> bool
-    ensures { result ≡ takes_utf_8 (view params.now) }
+// The first of them in a list of names.
+fn first_taken(names: &Vec<Value>) -> Option<PositionEncoding>
+    ensures { result ≡ first_taken (items_view names.now.items) }
 {
-    match client_at(params, &["general", "positionEncodings"]).and_then(Value::as_array) {
-        Some(encodings) => lists_text(encodings, "utf-8"),
-        None => false,
+    for name in names {
+        if let Some(encoding) = taken_encoding(name) {
+            return Some(encoding);
+        }
     }
+    None
 }
 
 fn encoding_of(params: &Value) -> PositionEncoding
     ensures { result ≡ encoding_of (view params.now) }
 {
-    if takes_utf_8(params) {
-        PositionEncoding::Utf8
-    } else {
-        UTF_16
+    match client_at(params, &["general", "positionEncodings"]).and_then(Value::as_array) {
+        Some(names) => first_taken(names).unwrap_or(UTF_16),
+        None => UTF_16,
     }
 }
 

@@ -2,14 +2,12 @@
 ghost use Rattle.std.specs.Prelude.{◌≡◌, ◌↔◌, ◌++◌, None, Err, IfOk, OnOk, codes, option_to_list};
 ghost use Rattle.serde_json.specs.View.{view, items_view};
 ghost use Rattle.serde_json.specs.Find.{get};
-ghost use Rattle.std.specs.Result.{result_ok};
-ghost use Rattle.docs_vfs.specs.FileUrls.{path_of};
 ghost use Rattle.ra_config.specs.declared.initialize.ConfigFault.TheVariants.{NoRoot};
 ghost use Rattle.ra_config.specs.Initialize.{path_at, folder_paths, folders_of, paths_of, roots_of, first_client, config_from, initial_config};
 
 use crate::capabilities::capabilities_of;
 use crate::config::Config;
-use docs_vfs::{UrlFault, VfsPath, path_of_url};
+use docs_vfs::{VfsPath, path_named};
 use plain::{Items, Json, Text};
 use ra_settings::{Layer, Source};
 use serde_json::Value;
@@ -21,17 +19,6 @@ use thiserror::Error;
 pub enum ConfigFault {
     #[error("neither a workspace folder nor the root names a path")]
     NoRoot,
-}
-
-// The path that a URL names, or none.
-fn path_named(alloc: Global, url: &str) -> Result<Option<VfsPath>, AllocError>
-    ensures { IfOk result (λ path. path ≡ result_ok (path_of url.now)) }
-{
-    match path_of_url(alloc, url) {
-        Ok(path) => Ok(Some(path)),
-        Err(UrlFault::NoMemory) => Err(AllocError),
-        Err(_) => Ok(None),
-    }
 }
 
 fn path_at(alloc: Global, value: &Value, name: &str) -> Result<Option<VfsPath>, AllocError>

@@ -3,7 +3,7 @@ use Rattle.std.specs.Prelude.{ℕ, negsuc, true, List, codes}
 use Rattle.serde_json.specs.Data.{Data, boolean, number, string, object, put, no_members, unsigned}
 use Rattle.text_core.specs.declared.position.PositionEncoding.{PositionEncoding}
 use Rattle.text_core.specs.declared.position.PositionEncoding.TheVariants.{Utf8, Wide}
-use Rattle.text_core.specs.declared.position.WideEncoding.TheVariants.{Utf16}
+use Rattle.text_core.specs.declared.position.WideEncoding.TheVariants.{Utf16, Utf32}
 use Rattle.lsp_frame.specs.declared.message.RequestId.{RequestId}
 use Rattle.lsp_frame.specs.declared.message.Response.{Response}
 use Rattle.dispatch.specs.Responses.{refusal, response_with}
@@ -13,6 +13,7 @@ use Rattle.ra_config.specs.Config.{ConfigData}
 abbrev pub encoding_name : PositionEncoding → List ℕ
 encoding_name Utf8 = codes "utf-8"
 encoding_name (Wide Utf16) = codes "utf-16"
+encoding_name (Wide Utf32) = codes "utf-32"
 
 -- documents are told whole when they are opened, and by their changes then: `{"change":2,"openClose":true,"save":{}}`
 abbrev pub synchronization : Data

@@ -7,7 +7,7 @@ use Rattle.std.proofs.lemmas.List.{take_all}
 use Rattle.std.proofs.lemmas.List.Sums.{sum_by-cons}
 use Rattle.text_core.specs.declared.position.PositionEncoding.{PositionEncoding}
 use Rattle.text_core.specs.declared.position.PositionEncoding.TheVariants.{Utf8, Wide}
-use Rattle.text_core.specs.declared.position.WideEncoding.TheVariants.{Utf16}
+use Rattle.text_core.specs.declared.position.WideEncoding.TheVariants.{Utf16, Utf32}
 use Rattle.text_core.specs.Columns.{units_of, StandsBehind}
 use Rattle.text_core.specs.Positions.{is_inside, units, past_units}
 use Rattle.text_core.proofs.LineLemmas.{further}
@@ -26,6 +26,7 @@ Stands e column line None =
 no_unit : (e : PositionEncoding) (b : ℕ) → units e b ≡ 0 → is_inside b ≡ true
 no_unit Utf8 b h = cc
 no_unit (Wide Utf16) b h = grind (arith, nat_tests, h)
+no_unit (Wide Utf32) b h = grind (arith, nat_tests, h)
 
 -- the first byte of a character counts
 some_unit : (e : PositionEncoding) (b : ℕ) → is_inside b ≡ false → 0 < units e b

@@ -1,3 +1,4 @@
+pub mod CharacterLemmas
 pub mod ColumnLemmas
 pub mod EditLemmas
 pub mod EndLemmas

@@ -6,7 +6,8 @@ use Rattle.std.proofs.lemmas.Bool.Decides.{nat_tests}
 use Rattle.std.proofs.lemmas.List.{at_drop_more}
 use Rattle.text_core.specs.declared.position.PositionEncoding.{PositionEncoding}
 use Rattle.text_core.specs.declared.position.PositionEncoding.TheVariants.{Utf8, Wide}
-use Rattle.text_core.specs.declared.position.WideEncoding.TheVariants.{Utf16}
+use Rattle.text_core.specs.declared.position.WideEncoding.{WideEncoding}
+use Rattle.text_core.specs.declared.position.WideEncoding.TheVariants.{Utf16, Utf32}
 use Rattle.text_core.specs.Positions.{is_inside, units, past_units}
 use Rattle.text_core.specs.Runs.{IsAsciiRun}
 
@@ -82,39 +83,40 @@ further-both : (i j : ℕ) (o : Option ℕ) → further i (further j o) ≡ furt
 further-both i j None = refl
 further-both i j (Some n) = ap Some (omega arith)
 
-ascii_unit : (b : ℕ) → b < 128 → units (Wide Utf16) b ≡ 1
-ascii_unit b low = grind (arith, nat_tests)
+ascii_unit : (w : WideEncoding) (b : ℕ) → b < 128 → units (Wide w) b ≡ 1
+ascii_unit Utf16 b low = grind (arith, nat_tests)
+ascii_unit Utf32 b low = grind (arith, nat_tests)
 
-pub past_run : (line : List ℕ) (i n left : ℕ) → IsAsciiRun line i n → n ≤ left
-    → past_units (Wide Utf16) left (drop i line) ≡ further n (past_units (Wide Utf16) (left - n) (drop (i + n) line))
-past_run line i zero left run fits =
+pub past_run : (w : WideEncoding) (line : List ℕ) (i n left : ℕ) → IsAsciiRun line i n → n ≤ left
+    → past_units (Wide w) left (drop i line) ≡ further n (past_units (Wide w) (left - n) (drop (i + n) line))
+past_run w line i zero left run fits =
     let all : left - zero ≡ left = omega arith in
     let here : i + zero ≡ i = omega arith in
-    sym (further-zero _ ∙ ap (λ k. past_units (Wide Utf16) k (drop (i + zero) line)) all ∙ ap (λ k. past_units (Wide Utf16) left (drop k line)) here)
-past_run line i (suc n) left run fits =
+    sym (further-zero _ ∙ ap (λ k. past_units (Wide w) k (drop (i + zero) line)) all ∙ ap (λ k. past_units (Wide w) left (drop k line)) here)
+past_run w line i (suc n) left run fits =
     let at : i + 0 ≡ i = omega arith in
     let low : get_or line i 0 < 128 = omega (arith, ap (λ k. get_or line k 0) at, run.ascii 0 (omega arith)) in
-    let one = ascii_unit (get_or line i 0) low in
+    let one = ascii_unit w (get_or line i 0) low in
     let rest : IsAsciiRun line (i + 1) n = record {
       within = omega (arith, run.within);
       ascii = λ k lt.
           let next : i + (k + 1) ≡ i + 1 + k = omega arith in
           omega (arith, ap (λ m. get_or line m 0) next, run.ascii (k + 1) (omega arith));
     } in
-    let fewer : left - units (Wide Utf16) (get_or line i 0) ≡ left - 1 = omega arith in
+    let fewer : left - units (Wide w) (get_or line i 0) ≡ left - 1 = omega arith in
     let less : left - 1 - n ≡ left - suc n = omega arith in
     let past : i + 1 + n ≡ i + suc n = omega arith in
     let one_more : 1 + n ≡ suc n = omega arith in
-    past_over (Wide Utf16) line i left (omega (arith, run.within)) (omega arith)
-    ∙ ap (λ k. further 1 (past_units (Wide Utf16) k (drop (i + 1) line))) fewer
-    ∙ ap (further 1) (past_run line (i + 1) n (left - 1) rest (omega arith))
-    ∙ further-both 1 n _ ∙ ap (λ k. further k (past_units (Wide Utf16) (left - 1 - n) (drop (i + 1 + n) line))) one_more
-    ∙ ap (λ k. further (suc n) (past_units (Wide Utf16) k (drop (i + 1 + n) line))) less
-    ∙ ap (λ k. further (suc n) (past_units (Wide Utf16) (left - suc n) (drop k line))) past
+    past_over (Wide w) line i left (omega (arith, run.within)) (omega arith)
+    ∙ ap (λ k. further 1 (past_units (Wide w) k (drop (i + 1) line))) fewer
+    ∙ ap (further 1) (past_run w line (i + 1) n (left - 1) rest (omega arith))
+    ∙ further-both 1 n _ ∙ ap (λ k. further k (past_units (Wide w) (left - 1 - n) (drop (i + 1 + n) line))) one_more
+    ∙ ap (λ k. further (suc n) (past_units (Wide w) k (drop (i + 1 + n) line))) less
+    ∙ ap (λ k. further (suc n) (past_units (Wide w) (left - suc n) (drop k line))) past
 
 -- such a run on the way
-pub past_run-further : (line : List ℕ) (column i n left : ℕ) → past_units (Wide Utf16) column line ≡ further i (past_units (Wide Utf16) left (drop i line)) → IsAsciiRun line i n → n ≤ left
-    → past_units (Wide Utf16) column line ≡ further (i + n) (past_units (Wide Utf16) (left - n) (drop (i + n) line))
-past_run-further line column i n left before run fits = before ∙ ap (further i) (past_run line i n left run fits) ∙ further-both i n _
+pub past_run-further : (w : WideEncoding) (line : List ℕ) (column i n left : ℕ) → past_units (Wide w) column line ≡ further i (past_units (Wide w) left (drop i line)) → IsAsciiRun line i n → n ≤ left
+    → past_units (Wide w) column line ≡ further (i + n) (past_units (Wide w) (left - n) (drop (i + n) line))
+past_run-further w line column i n left before run fits = before ∙ ap (further i) (past_run w line i n left run fits) ∙ further-both i n _
 
 pub ruleset past_steps = (further-zero, further-further, past_over, past_here, past_inside)

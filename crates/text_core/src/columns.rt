@@ -3,50 +3,48 @@ ghost use Rattle.std.specs.Prelude.{◌≡◌, ◌↔◌, ◌<◌, ◌^◌, leng
 ghost use Rattle.std.specs.String.Boundary.{IsSplitPoint};
 ghost use Rattle.text_core.specs.Columns.{units_of};
 ghost use Rattle.text_core.specs.Places.{position_of};
-ghost use Rattle.text_core.specs.Positions.{code_units};
 ghost use Rattle.text_core.specs.Starts.{line_starts};
-ghost use Rattle.text_core.specs.declared.position.PositionEncoding.TheVariants.{Utf8, Wide};
-ghost use Rattle.text_core.specs.declared.position.WideEncoding.TheVariants.{Utf16};
+ghost use Rattle.text_core.specs.declared.position.PositionEncoding.TheVariants.{Wide};
 
-use crate::offsets::{BLOCK, code_units};
+use crate::offsets::{BLOCK, wide_units};
 use crate::position::{Position, PositionEncoding, WideEncoding};
 use crate::starts::starts_up_to;
 
-/// The UTF-16 code units of a part of a line.
-fn code_units_in(part: &[u8]) -> u32
-    requires { units_of (Wide Utf16) part.now < 2 ^ 32 }
-    ensures { result ≡ units_of (Wide Utf16) part.now }
+/// The units of a part of a line.
+fn wide_units_in(wide: WideEncoding, part: &[u8]) -> u32
+    requires { units_of (Wide wide) part.now < 2 ^ 32 }
+    ensures { result ≡ units_of (Wide wide) part.now }
 {
     if part.is_ascii() {
         part.len() as u32
     } else {
-        part.iter().map(|byte| code_units(*byte)).sum()
+        part.iter().map(|byte| wide_units(wide, *byte)).sum()
     }
 }
 
-/// The UTF-16 code units of the front of a line. A block of ASCII is counted at once.
-fn code_units_of(front: &[u8]) -> u32
-    requires { units_of (Wide Utf16) front.now < 2 ^ 32 }
-    ensures { result ≡ units_of (Wide Utf16) front.now }
+/// The units of the front of a line. A block of ASCII is counted at once.
+fn wide_units_of(wide: WideEncoding, front: &[u8]) -> u32
+    requires { units_of (Wide wide) front.now < 2 ^ 32 }
+    ensures { result ≡ units_of (Wide wide) front.now }
 {
     let mut units = 0;
     let mut rest = front;
     while BLOCK <= rest.len() {
         let (block, next) = rest.split_at(BLOCK);
-        units += code_units_in(block);
+        units += wide_units_in(wide, block);
         rest = next;
     }
-    units + code_units_in(rest)
+    units + wide_units_in(wide, rest)
 }
 
-/// The units of the front of a line.
+/// How many units the front of a line has.
 fn units_of(encoding: PositionEncoding, front: &[u8]) -> u32
     requires { units_of encoding front.now < 2 ^ 32 }
     ensures { result ≡ units_of encoding front.now }
 {
     match encoding {
         PositionEncoding::Utf8 => front.len() as u32,
-        PositionEncoding::Wide(WideEncoding::Utf16) => code_units_of(front),
+        PositionEncoding::Wide(wide) => wide_units_of(wide, front),
     }
 }
 

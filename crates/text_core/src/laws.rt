@@ -1,14 +1,25 @@
 // Laws of the definitions.
-ghost use Rattle.std.specs.Prelude.{◌≡◌, ◌+◌, ◌<◌, ◌↔◌, ℕ, List, Option, Some, None, Result, Ok, map};
-ghost use Rattle.std.specs.List.{concat, count_by, range_with_len};
-ghost use Rattle.std.specs.Str.{IsUtf8};
+ghost use Rattle.std.specs.Prelude.{◌≡◌, ◌+◌, ◌<◌, ◌↔◌, ℕ, List, length, Option, Some, None, Result, Ok, map};
+ghost use Rattle.std.specs.Char.Escape.{encode_utf16};
+ghost use Rattle.std.specs.List.{concat, count_by, flat_map, range_with_len};
+ghost use Rattle.std.specs.Str.{IsUtf8, chars};
 ghost use Rattle.std.specs.String.Boundary.{IsSplitPoint};
-ghost use Rattle.text_core.specs.Columns.{StandsBehind};
+ghost use Rattle.text_core.specs.Columns.{StandsBehind, units_of};
 ghost use Rattle.text_core.specs.Lines.{EndsWithLf, line_of};
 ghost use Rattle.text_core.specs.Places.{clamped, position_of};
 ghost use Rattle.text_core.specs.Positions.{ends_line, past_units, place_of};
 ghost use Rattle.text_core.specs.declared.position.Position.{Position};
 ghost use Rattle.text_core.specs.declared.position.PositionEncoding.{PositionEncoding};
+ghost use Rattle.text_core.specs.declared.position.PositionEncoding.TheVariants.{Utf8, Wide};
+ghost use Rattle.text_core.specs.declared.position.WideEncoding.TheVariants.{Utf16, Utf32};
+
+/// What a text counts is what its encodings have: bytes of UTF-8, code units of UTF-16, characters.
+pub fn units_are_those_of_the_encodings()
+    ensures utf_8 { (text : List ℕ) → units_of Utf8 text ≡ length text }
+    ensures utf_16 { (text : List ℕ) → IsUtf8 text →
+        units_of (Wide Utf16) text ≡ length (flat_map encode_utf16 (chars text)) }
+    ensures utf_32 { (text : List ℕ) → IsUtf8 text → units_of (Wide Utf32) text ≡ length (chars text) }
+{}
 
 /// A column of a line is the end of the front that has exactly its units, where a character begins, or the line's end where
 /// that has no more. Else it stands inside a character.

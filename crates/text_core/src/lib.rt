@@ -1,4 +1,4 @@
-//! Positions, lines and edits of texts as the Language Server Protocol has them: columns in UTF-8 or UTF-16 units, lists of
+//! Positions, lines and edits of texts as the Language Server Protocol has them: columns in units of UTF-8, UTF-16 or UTF-32, lists of
 //! changes, line endings, and the test that edits don't overlap.
 #![tactic(auto)]
 
@@ -29,6 +29,7 @@ pub use editing::{
 };
 pub use laws::{
     columns_stand_behind_their_units, lines_are_the_text, places_of_positions, positions_of_places,
+    units_are_those_of_the_encodings,
 };
 pub use line_endings::{LineEndings, has_cr};
 pub use plain::{NoMemory, Steps};

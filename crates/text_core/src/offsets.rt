@@ -1,9 +1,8 @@
 // Places of positions.
 ghost use Rattle.std.specs.Prelude.{◌≡◌, ◌+◌, ◌<◌, ◌≤◌, ◌^◌, length, max, slice_get, IfSome, IfOk, IsTrue, is_some, unwrap_or, Ok};
 ghost use Rattle.std.specs.String.Boundary.{IsSplitPoint};
-ghost use Rattle.text_core.specs.Positions.{is_inside, code_units, past_units, line_start, line_end, line_span, place_of, range_of};
+ghost use Rattle.text_core.specs.Positions.{is_inside, wide_units, past_units, line_start, line_end, line_span, place_of, range_of};
 ghost use Rattle.text_core.specs.declared.position.PositionEncoding.TheVariants.{Utf8, Wide};
-ghost use Rattle.text_core.specs.declared.position.WideEncoding.TheVariants.{Utf16};
 ghost use Rattle.text_core.specs.Lines.{EndsText, line_text};
 ghost use Rattle.text_core.specs.Runs.{IsAsciiRun};
 ghost use Rattle.text_core.specs.Starts.{KnowsLines};
@@ -17,13 +16,13 @@ fn is_inside(byte: u8) -> bool
     0x80 <= byte && byte < 0xc0
 }
 
-/// The UTF-16 code units of the character that a byte begins.
-pub(crate) fn code_units(byte: u8) -> u32
-    ensures { result ≡ code_units byte }
+/// What a byte counts: the first of a character the character's units, the others none.
+pub(crate) fn wide_units(wide: WideEncoding, byte: u8) -> u32
+    ensures { result ≡ wide_units wide byte }
 {
-    match byte {
-        0x80..=0xbf => 0,
-        0xf0..=0xff => 2,
+    match (wide, byte) {
+        (_, 0x80..=0xbf) => 0,
+        (WideEncoding::Utf16, 0xf0..=0xff) => 2,
         _ => 1,
     }
 }
@@ -54,10 +53,10 @@ fn is_block_before(line: &[u8], i: usize, left: u32) -> bool
     BLOCK <= line.len() - i && BLOCK as u32 <= left && line[i..i + BLOCK].is_ascii()
 }
 
-/// How many bytes of a line stand before a column of UTF-16 code units. A block of ASCII is passed at once.
+/// How many bytes of a line stand before a column of code units or characters. A block of ASCII is passed at once.
 #[tactic(auto, using(crate::proofs::LineLemmas::past_steps))]
-fn past_code_units(line: &[u8], column: u32) -> Option<usize>
-    ensures { result ≡ past_units (Wide Utf16) column line.now }
+fn past_wide_units(wide: WideEncoding, line: &[u8], column: u32) -> Option<usize>
+    ensures { result ≡ past_units (Wide wide) column line.now }
 {
     let mut left = column;
     let mut tested = 0;
@@ -71,7 +70,7 @@ fn past_code_units(line: &[u8], column: u32) -> Option<usize>
             }
             tested = i + BLOCK;
         }
-        let units = code_units(line[i]);
+        let units = wide_units(wide, line[i]);
         if left < units {
             return if left == 0 && !is_inside(line[i]) {
                 Some(i)
@@ -92,7 +91,7 @@ fn past_units(encoding: PositionEncoding, line: &[u8], column: u32) -> Option<us
 {
     match encoding {
         PositionEncoding::Utf8 => past_bytes(line, column),
-        PositionEncoding::Wide(WideEncoding::Utf16) => past_code_units(line, column),
+        PositionEncoding::Wide(wide) => past_wide_units(wide, line, column),
     }
 }
 

@@ -5,6 +5,8 @@
 pub enum WideEncoding {
     /// Code units of UTF-16: two for a character past U+FFFF, else one.
     Utf16,
+    /// Characters.
+    Utf32,
 }
 
 /// What a column counts.

@@ -1,5 +1,5 @@
 // Lines of a text, and the offsets of positions in it.
-ghost use Rattle.std.specs.Prelude.{◌≡◌, ◌≢◌, ◌+◌, ◌<◌, ◌≤◌, ◌↔◌, ◌^◌, ℕ, List, [], length, count_by, IsTrue, IfOk, IfSome, IsNone, IsSome, string_bytes, unwrap_or};
+ghost use Rattle.std.specs.Prelude.{◌≡◌, ◌≢◌, ◌+◌, ◌<◌, ◌≤◌, ◌↔◌, ◌^◌, ℕ, List, [], length, count_by, IsTrue, IfOk, IfSome, IsNone, IsSome, string_bytes, unwrap_or, Err};
 ghost use Rattle.std.specs.Arc.{arc_value};
 ghost use Rattle.std.specs.String.Boundary.{IsSplitPoint};
 ghost use Rattle.text_core.specs.Changes.{IsOther};
@@ -9,6 +9,9 @@ ghost use Rattle.text_core.specs.Lines.{line_text};
 ghost use Rattle.text_core.specs.Places.{position_of};
 ghost use Rattle.text_core.specs.Positions.{ends_line, line_span, place_of, range_of};
 ghost use Rattle.text_core.specs.Starts.{line_starts};
+ghost use Rattle.text_core.specs.declared.position.OffsetFault.TheVariants.{InsideCharacter};
+ghost use Rattle.text_core.specs.declared.position.PositionEncoding.TheVariants.{Wide};
+ghost use Rattle.text_core.specs.declared.position.WideEncoding.TheVariants.{Utf32};
 
 use crate::draft::{Draft, copy_with_room};
 use crate::ends::Ends;
@@ -217,6 +220,7 @@ impl TextIndex {
     ) -> Result<u32, OffsetFault>
         ensures value { result ≡ place_of encoding self.now position }
         ensures split { IfOk result (IsSplitPoint self.now) }
+        ensures characters { encoding ≡ Wide Utf32 → result ≢ Err InsideCharacter }
     {
         let place = offsets::place_of(encoding, self.text.as_str(), &self.starts, position)?;
         Ok(place as u32)
@@ -240,6 +244,7 @@ impl TextIndex {
         ensures start_split { IfOk result (λ offsets. IsSplitPoint self.now offsets.0) }
         ensures end_split { IfOk result (λ offsets. IsSplitPoint self.now offsets.1) }
         ensures rising { IfOk result (λ offsets. offsets.0 ≤ offsets.1) }
+        ensures characters { encoding ≡ Wide Utf32 → result ≢ Err InsideCharacter }
     {
         let (start, end) = offsets::range_of(encoding, self.text.as_str(), &self.starts, range)?;
         Ok((start as u32, end as u32))
@@ -263,10 +268,11 @@ impl Drop for LineIndex {
     }
 }
 
-/// The byte at which a position stands, between whole characters of the text.
+/// The byte at which a position stands, between whole characters of the text. No column of characters stands inside one.
 pub fn offset(line_index: &LineIndex, position: Position) -> Result<u32, OffsetFault>
     ensures value { result ≡ place_of line_index.now.encoding (arc_value line_index.now.index) position }
     ensures split { IfOk result (IsSplitPoint (arc_value line_index.now.index)) }
+    ensures characters { line_index.now.encoding ≡ Wide Utf32 → result ≢ Err InsideCharacter }
 {
     line_index.index.place_of(line_index.encoding, position)
 }
@@ -277,6 +283,7 @@ pub fn text_range(line_index: &LineIndex, range: Range) -> Result<(u32, u32), Of
     ensures start_split { IfOk result (λ offsets. IsSplitPoint (arc_value line_index.now.index) offsets.0) }
     ensures end_split { IfOk result (λ offsets. IsSplitPoint (arc_value line_index.now.index) offsets.1) }
     ensures rising { IfOk result (λ offsets. offsets.0 ≤ offsets.1) }
+    ensures characters { line_index.now.encoding ≡ Wide Utf32 → result ≢ Err InsideCharacter }
 {
     line_index.index.range_of(line_index.encoding, range)
 }

@@ -19,6 +19,7 @@ fn encoding_name(encoding: PositionEncoding) -> &'static str
     match encoding {
         PositionEncoding::Utf8 => "utf-8",
         PositionEncoding::Wide(WideEncoding::Utf16) => "utf-16",
+        PositionEncoding::Wide(WideEncoding::Utf32) => "utf-32",
     }
 }
 
