@@ -1,7 +1,7 @@
 -- Of projects that are alike the first stays.
 use Rattle.std.proofs.Common.{◌≡◌, ◌≢◌, ℕ, Bool, true, false, cond, not, ◌||◌, List, [], ◌∷◌, ◌++◌, map, get_or, Some, None}
-use Rattle.std.proofs.Common.{refl, sym, ap, ◌∙◌, ◌↔◌, zero, suc, arith}
-use Rattle.std.specs.Prelude.{if◌then◌else◌, IsTrue, Any, AllPairs, Contains}
+use Rattle.std.proofs.Common.{refl, sym, ap, ◌∙◌, zero, suc, arith}
+use Rattle.std.specs.Prelude.{if◌then◌else◌, AllPairs, Contains}
 use Rattle.std.specs.List.{filter, list_any}
 use Rattle.std.proofs.lemmas.List.{map-append}
 use Rattle.std.proofs.lemmas.Slice.Eq.{bytes_eq-Decides}
@@ -21,7 +21,7 @@ inside x y e = cc
 true_not_false : true ≡ false → ⊥
 true_not_false e = cc
 
-bool_from : (p q : Bool) → (p ≡ true → q ≡ true) → (q ≡ true → p ≡ true) → p ≡ q
+pub bool_from : (p q : Bool) → (p ≡ true → q ≡ true) → (q ≡ true → p ≡ true) → p ≡ q
 bool_from true true f g = refl
 bool_from true false f g = sym (f refl)
 bool_from false true f g = g refl
@@ -116,33 +116,11 @@ is_listed project (x ∷ xs) found = by (λ more. is_listed project xs more) (ar
     by further true is found = (0, omega arith, sym (tells project x is))
     by further false is found = let rest = further found in (suc rest.0, omega (arith, rest.1), rest.2)
 
-or-true : (b : Bool) → (b || true) ≡ true
-or-true true = refl
-or-true false = refl
-
--- and the other way round
-is_found : (project : LinkedProject) (projects : List LinkedProject)
-    → Any (λ other. without_build other ≡ without_build (workspace_of project)) (map workspace_of projects) → list_any (are_alike project) projects ≡ true
-is_found project [] (k, w, within, is, same) = absurd (omega (arith, within))
-is_found project (x ∷ xs) (zero, w, within, is, same) =
-    ap (λ b. b || list_any (are_alike project) xs) (told project x (sym (ap without_build is ∙ same)))
-is_found project (x ∷ xs) (suc k, w, within, is, same) =
-    ap (λ b. are_alike project x || b) (is_found project xs (k, w, omega (arith, within), is, same)) ∙ or-true (are_alike project x)
-
 pub each_listed : (projects : List LinkedProject) (project : LinkedProject) → Contains projects project
     → Contains (workspaces_of projects) (workspace_of project)
 each_listed projects project (k, within, is) =
     is_listed project (firsts projects)
     (any-firsts project projects ∙ list_any_at (are_alike project) projects k project within (ap (are_alike project) is ∙ told project project refl))
-
--- a test of whether an equal workspace is listed is one of whether some project before is alike
-pub found_is : (projects : List LinkedProject) (project : LinkedProject) (found : Bool)
-    → IsTrue found ↔ Any (λ other. without_build other ≡ without_build (workspace_of project)) (workspaces_of projects)
-    → list_any (are_alike project) projects ≡ found
-found_is projects project found tests =
-    bool_from (list_any (are_alike project) projects) found
-    (λ is. let at = is_listed project (firsts projects) (any-firsts project projects ∙ is) in tests.1 (at.0, workspace_of project, at.1, at.2, refl))
-    (λ is. sym (any-firsts project projects) ∙ is_found project (firsts projects) (tests.0 is))
 
 firsts_unlike : (projects : List LinkedProject) → AllPairs (λ one other. are_alike one other ≡ false) (firsts projects)
 firsts_unlike [] = λ i j d lt within. absurd (omega (arith, within))

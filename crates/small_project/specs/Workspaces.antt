@@ -40,6 +40,11 @@ abbrev pub workspace_of : LinkedProject → ProjectWorkspace
 workspace_of (ProjectManifest manifest) = workspace_at (Some manifest) (folder_of_manifest manifest)
 workspace_of (InlineProjectJson project buildfiles) = workspace_at None (codes "/w")
 
+-- the manifest of a project; an inline one has none
+abbrev pub manifest_of : LinkedProject → Option (List ℕ)
+manifest_of (ProjectManifest manifest) = Some manifest
+manifest_of (InlineProjectJson project buildfiles) = None
+
 -- the projects give workspaces that are equal but for build data: they have one manifest, or both are inline
 abbrev pub are_alike : LinkedProject → LinkedProject → Bool
 are_alike (ProjectManifest one) (ProjectManifest other) = bytes_eq one other

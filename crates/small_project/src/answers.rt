@@ -1,26 +1,16 @@
 // What is answered for projects.
-ghost use Rattle.std.specs.Prelude.{◌≡◌, ◌↔◌, [], map, IfOk, IsTrue, Any};
-ghost use Rattle.project_model.specs.Workspaces.{without_build};
+ghost use Rattle.std.specs.Prelude.{◌≡◌, [], IfOk};
 ghost use Rattle.small_project.specs.Workspaces.{workspaces_of};
 ghost use Rattle.small_project.specs.Builds.{scripts_of};
 
-use crate::linked::workspace_of;
-use plain::{Items, NoMemory};
+use crate::linked::{manifest_of, workspace_of};
+use plain::{ByText, Items, NoMemory};
 use project_model::{BuildScripts, MacroState, ProjectWorkspace};
 use ra_settings::LinkedProject;
 use std::alloc::Global;
 
-/// Whether one of the workspaces is equal to this one but for what its build made.
-fn has_equal(workspaces: &[ProjectWorkspace], workspace: &ProjectWorkspace) -> bool
-    ensures { IsTrue result ↔ Any (λ other. without_build other ≡ without_build workspace.now) workspaces.now }
-{
-    workspaces
-        .iter()
-        .any(|other| other.eq_ignore_build_data(workspace))
-}
-
 /// The workspaces of the projects, in order: one for each manifest or inline project, with its folder as its one local
-/// root. Of workspaces that are equal but for what their builds made the first stays.
+/// root. Of workspaces that are equal but for what their builds made the first stays: they have one manifest, or none.
 pub fn workspaces_of(
     alloc: Global,
     projects: &[LinkedProject],
@@ -28,10 +18,11 @@ pub fn workspaces_of(
     ensures { IfOk result (λ workspaces. workspaces ≡ workspaces_of projects.now) }
 {
     let mut workspaces = Items::new(alloc);
+    let mut manifests = ByText::new(alloc);
     for project in projects {
-        let workspace = workspace_of(alloc, project)?;
-        if !has_equal(workspaces.as_slice(), &workspace) {
-            workspaces.push(workspace)?;
+        let earlier = manifests.insert(manifest_of(project)?, ())?;
+        if earlier.is_none() {
+            workspaces.push(workspace_of(alloc, project)?)?;
         }
     }
     Ok(workspaces)

@@ -1,6 +1,6 @@
 // The workspace that a project gives.
 ghost use Rattle.std.specs.Prelude.{◌≡◌, IfOk, codes};
-ghost use Rattle.small_project.specs.Workspaces.{folder_of_manifest, root_of, workspace_at, workspace_of};
+ghost use Rattle.small_project.specs.Workspaces.{folder_of_manifest, manifest_of, root_of, workspace_at, workspace_of};
 
 use docs_vfs::{Root, VfsPath};
 use plain::{Items, NoMemory};
@@ -60,6 +60,16 @@ fn workspace_at(
         rustc_error: None,
         build: None,
     })
+}
+
+/// The manifest of a project. An inline one has none.
+pub(crate) fn manifest_of(project: &LinkedProject) -> Result<Option<VfsPath>, NoMemory>
+    ensures { IfOk result (λ manifest. manifest ≡ manifest_of project.now) }
+{
+    match project {
+        LinkedProject::ProjectManifest(manifest) => Ok(Some(manifest.clone()?)),
+        LinkedProject::InlineProjectJson { .. } => Ok(None),
+    }
 }
 
 /// The workspace that a project gives.

@@ -1,29 +1,16 @@
 // Folders that the client adds and removes.
 ghost use Rattle.std.specs.Prelude.{◌≡◌, ◌++◌, IfOk, OnOk};
-ghost use Rattle.std.specs.Result.{result_ok};
-ghost use Rattle.docs_vfs.specs.FileUrls.{path_of};
 ghost use Rattle.client.specs.Folds.{paths_of, without_each};
 ghost use Rattle.client.specs.Steps.{folders_changed, misses};
 ghost use Rattle.session_port.specs.Meets.{Gives};
 
 use crate::state::Client;
-use docs_vfs::{UrlFault, VfsPath, path_of_url};
+use docs_vfs::{VfsPath, path_named};
 use plain::{Items, Text};
 use ra_config::Config;
 use session_port::{Command, LogCode, TurnError, TurnOut};
 use std::alloc::{AllocError, Global};
 use std::sync::Arc;
-
-// The path that a URL names, or none.
-fn path_named(alloc: Global, url: &str) -> Result<Option<VfsPath>, AllocError>
-    ensures { IfOk result (λ path. path ≡ result_ok (path_of url.now)) }
-{
-    match path_of_url(alloc, url) {
-        Ok(path) => Ok(Some(path)),
-        Err(UrlFault::NoMemory) => Err(AllocError),
-        Err(_) => Ok(None),
-    }
-}
 
 // The paths that URLs name. Those that name none are logged.
 fn read_paths(
