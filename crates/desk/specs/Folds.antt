@@ -1,6 +1,7 @@
 -- What the lists of a turn leave of the desk, and what is promised of it: each response answers one request that waits, and each request that waits
--- is held by exactly one job.
-use Rattle.std.specs.Prelude.{◌≡◌, ℕ, ◌+◌, ◌&&◌, List, [], ◌∷◌, length, Bool, true, false, Option, None, Some, is_some, if◌then◌else◌}
+-- is held by exactly one job for each of its parts that is not reported.
+use Rattle.std.specs.Prelude.{◌≡◌, ℕ, ◌+◌, ◌&&◌, List, [], ◌∷◌, length, Contains, Bool, true, false, Option, None, Some, is_some}
+use Rattle.std.specs.Prelude.{if◌then◌else◌}
 use Rattle.std.specs.FinMap as map
 use Rattle.std.specs.List.{filter}
 use Rattle.serde_json.specs.Data.{Data}
@@ -15,8 +16,9 @@ use Rattle.session_port.specs.Jobs.{Jobs, ticket_of, after_message}
 use Rattle.session_port.specs.declared.event.TaskMsg.{TaskMsg}
 use Rattle.session_port.specs.declared.job.Job.{Job}
 use Rattle.desk.specs.Desk.{Desk}
-use Rattle.desk.specs.Reactions.{Reaction}
+use Rattle.desk.specs.Reactions.{Reaction, responses_of}
 use Rattle.desk.specs.Replies.{already_pending}
+use Rattle.desk.specs.Slots.{Slot, slot_at, slot_of, unreported}
 
 -- the jobs that are for a request
 abbrev pub is_asked : Job → Bool
@@ -62,24 +64,35 @@ shutdown_after (Some r) responses shutdown = if is_shutdown (row_of r.method) &&
 -- what a message of a job leaves for the next one of its batch: the jobs that it hands over are counted, and are out from the end of the turn on
 abbrev pub desk_past : TaskMsg → Reaction → Desk → Desk
 desk_past message done desk = record desk {
-  pending = closed_by done.responses desk.pending;
+  pending = closed_by (responses_of done) desk.pending;
   jobs = after_message message desk.jobs;
   handed = desk.handed + length done.jobs;
 }
 
 -- ---- what is promised
 
--- exactly one job out is for the request with this ticket
-pub record IsHeld (ticket : ℕ) (jobs : Jobs) : Type 0 where
+-- exactly one job out is for this slot
+pub record HasOneJob (slot : Slot) (jobs : Jobs) : Type 0 where
   pub number : ℕ
   pub job : Job
   pub is_out : map.get jobs number ≡ Some job
-  pub holds : ticket_of job.kind ≡ Some ticket
-  pub only : (other : ℕ) (holder : Job) → map.get jobs other ≡ Some holder → ticket_of holder.kind ≡ Some ticket → other ≡ number
+  pub holds : slot_of job.kind ≡ Some slot
+  pub only : (other : ℕ) (holder : Job) → map.get jobs other ≡ Some holder → slot_of holder.kind ≡ Some slot
+      → other ≡ number
 
--- each pending request is held by exactly one job out
+-- the request with this ticket, of which these parts are unreported, is held: there is such a part, exactly one job out
+-- is for each of them, and no other job out is for the request
+pub record IsHeld (ticket : ℕ) (parts : List ℕ) (jobs : Jobs) : Type 0 where
+  pub part : ℕ
+  pub is_left : Contains parts part
+  pub each : (part : ℕ) → Contains parts part → HasOneJob (slot_at ticket part) jobs
+  pub no_other : (number : ℕ) (job : Job) (part : ℕ) → map.get jobs number ≡ Some job
+      → slot_of job.kind ≡ Some (slot_at ticket part) → Contains parts part
+
+-- each pending request is held
 abbrev pub AreHeld : Desk → Type 0
-AreHeld desk = (ticket : ℕ) (id : RequestId) → id_of ticket desk.pending ≡ Some id → IsHeld ticket desk.jobs
+AreHeld desk =
+    (ticket : ℕ) (id : RequestId) → id_of ticket desk.pending ≡ Some id → IsHeld ticket (unreported ticket desk) desk.jobs
 
 -- each response answers the pending request of its id, and closes it
 abbrev pub AreAnswers : List Response → Pending → Type 0

@@ -10,4 +10,5 @@ pub mod Meaning
 pub mod Reactions
 pub mod Replies
 pub mod Scene
+pub mod Slots
 pub mod Steps

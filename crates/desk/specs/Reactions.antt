@@ -1,7 +1,9 @@
--- The reply table: the responses that a request or a job's message gets, and the jobs that are handed over for it.
+-- The reply table: the messages that a request or a job's message gets, and the jobs that are handed over for it.
 use Rattle.std.specs.Prelude.{ℕ, ◌+◌, ◌&&◌, List, [], ◌∷◌, ◌++◌, Bool, not, ltb, Option, None, Some, if◌then◌else◌}
 use Rattle.serde_json.specs.Data.{Data, null}
 use Rattle.lsp_frame.specs.Pending.{is_pending}
+use Rattle.lsp_frame.specs.declared.message.Message.{Message}
+use Rattle.lsp_frame.specs.declared.message.Message.TheVariants.{Response as ResponseMessage}
 use Rattle.lsp_frame.specs.declared.message.RequestId.{RequestId}
 use Rattle.lsp_frame.specs.declared.message.Request.{Request}
 use Rattle.lsp_frame.specs.declared.message.Response.{Response}
@@ -23,30 +25,35 @@ use Rattle.session_port.specs.declared.job.Job.{Job}
 use Rattle.session_port.specs.declared.job.JobKind.{JobKind}
 use Rattle.session_port.specs.declared.job.JobKind.TheVariants.{Request as RequestJob, ProcMacroSources, FetchWorkspaces, FetchBuildData, LoadProcMacros}
 use Rattle.session_port.specs.declared.job.JobResult.{JobResult}
+use Rattle.session_port.specs.Written.{responses_in}
 use Rattle.desk.specs.Desk.{Desk, waiting_for}
 use Rattle.desk.specs.Meaning.{Meaning, can_read}
 use Rattle.desk.specs.Replies.{already_pending, shut_already, unknown_request, invalid_params, canceled_by_client}
 use Rattle.desk.specs.Replies.{stopped_reply, finding_reply, finished_reply}
 use Rattle.desk.specs.Scene.{Scene}
 
--- the responses of a turn, and the jobs that it hands over for requests; whatever else it writes and orders is no part of it
+-- what a turn does for requests: the responses and the reports of their parts, in the order in which they are written,
+-- and the jobs that it hands over for them; whatever else it writes and orders is no part of it
 pub record Reaction : Type 0 where
-  pub responses : List Response
+  pub messages : List Message
   pub jobs : List Job
 
+abbrev pub responses_of : Reaction → List Response
+responses_of done = responses_in done.messages
+
 abbrev pub silent : Reaction
-silent = record { responses = []; jobs = [] }
+silent = record { messages = []; jobs = [] }
 
 abbrev pub says : Response → Reaction
-says response = record { responses = response ∷ []; jobs = [] }
+says response = record { messages = ResponseMessage response ∷ []; jobs = [] }
 
 abbrev pub joined : Reaction → Reaction → Reaction
-joined a b = record { responses = a.responses ++ b.responses; jobs = a.jobs ++ b.jobs }
+joined a b = record { messages = a.messages ++ b.messages; jobs = a.jobs ++ b.jobs }
 
 -- one job for the request with this ticket, behind so many that were handed over
 abbrev pub hands_over : ℕ → SnapshotData → PoolClass → ℕ → RowId → Data → Reaction
 hands_over handed snapshot class ticket row params = record {
-  responses = [];
+  messages = [];
   jobs = (record { number = handed + 1; class = class; kind = RequestJob ticket row params; snapshot = snapshot }) ∷ [];
 }
 

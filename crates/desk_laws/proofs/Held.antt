@@ -17,18 +17,20 @@ use Rattle.session_port.specs.declared.job.Job.{Job}
 use Rattle.session_port.specs.declared.job.JobKind.TheVariants.{Request as RequestJob}
 use Rattle.session_port.specs.declared.job.JobResult.{JobResult}
 use Rattle.desk.specs.Desk.{Desk, new_desk, waiting_for}
-use Rattle.desk.specs.Folds.{IsHeld, AreAnswers, AnswersOnce, closed_by, closed_with, desk_past, pending_after}
+use Rattle.desk.specs.Folds.{AreHeld, IsHeld, AreAnswers, AnswersOnce, closed_by, closed_with, desk_past, pending_after}
 use Rattle.desk.specs.Meaning.{Meaning}
-use Rattle.desk.specs.Reactions.{Reaction, silent, says, hands_over, new_row, request_row, cancel_row, ticket_row, final_row, fitting_row, message_row}
+use Rattle.desk.specs.Reactions.{Reaction, responses_of, silent, says, hands_over, new_row, request_row, cancel_row, ticket_row, final_row, fitting_row, message_row}
 use Rattle.desk.specs.Replies.{already_pending, canceled_by_client, finished_reply}
 use Rattle.desk.specs.Scene.{Scene}
-use Rattle.desk_laws.specs.Invariant.{KeepsSound, Sound, desk_then}
+use Rattle.desk.specs.Slots.{parts_left, unreported}
+use Rattle.desk_laws.specs.Invariant.{IsHeldByOne, KeepsSound, Sound, desk_then}
 use Rattle.desk_laws.specs.Reacting.{Reacts}
 use Rattle.desk_laws.proofs.Appends.{with_jobs-append}
 use Rattle.desk_laws.proofs.Fitting.{after_message-none, after_message-some}
-use Rattle.desk_laws.proofs.Keyed.{by_key, get-insert_same, get-insert_other, get-remove_same, get-remove_other, insert-remove}
+use Rattle.desk_laws.proofs.Keyed.{by_key, get-insert_other, get-remove_same, get-remove_other, insert-remove}
 use Rattle.desk_laws.proofs.Orders.{by_number_total, by_number_same}
 use Rattle.desk_laws.proofs.Reacting.{new-reacts, result-reacts}
+use Rattle.desk_laws.proofs.Slots.{first-slot, held-again, held-beside, held-by_one, held-first, held-without, new-out, still-out, was-out}
 
 some-same : {X : Type 0} (x y : X) → Some x ≡ Some y → x ≡ y
 some-same x y e = cc
@@ -78,23 +80,14 @@ id-free : (o : Option ℕ) → is_some o ≡ false → o ≡ None
 id-free None h = refl
 id-free (Some t) h = absurd cc
 
--- a job that is for another request stays
-held-without : (u n : ℕ) (found : Job) (js : Jobs) → map.get js n ≡ Some found → (ticket_of found.kind ≢ Some u) → IsHeld u js → IsHeld u (map.remove js n)
-held-without u n found js is apart h = record {
-  number = h.number;
-  job = h.job;
-  is_out = get-remove_other by_number_total by_number_same js n h.number (λ same. apart (sym (ap (λ (j : Job). ticket_of j.kind) (some-same h.job found (sym h.is_out ∙ ap (map.get js) same ∙ is))) ∙ h.holds)) ∙ h.is_out;
-  holds = h.holds;
-  only = λ other holder there is_for. by_key by_number_total by_number_same other n
-      (λ same. none-some holder (sym (get-remove_same by_number_total by_number_same js n) ∙ ap (map.get (map.remove js n)) (sym same) ∙ there))
-      (λ elsewhere. h.only other holder (sym (get-remove_other by_number_total by_number_same js n other elsewhere) ∙ there) is_for);
-}
+-- a request that waits has the same parts left
+same-left : (ticket : ℕ) (id : RequestId) (p q : Pending) (js : Jobs) → id_of ticket p ≡ Some id → id_of ticket q ≡ Some id
+    → IsHeld ticket (parts_left (id_of ticket p)) js → IsHeld ticket (parts_left (id_of ticket q)) js
+same-left ticket id p q js was waits h = subst (λ o. IsHeld ticket (parts_left o) js) (was ∙ sym waits) h
 
--- what is out without a job was out before
-pub still-out : (n m : ℕ) (js : Jobs) (job : Job) → map.get (map.remove js n) m ≡ Some job → map.get js m ≡ Some job
-still-out n m js job there = by_key by_number_total by_number_same m n
-    (λ same. none-some job (sym (get-remove_same by_number_total by_number_same js n) ∙ ap (map.get (map.remove js n)) (sym same) ∙ there))
-    (λ elsewhere. sym (get-remove_other by_number_total by_number_same js n m elsewhere) ∙ there)
+-- the same of two names of a ticket
+same-held : (ticket other : ℕ) (parts : List ℕ) (js : Jobs) → ticket ≡ other → IsHeld other parts js → IsHeld ticket parts js
+same-held ticket other parts js same h = subst (λ t. IsHeld t parts js) (sym same) h
 
 -- the request of this ticket waits nowhere, or the job is for none
 abbrev pub WaitsNowhere : Pending → Job → Type 0
@@ -109,7 +102,7 @@ sound-off turns p js handed revision n found is none s = record {
   numbers = λ m job there. s.numbers m job (still-out n m js job there);
   below = λ m job t there its. s.below m job t (still-out n m js job there) its;
   revisions = λ m job t there its. s.revisions m job t (still-out n m js job there) its;
-  held = λ t id waits. held-without t n found js is (λ its. none-some id (sym (none t its) ∙ waits)) (s.held t id waits);
+  held = λ t id waits. held-without t n (parts_left (id_of t p)) found js is (λ its. none-some id (sym (none t its) ∙ waits)) (s.held t id waits);
 }
 
 -- a job came back, and its request is closed
@@ -122,7 +115,9 @@ sound-without turns p js handed revision n t found id is its waits s = record {
   numbers = λ m job there. s.numbers m job (still-out n m js job there);
   below = λ m job u there its. s.below m job u (still-out n m js job there) its;
   revisions = λ m job u there its. s.revisions m job u (still-out n m js job there) its;
-  held = λ u i there. let k = still u i there in held-without u n found js is (λ same. k.0 (some-same u t (sym same ∙ its))) (s.held u i k.1);
+  held = λ u i there. let k = still u i there in
+      same-left u i p (completed t p) (map.remove js n) k.1 there
+      (held-without u n (parts_left (id_of u p)) found js is (λ same. k.0 (some-same u t (sym same ∙ its))) (s.held u i k.1));
 }
   where
     still : (u : ℕ) (i : RequestId) → map.get (map.remove p t) u ≡ Some i → (u ≢ t) × (map.get p u ≡ Some i)
@@ -149,42 +144,30 @@ sound-request turns p js handed revision id job new its no_later s = record {
       (λ same. subst (λ (k : Job). k.snapshot.revision ≤ revision) (it_is n j same there) no_later)
       (λ other. s.revisions n j t (was n j other there) is_for);
   held = λ t i waits. by_key by_number_total by_number_same t (turns + 1)
-      (λ same. record {
-        number = handed + 1;
-        job = job;
-        is_out = get-insert_same by_number_total by_number_same js (handed + 1) job;
-        holds = its ∙ ap Some (sym same);
-        only = λ n j there is_for. by_key by_number_total by_number_same n (handed + 1) (λ here. here)
-            (λ other. let h = s.below n j t (was n j other there) is_for in absurd (omega arith));
-      })
-      (λ other_ticket. later t i other_ticket (s.held t i (sym (get-insert_other by_number_total by_number_same p (turns + 1) id t other_ticket) ∙ waits)));
+      (λ same. subst (λ o. IsHeld t (parts_left o) now) (sym waits) (same-held t (turns + 1) (0 ∷ []) now same
+      (held-first (turns + 1) handed job js (first-slot job.kind (turns + 1) its) (λ n j there is_for. let h = s.below n j (turns + 1) there is_for in absurd (omega arith)))))
+      (λ other. let was_waiting : map.get p t ≡ Some i = sym (get-insert_other by_number_total by_number_same p (turns + 1) id t other) ∙ waits in
+      same-left t i p (registered (turns + 1) id p) now was_waiting waits
+      (held-beside t (parts_left (id_of t p)) handed job js s.numbers (λ e. other (some-same t (turns + 1) (sym e ∙ its))) (s.held t i was_waiting)));
 }
   where
+    now : Jobs
+    now = map.insert js (handed + 1) job
+
     none : map.get p (turns + 1) ≡ None
     none = ticket-free turns p (map.get p (turns + 1)) refl s.tickets
 
     free : ticket_with id p ≡ None
     free = id-free (ticket_with id p) new
 
-    was : (n : ℕ) (j : Job) → n ≢ handed + 1 → map.get (map.insert js (handed + 1) job) n ≡ Some j → map.get js n ≡ Some j
-    was n j other there = sym (get-insert_other by_number_total by_number_same js (handed + 1) job n other) ∙ there
+    was : (n : ℕ) (j : Job) → n ≢ handed + 1 → map.get now n ≡ Some j → map.get js n ≡ Some j
+    was n j other there = was-out handed job js n j other there
 
-    it_is : (n : ℕ) (j : Job) → n ≡ handed + 1 → map.get (map.insert js (handed + 1) job) n ≡ Some j → job ≡ j
-    it_is n j same there = some-same job j (sym (get-insert_same by_number_total by_number_same js (handed + 1) job) ∙ ap (map.get (map.insert js (handed + 1) job)) (sym same) ∙ there)
+    it_is : (n : ℕ) (j : Job) → n ≡ handed + 1 → map.get now n ≡ Some j → job ≡ j
+    it_is n j same there = new-out handed job js n j same there
 
-    its_ticket : (n : ℕ) (j : Job) (t : ℕ) → n ≡ handed + 1 → map.get (map.insert js (handed + 1) job) n ≡ Some j → ticket_of j.kind ≡ Some t → t ≡ turns + 1
+    its_ticket : (n : ℕ) (j : Job) (t : ℕ) → n ≡ handed + 1 → map.get now n ≡ Some j → ticket_of j.kind ≡ Some t → t ≡ turns + 1
     its_ticket n j t same there is_for = some-same t (turns + 1) (sym is_for ∙ ap (λ (k : Job). ticket_of k.kind) (sym (it_is n j same there)) ∙ its)
-
-    later : (t : ℕ) (i : RequestId) → t ≢ turns + 1 → IsHeld t js → IsHeld t (map.insert js (handed + 1) job)
-    later t i other_ticket h = record {
-      number = h.number;
-      job = h.job;
-      is_out = let le = s.numbers h.number h.job h.is_out in get-insert_other by_number_total by_number_same js (handed + 1) job h.number (λ same. omega arith) ∙ h.is_out;
-      holds = h.holds;
-      only = λ n j there is_for. by_key by_number_total by_number_same n (handed + 1)
-          (λ same. absurd (other_ticket (its_ticket n j t same there is_for)))
-          (λ other. h.only n j (was n j other there) is_for);
-    }
 
 -- a request is closed, and its job stays out
 sound-shut : (turns : ℕ) (p : Pending) (js : Jobs) (handed revision t : ℕ) (id : RequestId) → id_of t p ≡ Some id → SoundOf turns p js handed revision → SoundOf turns (completed t p) js handed revision
@@ -195,7 +178,7 @@ sound-shut turns p js handed revision t id waits s = record {
   numbers = s.numbers;
   below = s.below;
   revisions = s.revisions;
-  held = λ u i there. s.held u i (still u i there);
+  held = λ u i there. same-left u i p (completed t p) js (still u i there) there (s.held u i (still u i there));
 }
   where
     still : (u : ℕ) (i : RequestId) → map.get (map.remove p t) u ≡ Some i → map.get p u ≡ Some i
@@ -228,40 +211,24 @@ sound-again turns p js handed revision n ticket found job is was_for its no_late
       (λ same. subst (λ (k : Job). k.snapshot.revision ≤ revision) (it_is m j same there) no_later)
       (λ other. s.revisions m j t (was m j other there) is_for);
   held = λ t id waits. by_key by_number_total by_number_same t ticket
-      (λ same. record {
-        number = handed + 1;
-        job = job;
-        is_out = get-insert_same by_number_total by_number_same (map.remove js n) (handed + 1) job;
-        holds = its ∙ ap Some (sym same);
-        only = λ m j there is_for. by_key by_number_total by_number_same m (handed + 1) (λ here. here)
-            (λ other. absurd (gone m j other there ((s.held t id waits).only m j (was m j other there) is_for ∙ sym ((s.held t id waits).only n found is (was_for ∙ ap Some (sym same))))));
-      })
-      (λ other_ticket. later t other_ticket (held-without t n found js is (λ same. other_ticket (some-same t ticket (sym same ∙ was_for))) (s.held t id waits)));
+      (λ same. same-held t ticket (parts_left (id_of t p)) now same
+      (held-again ticket 0 (parts_left (id_of t p)) handed n found job js s.numbers is (first-slot found.kind ticket was_for) (first-slot job.kind ticket its)
+      (same-held ticket t (parts_left (id_of t p)) js (sym same) (s.held t id waits))))
+      (λ other. held-beside t (parts_left (id_of t p)) handed job (map.remove js n) (λ m j there. s.numbers m j (still-out n m js j there)) (λ e. other (some-same t ticket (sym e ∙ its)))
+      (held-without t n (parts_left (id_of t p)) found js is (λ e. other (some-same t ticket (sym e ∙ was_for))) (s.held t id waits)));
 }
   where
-    was : (m : ℕ) (j : Job) → m ≢ handed + 1 → map.get (map.insert (map.remove js n) (handed + 1) job) m ≡ Some j → map.get js m ≡ Some j
-    was m j other there = still-out n m js j (sym (get-insert_other by_number_total by_number_same (map.remove js n) (handed + 1) job m other) ∙ there)
+    now : Jobs
+    now = map.insert (map.remove js n) (handed + 1) job
 
-    gone : (m : ℕ) (j : Job) → m ≢ handed + 1 → map.get (map.insert (map.remove js n) (handed + 1) job) m ≡ Some j → m ≢ n
-    gone m j other there = λ same. none-some j (sym (get-remove_same by_number_total by_number_same js n) ∙ ap (map.get (map.remove js n)) (sym same) ∙ sym (get-insert_other by_number_total by_number_same (map.remove js n) (handed + 1) job m other) ∙ there)
+    was : (m : ℕ) (j : Job) → m ≢ handed + 1 → map.get now m ≡ Some j → map.get js m ≡ Some j
+    was m j other there = still-out n m js j (was-out handed job (map.remove js n) m j other there)
 
-    it_is : (m : ℕ) (j : Job) → m ≡ handed + 1 → map.get (map.insert (map.remove js n) (handed + 1) job) m ≡ Some j → job ≡ j
-    it_is m j same there = some-same job j (sym (get-insert_same by_number_total by_number_same (map.remove js n) (handed + 1) job) ∙ ap (map.get (map.insert (map.remove js n) (handed + 1) job)) (sym same) ∙ there)
+    it_is : (m : ℕ) (j : Job) → m ≡ handed + 1 → map.get now m ≡ Some j → job ≡ j
+    it_is m j same there = new-out handed job (map.remove js n) m j same there
 
-    its_ticket : (m : ℕ) (j : Job) (t : ℕ) → m ≡ handed + 1 → map.get (map.insert (map.remove js n) (handed + 1) job) m ≡ Some j → ticket_of j.kind ≡ Some t → t ≡ ticket
+    its_ticket : (m : ℕ) (j : Job) (t : ℕ) → m ≡ handed + 1 → map.get now m ≡ Some j → ticket_of j.kind ≡ Some t → t ≡ ticket
     its_ticket m j t same there is_for = some-same t ticket (sym is_for ∙ ap (λ (k : Job). ticket_of k.kind) (sym (it_is m j same there)) ∙ its)
-
-    later : (t : ℕ) → t ≢ ticket → IsHeld t (map.remove js n) → IsHeld t (map.insert (map.remove js n) (handed + 1) job)
-    later t other_ticket h = record {
-      number = h.number;
-      job = h.job;
-      is_out = let le = s.numbers h.number h.job (still-out n h.number js h.job h.is_out) in
-          get-insert_other by_number_total by_number_same (map.remove js n) (handed + 1) job h.number (λ same. omega arith) ∙ h.is_out;
-      holds = h.holds;
-      only = λ m j there is_for. by_key by_number_total by_number_same m (handed + 1)
-          (λ same. absurd (other_ticket (its_ticket m j t same there is_for)))
-          (λ other. h.only m j (sym (get-insert_other by_number_total by_number_same (map.remove js n) (handed + 1) job m other) ∙ there) is_for);
-    }
 
 -- a job that is for no request is handed over
 pub sound-beside : (turns : ℕ) (p : Pending) (js : Jobs) (handed revision : ℕ) (job : Job) → ticket_of job.kind ≡ None → SoundOf turns p js handed revision
@@ -274,23 +241,14 @@ sound-beside turns p js handed revision job none s = record {
       (λ other. let h = s.numbers n j (was n j other there) in omega arith);
   below = λ n j t there is_for. by_key by_number_total by_number_same n (handed + 1) (λ same. not_its n j t same there is_for) (λ other. s.below n j t (was n j other there) is_for);
   revisions = λ n j t there is_for. by_key by_number_total by_number_same n (handed + 1) (λ same. not_its n j t same there is_for) (λ other. s.revisions n j t (was n j other there) is_for);
-  held = λ t id waits. let h = s.held t id waits in record {
-    number = h.number;
-    job = h.job;
-    is_out = let le = s.numbers h.number h.job h.is_out in get-insert_other by_number_total by_number_same js (handed + 1) job h.number (λ same. omega arith) ∙ h.is_out;
-    holds = h.holds;
-    only = λ n j there is_for. by_key by_number_total by_number_same n (handed + 1) (λ same. not_its n j t same there is_for) (λ other. h.only n j (was n j other there) is_for);
-  };
+  held = λ t id waits. held-beside t (parts_left (id_of t p)) handed job js s.numbers (λ its. none-some t (sym none ∙ its)) (s.held t id waits);
 }
   where
     was : (n : ℕ) (j : Job) → n ≢ handed + 1 → map.get (map.insert js (handed + 1) job) n ≡ Some j → map.get js n ≡ Some j
-    was n j other there = sym (get-insert_other by_number_total by_number_same js (handed + 1) job n other) ∙ there
-
-    it_is : (n : ℕ) (j : Job) → n ≡ handed + 1 → map.get (map.insert js (handed + 1) job) n ≡ Some j → job ≡ j
-    it_is n j same there = some-same job j (sym (get-insert_same by_number_total by_number_same js (handed + 1) job) ∙ ap (map.get (map.insert js (handed + 1) job)) (sym same) ∙ there)
+    was n j other there = was-out handed job js n j other there
 
     not_its : {P : Type 0} (n : ℕ) (j : Job) (t : ℕ) → n ≡ handed + 1 → map.get (map.insert js (handed + 1) job) n ≡ Some j → ticket_of j.kind ≡ Some t → P
-    not_its n j t same there is_for = none-some t (sym none ∙ ap (λ (k : Job). ticket_of k.kind) (it_is n j same there) ∙ is_for)
+    not_its n j t same there is_for = none-some t (sym none ∙ ap (λ (k : Job). ticket_of k.kind) (new-out handed job js n j same there) ∙ is_for)
 
 -- at the beginning nothing waits and no job is out
 pub sound-new : (revision : ℕ) → Sound new_desk revision
@@ -319,8 +277,8 @@ waits-by-id p ticket id is = is_pending-found ticket id p is
 
 -- what a row leaves is sound, and each response answers one request
 pub record Keeps (ticket : ℕ) (request : Option Request) (turns : ℕ) (desk : Desk) (jobs : Jobs) (revision : ℕ) (done : Reaction) : Type 0 where
-  pub sound : SoundOf turns (pending_after ticket request done.responses desk.pending) (with_jobs done.jobs jobs) (desk.handed + length done.jobs) revision
-  pub once : AnswersOnce ticket request done.responses desk.pending
+  pub sound : SoundOf turns (pending_after ticket request (responses_of done) desk.pending) (with_jobs done.jobs jobs) (desk.handed + length done.jobs) revision
+  pub once : AnswersOnce ticket request (responses_of done) desk.pending
 
 -- a request that was answered at once does not wait
 said-sound : (turns : ℕ) (p : Pending) (js : Jobs) (handed revision : ℕ) (id : RequestId) → is_pending id p ≡ false → SoundOf turns p js handed revision
@@ -412,7 +370,7 @@ pub batching-begins : (desk : Desk) (revision : ℕ) → Sound desk revision →
 batching-begins desk revision s = record { sound = sound-parts desk revision s; early = s.numbers; late = tt; given = omega arith }
 
 abbrev pub Going : ℕ → Desk → List Job → ℕ → TaskMsg → Reaction → Type 0
-Going first desk js revision message done = Batching first (desk_past message done desk) (js ++ done.jobs) revision × AreAnswers done.responses desk.pending
+Going first desk js revision message done = Batching first (desk_past message done desk) (js ++ done.jobs) revision × AreAnswers (responses_of done) desk.pending
 
 -- a message that fits no job
 going-none : (first : ℕ) (desk : Desk) (js : List Job) (revision : ℕ) (message : TaskMsg) → fitting_job message desk.jobs ≡ None → Batching first desk js revision → Going first desk js revision message silent
@@ -595,3 +553,9 @@ message-reacts meaning scene desk message job ticket id is its waits =
     let row : message_row meaning scene desk message ≡ ticket_row meaning scene desk (Some id) job k.0 =
     ap (λ o. fitting_row meaning scene desk o message) is ∙ ap (λ o. final_row meaning scene desk o job) k.1 ∙ ap (λ o. ticket_row meaning scene desk o job k.0) there in
     subst (Reacts scene desk.handed ticket id) (sym row) (result-reacts meaning scene desk ticket id job k.0 (finished_reply id k.0) refl its)
+
+-- ---- one part
+
+-- a request of which one part is left has one job out
+pub one-held : (desk : Desk) (ticket part : ℕ) (id : RequestId) → AreHeld desk → id_of ticket desk.pending ≡ Some id → unreported ticket desk ≡ part ∷ [] → IsHeldByOne ticket desk.jobs
+one-held desk ticket part id held waits one = held-by_one ticket part desk.jobs (subst (λ parts. IsHeld ticket parts desk.jobs) one (held ticket id waits))

@@ -9,3 +9,4 @@ pub mod Reacting
 pub mod Refusing
 pub mod Results
 pub mod Settling
+pub mod Slots

@@ -1,12 +1,11 @@
 -- A step of the desk is its row of the reply table.
 use Rattle.std.proofs.Common.{◌≡◌, ℕ, List, ◌++◌, Bool, true, false, refl, sym, ap, ◌∙◌, subst, arith, append-nil, append_assoc}
-use Rattle.std.proofs.lemmas.List.{length-append, map-append}
-use Rattle.std.specs.Prelude.{Ok, IfOk, Option, None, Some, map as list_map, option_and_then, ◌&&◌, not, ltb, if◌then◌else◌}
+use Rattle.std.proofs.lemmas.List.{length-append}
+use Rattle.std.specs.Prelude.{Ok, IfOk, Option, None, Some, option_and_then, ◌&&◌, not, ltb, if◌then◌else◌}
 use Rattle.std.specs.FinMap as map
 use Rattle.serde_json.specs.Data.{Data, null}
 use Rattle.lsp_frame.specs.Pending.{Pending, id_of, is_pending}
 use Rattle.lsp_frame.specs.declared.message.Message.{Message}
-use Rattle.lsp_frame.specs.declared.message.Message.TheVariants.{Response as ResponseMessage}
 use Rattle.lsp_frame.specs.declared.message.Request.{Request}
 use Rattle.lsp_frame.specs.declared.message.RequestId.{RequestId}
 use Rattle.lsp_frame.specs.declared.message.Response.{Response}
@@ -44,7 +43,7 @@ use Rattle.session_port.specs.declared.fault.Counter.{Counter}
 use Rattle.desk.specs.Desk.{Desk, waiting_for}
 use Rattle.desk.specs.Folds.{closed_by, closed_with, shutdown_after}
 use Rattle.desk.specs.Meaning.{Meaning, can_read}
-use Rattle.desk.specs.Reactions.{Reaction, silent, says, joined, hands_over, if_read, state_row, planned_row, class_row, method_row, shutdown_row, new_row, request_row, cancel_row, stopped_row, result_row, ticket_row, final_row, fitting_row, message_row}
+use Rattle.desk.specs.Reactions.{Reaction, responses_of, silent, says, joined, hands_over, if_read, state_row, planned_row, class_row, method_row, shutdown_row, new_row, request_row, cancel_row, stopped_row, result_row, ticket_row, final_row, fitting_row, message_row}
 use Rattle.desk.specs.Replies.{already_pending, invalid_params, unknown_request, shut_already, canceled_by_client, stopped_reply, finding_reply, finished_reply}
 use Rattle.desk.specs.Steps.{answered, answered_if, responded, noted, dispatched, echoed, queried, submitted, stated, planned, classed, unknown, asked, shut_down, admitted, requested, cancelled, stopped, settled, delivered, brought, ended, taken}
 use Rattle.desk.specs.Scene.{Scene}
@@ -56,7 +55,6 @@ use Rattle.desk_laws.proofs.Results.{IfOk-next, IfOk-weaker}
 pub nothing-settles : (w : Working Desk) → Settled None w w silent w.state.jobs
 nothing-settles w = record {
   written = sym (append-nil _);
-  responses = sym (append-nil _);
   spawns = sym (append-nil _);
   asked = refl;
   others = λ number_of passes. refl;
@@ -67,18 +65,21 @@ nothing-settles w = record {
   shutdown = refl;
 }
 
+-- the responses that were written are the row's
+pub settled-responses : (request : Option Request) (w v : Working Desk) (done : Reaction) (jobs : Jobs) → Settled request w v done jobs
+    → responses_in v.out.messages ≡ responses_in w.out.messages ++ responses_of done
+settled-responses request w v done jobs a = ap responses_in a.written ∙ responses-append w.out.messages done.messages
+
 -- one thing was done, and then another
 pub settled-on : (w v u : Working Desk) (a b : Reaction) (js ks : Jobs) → Settled None w v a js → Settled None v u b ks → Settled None w u (joined a b) ks
 settled-on w v u a b js ks p q = record {
-  written = q.written ∙ ap (λ (ms : List Message). ms ++ list_map ResponseMessage b.responses) p.written
-      ∙ append_assoc w.out.messages (list_map ResponseMessage a.responses) (list_map ResponseMessage b.responses)
-      ∙ ap (λ (ms : List Message). w.out.messages ++ ms) (sym (map-append ResponseMessage a.responses b.responses));
-  responses = q.responses ∙ ap (λ (rs : List Response). rs ++ b.responses) p.responses ∙ append_assoc (responses_in w.out.messages) a.responses b.responses;
+  written = q.written ∙ ap (λ (ms : List Message). ms ++ b.messages) p.written ∙ append_assoc w.out.messages a.messages b.messages;
   spawns = q.spawns ∙ ap (λ (xs : List Job). xs ++ b.jobs) p.spawns ∙ append_assoc (spawned w.out.commands) a.jobs b.jobs;
   asked = asked-append a.jobs b.jobs ∙ (λ i. p.asked i ++ q.asked i);
   others = λ number_of passes. q.others number_of passes ∙ p.others number_of passes;
   turns = q.turns ∙ p.turns;
-  pending = q.pending ∙ ap (closed_by b.responses) p.pending ∙ sym (closed_by-append a.responses b.responses w.state.pending);
+  pending = q.pending ∙ ap (closed_by (responses_of b)) p.pending ∙ sym (closed_by-append (responses_of a) (responses_of b) w.state.pending)
+      ∙ ap (λ rs. closed_by rs w.state.pending) (sym (responses-append a.messages b.messages));
   out = q.out;
   handed = omega (arith, q.handed, p.handed, length-append a.jobs b.jobs);
   shutdown = q.shutdown ∙ p.shutdown;
@@ -110,7 +111,6 @@ pub answer-settles : (id : RequestId) (response : Response) (w : Working Desk) �
 unfolding answered replied
 answer-settles id response w is = record {
   written = refl;
-  responses = responses-append w.out.messages _;
   spawns = sym (append-nil _);
   asked = refl;
   others = λ number_of passes. refl;
@@ -126,7 +126,6 @@ pub defer-settles : (task : DeferredTask) (w : Working Desk) → Settled None w 
 unfolding ordered
 defer-settles task w = record {
   written = sym (append-nil _);
-  responses = sym (append-nil _);
   spawns = spawned-append w.out.commands _;
   asked = refl;
   others = λ number_of passes. passed-append number_of w.out.commands _ (passes.defers task);
@@ -141,7 +140,6 @@ pub log-settles : (code : LogCode) (text : List ℕ) (w : Working Desk) → Sett
 unfolding logged ordered
 log-settles code text w = record {
   written = sym (append-nil _);
-  responses = sym (append-nil _);
   spawns = spawned-append w.out.commands _;
   asked = refl;
   others = λ number_of passes. passed-append number_of w.out.commands _ (passes.logs code text);
@@ -178,7 +176,6 @@ dispatch-settles scene class ticket row params w =
     let done = hands_over w.state.handed scene.snapshot class ticket row params in
     IfOk-next w.state.handed _ _ (λ v. Settled None w v done w.state.jobs) (record {
       written = sym (append-nil _);
-      responses = sym (append-nil _);
       spawns = spawned-append w.out.commands _;
       asked = refl;
       others = λ number_of passes. passed-append number_of w.out.commands _ (passes.jobs _);
@@ -230,12 +227,11 @@ class-settles meaning scene ticket id row params w waits = plan-settles meaning 
 abbrev Reads : Request → Working Desk → Reaction → Working Desk → Type 0
 Reads r w done v = Settled (Some r) w v done w.state.jobs
 
-read-on : (r : Request) (w v : Working Desk) (done : Reaction) → is_pending r.id w.state.pending ≡ false → shutdown_after (Some r) done.responses w.state.shutdown ≡ w.state.shutdown
+read-on : (r : Request) (w v : Working Desk) (done : Reaction) → is_pending r.id w.state.pending ≡ false → shutdown_after (Some r) (responses_of done) w.state.shutdown ≡ w.state.shutdown
     → Settled None (noted r.id w) v done w.state.jobs → Reads r w done v
 unfolding noted
 read-on r w v done new stays a = record {
   written = a.written;
-  responses = a.responses;
   spawns = a.spawns;
   asked = a.asked;
   others = a.others;
@@ -278,7 +274,6 @@ shutdown-cases r w true new named =
     respond-settles w.state.turns r.id (λ id. response_with id null) v (id_of-registered w.state.turns r.id w.state.pending) refl in
     record {
       written = a.written;
-      responses = a.responses;
       spawns = a.spawns;
       asked = a.asked;
       others = a.others;
@@ -312,7 +307,6 @@ refused-reads : (r : Request) (w : Working Desk) → is_pending r.id w.state.pen
 unfolding replied
 refused-reads r w is = record {
   written = refl;
-  responses = responses-append w.out.messages _;
   spawns = sym (append-nil _);
   asked = refl;
   others = λ number_of passes. refl;
@@ -422,7 +416,6 @@ row-without meaning scene desk jobs (Some result) job = by_request (waiting_for 
 settled-from : (w v : Working Desk) (number : ℕ) (done : Reaction) (jobs : Jobs) → Settled None (without number w) v done jobs → Settled None w v done jobs
 settled-from w v number done jobs a = record {
   written = a.written;
-  responses = a.responses;
   spawns = a.spawns;
   asked = a.asked;
   others = a.others;

@@ -9,10 +9,10 @@ use Rattle.session_port.specs.Record.{with_jobs}
 use Rattle.session_port.specs.declared.job.Job.{Job}
 use Rattle.desk.specs.Desk.{Desk}
 use Rattle.desk.specs.Folds.{AreHeld, AnswersOnce, pending_after, shutdown_after}
-use Rattle.desk.specs.Reactions.{Reaction}
+use Rattle.desk.specs.Reactions.{Reaction, responses_of}
 
 -- the ids that wait are distinct, and turns that were have read them; the jobs out have numbers that were given; those for requests are for ones that
--- turns have read, and have snapshots of no later revision; and each request that waits is held by exactly one of them
+-- turns have read, and have snapshots of no later revision; and each request that waits is held by them
 pub record Sound (desk : Desk) (revision : ℕ) : Type 0 where
   pub distinct : AreDistinct desk.pending
   pub tickets : (ticket : ℕ) (id : RequestId) → id_of ticket desk.pending ≡ Some id → ticket ≤ desk.turns
@@ -25,13 +25,22 @@ pub record Sound (desk : Desk) (revision : ℕ) : Type 0 where
 abbrev pub desk_then : ℕ → Option Request → Reaction → Jobs → Desk → Desk
 desk_then turns request done jobs desk = record {
   turns = turns;
-  pending = pending_after turns request done.responses desk.pending;
+  pending = pending_after turns request (responses_of done) desk.pending;
   jobs = with_jobs done.jobs jobs;
   handed = desk.handed + length done.jobs;
-  shutdown = shutdown_after request done.responses desk.shutdown;
+  shutdown = shutdown_after request (responses_of done) desk.shutdown;
 }
 
 -- the turn keeps what holds, and each of its responses answers one request
 pub record KeepsSound (turns : ℕ) (request : Option Request) (done : Reaction) (jobs : Jobs) (desk : Desk) (revision : ℕ) : Type 0 where
   pub sound : Sound (desk_then turns request done jobs desk) revision
-  pub once : AnswersOnce turns request done.responses desk.pending
+  pub once : AnswersOnce turns request (responses_of done) desk.pending
+
+-- exactly one job out is for the request with this ticket
+pub record IsHeldByOne (ticket : ℕ) (jobs : Jobs) : Type 0 where
+  pub number : ℕ
+  pub job : Job
+  pub is_out : map.get jobs number ≡ Some job
+  pub holds : ticket_of job.kind ≡ Some ticket
+  pub only : (other : ℕ) (holder : Job) → map.get jobs other ≡ Some holder → ticket_of holder.kind ≡ Some ticket
+      → other ≡ number

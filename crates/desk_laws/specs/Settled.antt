@@ -1,7 +1,6 @@
 -- What a step of the desk has done.
-use Rattle.std.specs.Prelude.{length, List, map, None, Option, ℕ, ◌++◌, ◌+◌, ◌≡◌}
+use Rattle.std.specs.Prelude.{length, List, None, Option, ℕ, ◌++◌, ◌+◌, ◌≡◌}
 use Rattle.std.specs.List.{filter_map}
-use Rattle.lsp_frame.specs.declared.message.Message.TheVariants.{Response as ResponseMessage}
 use Rattle.lsp_frame.specs.declared.message.Request.{Request}
 use Rattle.session_port.specs.Jobs.{Jobs}
 use Rattle.session_port.specs.Record.{spawned}
@@ -11,10 +10,9 @@ use Rattle.session_port.specs.declared.command.DeferredTask.{DeferredTask}
 use Rattle.session_port.specs.declared.command.LogCode.{LogCode}
 use Rattle.session_port.specs.declared.job.Job.{Job}
 use Rattle.session_port.specs.Working.{Working}
-use Rattle.session_port.specs.Written.{responses_in}
 use Rattle.desk.specs.Desk.{Desk}
 use Rattle.desk.specs.Folds.{asked_among, pending_after, shutdown_after}
-use Rattle.desk.specs.Reactions.{Reaction}
+use Rattle.desk.specs.Reactions.{Reaction, responses_of}
 
 -- neither a job nor a log line nor a task that is put off has the number that is asked of commands
 pub record PassesOver (number_of : Command → Option ℕ) : Type 0 where
@@ -22,17 +20,16 @@ pub record PassesOver (number_of : Command → Option ℕ) : Type 0 where
   pub logs : (code : LogCode) (text : List ℕ) → number_of (Log code text) ≡ None
   pub defers : (task : DeferredTask) → number_of (Defer task) ≡ None
 
--- between these two these responses were written, no other message, and these jobs handed over, and this request, if any, was read by the turn that is counted. These jobs
+-- between these two these messages were written and no other, and these jobs handed over, and this request, if any, was read by the turn that is counted. These jobs
 -- of earlier turns are out, nothing was ordered but jobs, log lines and tasks that are put off, and the turns stay
 pub record Settled (request : Option Request) (w v : Working Desk) (done : Reaction) (jobs : Jobs) : Type 0 where
-  pub written : v.out.messages ≡ w.out.messages ++ map ResponseMessage done.responses
-  pub responses : responses_in v.out.messages ≡ responses_in w.out.messages ++ done.responses
+  pub written : v.out.messages ≡ w.out.messages ++ done.messages
   pub spawns : spawned v.out.commands ≡ spawned w.out.commands ++ done.jobs
   -- each of the jobs is for a request
   pub asked : asked_among done.jobs ≡ done.jobs
   pub others : (number_of : Command → Option ℕ) → PassesOver number_of → filter_map number_of v.out.commands ≡ filter_map number_of w.out.commands
   pub turns : v.state.turns ≡ w.state.turns
-  pub pending : v.state.pending ≡ pending_after w.state.turns request done.responses w.state.pending
+  pub pending : v.state.pending ≡ pending_after w.state.turns request (responses_of done) w.state.pending
   pub out : v.state.jobs ≡ jobs
   pub handed : v.state.handed ≡ w.state.handed + length done.jobs
-  pub shutdown : v.state.shutdown ≡ shutdown_after request done.responses w.state.shutdown
+  pub shutdown : v.state.shutdown ≡ shutdown_after request (responses_of done) w.state.shutdown

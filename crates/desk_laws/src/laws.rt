@@ -1,5 +1,5 @@
 // Laws of the desk.
-ghost use Rattle.std.specs.Prelude.{◌≡◌, ◌+◌, ℕ, false, IfOk, None, Some};
+ghost use Rattle.std.specs.Prelude.{◌≡◌, ◌+◌, ◌∷◌, ℕ, [], false, IfOk, None, Some};
 ghost use Rattle.lsp_frame.specs.Pending.{id_of, is_pending};
 ghost use Rattle.lsp_frame.specs.declared.message.Request.{Request};
 ghost use Rattle.lsp_frame.specs.declared.message.RequestId.{RequestId};
@@ -8,11 +8,13 @@ ghost use Rattle.session_port.specs.declared.event.TaskMsg.{TaskMsg};
 ghost use Rattle.session_port.specs.declared.job.Job.{Job};
 ghost use Rattle.session_port.specs.Working.{Working};
 ghost use Rattle.desk.specs.Desk.{Desk, new_desk};
+ghost use Rattle.desk.specs.Folds.{AreHeld};
 ghost use Rattle.desk.specs.Meaning.{Meaning};
 ghost use Rattle.desk.specs.Reactions.{cancel_row, message_row, request_row};
 ghost use Rattle.desk.specs.Steps.{cancelled, requested, taken};
 ghost use Rattle.desk.specs.Scene.{Scene};
-ghost use Rattle.desk_laws.specs.Invariant.{KeepsSound, Sound};
+ghost use Rattle.desk.specs.Slots.{unreported};
+ghost use Rattle.desk_laws.specs.Invariant.{IsHeldByOne, KeepsSound, Sound};
 ghost use Rattle.desk_laws.specs.Reacting.{Reacts};
 ghost use Rattle.desk_laws.specs.Settled.{Settled};
 
@@ -34,8 +36,8 @@ pub fn rows_answer_or_hand_over()
         → Reacts scene desk.handed ticket id (message_row meaning scene desk message) }
 {}
 
-/// Each request that waits is held by exactly one job out: so it is at the beginning, and each row keeps it so. Each of its
-/// responses answers one request that waits.
+/// Each request that waits is held by exactly one job out for each of its parts that is not reported: so it
+/// is at the beginning, and each row keeps it so. Each of its responses answers one request that waits.
 pub fn rows_keep_requests_held()
     ensures beginning { (revision : ℕ) → Sound new_desk revision }
     ensures requests { (meaning : Meaning) (scene : Scene) (desk : Desk) (r : Request) → Sound desk scene.snapshot.revision
@@ -44,4 +46,11 @@ pub fn rows_keep_requests_held()
         → KeepsSound (desk.turns + 1) None (cancel_row id desk) desk.jobs desk revision }
     ensures messages { (meaning : Meaning) (scene : Scene) (desk : Desk) (message : TaskMsg) → Sound desk scene.snapshot.revision
         → KeepsSound (desk.turns + 1) None (message_row meaning scene desk message) (after_message message desk.jobs) desk scene.snapshot.revision }
+{}
+
+/// A request that waits for the report of one part is held by one job out, whatever the part.
+pub fn one_part_is_held_by_one_job()
+    ensures { (desk : Desk) (ticket part : ℕ) (id : RequestId) → AreHeld desk
+        → id_of ticket desk.pending ≡ Some id → unreported ticket desk ≡ part ∷ []
+        → IsHeldByOne ticket desk.jobs }
 {}

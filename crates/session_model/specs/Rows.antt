@@ -1,5 +1,5 @@
 -- The reply table: what a turn is to do for requests, by its input and by what the lists say before it.
-use Rattle.std.specs.Prelude.{ℕ, ◌+◌, ◌-◌, List, [], ◌∷◌, Option, None, Some}
+use Rattle.std.specs.Prelude.{◌≡◌, ℕ, ◌+◌, ◌-◌, List, [], ◌∷◌, Option, None, Some}
 use Rattle.std.specs.Result.{result_unwrap_or}
 use Rattle.lsp_frame.specs.declared.message.Message.TheVariants as lsp
 use Rattle.lsp_frame.specs.declared.message.RequestId.{RequestId}
@@ -11,7 +11,7 @@ use Rattle.session_port.specs.Written.{responses_in}
 use Rattle.desk.specs.Desk.{Desk}
 use Rattle.desk.specs.Folds.{asked_among, desk_past}
 use Rattle.desk.specs.Meaning.{Meaning}
-use Rattle.desk.specs.Reactions.{Reaction, silent, joined, cancel_row, message_row, request_row}
+use Rattle.desk.specs.Reactions.{Reaction, responses_of, silent, joined, cancel_row, message_row, request_row}
 use Rattle.desk.specs.Scene.{Scene}
 use Rattle.session_model.specs.Hearing.{heard_of, told_by}
 use Rattle.session_model.specs.Inputs.{cancelled_by}
@@ -19,6 +19,7 @@ use Rattle.session_model.specs.Machine.{taken}
 use Rattle.session_model.specs.Places.{Place, next_turn}
 use Rattle.session_model.specs.Run.{Turn, begun}
 use Rattle.session_model.specs.State.{State, snapshot_of}
+use Rattle.session_model.specs.Sublists.{IsSublist}
 use Rattle.session_model.specs.declared.input.Event.TheVariants.{Lsp, Task, Vfs, Deferred, Timer}
 use Rattle.session_model.specs.declared.input.Input.{Input}
 use Rattle.session_model.specs.declared.input.Input.TheVariants.{Start, Next}
@@ -79,9 +80,13 @@ scene_at place = record {
 
 -- ---- the rows
 
--- the responses that a turn writes, and the jobs that it hands over for requests
-abbrev pub reaction_of : Turn → Reaction
-reaction_of turn = record { responses = responses_in turn.messages; jobs = asked_among (spawned turn.commands) }
+-- what a turn does for requests: its responses are exactly these, and so are the jobs that it hands over for requests;
+-- and these responses and reports stand among its messages, in order. (No test tells a report from other progress,
+-- since a client chooses the tokens.)
+pub record Does (turn : Turn) (done : Reaction) : Type 0 where
+  pub responses : responses_in turn.messages ≡ responses_of done
+  pub jobs : asked_among (spawned turn.commands) ≡ done.jobs
+  pub in_order : IsSublist done.messages turn.messages
 
 -- a notification: one that cancels a pending request answers it
 abbrev pub notice_row : Option RequestId → Desk → Reaction
