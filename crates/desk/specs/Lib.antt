@@ -1,14 +1,10 @@
-pub mod Building
-pub mod Checking
 pub mod Codes
 pub mod Desk
-pub mod Ends
-pub mod Fetching
 pub mod Folds
-pub mod Loading
 pub mod Meaning
 pub mod Reactions
 pub mod Replies
 pub mod Scene
 pub mod Slots
 pub mod Steps
+pub mod WorkEnds

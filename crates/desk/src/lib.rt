@@ -12,4 +12,4 @@ pub use replies::{
     stopped_reply, unknown_request,
 };
 pub use scene::Present;
-pub use state::{BuildEnd, Desk, Ends, FetchEnd, LoadEnd};
+pub use state::{BuildEnd, Desk, FetchEnd, LoadEnd, WorkEnd};

@@ -11,19 +11,12 @@ ghost use Rattle.lsp_frame.specs.Pending.{IsAbove};
 ghost use Rattle.lsp_frame.specs.Written.{AreWritable};
 ghost use Rattle.lsp_frame.specs.declared.message.Message.TheVariants.{Response as ResponseMessage};
 
-mod building;
-mod checking;
 mod ends;
-mod fetching;
-mod loading;
 mod pending;
 mod requests;
 mod results;
 
-pub use building::BuildEnd;
-pub use ends::Ends;
-pub use fetching::FetchEnd;
-pub use loading::LoadEnd;
+pub use ends::{BuildEnd, FetchEnd, LoadEnd, WorkEnd};
 use lsp_frame::{Incoming, Response};
 use plain::{ByNumber, Text};
 use session_port::{Command, Counter, Job, LogCode, TurnError, TurnOut};

@@ -18,10 +18,9 @@ use Rattle.session_port.specs.declared.fault.Counter.{Counter}
 use Rattle.session_port.specs.declared.job.JobKind.{JobKind}
 use Rattle.session_port.specs.declared.job.JobKind.TheVariants.{Request as RequestJob, ProcMacroSources, FetchWorkspaces, FetchBuildData, LoadProcMacros}
 use Rattle.session_port.specs.declared.job.JobResult.{JobResult}
-use Rattle.desk.specs.Building.{BuildEnd, build_ended}
-use Rattle.desk.specs.Checking.{check_ended}
-use Rattle.desk.specs.Fetching.{FetchEnd, fetch_ended}
-use Rattle.desk.specs.Loading.{LoadEnd, load_end_of, load_ended, load_told}
+use Rattle.desk.specs.WorkEnds.{LoadEnd, work_end_of, work_ended, work_told}
+use Rattle.desk.specs.declared.state.ends.WorkEnd.{WorkEnd}
+use Rattle.desk.specs.declared.state.ends.WorkEnd.TheVariants.{Fetched, Built, Checked, Loaded}
 use Rattle.desk.specs.Meaning.{Meaning}
 use Rattle.desk.specs.Steps.{taken as taken_at_desk}
 use Rattle.desk_laws.proofs.Results.{IfOk-and_then, IfOk-weaker, IfOk-within}
@@ -30,13 +29,13 @@ use Rattle.session_files.specs.Folds.{after_crates, after_processing, changed_fi
 use Rattle.session_files.specs.SessionFiles.{SessionFiles}
 use Rattle.session_files.specs.Steps.{crates_put, processed}
 use Rattle.session_files.proofs.SoundLemmas.{crates_keep, processing_does}
-use Rattle.workspaces.specs.Loads.{loaded_crates, macros_of, macros_put, listed_for}
+use Rattle.workspaces.specs.Loads.{macros_of, macros_put, listed_for}
 use Rattle.workspaces.specs.Workspaces.{Loads, Workspaces}
 use Rattle.workspaces.specs.declared.requests.WaitingCrates.{WaitingCrates}
 use Rattle.session_model.specs.Building.{build_kept}
 use Rattle.session_model.specs.Fetching.{fetch_kept}
 use Rattle.session_model.specs.Loading.{crates_loaded, load_kept}
-use Rattle.session_model.specs.Machine.{Turning, at_desk, at_files, at_workspaces, build_taken, check_taken, files_done, knowing, crates_arrived, desk_in, ends_taken, fetch_taken, files_followed, files_in, files_part, files_processed}
+use Rattle.session_model.specs.Machine.{Turning, at_desk, at_files, at_workspaces, build_taken, files_done, knowing, crates_arrived, desk_in, end_taken, work_taken, fetch_taken, files_followed, files_in, files_part, files_processed}
 use Rattle.session_model.specs.Machine.{files_processed_if, in_state, load_taken, macros_taken, quiet_done, refreshed, settings_filed, some_processed, state_in, taken, with_client, with_desk, with_files, with_sources, with_state}
 use Rattle.session_model.specs.Asking.{is_refresh_due}
 use Rattle.session_model.specs.Sources.{change_for, client_with, further_files, is_settled, parents_told}
@@ -51,7 +50,7 @@ use Rattle.session_laws.proofs.Filing.{Processes, PutsCrates, crates-put, ok-fro
 use Rattle.session_laws.proofs.Following.{followed-does, further-same}
 use Rattle.session_laws.proofs.Batches.{logged_if-same}
 use Rattle.session_laws.proofs.OneOut.{fit-true, true-false}
-use Rattle.session_laws.proofs.Running.{build-leaves, fetch-leaves, load-has-end}
+use Rattle.session_laws.proofs.WorkEnds.{load-has-end}
 
 -- ---- files that are processed
 
@@ -113,53 +112,48 @@ arrive-brings (Some crates) w =
     (λ v (is, same). IfOk-weaker (files_processed v) (AreProcessed v) (λ u. BringsFiles w.state u.state) (processed-is v)
     (λ u done. brought-files crates w.state u.state v.state.files is (subst (λ (rs : List Root). after_processing rs v.state.files ≡ Ok u.state.files) same done)))
 
--- what the end of a load brings, where the workspaces were these before it
-abbrev Ending : Option LoadEnd → Workspaces → State → State → Type 0
-Ending end workspaces s t = Brings (crates_loaded end workspaces) s t
+-- the crate data that comes with what ends, where the workspaces were these before it: that which waited for a load of macros
+abbrev crates_with : WorkEnd → Workspaces → Option CrateData
+crates_with (Fetched found) workspaces = None
+crates_with (Built made) workspaces = None
+crates_with (Checked roots) workspaces = None
+crates_with (Loaded told) workspaces = crates_loaded told workspaces
 
-load-brings : (end : Option LoadEnd) (w : Working State) → IfOk (load_taken end w) (λ v. Ending end w.state.workspaces w.state v.state)
+abbrev crates_by : Option WorkEnd → Workspaces → Option CrateData
+crates_by None workspaces = None
+crates_by (Some end) workspaces = crates_with end workspaces
+
+load-brings : (told : LoadEnd) (w : Working State) → IfOk (load_taken told w) (λ v. Brings (crates_loaded told w.state.workspaces) w.state v.state)
 unfolding load_taken macros_taken
-load-brings end w =
-    let v : Working State = at_workspaces (load_kept end) w in
-    IfOk-weaker (and_then (crates_arrived (crates_loaded end w.state.workspaces) v) (files_processed_if (is_some (crates_loaded end w.state.workspaces)))) (λ u. Brings (crates_loaded end w.state.workspaces) v.state u.state) _
-    (arrive-brings (crates_loaded end w.state.workspaces) v) (λ u b. from (crates_loaded end w.state.workspaces) u.state b)
+load-brings told w =
+    let v : Working State = at_workspaces (load_kept told) w in
+    IfOk-weaker (and_then (crates_arrived (crates_loaded told w.state.workspaces) v) (files_processed_if (is_some (crates_loaded told w.state.workspaces))))
+    (λ u. Brings (crates_loaded told w.state.workspaces) v.state u.state) _
+    (arrive-brings (crates_loaded told w.state.workspaces) v) (λ u b. from (crates_loaded told w.state.workspaces) u.state b)
   where
-    from : (crates : Option CrateData) (t : State) → Brings crates (at_workspaces (load_kept end) w).state t → Brings crates w.state t
+    from : (crates : Option CrateData) (t : State) → Brings crates (at_workspaces (load_kept told) w).state t → Brings crates w.state t
     from None t b = b
     from (Some crates) t b = record { roots = b.roots; current = b.current; taken = b.taken; revision = b.revision }
 
--- the files, the roots that are present and the loads are the same
+work-brings : (end : WorkEnd) (w : Working State) → IfOk (work_taken end w) (λ v. Brings (crates_with end w.state.workspaces) w.state v.state)
+unfolding work_taken fetch_taken build_taken
+work-brings (Fetched found) w =
+    let v : Working State = at_workspaces (fetch_kept found) w in ap (λ (s : State). s.files) (logged_if-same FetchError (fetch_fault v.state.client.settings v.state.workspaces) v)
+work-brings (Built made) w =
+    let v : Working State = at_workspaces (build_kept made) w in ap (λ (s : State). s.files) (logged_if-same BuildError (build_fault v.state.workspaces) v)
+work-brings (Checked roots) w = refl
+work-brings (Loaded told) w = load-brings told w
+
+end-brings : (end : Option WorkEnd) (w : Working State) → IfOk (end_taken end w) (λ v. Brings (crates_by end w.state.workspaces) w.state v.state)
+unfolding end_taken
+end-brings None w = refl
+end-brings (Some end) w = work-brings end w
+
+-- the files, the roots that are present and the workspaces are the same
 record Before (s t : State) : Type 0 where
   files : t.files ≡ s.files
   sources : t.sources ≡ s.sources
-  loads : t.workspaces.loads ≡ s.workspaces.loads
-
-before-on : (s t u : State) → Before s t → Before t u → Before s u
-before-on s t u p q = record { files = q.files ∙ p.files; sources = q.sources ∙ p.sources; loads = q.loads ∙ p.loads }
-
-fetch-before : (end : Option FetchEnd) (w : Working State) → Before w.state (fetch_taken end w).state
-unfolding fetch_taken
-fetch-before None w = record { files = refl; sources = refl; loads = refl }
-fetch-before (Some found) w =
-    let v : Working State = at_workspaces (fetch_kept (Some found)) w in
-    let same = logged_if-same FetchError (fetch_fault v.state.client.settings v.state.workspaces) v in
-    record {
-      files = ap (λ (s : State). s.files) same;
-      sources = ap (λ (s : State). s.sources) same;
-      loads = ap (λ (s : State). s.workspaces.loads) same ∙ (fetch-leaves (Some found) w.state.workspaces).1;
-    }
-
-build-before : (end : Option BuildEnd) (w : Working State) → Before w.state (build_taken end w).state
-unfolding build_taken
-build-before None w = record { files = refl; sources = refl; loads = refl }
-build-before (Some made) w =
-    let v : Working State = at_workspaces (build_kept (Some made)) w in
-    let same = logged_if-same BuildError (build_fault v.state.workspaces) v in
-    record {
-      files = ap (λ (s : State). s.files) same;
-      sources = ap (λ (s : State). s.sources) same;
-      loads = ap (λ (s : State). s.workspaces.loads) same ∙ (build-leaves (Some made) w.state.workspaces).1;
-    }
+  workspaces : t.workspaces ≡ s.workspaces
 
 -- what a message does, by the crate data that it brings
 brings-before : (crates : Option CrateData) (s t u : State) → Before s t → Brings crates t u → Brings crates s u
@@ -172,38 +166,18 @@ brings-before (Some crates) s t u same b = record {
 }
 
 abbrev MessageBrings : TaskMsg → State → State → Type 0
-MessageBrings message s t = Brings (crates_loaded (load_ended message s.desk.jobs) s.workspaces) s t
-
--- by the loads alone
-loads-alone : (end : Option LoadEnd) (s t : Workspaces) → t.loads ≡ s.loads → crates_loaded end t ≡ crates_loaded end s
-loads-alone None s t same = refl
-loads-alone (Some told) s t same = ap (λ (l : Loads). if l.queue.in_progress then loaded_crates told l else None) same
-
-ends-bring : (fetched : Option FetchEnd) (built : Option BuildEnd) (checked : Option (List (List ℕ))) (loaded : Option LoadEnd) (w : Working State)
-    → IfOk (ends_taken fetched built checked loaded w) (λ v. Brings (crates_loaded loaded w.state.workspaces) w.state v.state)
-unfolding ends_taken
-ends-bring fetched built checked loaded w =
-    let f : Working State = fetch_taken fetched w in
-    let b : Working State = build_taken built f in
-    let c : Working State = check_taken checked b in
-    let before : Before w.state c.state = before-on w.state b.state c.state (before-on w.state f.state b.state (fetch-before fetched w) (build-before built f)) (record { files = refl; sources = refl; loads = refl }) in
-    IfOk-weaker (load_taken loaded c) (λ v. Ending loaded c.state.workspaces c.state v.state) _ (load-brings loaded c)
-    (λ u e. brings-before (crates_loaded loaded w.state.workspaces) w.state c.state u.state before
-    (subst (λ (crates : Option CrateData). Brings crates c.state u.state) (loads-alone loaded w.state.workspaces c.state.workspaces before.loads) e))
+MessageBrings message s t = Brings (crates_by (work_ended message s.desk.jobs) s.workspaces) s t
 
 message-brings : (meaning : Meaning) (message : TaskMsg) (w : Working State) → IfOk (taken meaning message w) (λ v. MessageBrings message w.state v.state)
 unfolding taken
 message-brings meaning message w =
-    let jobs = w.state.desk.jobs in
-    let loaded = load_ended message jobs in
-    IfOk-and_then (at_desk (taken_at_desk meaning (scene_of w.state) message) w) (ends_taken (fetch_ended message jobs) (build_ended message jobs) (check_ended message jobs) loaded)
-    (λ v. Before w.state v.state × (v.state.workspaces ≡ w.state.workspaces)) (λ v. MessageBrings message w.state v.state)
+    let end = work_ended message w.state.desk.jobs in
+    IfOk-and_then (at_desk (taken_at_desk meaning (scene_of w.state) message) w) (end_taken end) (λ v. Before w.state v.state) (λ v. MessageBrings message w.state v.state)
     (IfOk-within desk_in with_desk (taken_at_desk meaning (scene_of w.state) message) w _
-    (ok-from (taken_at_desk meaning (scene_of w.state) message (record { state = w.state.desk; out = w.out })) _ (λ v is. (record { files = refl; sources = refl; loads = refl }, refl))))
-    (λ v (before, same). IfOk-weaker (ends_taken (fetch_ended message jobs) (build_ended message jobs) (check_ended message jobs) loaded v) (λ u. Brings (crates_loaded loaded v.state.workspaces) v.state u.state) _
-    (ends-bring (fetch_ended message jobs) (build_ended message jobs) (check_ended message jobs) loaded v)
-    (λ u b. brings-before (crates_loaded loaded w.state.workspaces) w.state v.state u.state before
-    (subst (λ (ws : Workspaces). Brings (crates_loaded loaded ws) v.state u.state) same b)))
+    (ok-from (taken_at_desk meaning (scene_of w.state) message (record { state = w.state.desk; out = w.out })) _ (λ v is. record { files = refl; sources = refl; workspaces = refl })))
+    (λ v before. IfOk-weaker (end_taken end v) (λ u. Brings (crates_by end v.state.workspaces) v.state u.state) _ (end-brings end v)
+    (λ u b. brings-before (crates_by end w.state.workspaces) w.state v.state u.state before
+    (subst (λ (ws : Workspaces). Brings (crates_by end ws) v.state u.state) before.workspaces b)))
 
 may-bring : (crates : Option CrateData) (s t : State) → Brings crates s t → MayBringFiles s t
 may-bring None s t b = inl b
@@ -211,11 +185,11 @@ may-bring (Some crates) s t b = inr b
 
 pub message-may-bring : (meaning : Meaning) (message : TaskMsg) (w v : Working State) → taken meaning message w ≡ Ok v → MayBringFiles w.state v.state
 message-may-bring meaning message w v is =
-    may-bring (crates_loaded (load_ended message w.state.desk.jobs) w.state.workspaces) w.state v.state
+    may-bring (crates_by (work_ended message w.state.desk.jobs) w.state.workspaces) w.state v.state
     (IfOk-at_ok (λ (v : Working State). MessageBrings message w.state v.state) is (message-brings meaning message w))
 
 -- a final message of a load says how it ended
-final-told : (kind : JobKind) (final : Option JobResult) → is_load kind ≡ true → fits_final kind final ≡ true → (told : LoadEnd) × (option_and_then (load_end_of kind) final ≡ Some told)
+final-told : (kind : JobKind) (final : Option JobResult) → is_load kind ≡ true → fits_final kind final ≡ true → (told : LoadEnd) × (option_and_then (work_end_of kind) final ≡ Some (Loaded told))
 final-told kind None loads fit = true-false (sym fit)
 final-told (RequestJob ticket row params) (Some result) loads fit = true-false (sym loads)
 final-told (ProcMacroSources files) (Some result) loads fit = true-false (sym loads)
@@ -234,8 +208,8 @@ ended-brings meaning message w v is ends =
     let told = final-told ends.job.kind (final_of message.body) ends.loads fit in
     let loads : Loads = w.state.workspaces.loads in
     let comes = waiting-comes loads.queue.in_progress loads.waiting (macros_put (macros_of told.0 (listed_for loads.waiting))) ends.in_progress ends.waits in
-    let ended : load_ended message w.state.desk.jobs ≡ Some told.0 = ap (load_told message) ends.fits ∙ told.1 in
-    let crates : crates_loaded (load_ended message w.state.desk.jobs) w.state.workspaces ≡ Some comes.0 = ap (λ (o : Option LoadEnd). crates_loaded o w.state.workspaces) ended ∙ comes.1 in
+    let ended : work_ended message w.state.desk.jobs ≡ Some (Loaded told.0) = ap (work_told message) ends.fits ∙ told.1 in
+    let crates : crates_by (work_ended message w.state.desk.jobs) w.state.workspaces ≡ Some comes.0 = ap (λ (o : Option WorkEnd). crates_by o w.state.workspaces) ended ∙ comes.1 in
     subst (λ (o : Option CrateData). Brings o w.state v.state) crates (IfOk-at_ok (λ (v : Working State). MessageBrings message w.state v.state) is (message-brings meaning message w))
 
 -- ---- of which roots settings files are

@@ -45,11 +45,11 @@ use Rattle.client.specs.Folds.{asked_after}
 use Rattle.client.specs.Steps.{answered, folders_changed, logged_if, notification_of}
 use Rattle.client.specs.declared.handler.ReqHandler.{ReqHandler}
 use Rattle.client.specs.declared.handler.ReqHandler.TheVariants.{Ignore, OpenLogs, Settings}
-use Rattle.desk.specs.Building.{BuildEnd, build_ended}
-use Rattle.desk.specs.Checking.{check_ended}
 use Rattle.desk.specs.Desk.{Desk}
-use Rattle.desk.specs.Fetching.{FetchEnd, fetch_ended}
-use Rattle.desk.specs.Loading.{LoadEnd, load_ended}
+use Rattle.desk.specs.WorkEnds.{work_ended}
+use Rattle.desk.specs.declared.state.ends.WorkEnd.{WorkEnd}
+use Rattle.desk.specs.declared.state.ends.WorkEnd.TheVariants.{Fetched, Built, Checked, Loaded}
+use Rattle.session_laws.proofs.WorkEnds.{work_kept, work-versions}
 use Rattle.desk.specs.Meaning.{Meaning}
 use Rattle.desk.specs.Reactions.{Reaction, cancel_row, message_row, request_row}
 use Rattle.desk.specs.Steps.{cancelled, counted as counted_at_desk, handed_over, kept as kept_at_desk, requested, taken as taken_at_desk}
@@ -67,14 +67,14 @@ use Rattle.workspaces.specs.declared.requests.FetchRequest.{FetchRequest}
 use Rattle.reload.specs.declared.switch.Switch.{Switch}
 use Rattle.reload.specs.declared.switch.Switch.TheVariants as switch
 use Rattle.session_model.specs.Building.{build_due, build_kept, request_told, with_due_build}
-use Rattle.session_model.specs.Checking.{check_kind}
+use Rattle.session_model.specs.Checking.{check_kept, check_kind}
 use Rattle.session_model.specs.Crates.{builds_crates, crate_data, is_unknown, with_crates}
 use Rattle.session_model.specs.Fetching.{fetch_kept, folders_told_if, settings_told, with_fetches}
 use Rattle.session_model.specs.Hearing.{heard_of, told_by}
 use Rattle.session_model.specs.Inputs.{batch_of, cancelled_by, check_count, checks_among, file_count, files_among, files_noticed}
 use Rattle.session_model.specs.Loading.{MacroPaths, crates_loaded, load_due, load_kept, with_due_load}
 use Rattle.session_model.specs.Machine.{all_resumed, answer_taken, asked, asked_for_settings, asked_if, at_client, at_desk, at_files, at_workspaces, batched, begin_part, begun_fetches, build_handed_over, build_part}
-use Rattle.session_model.specs.Machine.{build_started, build_taken, changed_at, check_taken, client_in, closed, closed_at, closing_part, counted, crates_arrived, crates_built, desk_in, effects_done, ends_taken, fetch_waits, settings_filed, sources_deferred, event_part, fetch_handed_over}
+use Rattle.session_model.specs.Machine.{build_started, build_taken, changed_at, client_in, closed, closed_at, closing_part, counted, crates_arrived, crates_built, desk_in, effects_done, end_taken, work_taken, fetch_waits, settings_filed, sources_deferred, event_part, fetch_handed_over}
 use Rattle.session_model.specs.Machine.{fetch_part, fetch_started, fetch_taken, files_changed, files_done, files_followed, files_in, files_part, files_processed, files_processed_if, folders_taken, followed, happened, in_state, kept, knowing, later_parts}
 use Rattle.session_model.specs.Machine.{load_handed_over, load_started, load_taken, loader_set, macros_taken, noticed, opened_at, quiet_done, quiet_part, received, refreshed, register_part, resumed, revised, roots_renewed, runs_started, save_noted}
 use Rattle.session_model.specs.Machine.{saved_at, saved_file, saves_registered, some_processed, start_parts, state_in, status_changed, status_done, status_kept, status_part, status_told, step, switch_done, switch_part, switched_to, taken, taken_in}
@@ -103,7 +103,7 @@ use Rattle.session_laws.proofs.Events.{files-same, notification_input, noted-sam
 use Rattle.session_laws.proofs.Following.{deferred-same, further-same}
 use Rattle.session_laws.proofs.Processing.{at}
 use Rattle.session_laws.proofs.Rows.{counted-is}
-use Rattle.session_laws.proofs.Running.{versions_of, build-leaves, fetch-leaves, fire-runs, folders-runs, load-leaves, planned-runs, renewed-runs, request-runs, save-runs, settings-runs}
+use Rattle.session_laws.proofs.Running.{versions_of, fire-runs, folders-runs, planned-runs, renewed-runs, request-runs, save-runs, settings-runs}
 use Rattle.session_laws.proofs.Switching.{Moves, left_or, loader-same, made-moves, warned-same}
 use Rattle.session_laws.proofs.Telling.{answered-does, folders-do}
 
@@ -409,30 +409,25 @@ request-does meaning s r needs few =
 logged-same : (code : LogCode) (text : Option (List ℕ)) (w : Working State) → held (logged_if code text w).state ≡ held w.state
 logged-same code text w = same-state w.state (logged_if code text w).state (logged_if-same code text w)
 
-fetch-same : (end : Option FetchEnd) (w : Working State) → held (fetch_taken end w).state ≡ held w.state
-unfolding fetch_taken
-fetch-same None w = refl
-fetch-same (Some found) w =
-    logged-same _ _ (at_workspaces (fetch_kept (Some found)) w) ∙ held-workspaces w.state (fetch_kept (Some found) w.state.workspaces) (fetch-leaves (Some found) w.state.workspaces).2
-
-build-same : (end : Option BuildEnd) (w : Working State) → held (build_taken end w).state ≡ held w.state
-unfolding build_taken
-build-same None w = refl
-build-same (Some made) w =
-    logged-same _ _ (at_workspaces (build_kept (Some made)) w) ∙ held-workspaces w.state (build_kept (Some made) w.state.workspaces) (build-leaves (Some made) w.state.workspaces).2
+kept-same : (end : WorkEnd) (w : Working State) → held (at_workspaces (work_kept end) w).state ≡ held w.state
+kept-same end w = held-workspaces w.state (work_kept end w.state.workspaces) (work-versions end w.state.workspaces)
 
 -- but that of a load of macros may bring crate data into the world
-ends-do : (fetched : Option FetchEnd) (built : Option BuildEnd) (checked : Option (List (List ℕ))) (loaded : Option LoadEnd) (w : Working State)
-    → Does (revisions 1) w (ends_taken fetched built checked loaded w)
-unfolding ends_taken load_taken macros_taken
-ends-do fetched built checked loaded w =
-    let b : Working State = build_taken built (fetch_taken fetched w) in
-    let c : Working State = check_taken checked b in
-    let l : Working State = at_workspaces (load_kept loaded) c in
-    let crates : Option CrateData = crates_loaded loaded c.state.workspaces in
-    from-same (revisions 1) w l (and_then (crates_arrived crates l) (files_processed_if (is_some crates)))
-    (held-workspaces c.state (load_kept loaded c.state.workspaces) (load-leaves loaded c.state.workspaces).2 ∙ build-same built (fetch_taken fetched w) ∙ fetch-same fetched w)
+work-does : (end : WorkEnd) (w : Working State) → Does (revisions 1) w (work_taken end w)
+unfolding work_taken fetch_taken build_taken load_taken macros_taken
+work-does (Fetched found) w = does-same (revisions 1) w (fetch_taken found w) (logged-same _ _ (at_workspaces (fetch_kept found) w) ∙ kept-same (Fetched found) w)
+work-does (Built made) w = does-same (revisions 1) w (build_taken made w) (logged-same _ _ (at_workspaces (build_kept made) w) ∙ kept-same (Built made) w)
+work-does (Checked roots) w = does-same (revisions 1) w (at_workspaces (check_kept roots) w) (kept-same (Checked roots) w)
+work-does (Loaded told) w =
+    let l : Working State = at_workspaces (load_kept told) w in
+    let crates : Option CrateData = crates_loaded told w.state.workspaces in
+    from-same (revisions 1) w l (and_then (crates_arrived crates l) (files_processed_if (is_some crates))) (kept-same (Loaded told) w)
     (does-then (revisions 1) none l (crates_arrived crates l) (files_processed_if (is_some crates)) (arrived-does crates l) (processed_if-does (is_some crates)))
+
+end-does : (end : Option WorkEnd) (w : Working State) → Does (revisions 1) w (end_taken end w)
+unfolding end_taken
+end-does None w = does-same (revisions 1) w w refl
+end-does (Some end) w = work-does end w
 
 -- so many jobs and revisions
 abbrev for_messages : ℕ → ℕ → Numbers
@@ -455,7 +450,7 @@ taken-does meaning turns message w =
     (counts-within state_ahead (jobs (length done.jobs)) (held w.state) desk_in with_desk (taken_at_desk meaning scene message) w
     (desk-counts (jobs (length done.jobs)) (ahead w.state) None (at w) plain (after_message message out) (taken_at_desk meaning scene message (at w)) refl refl (omega (arith, same))
     (message-settles meaning scene message (at w)) (message-errs meaning scene message (at w))))
-    (ends-do (fetch_ended message out) (build_ended message out) (check_ended message out) (load_ended message out)))
+    (end-does (work_ended message out)))
 
 batch-does : (meaning : Meaning) (turns : ℕ) (s : State) (batch : List TaskMsg) (w : Working State) → Stays s w.state
     → Does (for_messages (length (batch_row meaning batch w (place_now s turns w)).jobs) (length batch)) w (batched meaning batch w)

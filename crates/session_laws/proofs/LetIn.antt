@@ -44,11 +44,10 @@ use Rattle.notify.specs.declared.outgo.MessageKind.{MessageKind}
 use Rattle.notify.specs.declared.outgo.MessageKind.TheVariants.{Warning}
 use Rattle.notify.specs.declared.outgo.Outgo.{Outgo}
 use Rattle.notify.specs.declared.outgo.Outgo.TheVariants.{CodeLensRefresh, Configuration, DiagnosticRefresh, InlayHintRefresh, SemanticTokensRefresh, ShowMessage, ShowMessageRequest}
-use Rattle.desk.specs.Building.{BuildEnd, build_ended}
-use Rattle.desk.specs.Checking.{check_ended}
 use Rattle.desk.specs.Desk.{Desk}
-use Rattle.desk.specs.Fetching.{FetchEnd, fetch_ended}
-use Rattle.desk.specs.Loading.{LoadEnd, load_ended}
+use Rattle.desk.specs.WorkEnds.{BuildEnd, FetchEnd, LoadEnd, work_ended}
+use Rattle.desk.specs.declared.state.ends.WorkEnd.{WorkEnd}
+use Rattle.desk.specs.declared.state.ends.WorkEnd.TheVariants.{Fetched, Built, Checked, Loaded}
 use Rattle.desk.specs.Meaning.{Meaning}
 use Rattle.desk.specs.Steps.{cancelled, counted as counted_at_desk, handed_over, kept as kept_at_desk, requested, taken as taken_at_desk}
 use Rattle.desk_laws.proofs.Results.{IfOk-and_then, IfOk-if, IfOk-weaker, IfOk-within}
@@ -76,8 +75,8 @@ use Rattle.session_model.specs.Fetching.{fetch_kept, folders_told_if, settings_t
 use Rattle.session_model.specs.Hearing.{heard_of, told_by}
 use Rattle.session_model.specs.Loading.{MacroPaths, crates_loaded, load_due, load_kept, load_kind, with_due_load}
 use Rattle.session_model.specs.Machine.{all_resumed, answer_taken, asked, asked_for_settings, asked_if, at_client, at_desk, at_files, at_workspaces, batched, begin_part, begun_fetches}
-use Rattle.session_model.specs.Machine.{brought, build_handed_over, build_part, build_started, build_taken, changed_at, check_taken, client_in, closed, closed_at, closing_part, counted}
-use Rattle.session_model.specs.Machine.{crates_arrived, crates_built, desk_in, effects_done, ends_taken, event_part, fetch_handed_over, fetch_part, fetch_started, fetch_taken, fetch_waits}
+use Rattle.session_model.specs.Machine.{brought, build_handed_over, build_part, build_started, build_taken, changed_at, client_in, closed, closed_at, closing_part, counted}
+use Rattle.session_model.specs.Machine.{crates_arrived, crates_built, desk_in, effects_done, end_taken, work_taken, event_part, fetch_handed_over, fetch_part, fetch_started, fetch_taken, fetch_waits}
 use Rattle.session_model.specs.Machine.{file_changed, files_changed, files_done, files_followed, files_in, files_part, files_processed, files_processed_if, folders_taken, followed, further_logged}
 use Rattle.session_model.specs.Machine.{happened, in_state, kept, knowing, later_parts, load_handed_over, prime_part, publish_part, load_started, load_taken, loader_set, macros_taken, noticed, opened_at, quiet_done, quiet_part}
 use Rattle.session_model.specs.Machine.{received, refreshed, register_part, resumed, revised, roots_renewed, runs_started, save_noted, saved_at, saves_registered, settings_filed, some_processed, sources_deferred}
@@ -235,7 +234,7 @@ unfolding after
 answered-parents None settings = refl
 answered-parents (Some value) settings = refl
 
-after-parents : (handler : Option ReqHandler) (r : Response) (settings : ConfigData) → (settings_after handler r settings).settings.parents ≡ settings.settings.parents
+pub after-parents : (handler : Option ReqHandler) (r : Response) (settings : ConfigData) → (settings_after handler r settings).settings.parents ≡ settings.settings.parents
 after-parents None r settings = refl
 after-parents (Some Ignore) r settings = refl
 after-parents (Some OpenLogs) r settings = refl
@@ -363,19 +362,17 @@ files-alter tells w =
 
 -- ---- messages of jobs
 
-fetch-taken-still : (end : Option FetchEnd) (w : Working State) → StillTo w (fetch_taken end w)
+fetch-taken-still : (found : FetchEnd) (w : Working State) → StillTo w (fetch_taken found w)
 unfolding fetch_taken
-fetch-taken-still None w = still-none w.state
-fetch-taken-still (Some found) w =
-    let v : Working State = at_workspaces (fetch_kept (Some found)) w in
-    still-on w.state v.state _ (workspaces-still (fetch_kept (Some found)) w) (logged_if-still FetchError (fetch_fault v.state.client.settings v.state.workspaces) v)
+fetch-taken-still found w =
+    let v : Working State = at_workspaces (fetch_kept found) w in
+    still-on w.state v.state _ (workspaces-still (fetch_kept found) w) (logged_if-still FetchError (fetch_fault v.state.client.settings v.state.workspaces) v)
 
-build-taken-still : (end : Option BuildEnd) (w : Working State) → StillTo w (build_taken end w)
+build-taken-still : (made : BuildEnd) (w : Working State) → StillTo w (build_taken made w)
 unfolding build_taken
-build-taken-still None w = still-none w.state
-build-taken-still (Some made) w =
-    let v : Working State = at_workspaces (build_kept (Some made)) w in
-    still-on w.state v.state _ (workspaces-still (build_kept (Some made)) w) (logged_if-still BuildError (build_fault v.state.workspaces) v)
+build-taken-still made w =
+    let v : Working State = at_workspaces (build_kept made) w in
+    still-on w.state v.state _ (workspaces-still (build_kept made) w) (logged_if-still BuildError (build_fault v.state.workspaces) v)
 
 arrived-alter : (tells : Bool) (crates : Option CrateData) (w : Working State) → IfOk (crates_arrived crates w) (AltersTo tells w)
 unfolding crates_arrived
@@ -386,33 +383,35 @@ arrived-alter tells (Some crates) w =
     (IfOk-weaker _ (PutsCrates roots crates (record { state = w.state.files; out = w.out })) _ (crates-put roots crates (record { state = w.state.files; out = w.out }))
     (λ v p. crates-alter tells crates w.state v.state p.is))
 
-macros-alter : (tells : Bool) (end : Option LoadEnd) (w : Working State) → IfOk (macros_taken end w) (AltersTo tells w)
+macros-alter : (tells : Bool) (told : LoadEnd) (w : Working State) → IfOk (macros_taken told w) (AltersTo tells w)
 unfolding macros_taken
-macros-alter tells end w =
-    let v : Working State = at_workspaces (load_kept end) w in
-    IfOk-weaker (crates_arrived (crates_loaded end w.state.workspaces) v) (AltersTo tells v) (AltersTo tells w) (arrived-alter tells (crates_loaded end w.state.workspaces) v)
-    (λ u a. alters-on tells w.state v.state u.state (alters-still tells w.state v.state (workspaces-still (load_kept end) w)) a)
+macros-alter tells told w =
+    let v : Working State = at_workspaces (load_kept told) w in
+    IfOk-weaker (crates_arrived (crates_loaded told w.state.workspaces) v) (AltersTo tells v) (AltersTo tells w) (arrived-alter tells (crates_loaded told w.state.workspaces) v)
+    (λ u a. alters-on tells w.state v.state u.state (alters-still tells w.state v.state (workspaces-still (load_kept told) w)) a)
 
 processed_if-alters : (tells b : Bool) (w : Working State) → IfOk (files_processed_if b w) (AltersTo tells w)
 unfolding files_processed_if
 processed_if-alters tells true w = files-alter tells w
 processed_if-alters tells false w = alters-still tells w.state w.state (still-none w.state)
 
-load-alters : (tells : Bool) (end : Option LoadEnd) (w : Working State) → IfOk (load_taken end w) (AltersTo tells w)
+load-alters : (tells : Bool) (told : LoadEnd) (w : Working State) → IfOk (load_taken told w) (AltersTo tells w)
 unfolding load_taken
-load-alters tells end w =
-    let came = is_some (crates_loaded end w.state.workspaces) in
-    alters-then tells (macros_taken end w) (files_processed_if came) w (macros-alter tells end w) (processed_if-alters tells came)
+load-alters tells told w =
+    let came = is_some (crates_loaded told w.state.workspaces) in
+    alters-then tells (macros_taken told w) (files_processed_if came) w (macros-alter tells told w) (processed_if-alters tells came)
 
-ends-alter : (tells : Bool) (fetched : Option FetchEnd) (built : Option BuildEnd) (checked : Option (List (List ℕ))) (loaded : Option LoadEnd) (w : Working State)
-    → IfOk (ends_taken fetched built checked loaded w) (AltersTo tells w)
-unfolding ends_taken
-ends-alter tells fetched built checked loaded w =
-    let f : Working State = fetch_taken fetched w in
-    let b : Working State = build_taken built f in
-    let c : Working State = check_taken checked b in
-    let still = still-on w.state b.state c.state (still-on w.state f.state b.state (fetch-taken-still fetched w) (build-taken-still built f)) (workspaces-still (check_kept checked) b) in
-    IfOk-weaker (load_taken loaded c) (AltersTo tells c) (AltersTo tells w) (load-alters tells loaded c) (λ u a. alters-on tells w.state c.state u.state (alters-still tells w.state c.state still) a)
+work-alters : (tells : Bool) (end : WorkEnd) (w : Working State) → IfOk (work_taken end w) (AltersTo tells w)
+unfolding work_taken
+work-alters tells (Fetched found) w = alters-still tells w.state (fetch_taken found w).state (fetch-taken-still found w)
+work-alters tells (Built made) w = alters-still tells w.state (build_taken made w).state (build-taken-still made w)
+work-alters tells (Checked roots) w = alters-still tells w.state (at_workspaces (check_kept roots) w).state (workspaces-still (check_kept roots) w)
+work-alters tells (Loaded told) w = load-alters tells told w
+
+end-alters : (tells : Bool) (end : Option WorkEnd) (w : Working State) → IfOk (end_taken end w) (AltersTo tells w)
+unfolding end_taken
+end-alters tells None w = alters-still tells w.state w.state (still-none w.state)
+end-alters tells (Some end) w = work-alters tells end w
 
 pub taken-alters : (tells : Bool) (meaning : Meaning) (message : TaskMsg) (w : Working State) → IfOk (taken meaning message w) (AltersTo tells w)
 unfolding taken
@@ -420,7 +419,7 @@ taken-alters tells meaning message w =
     let jobs = w.state.desk.jobs in
     alters-then tells (at_desk (taken_at_desk meaning (scene_of w.state) message) w) _ w
     (still-alters tells (at_desk (taken_at_desk meaning (scene_of w.state) message) w) w (desk-still (taken_at_desk meaning (scene_of w.state) message) w))
-    (ends-alter tells (fetch_ended message jobs) (build_ended message jobs) (check_ended message jobs) (load_ended message jobs))
+    (end-alters tells (work_ended message jobs))
 
 batch-alters : (tells : Bool) (meaning : Meaning) (batch : List TaskMsg) (w : Working State) → IfOk (batched meaning batch w) (AltersTo tells w)
 batch-alters tells meaning [] w = alters-still tells w.state w.state (still-none w.state)
@@ -611,10 +610,10 @@ closed-turn-still facts w =
 -- ---- whole turns
 
 -- what holds of the sessions of two turns
-abbrev Turns : (State → State → Type 0) → Working Turning → Working Turning → Type 0
+abbrev pub Turns : (State → State → Type 0) → Working Turning → Working Turning → Type 0
 Turns R t v = R t.state.state v.state.state
 
-in-state : (R : State → State → Type 0) (part : Working State → Result (Working State) Counter) (t : Working Turning) → IfOk (part (record { state = t.state.state; out = t.out })) (λ v. R t.state.state v.state)
+pub in-state : (R : State → State → Type 0) (part : Working State → Result (Working State) Counter) (t : Working Turning) → IfOk (part (record { state = t.state.state; out = t.out })) (λ v. R t.state.state v.state)
     → IfOk (in_state part t) (Turns R t)
 in-state R part t h = IfOk-within state_in with_state part t (Turns R t) h
 
@@ -649,7 +648,7 @@ files-part tells t =
     IfOk-and_then (in_state files_done t) (λ v. Ok (knowing (some_processed t.state.state.files) v)) (Turns (Alters tells) t) (Turns (Alters tells) t)
     (in-state (Alters tells) files_done t (done-alter tells _)) (λ v a. a)
 
-later-behind : (tells : Bool) (event : Event) (t : Working Turning) → IfOk (later_parts (Next event) t) (Turns (Behind tells) t)
+pub later-behind : (tells : Bool) (event : Event) (t : Working Turning) → IfOk (later_parts (Next event) t) (Turns (Behind tells) t)
 unfolding switch_part
 later-behind tells event t =
     IfOk-and_then (switch_part t) _ (Turns (Behind tells) t) (Turns (Behind tells) t) (in-state (Behind tells) switch_done t (switch-behind tells _))

@@ -14,7 +14,7 @@ use session_model::TurnError;
 use session_port::{LogCode, TurnOut};
 use session_store::Store;
 
-// Whether the settings have the parents of the roots that are present, and no settings file has changed.
+// Whether no parents wait, and no settings file has changed.
 fn is_settled(store: &Store, files: &Items<SettingsFile>) -> bool
     ensures { result ≡ is_settled files.now store.now.sources }
 {

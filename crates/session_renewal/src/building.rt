@@ -29,7 +29,7 @@ pub fn rebuild_macros_if(
 
 // What a run of build data came to is kept, where one is in progress.
 fn end_build(store: &mut Store, made: BuildEnd) -> Result<(), NoMemory>
-    ensures { OnOk result (store.new ≡ record store.old { workspaces = build_kept (Some made) store.old.workspaces }) }
+    ensures { OnOk result (store.new ≡ record store.old { workspaces = build_kept made store.old.workspaces }) }
 {
     if store.workspaces.is_building() {
         store.workspaces.end_build(made)?;
@@ -47,16 +47,9 @@ fn log_build(store: &mut Store, out: &mut TurnOut) -> Result<(), TurnError>
 
 /// What a run of build data came to is kept, where one is in progress, and its errors are logged.
 #[tactic(auto, unfolding(session_model::specs::Machine::build_taken))]
-pub fn take_build(
-    store: &mut Store,
-    end: Option<BuildEnd>,
-    out: &mut TurnOut,
-) -> Result<(), TurnError>
-    ensures { Gives result (build_taken end (record { state = store.old; out = out.old })) store.new out.new }
+pub fn take_build(store: &mut Store, made: BuildEnd, out: &mut TurnOut) -> Result<(), TurnError>
+    ensures { Gives result (build_taken made (record { state = store.old; out = out.old })) store.new out.new }
 {
-    let Some(made) = end else {
-        return Ok(());
-    };
     end_build(store, made)?;
     log_build(store, out)
 }

@@ -3,7 +3,7 @@ ghost use Rattle.std.specs.Prelude.{◌≡◌, filter, IfOk};
 ghost use Rattle.std.specs.List.{list_any};
 ghost use Rattle.analysis_host.specs.SnapshotFiles.{file_exists};
 ghost use Rattle.session_port.specs.Meets.{Meets};
-ghost use Rattle.session_model.specs.Checking.{check_kept, check_kind, finds_macros, has_macro_root, is_macro_root};
+ghost use Rattle.session_model.specs.Checking.{check_kept, check_kind, has_macro_root, is_macro_root};
 ghost use Rattle.session_model.specs.Machine.{all_resumed, resumed, with_workspaces};
 
 use analysis_host::GlobalStateSnapshot;
@@ -47,16 +47,6 @@ fn have_macro_root(roots: &[VfsPath], present: &[ProjectWorkspace]) -> bool
         .any(|workspace| has_macro_root(roots, workspace))
 }
 
-// Whether one of the root files that a check found, if one has ended, is that of a crate of macros.
-fn finds_macros(checked: &Option<Items<VfsPath>>, present: &[ProjectWorkspace]) -> bool
-    ensures { result ≡ finds_macros checked.now present.now }
-{
-    match checked {
-        None => false,
-        Some(roots) => have_macro_root(roots.as_slice(), present),
-    }
-}
-
 // Those of these files that exist.
 fn existing(
     alloc: Global,
@@ -88,10 +78,10 @@ fn check_kind(
 }
 
 /// What build data depends on has changed, where a check found the root file of a crate of macros.
-pub fn take_check(store: &mut Store, checked: Option<Items<VfsPath>>)
-    ensures { store.new ≡ with_workspaces (check_kept checked store.old.workspaces) store.old }
+pub fn take_check(store: &mut Store, roots: Items<VfsPath>)
+    ensures { store.new ≡ with_workspaces (check_kept roots store.old.workspaces) store.old }
 {
-    if finds_macros(&checked, store.workspaces.present()) {
+    if have_macro_root(roots.as_slice(), store.workspaces.present()) {
         store.workspaces.change_build_deps();
     }
 }

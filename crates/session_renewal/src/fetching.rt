@@ -58,7 +58,7 @@ pub fn reload_if(store: &mut Store, reloads: bool, out: &mut TurnOut) -> Result<
 
 // What a fetch came to is kept, where one is in progress.
 fn end_fetch(store: &mut Store, found: FetchEnd) -> Result<(), NoMemory>
-    ensures { OnOk result (store.new ≡ record store.old { workspaces = fetch_kept (Some found) store.old.workspaces }) }
+    ensures { OnOk result (store.new ≡ record store.old { workspaces = fetch_kept found store.old.workspaces }) }
 {
     if store.workspaces.is_fetching() {
         store.workspaces.end_fetch(found)?;
@@ -76,16 +76,9 @@ fn log_fetch(store: &mut Store, out: &mut TurnOut) -> Result<(), TurnError>
 
 /// What a fetch came to is kept, where one is in progress, and its errors are logged.
 #[tactic(auto, unfolding(session_model::specs::Machine::fetch_taken))]
-pub fn take_fetch(
-    store: &mut Store,
-    end: Option<FetchEnd>,
-    out: &mut TurnOut,
-) -> Result<(), TurnError>
-    ensures { Gives result (fetch_taken end (record { state = store.old; out = out.old })) store.new out.new }
+pub fn take_fetch(store: &mut Store, found: FetchEnd, out: &mut TurnOut) -> Result<(), TurnError>
+    ensures { Gives result (fetch_taken found (record { state = store.old; out = out.old })) store.new out.new }
 {
-    let Some(found) = end else {
-        return Ok(());
-    };
     end_fetch(store, found)?;
     log_fetch(store, out)
 }

@@ -27,13 +27,10 @@ fn copied(
 }
 
 // A load of macros ends, where one is in progress. Answers the crate data that waited for it.
-fn end_load(store: &mut Store, end: Option<LoadEnd>) -> Result<Option<CrateData>, NoMemory>
-    ensures value { IfOk result (λ crates. crates ≡ crates_loaded end store.old.workspaces) }
-    ensures after { OnOk result (store.new ≡ record store.old { workspaces = load_kept end store.old.workspaces }) }
+fn end_load(store: &mut Store, told: LoadEnd) -> Result<Option<CrateData>, NoMemory>
+    ensures value { IfOk result (λ crates. crates ≡ crates_loaded told store.old.workspaces) }
+    ensures after { OnOk result (store.new ≡ record store.old { workspaces = load_kept told store.old.workspaces }) }
 {
-    let Some(told) = end else {
-        return Ok(None);
-    };
     if !store.workspaces.is_loading() {
         return Ok(None);
     }
@@ -54,15 +51,11 @@ fn let_in(store: &mut Store, crates: Option<CrateData>, out: &mut TurnOut) -> Re
 /// The end of a load of macros is told to the workspaces, and crate data that waited for it goes into the world. Answers
 /// whether there was some.
 #[tactic(auto, unfolding(session_model::specs::Machine::macros_taken))]
-pub fn take_macros(
-    store: &mut Store,
-    end: Option<LoadEnd>,
-    out: &mut TurnOut,
-) -> Result<bool, TurnError>
-    ensures meets { Meets result (macros_taken end (record { state = store.old; out = out.old })) store.new out.new }
-    ensures came { IfOk result (λ came. came ≡ is_some (crates_loaded end store.old.workspaces)) }
+pub fn take_macros(store: &mut Store, told: LoadEnd, out: &mut TurnOut) -> Result<bool, TurnError>
+    ensures meets { Meets result (macros_taken told (record { state = store.old; out = out.old })) store.new out.new }
+    ensures came { IfOk result (λ came. came ≡ is_some (crates_loaded told store.old.workspaces)) }
 {
-    let crates = end_load(store, end)?;
+    let crates = end_load(store, told)?;
     let came = crates.is_some();
     let_in(store, crates, out)?;
     Ok(came)

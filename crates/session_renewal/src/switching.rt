@@ -4,7 +4,7 @@ ghost use Rattle.session_port.specs.Meets.{Meets, Gives};
 ghost use Rattle.session_port.specs.declared.fault.Counter.TheVariants.{LoaderSettings};
 ghost use Rattle.session_port.specs.declared.fault.TurnError.TheVariants.{Exhausted, NoMemory as OutOfMemory};
 ghost use Rattle.session_model.specs.Machine.{followed, loader_set, roots_renewed, switch_done, warned};
-ghost use Rattle.session_model.specs.Sources.{sources_now};
+ghost use Rattle.session_model.specs.Sources.{other_parents, sources_now};
 ghost use Rattle.session_model.specs.Switching.{switch_by, switch_made};
 
 use crate::crates::{build_crates, builds_crates, follow_crates};
@@ -54,13 +54,31 @@ fn roots_now(store: &Store) -> Result<SourceRoots, AllocError>
     SourceRoots::new(store.workspaces.loader_roots(store.excludes())?)
 }
 
+// The parents of the roots, where the settings have others.
+fn other_parents(
+    store: &Store,
+    roots: &SourceRoots,
+) -> Result<Option<Items<(u32, u32)>>, AllocError>
+    ensures { IfOk result (λ parents. parents ≡ other_parents store.now.client.settings roots.now) }
+{
+    let pairs = roots.parent_map()?;
+    let has_parents = store
+        .client
+        .settings()
+        .has_parents(store.alloc, pairs.as_slice())?;
+    if has_parents {
+        return Ok(None);
+    }
+    Ok(Some(pairs))
+}
+
 // The source roots are those that the loader gets.
 #[tactic(auto, unfolding(session_model::specs::Machine::roots_renewed))]
 fn renew_roots(store: &mut Store, out: &mut TurnOut) -> Result<(), TurnError>
     ensures { Gives result (roots_renewed (record { state = store.old; out = out.old })) store.new out.new }
 {
     let roots = roots_now(store)?;
-    store.parents = Some(roots.parent_map()?);
+    store.parents = other_parents(store, &roots)?;
     store.roots = roots;
     Ok(())
 }

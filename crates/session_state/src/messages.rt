@@ -5,13 +5,13 @@ ghost use Rattle.session_port.specs.Meets.{Meets};
 ghost use Rattle.session_model.specs.Meaning.{meaning_of};
 ghost use Rattle.session_model.specs.Building.{is_rebuild, rebuilds};
 ghost use Rattle.session_model.specs.Fetching.{is_reload, reloads};
-ghost use Rattle.session_model.specs.Machine.{asked, batched, ends_taken, files_processed_if, load_taken, received, taken};
+ghost use Rattle.session_model.specs.Machine.{asked, batched, end_taken, files_processed_if, load_taken, received, taken, work_taken};
 
 use analysis_host::Analysis;
 use lsp_frame::{Message, Request};
 use method_table::{REBUILD_PROC_MACROS, RELOAD_WORKSPACE, RowId, is_unit, row_of};
 use plain::Items;
-use session_model::{Ends, LoadEnd, TurnError};
+use session_model::{LoadEnd, TurnError, WorkEnd};
 use session_notices::{complete_request, on_notification, process_changes};
 use session_port::{TaskMsg, TurnOut};
 use session_renewal::{
@@ -104,28 +104,37 @@ fn process_if(store: &mut Store, wanted: bool, out: &mut TurnOut) -> Result<(), 
 
 // The end of a load of macros. Behind crate data that comes with them the files are processed, also while some are loading.
 #[tactic(auto, unfolding(session_model::specs::Machine::load_taken))]
-fn take_load(store: &mut Store, end: Option<LoadEnd>, out: &mut TurnOut) -> Result<(), TurnError>
-    ensures { Meets result (load_taken end (record { state = store.old; out = out.old })) store.new out.new }
+fn take_load(store: &mut Store, told: LoadEnd, out: &mut TurnOut) -> Result<(), TurnError>
+    ensures { Meets result (load_taken told (record { state = store.old; out = out.old })) store.new out.new }
 {
-    let came = take_macros(store, end, out)?;
+    let came = take_macros(store, told, out)?;
     process_if(store, came, out)
 }
 
-// What a message of a job ends is told to the workspaces.
-#[tactic(auto, unfolding(session_model::specs::Machine::ends_taken))]
-fn take_ends(store: &mut Store, ends: Ends, out: &mut TurnOut) -> Result<(), TurnError>
-    ensures { Meets result (ends_taken ends.fetched ends.built ends.checked ends.loaded (record { state = store.old; out = out.old })) store.new out.new }
+// What a job ends of the session's own work is told to the workspaces.
+#[tactic(auto, unfolding(session_model::specs::Machine::work_taken))]
+fn take_work(store: &mut Store, end: WorkEnd, out: &mut TurnOut) -> Result<(), TurnError>
+    ensures { Meets result (work_taken end (record { state = store.old; out = out.old })) store.new out.new }
 {
-    let Ends {
-        fetched,
-        built,
-        checked,
-        loaded,
-    } = ends;
-    take_fetch(store, fetched, out)?;
-    take_build(store, built, out)?;
-    take_check(store, checked);
-    take_load(store, loaded, out)
+    match end {
+        WorkEnd::Fetched(found) => take_fetch(store, found, out),
+        WorkEnd::Built(made) => take_build(store, made, out),
+        WorkEnd::Checked(roots) => {
+            take_check(store, roots);
+            Ok(())
+        }
+        WorkEnd::Loaded(told) => take_load(store, told, out),
+    }
+}
+
+#[tactic(auto, unfolding(session_model::specs::Machine::end_taken))]
+fn take_end(store: &mut Store, end: Option<WorkEnd>, out: &mut TurnOut) -> Result<(), TurnError>
+    ensures { Meets result (end_taken end (record { state = store.old; out = out.old })) store.new out.new }
+{
+    match end {
+        None => Ok(()),
+        Some(end) => take_work(store, end, out),
+    }
 }
 
 // A message of a job. What it ends is told to the workspaces.
@@ -138,14 +147,8 @@ fn on_task<A: Analysis>(
 ) -> Result<(), TurnError>
     ensures { Meets result (taken (meaning_of A.decodes A.answer) message (record { state = store.old; out = out.old })) store.new out.new }
 {
-    let ends = store.desk.ends(&message)?;
-    match store.bring(message, analysis, out) {
-        Ok(()) => take_ends(store, ends, out),
-        Err(error) => {
-            drop(ends);
-            Err(error)
-        }
-    }
+    let end = store.bring(message, analysis, out)?;
+    take_end(store, end, out)
 }
 
 // The messages of a batch, one after another.

@@ -39,7 +39,8 @@ as logs then start then fetched then ask rust-analyzer/reloadWorkspace null > Co
 as logs then left none of outgoing then start then fetched > no more outgoing
 as shows then left none of outgoing then start then fetched > Content-Length: 106\r\n\r\n{"jsonrpc":"2.0","method":"window/showMessage","params":{"message":"Failed to load workspaces.","type":1}}fetch error"#;
 
-// The values of the last change of settings that are refused: a client's, and those of settings files; until the next change.
+// The values of the last change of settings that are refused: a client's, and those of settings files; until the next change. Files that are no settings files make
+// none, but for the first behind a switch to roots with other parents.
 const SETTINGS: &str =
     r#"as takes then tell workspace/didChangeConfiguration {} then answer [{"checkOnSave":5}] > Content-Length: 167\r\n\r\n{"jsonrpc":"2.0","method":"experimental/serverStatus","params":{"health":"warning","message":"invalid config values: client/checkOnSave: wrong type","quiescent":true}}
 as takes then tell workspace/didChangeConfiguration {} then answer [{"checkOnSave":5,"files":{"watcher":"x"}}] > Content-Length: 204\r\n\r\n{"jsonrpc":"2.0","method":"experimental/serverStatus","params":{"health":"warning","message":"invalid config values: client/files.watcher: unknown value, client/checkOnSave: wrong type","quiescent":true}}
@@ -49,6 +50,10 @@ as takes then start then brought /w/Cargo.toml then file /w/rust-analyzer.toml c
 as takes then start then brought /w/Cargo.toml then file /w/rust-analyzer.toml checkOnSave = > Content-Length: 170\r\n\r\n{"jsonrpc":"2.0","method":"experimental/serverStatus","params":{"health":"warning","message":"invalid config values: /w/rust-analyzer.toml/: not TOML","quiescent":false}}deferrevisetimer 2
 as takes then start then brought /w/Cargo.toml then file /w/rust-analyzer.toml checkOnSave = 5 then file /w/b.rs a > deferrevisetimer 3
 as takes then start then brought /w/Cargo.toml then file /w/rust-analyzer.toml checkOnSave = 5 then file /w/rust-analyzer.toml checkOnSave = true > Content-Length: 97\r\n\r\n{"jsonrpc":"2.0","method":"experimental/serverStatus","params":{"health":"ok","quiescent":false}}deferrevisetimer 3
+as takes then start then brought /w/Cargo.toml then tell workspace/didChangeConfiguration {} then answer [{"checkOnSave":5}] then open > deferrevisetimer 4
+as takes then start then brought /w/Cargo.toml then tell workspace/didChangeConfiguration {} then answer [{"checkOnSave":5}] then ask rust-analyzer/reloadWorkspace null then brought third /w/Cargo.toml then open > deferreviseanother timer
+as takes then start then brought /w/Cargo.toml,/w/a/Cargo.toml then tell workspace/didChangeConfiguration {} then answer [{"checkOnSave":5}] then open > Content-Length: 97\r\n\r\n{"jsonrpc":"2.0","method":"experimental/serverStatus","params":{"health":"ok","quiescent":false}}deferrevisetimer 4
+as takes then start then brought /w/Cargo.toml,/w/a/Cargo.toml then open then tell workspace/didChangeConfiguration {} then answer [{"checkOnSave":5}] then file /x/b.rs a > deferrevisetimer 5
 as shows then tell workspace/didChangeConfiguration {} then answer [{"checkOnSave":5}] > Content-Length: 133\r\n\r\n{"jsonrpc":"2.0","method":"window/showMessage","params":{"message":"invalid config values: client/checkOnSave: wrong type","type":2}}"#;
 
 #[test]

@@ -11,6 +11,7 @@ ghost use Rattle.session_model.specs.DeskSteps.{responded, cancelled, handed_ove
 ghost use Rattle.session_model.specs.Machine.{at_desk};
 ghost use Rattle.session_model.specs.Meaning.{meaning_of};
 ghost use Rattle.session_model.specs.State.{macros_loaded_in, scene_of, snapshot_of, first_status, fresh, fresh_at};
+ghost use Rattle.session_model.specs.WorkEnds.{work_ended};
 ghost use Rattle.method_table.specs.declared.class.PoolClass.TheVariants.{Worker};
 
 use crate::now::{Now, are_macros_loaded};
@@ -20,7 +21,7 @@ use lsp_frame::{Request, RequestId, Response};
 use method_table::PoolClass;
 use plain::{Items, NoMemory, Text};
 use ra_config::Config;
-use session_model::{Client, Counters, Desk, Present, SessionFiles, TurnError};
+use session_model::{Client, Counters, Desk, Present, SessionFiles, TurnError, WorkEnd};
 use session_port::{Command, JobKind, LogCode, TaskMsg, TurnOut};
 use status::{Health, Status};
 use std::alloc::{AllocError, Global};
@@ -36,7 +37,7 @@ pub struct Store {
     pub workspaces: Workspaces,
     /// The source roots of the workspaces, as a switch made them.
     pub roots: SourceRoots,
-    /// Their parents, where the settings don't have them yet.
+    /// Their parents, where the settings have others.
     pub parents: Option<Items<(u32, u32)>>,
     /// The status that was told last.
     pub status: Status,
@@ -183,14 +184,15 @@ impl Store {
         self.desk.on_request(&now, request, analysis, out)
     }
 
-    /// A message of a job. After an `Err` the state is spent.
+    /// A message of a job, and what it ends of the session's own work. After an `Err` the state is spent.
     pub fn bring<A: Analysis>(
         &mut self,
         message: TaskMsg,
         analysis: &A,
         out: &mut TurnOut,
-    ) -> Result<(), TurnError>
-        ensures { Meets result (at_desk (taken (meaning_of A.decodes A.answer) (scene_of self.old) message) (record { state = self.old; out = out.old })) self.new out.new }
+    ) -> Result<Option<WorkEnd>, TurnError>
+        ensures meets { Meets result (at_desk (taken (meaning_of A.decodes A.answer) (scene_of self.old) message) (record { state = self.old; out = out.old })) self.new out.new }
+        ensures ends { IfOk result (λ end. end ≡ work_ended message self.old.desk.jobs) }
     {
         let now = Now {
             client: &self.client,

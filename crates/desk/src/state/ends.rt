@@ -1,96 +1,103 @@
 // What the messages of jobs end of the session's own work.
 ghost use Rattle.std.specs.Prelude.{◌≡◌, IfOk};
-ghost use Rattle.session_port.specs.Jobs.{if_fits};
-ghost use Rattle.desk.specs.Ends.{ends_at, ends_of, ends_told, nothing_ends};
+ghost use Rattle.desk.specs.WorkEnds.{build_end, check_end, fetch_end, load_end, value_or_reason, work_end_of};
 
-use crate::state::Desk;
-use crate::state::building::{BuildEnd, build_end};
-use crate::state::checking::check_end;
-use crate::state::fetching::{FetchEnd, fetch_end};
-use crate::state::loading::{LoadEnd, load_end};
 use docs_vfs::VfsPath;
-use plain::{Items, NoMemory};
-use session_port::{Job, JobKind, JobResult, TaskBody, TaskMsg};
+use plain::{Items, NoMemory, Text};
+use project_model::{BuildScripts, MacroState, ProjectWorkspace};
+use session_port::{JobKind, JobResult, JobValue};
 use std::alloc::Global;
 
-/// What a message of a job ends: a fetch of workspaces, a run of build data, a check of sources, which found these root files of crates, or a
-/// load of macros; and what it came to.
+/// What a fetch of workspaces came to: each workspace, found or not; or why there are none at all.
+pub type FetchEnd = Result<Items<Result<ProjectWorkspace, Text>>, Text>;
+
+/// What a run of build data came to: what the scripts of each workspace made, or why they made nothing; or why there is none at all.
+pub type BuildEnd = Result<Items<Result<BuildScripts, Text>>, Text>;
+
+/// What a load of macros came to: what became of those of each crate, by the crate's number; or why none were loaded at all.
+pub type LoadEnd = Result<Items<(u32, MacroState)>, Text>;
+
+/// What a message of a job ends of the session's own work, and what it came to.
 #[derive(Drop)]
-pub struct Ends {
-    pub fetched: Option<FetchEnd>,
-    pub built: Option<BuildEnd>,
-    pub checked: Option<Items<VfsPath>>,
-    pub loaded: Option<LoadEnd>,
+pub enum WorkEnd {
+    /// A fetch of workspaces.
+    Fetched(FetchEnd),
+    /// A run of build data.
+    Built(BuildEnd),
+    /// A check of sources, which found these root files of crates.
+    Checked(Items<VfsPath>),
+    /// A load of macros.
+    Loaded(LoadEnd),
 }
 
-// Nothing of all these.
-fn nothing() -> Ends
-    ensures { result ≡ nothing_ends }
+// The value of a job, or why there is none.
+fn value_or_reason(alloc: Global, outcome: JobResult) -> Result<Result<JobValue, Text>, NoMemory>
+    ensures { IfOk result (λ came. came ≡ value_or_reason outcome) }
 {
-    Ends {
-        fetched: None,
-        built: None,
-        checked: None,
-        loaded: None,
+    match outcome {
+        JobResult::Value(value) => Ok(Ok(value)),
+        JobResult::Fault { message, .. } => Ok(Err(message)),
+        JobResult::Cancelled { .. } => Ok(Err(Text::from_str(alloc, "cancelled")?)),
+        JobResult::NoMemory => Ok(Err(Text::from_str(alloc, "out of memory")?)),
+    }
+}
+
+fn fetch_end(came: Result<JobValue, Text>) -> Option<WorkEnd>
+    ensures { result ≡ fetch_end came }
+{
+    match came {
+        Ok(JobValue::Workspaces(results)) => Some(WorkEnd::Fetched(Ok(results))),
+        Ok(_) => None,
+        Err(reason) => Some(WorkEnd::Fetched(Err(reason))),
+    }
+}
+
+fn build_end(came: Result<JobValue, Text>) -> Option<WorkEnd>
+    ensures { result ≡ build_end came }
+{
+    match came {
+        Ok(JobValue::BuildData(results)) => Some(WorkEnd::Built(Ok(results))),
+        Ok(_) => None,
+        Err(reason) => Some(WorkEnd::Built(Err(reason))),
+    }
+}
+
+fn load_end(came: Result<JobValue, Text>) -> Option<WorkEnd>
+    ensures { result ≡ load_end came }
+{
+    match came {
+        Ok(JobValue::ProcMacros(macros)) => Some(WorkEnd::Loaded(Ok(macros))),
+        Ok(_) => None,
+        Err(reason) => Some(WorkEnd::Loaded(Err(reason))),
+    }
+}
+
+fn check_end(came: Result<JobValue, Text>) -> Option<WorkEnd>
+    ensures { result ≡ check_end came }
+{
+    match came {
+        Ok(JobValue::Roots(paths)) => Some(WorkEnd::Checked(paths)),
+        Ok(_) | Err(_) => None,
     }
 }
 
 // What a job of this kind ends that came to this.
-fn ends_of(alloc: Global, kind: &JobKind, outcome: &JobResult) -> Result<Ends, NoMemory>
-    ensures { IfOk result (λ ends. ends ≡ ends_of kind.now outcome.now) }
+pub(super) fn work_end(
+    alloc: Global,
+    kind: &JobKind,
+    outcome: JobResult,
+) -> Result<Option<WorkEnd>, NoMemory>
+    ensures { IfOk result (λ end. end ≡ work_end_of kind.now outcome) }
 {
+    let came = value_or_reason(alloc, outcome)?;
     match kind {
-        JobKind::Request { .. } => Ok(nothing()),
-        JobKind::ProcMacroSources { .. } => Ok(Ends {
-            fetched: None,
-            built: None,
-            checked: check_end(outcome)?,
-            loaded: None,
-        }),
-        JobKind::FetchWorkspaces { .. } => Ok(Ends {
-            fetched: fetch_end(alloc, outcome)?,
-            built: None,
-            checked: None,
-            loaded: None,
-        }),
-        JobKind::FetchBuildData { .. } => Ok(Ends {
-            fetched: None,
-            built: build_end(alloc, outcome)?,
-            checked: None,
-            loaded: None,
-        }),
-        JobKind::LoadProcMacros { .. } => Ok(Ends {
-            fetched: None,
-            built: None,
-            checked: None,
-            loaded: load_end(alloc, outcome)?,
-        }),
-    }
-}
-
-// What a message to this job ends. That to a request's job ends nothing, whether it fits or not, so that it isn't asked.
-#[tactic(auto, using(crate::proofs::Unended::requests_end_nothing))]
-fn ends_at(alloc: Global, job: &Job, message: &TaskMsg) -> Result<Ends, NoMemory>
-    ensures { IfOk result (λ ends. ends ≡ ends_at message.now (if_fits message.now.body job.now)) }
-{
-    if let JobKind::Request { .. } = &job.kind {
-        return Ok(nothing());
-    }
-    if !message.body.fits(job) {
-        return Ok(nothing());
-    }
-    let TaskBody::Final(outcome) = &message.body;
-    ends_of(alloc, &job.kind, outcome)
-}
-
-impl Desk {
-    /// What a message of a job ends, where it fits one that is out: a copy of what it came to.
-    pub fn ends(&self, message: &TaskMsg) -> Result<Ends, NoMemory>
-        ensures { IfOk result (λ ends. ends ≡ ends_told message.now self.now.jobs) }
-    {
-        match self.jobs.get(message.job) {
-            Some(job) => ends_at(self.alloc, job, message),
-            None => Ok(nothing()),
+        JobKind::Request { .. } => {
+            drop(came);
+            Ok(None)
         }
+        JobKind::ProcMacroSources { .. } => Ok(check_end(came)),
+        JobKind::FetchWorkspaces { .. } => Ok(fetch_end(came)),
+        JobKind::FetchBuildData { .. } => Ok(build_end(came)),
+        JobKind::LoadProcMacros { .. } => Ok(load_end(came)),
     }
 }

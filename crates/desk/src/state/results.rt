@@ -1,22 +1,39 @@
 // Messages of jobs.
-ghost use Rattle.std.specs.Prelude.{◌≡◌, true, decimal, IfSome, MatchOption};
+ghost use Rattle.std.specs.Prelude.{◌≡◌, true, decimal, IfOk, IfSome, MatchOption, None, Result, Some};
 ghost use Rattle.std.specs.FinMap as map;
 ghost use Rattle.method_table.specs.Rows.{class_of};
-ghost use Rattle.session_port.specs.Jobs.{fits, fits_kind, fitting_job};
+ghost use Rattle.session_port.specs.Jobs.{fits, fits_kind, fitting_job, plain_result, ticket_of};
+ghost use Rattle.lsp_frame.specs.Pending.{id_of};
 ghost use Rattle.session_port.specs.Meets.{Meets, Gives};
-ghost use Rattle.session_port.specs.Working.{logged};
-ghost use Rattle.desk.specs.Desk.{waiting_for};
+ghost use Rattle.session_port.specs.Working.{Working, logged};
+ghost use Rattle.session_port.specs.Written.{Written};
+ghost use Rattle.session_port.specs.declared.fault.Counter.{Counter};
+ghost use Rattle.desk.specs.Desk.{Desk as DeskData, waiting_for};
 ghost use Rattle.desk.specs.Meaning.{meaning_of};
 ghost use Rattle.desk.specs.Replies.{stopped_reply};
 ghost use Rattle.desk.specs.Steps.{taken, delivered, stopped, responded};
+ghost use Rattle.desk.specs.WorkEnds.{work_end_of, work_ended};
 
 use crate::replies::{finished_reply, stopped_reply};
 use crate::scene::Present;
 use crate::state::Desk;
+use crate::state::ends::{WorkEnd, work_end};
 use analysis_host::{Analysis, RowId};
 use method_table::{class_of, retries};
 use plain::Text;
 use session_port::{Job, JobKind, JobResult, LogCode, TaskBody, TaskMsg, TurnError, TurnOut};
+
+// The same answer, of what ends none of the session's own work.
+fn ending_nothing(done: Result<(), TurnError>) -> Result<Option<WorkEnd>, TurnError>
+    ensures same { (machine : Result (Working DeskData) Counter) (new : DeskData) (written : Written) → Meets done machine new written → Meets result machine new written }
+    ensures nothing { IfOk result (λ end. end ≡ None) }
+{
+    match done {
+        Ok(()) => Ok(None),
+        Err(TurnError::Exhausted { counter }) => Err(TurnError::Exhausted { counter }),
+        Err(TurnError::NoMemory) => Err(TurnError::NoMemory),
+    }
+}
 
 impl Desk {
     // The request of a job that stopped is refused, since the texts have changed.
@@ -69,25 +86,21 @@ impl Desk {
         }
     }
 
-    // A result, where its request still waits. A job of the host is for none.
+    // The result of a request's job, where the request still waits.
     #[tactic(auto, unfolding(crate::specs::Steps::delivered, crate::specs::Steps::settled, crate::specs::Steps::answered))]
     fn deliver<P: Present, A: Analysis>(
         &mut self,
         scene: &P,
+        ticket: u64,
         job: Job,
         outcome: JobResult,
         analysis: &A,
         out: &mut TurnOut,
     ) -> Result<(), TurnError>
-        requires { fits_kind job.kind outcome ≡ true }
-        ensures { Meets result (delivered (meaning_of A.decodes A.answer) (P.scene scene.now) (waiting_for job self.old) job outcome (record { state = self.old; out = out.old })) self.new out.new }
+        requires own { ticket_of job.kind ≡ Some ticket }
+        requires plain { plain_result outcome ≡ true }
+        ensures { Meets result (delivered (meaning_of A.decodes A.answer) (P.scene scene.now) (id_of ticket self.old.pending) job outcome (record { state = self.old; out = out.old })) self.new out.new }
     {
-        let JobKind::Request { ticket, .. } = &job.kind else {
-            drop(job);
-            drop(outcome);
-            return Ok(());
-        };
-        let ticket = *ticket;
         if self.is_completed(ticket) {
             drop(job);
             drop(outcome);
@@ -106,6 +119,29 @@ impl Desk {
             Some(response) => self.reply(response, out),
             None => Ok(()),
         }
+    }
+
+    // What a job came to that is off: the result of its request, or the end of the session's own work.
+    #[tactic(auto, unfolding(crate::specs::Steps::delivered))]
+    fn take_result<P: Present, A: Analysis>(
+        &mut self,
+        scene: &P,
+        job: Job,
+        outcome: JobResult,
+        analysis: &A,
+        out: &mut TurnOut,
+    ) -> Result<Option<WorkEnd>, TurnError>
+        requires { fits_kind job.kind outcome ≡ true }
+        ensures meets { Meets result (delivered (meaning_of A.decodes A.answer) (P.scene scene.now) (waiting_for job self.old) job outcome (record { state = self.old; out = out.old })) self.new out.new }
+        ensures ends { IfOk result (λ end. end ≡ work_end_of job.kind outcome) }
+    {
+        let JobKind::Request { ticket, .. } = &job.kind else {
+            let end = work_end(self.alloc, &job.kind, outcome);
+            drop(job);
+            return Ok(end?);
+        };
+        let ticket = *ticket;
+        ending_nothing(self.deliver(scene, ticket, job, outcome, analysis, out))
     }
 
     // A message of a job that fits none.
@@ -129,7 +165,7 @@ impl Desk {
         self.jobs.remove(message.job)
     }
 
-    /// A message of a job. After an `Err` the desk is spent.
+    /// A message of a job, and what it ends of the session's own work: where it fits a job that is out. After an `Err` the desk is spent.
     #[tactic(auto, unfolding(crate::specs::Steps::ended, crate::specs::Steps::brought))]
     pub fn on_task<P: Present, A: Analysis>(
         &mut self,
@@ -137,14 +173,18 @@ impl Desk {
         message: TaskMsg,
         analysis: &A,
         out: &mut TurnOut,
-    ) -> Result<(), TurnError>
-        ensures { Meets result (taken (meaning_of A.decodes A.answer) (P.scene scene.now) message (record { state = self.old; out = out.old })) self.new out.new }
+    ) -> Result<Option<WorkEnd>, TurnError>
+        ensures meets { Meets result (taken (meaning_of A.decodes A.answer) (P.scene scene.now) message (record { state = self.old; out = out.old })) self.new out.new }
+        ensures ends { IfOk result (λ end. end ≡ work_ended message self.old.jobs) }
     {
         match self.take_fitting(&message) {
-            None => self.on_strange(message.job, out),
+            None => {
+                self.on_strange(message.job, out)?;
+                Ok(None)
+            }
             Some(job) => {
                 let TaskBody::Final(outcome) = message.body;
-                self.deliver(scene, job, outcome, analysis, out)
+                self.take_result(scene, job, outcome, analysis, out)
             }
         }
     }

@@ -1,0 +1,80 @@
+-- What the messages of jobs end of the session's own work, and what it came to.
+use Rattle.std.specs.Prelude.{ℕ, List, codes, Option, None, Some, option_and_then, Result, Ok, Err}
+use Rattle.project_model.specs.declared.build.BuildScripts.{BuildScripts}
+use Rattle.project_model.specs.declared.crates.MacroState.{MacroState}
+use Rattle.project_model.specs.declared.workspace.ProjectWorkspace.{ProjectWorkspace}
+use Rattle.session_port.specs.Jobs.{Jobs, final_of, fitting_job}
+use Rattle.session_port.specs.declared.event.TaskMsg.{TaskMsg}
+use Rattle.session_port.specs.declared.job.Job.{Job}
+use Rattle.session_port.specs.declared.job.JobKind.{JobKind}
+use Rattle.session_port.specs.declared.job.JobKind.TheVariants.{Request, ProcMacroSources, FetchWorkspaces, FetchBuildData, LoadProcMacros}
+use Rattle.session_port.specs.declared.job.JobResult.{JobResult}
+use Rattle.session_port.specs.declared.job.JobResult.TheVariants.{Value, Fault, Cancelled, NoMemory}
+use Rattle.session_port.specs.declared.job.JobValue.{JobValue}
+use Rattle.session_port.specs.declared.job.JobValue.TheVariants.{Roots, Workspaces, BuildData, ProcMacros}
+use Rattle.desk.specs.declared.state.ends.WorkEnd.{WorkEnd}
+use Rattle.desk.specs.declared.state.ends.WorkEnd.TheVariants.{Fetched, Built, Checked, Loaded}
+
+-- ---- what each kind of work comes to
+
+-- workspaces, each found or not; or why there are none at all
+abbrev pub FetchEnd : Type 0
+FetchEnd = Result (List (Result ProjectWorkspace (List ℕ))) (List ℕ)
+
+-- what the build scripts made, workspace by workspace, or why those of one made nothing; or why there is none at all
+abbrev pub BuildEnd : Type 0
+BuildEnd = Result (List (Result BuildScripts (List ℕ))) (List ℕ)
+
+-- what became of the macros of crates, by the numbers of the crates; or why none were loaded at all
+abbrev pub LoadEnd : Type 0
+LoadEnd = Result (List (ℕ × MacroState)) (List ℕ)
+
+-- ---- what a job came to
+
+-- its value, or why there is none: a fault's message, and a text for each other end
+abbrev pub value_or_reason : JobResult → Result JobValue (List ℕ)
+value_or_reason (Value value) = Ok value
+value_or_reason (Fault code message) = Err message
+value_or_reason (Cancelled saw) = Err (codes "cancelled")
+value_or_reason NoMemory = Err (codes "out of memory")
+
+-- what that is to a fetch, a run of build data and a load of macros
+abbrev pub fetch_end : Result JobValue (List ℕ) → Option WorkEnd
+fetch_end (Ok (Workspaces results)) = Some (Fetched (Ok results))
+fetch_end (Ok other) = None
+fetch_end (Err reason) = Some (Fetched (Err reason))
+
+abbrev pub build_end : Result JobValue (List ℕ) → Option WorkEnd
+build_end (Ok (BuildData results)) = Some (Built (Ok results))
+build_end (Ok other) = None
+build_end (Err reason) = Some (Built (Err reason))
+
+abbrev pub load_end : Result JobValue (List ℕ) → Option WorkEnd
+load_end (Ok (ProcMacros macros)) = Some (Loaded (Ok macros))
+load_end (Ok other) = None
+load_end (Err reason) = Some (Loaded (Err reason))
+
+-- a check of sources found the root files of crates only where it ended with a value
+abbrev pub check_end : Result JobValue (List ℕ) → Option WorkEnd
+check_end (Ok (Roots paths)) = Some (Checked paths)
+check_end (Ok other) = None
+check_end (Err reason) = None
+
+-- ---- what ends
+
+-- what a job of this kind ends that came to this: a request's ends no work of the session's own
+abbrev pub work_end_of : JobKind → JobResult → Option WorkEnd
+work_end_of (Request ticket row params) result = None
+work_end_of (ProcMacroSources files) result = check_end (value_or_reason result)
+work_end_of (FetchWorkspaces projects detached path force) result = fetch_end (value_or_reason result)
+work_end_of (FetchBuildData version) result = build_end (value_or_reason result)
+work_end_of (LoadProcMacros paths ignored) result = load_end (value_or_reason result)
+
+-- what a message ends that fits this job, if it fits one
+abbrev pub work_told : TaskMsg → Option Job → Option WorkEnd
+work_told message None = None
+work_told message (Some job) = option_and_then (work_end_of job.kind) (final_of message.body)
+
+-- what a message of a job ends, where these jobs are out
+abbrev pub work_ended : TaskMsg → Jobs → Option WorkEnd
+work_ended message jobs = work_told message (fitting_job message jobs)

@@ -1,0 +1,195 @@
+-- What the parts of a session order beside jobs, log lines and tasks that are put off: nothing, but for files that are to be read anew.
+use Rattle.std.proofs.Common.{◌≡◌, ℕ, List, [], ◌∷◌, ◌++◌, Bool, true, false, refl, ap, ◌∙◌, append-nil}
+use Rattle.std.specs.Prelude.{ℤ, ◌==◌, Option, None, Some, Result, Ok, Err, IfOk, filter, map, if◌then◌else◌}
+use Rattle.std.specs.FinMap as finmap
+use Rattle.std.specs.List.{filter_map}
+use Rattle.std.proofs.lemmas.List.Elements.{filter_map-append}
+use Rattle.docs_vfs.specs.declared.source_roots.Root.{Root}
+use Rattle.text_core.specs.declared.change.ContentChange.{ContentChange}
+use Rattle.text_core.specs.declared.position.PositionEncoding.{PositionEncoding}
+use Rattle.lsp_frame.specs.Outgoing.{number_limit}
+use Rattle.lsp_frame.specs.declared.message.Request.{Request}
+use Rattle.lsp_frame.specs.declared.message.RequestId.{RequestId}
+use Rattle.lsp_frame.specs.declared.message.Response.{Response}
+use Rattle.analysis_host.specs.SnapshotData.{SnapshotData}
+use Rattle.method_table.specs.declared.class.PoolClass.TheVariants.{Worker}
+use Rattle.project_model.specs.declared.crates.CrateData.{CrateData}
+use Rattle.session_port.specs.declared.command.Command.{Command}
+use Rattle.session_port.specs.declared.command.Command.TheVariants.{Log}
+use Rattle.session_port.specs.declared.command.DeferredTask.{DeferredTask}
+use Rattle.session_port.specs.declared.command.Command.TheVariants.{Defer}
+use Rattle.session_port.specs.declared.command.LogCode.{LogCode}
+use Rattle.session_port.specs.declared.command.LogCode.TheVariants.{BadPath, DuplicateOpen, OrphanClose, SettingsError, SkippedChange, UnexpectedChange, UnknownResponse}
+use Rattle.session_port.specs.declared.event.LoaderMsg.{LoaderMsg}
+use Rattle.session_port.specs.declared.event.TaskMsg.{TaskMsg}
+use Rattle.session_port.specs.declared.fault.Counter.{Counter}
+use Rattle.session_port.specs.declared.fault.Counter.TheVariants.{Jobs, Outgoing, Turns}
+use Rattle.session_port.specs.declared.job.JobKind.{JobKind}
+use Rattle.session_port.specs.Working.{Working, logged, ordered, written}
+use Rattle.session_port.specs.Written.{Written}
+use Rattle.client.specs.Answers.{chooses, fault_in}
+use Rattle.client.specs.Client.{Client}
+use Rattle.client.specs.Folds.{after_asking, follows}
+use Rattle.client.specs.Steps.{answered, asked_for, folders_changed, followed, logged_if, misses, names_none, notification_of, request_at}
+use Rattle.client.specs.Texts.{id_text}
+use Rattle.client.specs.declared.handler.ReqHandler.{ReqHandler}
+use Rattle.client.specs.declared.handler.ReqHandler.TheVariants.{Ignore, OpenLogs, Settings}
+use Rattle.notify.specs.declared.outgo.Outgo.{Outgo}
+use Rattle.notify.specs.declared.outgo.Outgo.TheVariants.{OpenLogs as OpenLogsMessage}
+use Rattle.desk.specs.Desk.{Desk}
+use Rattle.desk.specs.Meaning.{Meaning}
+use Rattle.desk.specs.Scene.{Scene}
+use Rattle.desk.specs.Steps.{cancelled, counted, handed_over, kept, requested, taken}
+use Rattle.desk_laws.specs.Settled.{PassesOver}
+use Rattle.desk_laws.proofs.Appends.{passed-append}
+use Rattle.desk_laws.proofs.Results.{IfOk-next, IfOk-weaker}
+use Rattle.desk_laws.proofs.Settling.{cancel-settles, message-settles, request-settles}
+use Rattle.session_files.specs.Changing.{has_skipped}
+use Rattle.session_files.specs.Folds.{after_crates, after_editing, after_messages, after_opening, after_processing, is_open}
+use Rattle.session_files.specs.SessionFiles.{SessionFiles}
+use Rattle.session_files.specs.Steps.{become, changed, close_noted, crates_put, edited, loaded, open_noted, opened, processed, skip_noted}
+
+-- nothing was ordered but jobs, log lines and tasks that are put off
+abbrev pub Passes : Written → Written → Type 0
+Passes old new = (number_of : Command → Option ℕ) → PassesOver number_of → filter_map number_of new.commands ≡ filter_map number_of old.commands
+
+pub passes-none : (out : Written) → Passes out out
+passes-none out number_of passes = refl
+
+pub passes-on : (a b c : Written) → Passes a b → Passes b c → Passes a c
+passes-on a b c p q number_of passes = q number_of passes ∙ p number_of passes
+
+pub passes-logged : {S : Type 0} (code : LogCode) (text : List ℕ) (w : Working S) → Passes w.out (logged code text w).out
+unfolding logged ordered
+passes-logged code text w number_of passes = passed-append number_of w.out.commands (Log code text) (passes.logs code text)
+
+pub passes-deferred : {S : Type 0} (task : DeferredTask) (w : Working S) → Passes w.out (ordered (Defer task) w).out
+unfolding ordered
+passes-deferred task w number_of passes = passed-append number_of w.out.commands (Defer task) (passes.defers task)
+
+passes-logged_if : {S : Type 0} (code : LogCode) (text : Option (List ℕ)) (w : Working S) → Passes w.out (logged_if code text w).out
+passes-logged_if code None w = passes-none w.out
+passes-logged_if code (Some text) w = passes-logged code text w
+
+passes-if : {S : Type 0} (code : LogCode) (text : List ℕ) (b : Bool) (w : Working S) → Passes w.out (if b then logged code text w else w).out
+passes-if code text true w = passes-logged code text w
+passes-if code text false w = passes-none w.out
+
+-- ---- the desk
+
+abbrev FromDesk : Working Desk → Working Desk → Type 0
+FromDesk w v = Passes w.out v.out
+
+pub requested-passes : (meaning : Meaning) (scene : Scene) (r : Request) (w : Working Desk) → IfOk (requested meaning scene r w) (FromDesk w)
+requested-passes meaning scene r w = IfOk-weaker (requested meaning scene r w) _ (FromDesk w) (request-settles meaning scene r w) (λ v settled. settled.others)
+
+pub message-passes : (meaning : Meaning) (scene : Scene) (message : TaskMsg) (w : Working Desk) → IfOk (taken meaning scene message w) (FromDesk w)
+message-passes meaning scene message w = IfOk-weaker (taken meaning scene message w) _ (FromDesk w) (message-settles meaning scene message w) (λ v settled. settled.others)
+
+pub cancelled-passes : (id : RequestId) (w : Working Desk) → FromDesk w (cancelled id w)
+cancelled-passes id w = (cancel-settles id w).others
+
+pub handed-passes : (snapshot : SnapshotData) (kind : JobKind) (w : Working Desk) → IfOk (handed_over snapshot Worker kind w) (FromDesk w)
+unfolding ordered
+handed-passes snapshot kind w =
+    IfOk-next w.state.handed Jobs _ (FromDesk w) (λ number_of passes. passed-append number_of w.out.commands _ (passes.jobs _))
+
+pub counted-passes : (w : Working Desk) → IfOk (counted w) (FromDesk w)
+unfolding counted
+counted-passes w = IfOk-next w.state.turns Turns _ (FromDesk w) (passes-none w.out)
+
+pub kept-passes : (before : ℕ) (w : Working Desk) → FromDesk w (kept before w)
+unfolding kept
+kept-passes before w = passes-none w.out
+
+-- ---- what is agreed with the client
+
+abbrev FromClient : Working Client → Working Client → Type 0
+FromClient w v = Passes w.out v.out
+
+asked-cases : (message : Outgo) (handler : ReqHandler) (w : Working Client) (b : Bool)
+    → IfOk (if b then Err Outgoing else Ok (written (request_at w.state.asked.given message) (record w { state = after_asking handler w.state }))) (FromClient w)
+unfolding written
+asked-cases message handler w true = tt
+asked-cases message handler w false = passes-none w.out
+
+pub asked-passes : (message : Outgo) (handler : ReqHandler) (w : Working Client) → IfOk (asked_for message handler w) (FromClient w)
+unfolding asked_for
+asked-passes message handler w = asked-cases message handler w (w.state.asked.given == number_limit)
+
+shown-passes : (b : Bool) (w : Working Client) → FromClient w (if b then written (notification_of OpenLogsMessage) w else w)
+unfolding written
+shown-passes true w = passes-none w.out
+shown-passes false w = passes-none w.out
+
+followed-passes : (handler : Option ReqHandler) (response : Response) (w : Working Client) → FromClient w (followed handler response w)
+unfolding followed
+followed-passes None response w = passes-logged UnknownResponse (id_text response.id) w
+followed-passes (Some Ignore) response w = passes-none w.out
+followed-passes (Some Settings) response w = passes-logged_if SettingsError (fault_in response) w
+followed-passes (Some OpenLogs) response w = shown-passes (chooses response) w
+
+pub answered-passes : (response : Response) (w : Working Client) → FromClient w (answered response w)
+unfolding answered
+answered-passes response w = followed-passes (follows response.id w.state.asked) response w
+
+logs-pass : (number_of : Command → Option ℕ) (passes : PassesOver number_of) (code : LogCode) (texts : List (List ℕ))
+    → filter_map number_of (map (Log code) texts) ≡ []
+logs-pass number_of passes code [] = refl
+logs-pass number_of passes code (text ∷ texts) = rw (passes.logs code text) (logs-pass number_of passes code texts)
+
+misses-pass : (number_of : Command → Option ℕ) (passes : PassesOver number_of) (commands : List Command) (urls : List (List ℕ))
+    → filter_map number_of (commands ++ misses urls) ≡ filter_map number_of commands
+misses-pass number_of passes commands urls =
+    filter_map-append number_of commands (misses urls) ∙ ap (λ (ns : List ℕ). filter_map number_of commands ++ ns) (logs-pass number_of passes BadPath (filter names_none urls)) ∙ append-nil _
+
+pub folders-pass : (added removed : List (List ℕ)) (w : Working Client) → FromClient w (folders_changed added removed w)
+unfolding folders_changed
+folders-pass added removed w number_of passes =
+    misses-pass number_of passes (w.out.commands ++ misses removed) added ∙ misses-pass number_of passes w.out.commands removed
+
+-- ---- the files
+
+abbrev FromFiles : Working SessionFiles → Working SessionFiles → Type 0
+FromFiles w v = Passes w.out v.out
+
+become-passes : (r : Result SessionFiles Counter) (w u : Working SessionFiles) → Passes w.out u.out → IfOk (become r u) (FromFiles w)
+become-passes (Ok files) w u passes = passes
+become-passes (Err counter) w u passes = tt
+
+pub opened-passes : (excludes : List (List ℕ)) (path : List ℕ) (version : ℤ) (text : List ℕ) (w : Working SessionFiles)
+    → IfOk (opened excludes path version text w) (FromFiles w)
+unfolding opened open_noted
+opened-passes excludes path version text w = become-passes (after_opening excludes path version text w.state) w _ (passes-if DuplicateOpen path (is_open path w.state) w)
+
+changed-cases : (columns : PositionEncoding) (path : List ℕ) (version : ℤ) (changes : List ContentChange) (w : Working SessionFiles) (b : Bool)
+    → IfOk (if b then edited columns path version changes w else Ok (logged UnexpectedChange path w)) (FromFiles w)
+unfolding edited skip_noted
+changed-cases columns path version changes w true =
+    become-passes (after_editing columns path version changes w.state) w _ (passes-if SkippedChange path (has_skipped columns changes (finmap.get w.state.texts path)) w)
+changed-cases columns path version changes w false = passes-logged UnexpectedChange path w
+
+pub changed-passes : (columns : PositionEncoding) (path : List ℕ) (version : ℤ) (changes : List ContentChange) (w : Working SessionFiles)
+    → IfOk (changed columns path version changes w) (FromFiles w)
+unfolding changed
+changed-passes columns path version changes w = changed-cases columns path version changes w (is_open path w.state)
+
+noted-cases : (path : List ℕ) (w : Working SessionFiles) (b : Bool) → Passes w.out (if b then w else logged OrphanClose path w).out
+noted-cases path w true = passes-none w.out
+noted-cases path w false = passes-logged OrphanClose path w
+
+pub close-noted-passes : (path : List ℕ) (w : Working SessionFiles) → FromFiles w (close_noted path w)
+unfolding close_noted
+close-noted-passes path w = noted-cases path w (is_open path w.state)
+
+pub loaded-passes : (messages : List LoaderMsg) (w : Working SessionFiles) → IfOk (loaded messages w) (FromFiles w)
+unfolding loaded
+loaded-passes messages w = become-passes (after_messages messages w.state) w w (passes-none w.out)
+
+pub processed-passes : (roots : List Root) (w : Working SessionFiles) → IfOk (processed roots w) (FromFiles w)
+unfolding processed
+processed-passes roots w = become-passes (after_processing roots w.state) w w (passes-none w.out)
+
+pub crates-pass : (roots : List Root) (crates : CrateData) (w : Working SessionFiles) → IfOk (crates_put roots crates w) (FromFiles w)
+unfolding crates_put
+crates-pass roots crates w = become-passes (after_crates roots crates w.state) w w (passes-none w.out)
