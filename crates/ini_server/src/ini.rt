@@ -116,6 +116,7 @@ impl Analysis for Ini {
         row != HOVER || uri_of(params).is_some() && position_of(params).is_some()
     }
 
+    #[tactic(auto, unfolding(plain::specs::Plain::most_levels))]
     fn server_info(alloc: Global) -> Result<ServerInfo, NoMemory> {
         let mut info = ServerInfo::new(alloc, "ini_server", "0.1.0")?;
         info.capabilities

@@ -1,38 +1,42 @@
--- Inputs, events and replies, one list after another.
-use Rattle.std.proofs.Common.{◌≡◌, ℕ, ◌+◌, List, [], ◌∷◌, ◌++◌, length, map, refl, sym, ap, ◌∙◌, arith, append-nil, append_assoc}
+-- Inputs, calls and replies, one list after another.
+use Rattle.std.proofs.Common.{◌≡◌, ℕ, ◌+◌, List, [], ◌∷◌, ◌++◌, length, map, refl, sym, ap, ◌∙◌, append-nil, append_assoc, length-append}
 use Rattle.std.specs.Prelude.{Option, None, Some, option_to_list}
 use Rattle.lsp_frame.specs.declared.message.Response.{Response}
-use Rattle.session_port.specs.Record.{HostCall, gave, grown}
+use Rattle.session_port.specs.Record.{HostCall, took, given_in, grown}
+use Rattle.session_port.specs.declared.command.Command.{Command}
 use Rattle.session_port.specs.declared.event.HostEvent.{HostEvent}
-use Rattle.session_laws.specs.Course.{Course, takes}
+use Rattle.session_laws.specs.Course.{Course, takes, bytes_in}
 use Rattle.session_laws.specs.Run.{Told, giving}
 use Rattle.session_laws.specs.Input.{Input}
-use Rattle.server.specs.Opening.{bytes_of, taking, telling}
-use Rattle.server.specs.Stages.{Stage, by_input, stage_after, replies_to}
+use Rattle.session_laws.proofs.Asking.{given-append}
+use Rattle.session_laws.proofs.Stretches.{bytes-append}
+use Rattle.server.specs.Opening.{bytes_of, handed_on, taking, telling}
+use Rattle.server.specs.Stages.{Setup, Stage, by_input, stage_after, replies_to}
 
 pub taking-append : (xs ys : List Input) (later : Course) → taking (xs ++ ys) later ≡ taking xs (taking ys later)
 taking-append [] ys later = refl
 taking-append (x ∷ xs) ys later = ap (takes x) (taking-append xs ys later)
 
-pub stage-append : (threads : ℕ) (stage : Stage) (xs ys : List Input) → stage_after threads stage (xs ++ ys) ≡ stage_after threads (stage_after threads stage xs) ys
-stage-append threads stage [] ys = refl
-stage-append threads stage (x ∷ xs) ys = stage-append threads (by_input threads stage x).stage xs ys
+pub stage-append : (setup : Setup) (stage : Stage) (xs ys : List Input) → stage_after setup stage (xs ++ ys) ≡ stage_after setup (stage_after setup stage xs) ys
+stage-append setup stage [] ys = refl
+stage-append setup stage (x ∷ xs) ys = stage-append setup (by_input setup stage x).stage xs ys
 
-pub replies-append : (threads : ℕ) (stage : Stage) (xs ys : List Input)
-    → replies_to threads stage (xs ++ ys) ≡ replies_to threads stage xs ++ replies_to threads (stage_after threads stage xs) ys
-replies-append threads stage [] ys = refl
-replies-append threads stage (x ∷ xs) ys =
-    let first : List Response = option_to_list (by_input threads stage x).reply in
-    ap (λ (rs : List Response). first ++ rs) (replies-append threads (by_input threads stage x).stage xs ys)
-    ∙ sym (append_assoc first (replies_to threads (by_input threads stage x).stage xs) _)
+pub replies-append : (setup : Setup) (stage : Stage) (xs ys : List Input)
+    → replies_to setup stage (xs ++ ys) ≡ replies_to setup stage xs ++ replies_to setup (stage_after setup stage xs) ys
+replies-append setup stage [] ys = refl
+replies-append setup stage (x ∷ xs) ys =
+    let first : List Response = option_to_list (by_input setup stage x).reply in
+    ap (λ (rs : List Response). first ++ rs) (replies-append setup (by_input setup stage x).stage xs ys)
+    ∙ sym (append_assoc first (replies_to setup (by_input setup stage x).stage xs) _)
 
-giving-append : (es fs : List HostEvent) → giving (es ++ fs) ≡ giving es ++ giving fs
-giving-append [] fs = refl
-giving-append (e ∷ es) fs = ap (λ (cs : List HostCall). gave e ∷ cs) (giving-append es fs)
+mapped-append : {X : Type 0} (f : Response → X) (rs qs : List Response) → map f (rs ++ qs) ≡ map f rs ++ map f qs
+mapped-append f [] qs = refl
+mapped-append f (r ∷ rs) qs = ap (λ xs. f r ∷ xs) (mapped-append f rs qs)
 
-bytes-append : (rs qs : List Response) → map bytes_of (rs ++ qs) ≡ map bytes_of rs ++ map bytes_of qs
-bytes-append [] qs = refl
-bytes-append (r ∷ rs) qs = ap (λ (xs : List (List ℕ)). bytes_of r ∷ xs) (bytes-append rs qs)
+pub handed-append : (setup : Setup) (stage : Stage) (xs ys : List Input)
+    → handed_on (replies_to setup stage (xs ++ ys)) ≡ handed_on (replies_to setup stage xs) ++ handed_on (replies_to setup (stage_after setup stage xs) ys)
+handed-append setup stage xs ys =
+    ap handed_on (replies-append setup stage xs ys) ∙ mapped-append (λ reply. []) (replies_to setup stage xs) (replies_to setup (stage_after setup stage xs) ys)
 
 grown-nil : {X : Type 0} (r : Option (List X)) → grown r [] ≡ r
 grown-nil None = refl
@@ -42,27 +46,33 @@ grown-grown : {X : Type 0} (r : Option (List X)) (xs ys : List X) → grown (gro
 grown-grown None xs ys = refl
 grown-grown (Some entries) xs ys = ap Some (append_assoc entries xs ys)
 
-pub telling-append : (es fs : List HostEvent) (rs qs : List Response) (old : Told) → telling fs qs (telling es rs old) ≡ telling (es ++ fs) (rs ++ qs) old
-telling-append es fs rs qs old =
-    let c : grown (grown old.calls (giving es)) (giving fs) ≡ grown old.calls (giving (es ++ fs)) =
-    grown-grown old.calls (giving es) (giving fs) ∙ ap (grown old.calls) (sym (giving-append es fs)) in
+pub telling-append : (cs ds : List HostCall) (rs qs : List Response) (old : Told) → telling ds qs (telling cs rs old) ≡ telling (cs ++ ds) (rs ++ qs) old
+telling-append cs ds rs qs old =
+    let c : grown (grown old.calls cs) ds ≡ grown old.calls (cs ++ ds) = grown-grown old.calls cs ds in
     let t : grown (grown old.turns (map bytes_of rs)) (map bytes_of qs) ≡ grown old.turns (map bytes_of (rs ++ qs)) =
-    grown-grown old.turns (map bytes_of rs) (map bytes_of qs) ∙ ap (grown old.turns) (sym (bytes-append rs qs)) in
+    grown-grown old.turns (map bytes_of rs) (map bytes_of qs) ∙ ap (grown old.turns) (sym (mapped-append bytes_of rs qs)) in
     λ i. record { calls = c i; turns = t i }
 
 pub telling-none : (old : Told) → telling [] [] old ≡ old
 telling-none old = let c = grown-nil old.calls in let t = grown-nil old.turns in λ i. record { calls = c i; turns = t i }
 
--- events alone were told more, or a reply alone
-pub telling-events : (events : List HostEvent) (old new : Told) → new.calls ≡ grown old.calls (giving events) → new.turns ≡ old.turns → new ≡ telling events [] old
+-- events alone were told more, or a reply alone, or both a reply and the order behind it
+pub telling-events : (events : List HostEvent) (old new : Told) → new.calls ≡ grown old.calls (giving events) → new.turns ≡ old.turns → new ≡ telling (giving events) [] old
 telling-events events old new c t = let turns : new.turns ≡ grown old.turns [] = t ∙ sym (grown-nil old.turns) in λ i. record { calls = c i; turns = turns i }
 
 pub telling-reply : (response : Response) (old new : Told) → new.calls ≡ old.calls → new.turns ≡ grown old.turns (bytes_of response ∷ []) → new ≡ telling [] (response ∷ []) old
 telling-reply response old new c t = let calls : new.calls ≡ grown old.calls [] = c ∙ sym (grown-nil old.calls) in λ i. record { calls = calls i; turns = t i }
 
-pub events-append : (es fs : List HostEvent) → length (es ++ fs) ≡ length es + length fs
-events-append [] fs = omega arith
-events-append (e ∷ es) fs = omega (arith, events-append es fs)
+pub telling-handed : (response : Response) (old new : Told) → new.calls ≡ grown old.calls (took [] ∷ []) → new.turns ≡ grown old.turns (bytes_of response ∷ [])
+    → new ≡ telling (took [] ∷ []) (response ∷ []) old
+telling-handed response old new c t = λ i. record { calls = c i; turns = t i }
+
+-- the bytes and the number of the events that calls gave
+pub calls-bytes : (cs ds : List HostCall) → bytes_in (given_in (cs ++ ds)) ≡ bytes_in (given_in cs) + bytes_in (given_in ds)
+calls-bytes cs ds = ap bytes_in (given-append cs ds) ∙ bytes-append (given_in cs) (given_in ds)
+
+pub calls-events : (cs ds : List HostCall) → length (given_in (cs ++ ds)) ≡ length (given_in cs) + length (given_in ds)
+calls-events cs ds = ap length (given-append cs ds) ∙ length-append (given_in cs) (given_in ds)
 
 -- nothing was told
 pub telling-same : (old new : Told) → new.calls ≡ old.calls → new.turns ≡ old.turns → new ≡ telling [] [] old

@@ -1,10 +1,11 @@
 pub mod Behind
 pub mod Folds
+pub mod Handing
 pub mod Idle
 pub mod Openings
+pub mod Replying
 pub mod Streams
 pub mod Stretches
-pub mod TakenOut
 pub mod Unstarted
 pub mod Whole
 pub mod Written

@@ -1,6 +1,6 @@
 -- A handshake and the session behind it as a whole.
-use Rattle.std.proofs.Common.{◌≡◌, List, [], ◌∷◌, ◌++◌, Bool, refl, sym, ap, ◌∙◌, subst, append_assoc}
-use Rattle.std.specs.Prelude.{⊤, ℕ, Option, Some, Result, Ok, Err}
+use Rattle.std.proofs.Common.{◌≡◌, List, [], ◌∷◌, ◌++◌, Bool, refl, sym, ap, ◌∙◌, subst, append_assoc, inl, inr}
+use Rattle.std.specs.Prelude.{⊤, ◌⊎◌, ℕ, Option, Some, Result, Ok, Err}
 use Rattle.lsp_frame.specs.Reader.{Reader}
 use Rattle.ra_config.specs.Config.{ConfigData}
 use Rattle.session_port.specs.Record.{HostCall, given_in, grown}
@@ -8,14 +8,14 @@ use Rattle.session_port.specs.declared.event.HostEvent.{HostEvent}
 use Rattle.session.specs.Course.{Course, Stop, course_of, session_course, end_of}
 use Rattle.session.specs.Headline.{EndsByCause, IsAnswered}
 use Rattle.session.specs.RunEnds.{IsEnd}
-use Rattle.session.specs.Run.{Told, empty_reader, giving}
+use Rattle.session.specs.Run.{Told, empty_reader}
 use Rattle.session.specs.SessionError.{SessionError}
 use Rattle.session.specs.SessionError.TheVariants.{ClientExited, BadFrame, BadMessage, HostFault, WriteFault, Exhausted, NoMemory}
 use Rattle.session.specs.Input.{Input}
 use Rattle.session.specs.Meaning.{Meaning}
-use Rattle.session.proofs.Asking.{given-append, given-giving}
-use Rattle.server.specs.Opening.{Opens, LeftBy, taking}
-use Rattle.server.specs.Stages.{Stage}
+use Rattle.session.proofs.Asking.{given-append}
+use Rattle.server.specs.Opening.{Opens, IsHostError, LeftBy, taking}
+use Rattle.server.specs.Stages.{Setup, Stage}
 use Rattle.server.specs.declared.handshake.opening.Opening.{Opening}
 use Rattle.server.specs.declared.handshake.opening.Opening.TheVariants.{Begun, Left}
 use Rattle.server.specs.Serving.{Completes}
@@ -34,43 +34,46 @@ end-taking : (inputs : List Input) (later : Course) → end_of (taking inputs la
 end-taking [] later = refl
 end-taking (input ∷ inputs) later = end-taking inputs later
 
-module _ (threads : ℕ) (old middle new : Told) where
+module _ (setup : Setup) (old middle new : Told) where
   -- nothing followed the handshake
-  pub whole-opened : (result : Result Opening SessionError) (outcome : Result ⊤ SessionError) (o : Opens threads old middle result) → new ≡ middle → IsEnd outcome (end_of o.left)
+  pub whole-opened : (result : Result Opening SessionError) (outcome : Result ⊤ SessionError) (o : Opens setup old middle result) → new ≡ middle → IsEnd outcome (end_of o.left)
       → EndsByCause empty_reader old.calls new.calls outcome
   whole-opened result outcome o same ends = λ before calls was is.
-      let grew : new.calls ≡ Some (before ++ giving o.events) =
-      ap (λ (t : Told). t.calls) (same ∙ o.told) ∙ ap (λ (cs : Option (List HostCall)). grown cs (giving o.events)) was in
-      let mine : calls ≡ giving o.events = same-rest before calls (giving o.events) (some-same (before ++ calls) (before ++ giving o.events) (sym is ∙ grew)) in
+      let grew : new.calls ≡ Some (before ++ o.calls) =
+      ap (λ (t : Told). t.calls) (same ∙ o.told) ∙ ap (λ (cs : Option (List HostCall)). grown cs o.calls) was in
+      let mine : calls ≡ o.calls = same-rest before calls o.calls (some-same (before ++ calls) (before ++ o.calls) (sym is ∙ grew)) in
       let end : end_of (session_course 0 [] (given_in calls)) ≡ end_of o.left =
-      ap (λ (es : List HostEvent). end_of (course_of 0 [] es)) (ap given_in mine ∙ given-giving o.events) ∙ ap end_of o.course ∙ end-taking o.inputs o.left in
+      ap (λ (cs : List HostCall). end_of (course_of 0 [] (given_in cs))) mine ∙ ap end_of o.course ∙ end-taking o.inputs o.left in
       subst (IsEnd outcome) (sym end) ends
 
   -- a session followed it
-  pub whole-begun : (meaning : Meaning) (config : ConfigData) (reader : Reader) (honest : Bool) (outcome : Result ⊤ SessionError) → Opens threads old middle (Ok (Begun config reader))
+  pub whole-begun : (meaning : Meaning) (config : ConfigData) (reader : Reader) (honest : Bool) (outcome : Result ⊤ SessionError) → Opens setup old middle (Ok (Begun config reader))
       → IsAnswered meaning config reader middle new honest outcome → EndsByCause reader middle.calls new.calls outcome → EndsByCause empty_reader old.calls new.calls outcome
   whole-begun meaning config reader honest outcome o a ends = λ before calls was is.
-      let first : middle.calls ≡ Some (before ++ giving o.events) =
-      ap (λ (t : Told). t.calls) o.told ∙ ap (λ (cs : Option (List HostCall)). grown cs (giving o.events)) was in
-      let both : new.calls ≡ Some ((before ++ giving o.events) ++ a.calls) =
+      let first : middle.calls ≡ Some (before ++ o.calls) =
+      ap (λ (t : Told). t.calls) o.told ∙ ap (λ (cs : Option (List HostCall)). grown cs o.calls) was in
+      let both : new.calls ≡ Some ((before ++ o.calls) ++ a.calls) =
       ap (λ (t : Told). t.calls) a.told ∙ ap (λ (cs : Option (List HostCall)). grown cs a.calls) first in
-      let mine : calls ≡ giving o.events ++ a.calls = same-rest before calls (giving o.events ++ a.calls)
-      (some-same (before ++ calls) (before ++ (giving o.events ++ a.calls)) (sym is ∙ both ∙ ap Some (append_assoc before (giving o.events) a.calls))) in
-      let given : given_in calls ≡ o.events ++ given_in a.calls =
-      ap given_in mine ∙ given-append (giving o.events) a.calls ∙ ap (λ (es : List HostEvent). es ++ given_in a.calls) (given-giving o.events) in
+      let mine : calls ≡ o.calls ++ a.calls = same-rest before calls (o.calls ++ a.calls)
+      (some-same (before ++ calls) (before ++ (o.calls ++ a.calls)) (sym is ∙ both ∙ ap Some (append_assoc before o.calls a.calls))) in
+      let given : given_in calls ≡ given_in o.calls ++ given_in a.calls = ap given_in mine ∙ given-append o.calls a.calls in
       let end : end_of (session_course 0 [] (given_in calls)) ≡ end_of (session_course reader.place reader.held (given_in a.calls)) =
-      ap (λ (es : List HostEvent). end_of (course_of 0 [] es)) given ∙ ap end_of (o.ends.course (given_in a.calls)) ∙ end-taking o.inputs (course_of reader.place reader.held (given_in a.calls)) in
-      subst (IsEnd outcome) (sym end) (ends (before ++ giving o.events) a.calls first both)
+      ap (λ (es : List HostEvent). end_of (course_of 0 [] es)) given ∙ ap end_of (o.ends.1.course (given_in a.calls)) ∙ end-taking o.inputs (course_of reader.place reader.held (given_in a.calls)) in
+      subst (IsEnd outcome) (sym end) (ends (before ++ o.calls) a.calls first both)
 
 -- what is left after a handshake that broke off is what ended it
-pub left-ends : (threads events bytes : ℕ) (stage : Stage) (left : Course) (error : SessionError) → LeftBy threads events bytes stage left error → IsEnd {T = ⊤} (Err error) (end_of left)
-left-ends threads events bytes stage left ClientExited h = ap end_of h
-left-ends threads events bytes stage left (BadFrame at) h = ap end_of h
-left-ends threads events bytes stage left (BadMessage at) h = ap end_of h
-left-ends threads events bytes stage left HostFault h = tt
-left-ends threads events bytes stage left WriteFault h = tt
-left-ends threads events bytes stage left (Exhausted counter) h = tt
-left-ends threads events bytes stage left NoMemory h = tt
+pub left-ends : (setup : Setup) (events bytes : ℕ) (stage : Stage) (left : Course) (Handed Untaken : Type 0) (error : SessionError)
+    → (Handed × LeftBy setup events bytes stage left error) ⊎ (Untaken × IsHostError error) → IsEnd {T = ⊤} (Err error) (end_of left)
+left-ends setup events bytes stage left Handed Untaken ClientExited (inl h) = ap end_of h.1
+left-ends setup events bytes stage left Handed Untaken ClientExited (inr h) = absurd h.1
+left-ends setup events bytes stage left Handed Untaken (BadFrame at) (inl h) = ap end_of h.1
+left-ends setup events bytes stage left Handed Untaken (BadFrame at) (inr h) = absurd h.1
+left-ends setup events bytes stage left Handed Untaken (BadMessage at) (inl h) = ap end_of h.1
+left-ends setup events bytes stage left Handed Untaken (BadMessage at) (inr h) = absurd h.1
+left-ends setup events bytes stage left Handed Untaken HostFault h = tt
+left-ends setup events bytes stage left Handed Untaken WriteFault h = tt
+left-ends setup events bytes stage left Handed Untaken (Exhausted counter) h = tt
+left-ends setup events bytes stage left Handed Untaken NoMemory h = tt
 
 -- over a good input it ends well
 pub completes : (old new : Option (List HostCall)) (HostFailed SinkFailed : Type 0) (outcome : Result ⊤ SessionError) → EndsByCause empty_reader old new outcome

@@ -1,6 +1,7 @@
 -- What a client is answered while it begins (LSP 3.17, "Initialize Request").
 use Rattle.std.specs.Prelude.{ℕ, negsuc, true, List, codes}
-use Rattle.serde_json.specs.Data.{Data, boolean, number, string, object, put, no_members, unsigned}
+use Rattle.serde_json.specs.Data.{Data, Members, boolean, number, string, object, put, no_members, unsigned}
+use Rattle.analysis_host.specs.declared.server_info.ServerInfo.{ServerInfo}
 use Rattle.text_core.specs.declared.position.PositionEncoding.{PositionEncoding}
 use Rattle.text_core.specs.declared.position.PositionEncoding.TheVariants.{Utf8, Wide}
 use Rattle.text_core.specs.declared.position.WideEncoding.TheVariants.{Utf16, Utf32}
@@ -20,23 +21,22 @@ abbrev pub synchronization : Data
 synchronization =
     object (put (codes "save") (object no_members) (put (codes "openClose") (boolean true) (put (codes "change") (number (unsigned 2)) no_members)))
 
--- `{"hoverProvider":true,"positionEncoding":.., "textDocumentSync":..}`
-abbrev pub server_capabilities : PositionEncoding → Data
-server_capabilities encoding =
-    object (put (codes "textDocumentSync") synchronization
-    (put (codes "positionEncoding") (string (encoding_name encoding)) (put (codes "hoverProvider") (boolean true) no_members)))
+-- what the server can do: what it says itself, and what the session does, which stands where both are named
+abbrev pub server_capabilities : Members → PositionEncoding → Data
+server_capabilities own encoding = object (put (codes "textDocumentSync") synchronization (put (codes "positionEncoding") (string (encoding_name encoding)) own))
 
--- `{"name":"ra_serve","version":"1"}`
-abbrev pub server_info : Data
-server_info = object (put (codes "version") (string (codes "1")) (put (codes "name") (string (codes "ra_serve")) no_members))
+-- `{"name":..,"version":..}`
+abbrev pub info_value : ServerInfo → Data
+info_value info = object (put (codes "version") (string info.version) (put (codes "name") (string info.name) no_members))
 
 -- `{"capabilities":..,"serverInfo":..}`
-abbrev pub initialize_result : PositionEncoding → Data
-initialize_result encoding = object (put (codes "serverInfo") server_info (put (codes "capabilities") (server_capabilities encoding) no_members))
+abbrev pub initialize_result : ServerInfo → PositionEncoding → Data
+initialize_result info encoding =
+    object (put (codes "serverInfo") (info_value info) (put (codes "capabilities") (server_capabilities info.capabilities encoding) no_members))
 
 -- the answer to an `initialize` that these settings come of
-abbrev pub welcome : RequestId → ConfigData → Response
-welcome id config = response_with id (initialize_result config.capabilities.encodings)
+abbrev pub welcome : ServerInfo → RequestId → ConfigData → Response
+welcome info id config = response_with id (initialize_result info config.capabilities.encodings)
 
 -- the answer to one that names no workspace: -32602
 abbrev pub no_workspace : RequestId → Response

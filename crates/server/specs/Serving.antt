@@ -10,7 +10,9 @@ use Rattle.session.specs.Run.{Told, IsRun, empty_reader}
 use Rattle.session.specs.Texts.{same_text}
 use Rattle.session.specs.SessionError.{SessionError}
 use Rattle.session.specs.SessionError.TheVariants.{ClientExited, BadFrame, BadMessage, HostFault, WriteFault, Exhausted, NoMemory}
+use Rattle.analysis_host.specs.declared.server_info.ServerInfo.{ServerInfo}
 use Rattle.server.specs.Opening.{Opens}
+use Rattle.server.specs.Stages.{Setup}
 use Rattle.server.specs.declared.handshake.opening.Opening.{Opening}
 use Rattle.server.specs.declared.handshake.opening.Opening.TheVariants.{Begun, Left}
 use Rattle.server.specs.Status.{bad_words, status_of}
@@ -30,6 +32,10 @@ asked_by (word ∷ other ∷ words) = Unknown
 -- how many threads the program's sessions may use
 abbrev pub thread_count : ℕ
 thread_count = 4
+
+-- what their handshakes go by
+abbrev pub setup_of : ServerInfo → Setup
+setup_of info = record { threads = thread_count; info = info }
 
 -- the settings of a session that begins without a handshake
 abbrev pub session_config : ConfigData
@@ -72,10 +78,10 @@ Completes old new HostFailed SinkFailed outcome =
 
 -- a handshake was made, and then a session was run with its settings, behind what it has read; what ended it is what ends the course of all its events, of
 -- the handshake and of the session
-pub record Welcomed (meaning : Meaning) (old new : Told) (honest : Bool) (HostFailed SinkFailed : Type 0) (outcome : Result ⊤ SessionError) : Type 0 where
+pub record Welcomed (info : ServerInfo) (meaning : Meaning) (old new : Told) (honest : Bool) (HostFailed SinkFailed : Type 0) (outcome : Result ⊤ SessionError) : Type 0 where
   pub opening : Result Opening SessionError
   pub middle : Told
-  pub opens : Opens thread_count old middle opening
+  pub opens : Opens (setup_of info) old middle opening
   pub follows : Follows meaning middle new honest HostFailed SinkFailed opening outcome
   pub end : EndsByCause empty_reader old.calls new.calls outcome
   pub complete : Completes old.calls new.calls HostFailed SinkFailed outcome
@@ -92,8 +98,8 @@ pub record KnewNoWord (old new : Told) (status : ℕ) : Type 0 where
   pub untouched : new ≡ old
 
 -- by what the words ask for
-abbrev pub Serves : Asked → Meaning → Told → Told → Bool → Type 0 → Type 0 → ℕ → Type 0
-Serves Session meaning old new honest HostFailed SinkFailed status =
+abbrev pub Serves : Asked → ServerInfo → Meaning → Told → Told → Bool → Type 0 → Type 0 → ℕ → Type 0
+Serves Session info meaning old new honest HostFailed SinkFailed status =
     EndsWith (RanSession meaning session_config empty_reader old new honest HostFailed SinkFailed) status
-Serves Lsp meaning old new honest HostFailed SinkFailed status = EndsWith (Welcomed meaning old new honest HostFailed SinkFailed) status
-Serves Unknown meaning old new honest HostFailed SinkFailed status = KnewNoWord old new status
+Serves Lsp info meaning old new honest HostFailed SinkFailed status = EndsWith (Welcomed info meaning old new honest HostFailed SinkFailed) status
+Serves Unknown info meaning old new honest HostFailed SinkFailed status = KnewNoWord old new status

@@ -2,9 +2,10 @@
 use Rattle.std.specs.Prelude.{◌≡◌, ℕ, List, ◌++◌, Option, None, Some}
 use Rattle.std.specs.Io.KnownBytes.{Keeps, Appends, Consumes, IsAtEnd}
 
--- the bytes that a reader has left, if it tells, and how often reading has failed
+-- the bytes that a reader has left, if it tells, those of them that were read ahead, and how often reading has failed
 pub record InputData : Type 0 where
   pub left : Option (List ℕ)
+  pub ahead : List ℕ
   pub faults : ℕ
 
 -- the bytes that a writer holds, if it tells, and how often writing has failed

@@ -1,7 +1,6 @@
 // How a session begins: the handshake with a client, over a host and a sink.
 mod negotiation;
 mod opening;
-mod reading;
 mod replies;
 
 pub use opening::{Opening, initialize};

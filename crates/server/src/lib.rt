@@ -6,6 +6,7 @@
 
 mod command_line;
 mod handshake;
+mod laws;
 mod running;
 mod serving;
 mod starting;
@@ -15,6 +16,7 @@ mod words;
 
 pub use command_line::Words;
 pub use handshake::{Opening, initialize};
+pub use laws::sessions_capabilities_stand;
 pub use plain::NoMemory;
 pub use running::{Program, run};
 pub use serving::serve;

@@ -1,23 +1,21 @@
-// A program, over any reader and any writer.
-ghost use Rattle.std.specs.Prelude.{◌≡◌, IfOk, OnErr};
-ghost use Rattle.server.specs.Running.{Prints, Served, ServesStream, keeps_of};
+// A program, over any host and any sink.
+ghost use Rattle.std.specs.Prelude.{◌≡◌, false};
+ghost use Rattle.std.specs.FinMap as map;
+ghost use Rattle.session_port.specs.Record.{Rose};
+ghost use Rattle.session.specs.Meaning.{meaning_of};
+ghost use Rattle.session.specs.Run.{told_of};
 ghost use Rattle.server.specs.CommandLine.{purpose_of, texts_of};
+ghost use Rattle.server.specs.Running.{Prints};
+ghost use Rattle.server.specs.Serving.{Serves, asked_by};
 ghost use Rattle.server.specs.declared.command_line.Purpose.TheVariants.{Help, Version, Serve, Unreadable};
 ghost use Rattle.server.specs.Status.{bad_words};
-ghost use Rattle.session.specs.Meaning.{meaning_of};
 
 use crate::command_line::{Purpose, Words, purpose_of};
 use crate::serving::serve;
 use crate::statuses::{BAD_WORDS, NO_MEMORY, WRITE_FAULT};
-use crate::stdio::{LoggingHost, StandardInput, StandardOutput};
-use crate::words::{Asked, asked_by};
 use analysis_host::Analysis;
-use log::Log;
-use plain::Text;
-use session_peers::InlineHost;
-use session_port::Sink;
+use session_port::{Host, HostError, Sink};
 use std::alloc::Global;
-use std::io::{self, Read, Write};
 
 /// What a program says of itself, and what it keeps.
 #[derive(Clone, Copy)]
@@ -31,85 +29,50 @@ pub struct Program<'a> {
 }
 
 /// Prints a text, and answers the status.
-fn print<W: Write + Drop>(output: &mut StandardOutput<W>, text: &str) -> u8
-    requires fresh { output.old.faults ≡ 0 }
-    ensures { Prints text.now output.old output.new result }
+fn print<S: Sink>(text: &str, sink: &mut S) -> u8
+    requires fresh { S.spent sink.old ≡ false }
+    ensures { Prints text.now (S.turns sink.old) (S.turns sink.new) (Rose (S.faults sink.old) (S.faults sink.new)) result }
 {
-    match output.put_turn(text.as_bytes()) {
+    match sink.put_turn(text.as_bytes()) {
         Ok(()) => 0,
-        Err(_) => WRITE_FAULT,
+        Err(HostError::Failed) => WRITE_FAULT,
+        Err(HostError::NoMemory) => NO_MEMORY,
     }
 }
 
-/// Whether the host keeps a record of what the words ask for.
-fn keeps_of(keeps_record: bool, word: Asked) -> bool
-    ensures { result ≡ keeps_of keeps_record word }
-{
-    match word {
-        Asked::Session => keeps_record,
-        Asked::Lsp | Asked::Unknown => false,
-    }
-}
-
-/// Serves the words on a host that reads this input, and answers the status. Lines for the log go to `log`.
-fn serve_stream<R: Read + Drop, W: Write + Drop, L: Log, A: Analysis>(
-    alloc: Global,
-    keeps_record: bool,
-    texts: &[Text],
-    input: R,
-    output: &mut StandardOutput<W>,
-    log: &L,
-    analysis: &A,
-) -> io::Result<u8>
-    requires fresh { output.old.faults ≡ 0 }
-    ensures served { IfOk result (ServesStream (meaning_of A.decodes A.answer) keeps_record texts.now output.old output.new) }
-    ensures untouched { OnErr result (output.new ≡ output.old) }
-{
-    let input = StandardInput::new(alloc, input)?;
-    let keeps = keeps_of(keeps_record, asked_by(texts));
-    let mut host = LoggingHost::new(log, InlineHost::new(alloc, input, analysis, keeps)?);
-    let status = serve(alloc, texts, &mut host, output, analysis);
-    // Dropped by a call, a host is not spelled out here.
-    drop(host);
-    Ok(status)
-}
-
-/// Does what the words of the command line ask for, and answers the status to end with: `--help` and `--version` print
-/// the program's texts, and all other words are served over this input and output. Lines for the log go to `log`.
-pub fn run<R: Read + Drop, W: Write + Drop, L: Log, A: Analysis>(
+/// Does what the words of the command line ask for, on this host and this sink, and answers the status to end with:
+/// `--help` and `--version` print the program's texts, and all other words are served.
+pub fn run<H: Host<A>, S: Sink, A: Analysis>(
     alloc: Global,
     program: &Program<'_>,
     words: &Words,
-    input: R,
-    output: &mut StandardOutput<W>,
-    log: &L,
+    host: &mut H,
+    sink: &mut S,
     analysis: &A,
 ) -> u8
-    // Nothing was written in vain before.
-    requires fresh { output.old.faults ≡ 0 }
+    // No job was handed to the host before.
+    requires idle { H.out host.old ≡ map.empty }
+    requires unused { H.handed host.old ≡ 0 }
+    requires host_fresh { H.spent host.old ≡ false }
+    requires sink_fresh { S.spent sink.old ≡ false }
 
-    ensures help { purpose_of words.now ≡ Help → Prints program.now.help.now output.old output.new result }
-    ensures version { purpose_of words.now ≡ Version → Prints program.now.version.now output.old output.new result }
-    ensures not_text { purpose_of words.now ≡ Unreadable → (result ≡ bad_words) × (output.new ≡ output.old) }
-    ensures served { purpose_of words.now ≡ Serve → Served (meaning_of A.decodes A.answer) program.now.keeps_record (texts_of words.now) output.old output.new result }
+    ensures help { purpose_of words.now ≡ Help → Prints program.now.help.now (S.turns sink.old) (S.turns sink.new) (Rose (S.faults sink.old) (S.faults sink.new)) result }
+    ensures version { purpose_of words.now ≡ Version → Prints program.now.version.now (S.turns sink.old) (S.turns sink.new) (Rose (S.faults sink.old) (S.faults sink.new)) result }
+
+    // The host is asked for nothing but to serve.
+    ensures help_alone { purpose_of words.now ≡ Help → host.new ≡ host.old }
+    ensures version_alone { purpose_of words.now ≡ Version → host.new ≡ host.old }
+
+    // A word is no text: nothing is read or written.
+    ensures not_text { purpose_of words.now ≡ Unreadable → (result ≡ bad_words) × (host.new ≡ host.old) × (sink.new ≡ sink.old) }
+
+    // All that is promised of the top call, of what this host and this sink tell.
+    ensures served { purpose_of words.now ≡ Serve → Serves (asked_by (texts_of words.now)) A.server_info (meaning_of A.decodes A.answer) (told_of (H.calls host.old) (S.turns sink.old)) (told_of (H.calls host.new) (S.turns sink.new)) (H.honest host.old) (Rose (H.faults host.old) (H.faults host.new)) (Rose (S.faults sink.old) (S.faults sink.new)) result }
 {
     match purpose_of(words) {
-        Purpose::Help => print(output, program.help),
-        Purpose::Version => print(output, program.version),
+        Purpose::Help => print(program.help, sink),
+        Purpose::Version => print(program.version, sink),
         Purpose::Unreadable => BAD_WORDS,
-        Purpose::Serve => {
-            match serve_stream(
-                alloc,
-                program.keeps_record,
-                words.texts(),
-                input,
-                output,
-                log,
-                analysis,
-            ) {
-                Ok(status) => status,
-                Err(_) => NO_MEMORY,
-            }
-        }
+        Purpose::Serve => serve(alloc, words.texts(), host, sink, analysis),
     }
 }

@@ -61,7 +61,7 @@ fn run_lsp<H: Host<A>, S: Sink, A: Analysis>(
     requires unused { H.handed host.old ≡ 0 }
     requires host_fresh { H.spent host.old ≡ false }
     requires sink_fresh { S.spent sink.old ≡ false }
-    ensures run { EndsWith (Welcomed (meaning_of A.decodes A.answer) (told_of (H.calls host.old) (S.turns sink.old)) (told_of (H.calls host.new) (S.turns sink.new)) (H.honest host.old) (Rose (H.faults host.old) (H.faults host.new)) (Rose (S.faults sink.old) (S.faults sink.new))) (status_of result) }
+    ensures run { EndsWith (Welcomed A.server_info (meaning_of A.decodes A.answer) (told_of (H.calls host.old) (S.turns sink.old)) (told_of (H.calls host.new) (S.turns sink.new)) (H.honest host.old) (Rose (H.faults host.old) (H.faults host.new)) (Rose (S.faults sink.old) (S.faults sink.new))) (status_of result) }
     ensures host_fault { result ≡ Err SessionError.HostFault → Rose (H.faults host.old) (H.faults host.new) }
     ensures write_fault { result ≡ Err SessionError.WriteFault → Rose (S.faults sink.old) (S.faults sink.new) }
 {
@@ -92,7 +92,7 @@ pub fn serve<H: Host<A>, S: Sink, A: Analysis>(
 
     // One session, with all that is promised of a session, behind a handshake where it is asked for; or the words are none that
     // are known, and nothing is read or written.
-    ensures serves { Serves (asked_by words.now) (meaning_of A.decodes A.answer) (told_of (H.calls host.old) (S.turns sink.old)) (told_of (H.calls host.new) (S.turns sink.new)) (H.honest host.old) (Rose (H.faults host.old) (H.faults host.new)) (Rose (S.faults sink.old) (S.faults sink.new)) result }
+    ensures serves { Serves (asked_by words.now) A.server_info (meaning_of A.decodes A.answer) (told_of (H.calls host.old) (S.turns sink.old)) (told_of (H.calls host.new) (S.turns sink.new)) (H.honest host.old) (Rose (H.faults host.old) (H.faults host.new)) (Rose (S.faults sink.old) (S.faults sink.new)) result }
 
     // The status 2 comes exactly where the words are none that are known.
     ensures words { (result ≡ bad_words) ↔ (asked_by words.now ≡ Asked.Unknown) }

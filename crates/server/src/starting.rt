@@ -2,10 +2,12 @@
 use crate::command_line::Words;
 use crate::running::{Program, run};
 use crate::statuses::{NO_MEMORY, status_text};
-use crate::stdio::StandardOutput;
+use crate::stdio::{LoggingHost, StandardInput, StandardOutput};
+use crate::words::{Asked, asked_by};
 use analysis_host::Analysis;
 use log::Log;
 use plain::{Items, Text};
+use session_peers::InlineHost;
 use std::alloc::AllocError;
 use std::env;
 use std::io::{self, ErrorKind};
@@ -26,6 +28,24 @@ fn read_words<R: Env + AllocGlobal>(rt: &R) -> Result<Words, AllocError> {
     Ok(Words::Texts(texts))
 }
 
+/// Runs a program on these words, over standard input and output, and answers the status.
+fn run_on_streams<R: Input + Print + AllocGlobal + Log, A: Analysis>(
+    rt: &R,
+    program: &Program<'_>,
+    words: &Words,
+    analysis: &A,
+) -> io::Result<u8> {
+    let alloc = rt.alloc();
+    let keeps = program.keeps_record && asked_by(words.texts()) == Asked::Session;
+    let input = StandardInput::new(alloc, rt.reader())?;
+    let mut host = LoggingHost::new(rt, InlineHost::new(alloc, input, analysis, keeps)?);
+    let mut output = StandardOutput::new(io::writer(rt));
+    let status = run(alloc, program, words, &mut host, &mut output, analysis);
+    // Dropped by a call, a host is not spelled out here.
+    drop(host);
+    Ok(status)
+}
+
 /// The whole of a `main`: runs a program on the words, the input and the output that the system hands in, says on
 /// standard error why it ends where not all is well, and answers the status.
 pub fn start<R: Env + Input + Print + Eprint + AllocGlobal + Log, A: Analysis>(
@@ -33,17 +53,8 @@ pub fn start<R: Env + Input + Print + Eprint + AllocGlobal + Log, A: Analysis>(
     program: &Program<'_>,
     analysis: &A,
 ) -> ExitCode {
-    let mut output = StandardOutput::new(io::writer(rt));
     let status = match read_words(rt) {
-        Ok(words) => run(
-            rt.alloc(),
-            program,
-            &words,
-            rt.reader(),
-            &mut output,
-            rt,
-            analysis,
-        ),
+        Ok(words) => run_on_streams(rt, program, &words, analysis).unwrap_or(NO_MEMORY),
         Err(_) => NO_MEMORY,
     };
     let text = status_text(status);

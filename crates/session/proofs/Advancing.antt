@@ -18,8 +18,8 @@ use Rattle.session_laws.specs.Input.{Input}
 use Rattle.session_laws.specs.Input.TheVariants.{Start}
 use Rattle.session_laws.proofs.Counted.{IsLater, steps-fewer}
 use Rattle.session_laws.proofs.Stretches.{stretch-turn, stretch-fed, stretch-none, stretch-on, telling-none}
-use Rattle.session.specs.Looping.{AdvancesByEvent, Goes, IsFeedError, RunsOn, TurnDone, Done}
-use Rattle.session.specs.Reading.{course_from}
+use Rattle.session.specs.Looping.{AdvancesByEvent, Goes, RunsOn, TurnDone, Done}
+use Rattle.session.specs.Reading.{IsFeedError, course_from}
 use Rattle.session.proofs.Endings.{ends-feed, ends-turn, breaks_at_once}
 
 -- the events brought the input

@@ -13,7 +13,8 @@ use Rattle.session_laws.specs.SessionError.{SessionError}
 use Rattle.session_laws.specs.SessionError.TheVariants.{ClientExited, BadFrame, BadMessage, HostFault, WriteFault, Exhausted, NoMemory}
 use Rattle.session_laws.specs.Input.{Input}
 use Rattle.session_laws.proofs.Stretches.{telling-append, telling-none}
-use Rattle.session.specs.Looping.{TurnDone, Untaken, IsFeedError}
+use Rattle.session.specs.Looping.{TurnDone, Untaken}
+use Rattle.session.specs.Reading.{IsFeedError}
 
 -- nothing was told
 pub breaks_at_once : (to : List HostEvent → Course) (old new : Told) → new ≡ old → BreaksOffUnwritten to old new

@@ -8,7 +8,6 @@ use Rattle.session_laws.specs.Meaning.{Meaning}
 use Rattle.session_laws.specs.Run.{Turn, Told, Steps, Stretch, Ends, EndsWell, EndsBy, begun, commands_of, fed_bytes, telling}
 use Rattle.session_laws.specs.State.{State}
 use Rattle.session_port.specs.Written.{AreRead}
-use Rattle.session_port.specs.declared.fault.Counter.TheVariants.{Bytes as BytesCounter}
 use Rattle.session_laws.specs.SessionError.{SessionError}
 use Rattle.session_laws.specs.SessionError.TheVariants.{ClientExited, BadFrame, BadMessage, HostFault, WriteFault, Exhausted, NoMemory}
 use Rattle.session_laws.specs.Input.{Input}
@@ -72,13 +71,3 @@ pub record RunsOn {T : Type 0} (meaning : Meaning) (before : State) (reader : Re
   pub out_last : Jobs
   pub stretch : Stretch meaning before last (course_from reader) (course_from reader_last) (fed_bytes reader) (fed_bytes reader_last) old told_last honest out out_last
   pub ends : Ends meaning last (course_from reader_last) (fed_bytes reader_last) told_last new honest out_last result
-
--- why bytes could not be fed: there are more than can be counted, or memory ran out
-abbrev pub IsFeedError : ℕ → ℕ → SessionError → Type 0
-IsFeedError used more ClientExited = ⊥
-IsFeedError used more (BadFrame at) = ⊥
-IsFeedError used more (BadMessage at) = ⊥
-IsFeedError used more HostFault = ⊥
-IsFeedError used more WriteFault = ⊥
-IsFeedError used more (Exhausted counter) = (counter ≡ BytesCounter) × (2 ^ 64 ≤ used + more)
-IsFeedError used more NoMemory = Unit {0}

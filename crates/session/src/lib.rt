@@ -6,5 +6,6 @@ mod reading;
 mod run;
 
 pub use plain::NoMemory;
+pub use reading::{Coming, feed, next_message};
 pub use run::{main_loop, main_loop_from};
 pub use session_state::{Counter, Event, GlobalState, SessionError, TurnError, TurnOut};

@@ -1,5 +1,5 @@
 // The loop: an input, its turn, what is written and what is ordered.
-ghost use Rattle.std.specs.Prelude.{◌≡◌, ◌≤◌, ◌<◌, ◌^◌, ◌+◌, ◌++◌, [], ◌∷◌, length, false, OnOk, IfErr, IfOk};
+ghost use Rattle.std.specs.Prelude.{◌≡◌, ◌≤◌, [], ◌∷◌, false, OnOk};
 ghost use Rattle.std.specs.FinMap as map;
 ghost use Rattle.lsp_frame.specs.Frames.{cut_of};
 ghost use Rattle.lsp_frame.specs.declared.frame.Cut.TheVariants.{NeedMore};
@@ -8,19 +8,19 @@ ghost use Rattle.session_laws.specs.Headline.{IsAnswered, EndsByCause, IsComplet
 ghost use Rattle.session_laws.specs.Meaning.{meaning_of};
 ghost use Rattle.session_laws.specs.Machine.{step};
 ghost use Rattle.session_port.specs.Meets.{Meets};
-ghost use Rattle.session_laws.specs.Run.{IsRun, empty_reader, told_of, turn_error_of, fed_bytes};
-ghost use Rattle.session.specs.Looping.{Advances, AdvancesByEvent, RunsOn, TurnDone, IsFeedError};
+ghost use Rattle.session_laws.specs.Run.{IsRun, empty_reader, told_of, turn_error_of};
+ghost use Rattle.session.specs.Looping.{Advances, AdvancesByEvent, RunsOn, TurnDone};
 ghost use Rattle.session_laws.specs.State.{fresh};
 ghost use Rattle.ra_config.specs.Config.{ConfigData};
 
 use crate::bringing::{Brought, brought_by};
-use crate::reading::{Coming, next_message};
+use crate::reading::{Coming, feed, next_message};
 use analysis_host::Analysis;
 use lsp_frame::FrameReader;
-use plain::{Bytes, Items};
+use plain::Items;
 use ra_config::Config;
 use session_port::{Command, Host, HostError, Sink};
-use session_state::{Counter, Event, GlobalState, Input, SessionError, TurnError, TurnOut};
+use session_state::{Event, GlobalState, Input, SessionError, TurnError, TurnOut};
 use std::alloc::Global;
 
 // Whether the run goes on.
@@ -103,23 +103,6 @@ fn stop<H: Host<A>, A: Analysis>(alloc: Global, host: &mut H) -> Result<(), Host
     let mut commands = Items::new(alloc);
     commands.push(Command::Stop)?;
     host.order(commands)
-}
-
-// Feeds the reader.
-fn feed(reader: &mut FrameReader, bytes: &Bytes) -> Result<(), SessionError>
-    requires sound { reader.old.failed ≡ false }
-    ensures ok { OnOk result (reader.new ≡ record { place = reader.old.place; held = reader.old.held ++ bytes.now; failed = false }) }
-    ensures fits { OnOk result (fed_bytes reader.old + length bytes.now < 2 ^ 64) }
-    ensures err { IfErr result (IsFeedError (fed_bytes reader.old) (length bytes.now)) }
-{
-    let room = u64::MAX - reader.taken();
-    if bytes.len() as u64 > room {
-        return Err(SessionError::Exhausted {
-            counter: Counter::Bytes,
-        });
-    }
-    reader.feed(bytes.as_slice())?;
-    Ok(())
 }
 
 // What the host gives next, where no whole frame is held.

@@ -23,6 +23,7 @@ impl Analysis for NullAnalysis {
         true
     }
 
+    #[tactic(auto, unfolding(plain::specs::Plain::most_levels))]
     fn server_info(alloc: Global) -> Result<ServerInfo, AllocError> {
         ServerInfo::new(alloc, "null", "1")
     }

@@ -120,6 +120,7 @@ impl Analysis for SmallAnalysis {
         }
     }
 
+    #[tactic(auto, unfolding(plain::specs::Plain::most_levels))]
     fn server_info(alloc: Global) -> Result<ServerInfo, AllocError> {
         let mut info = ServerInfo::new(alloc, "ra_serve", "1")?;
         info.capabilities

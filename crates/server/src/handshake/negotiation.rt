@@ -3,10 +3,11 @@ ghost use Rattle.std.specs.Prelude.{◌≡◌, true, IfOk, None};
 ghost use Rattle.lsp_frame.specs.Written.{AreWritable};
 ghost use Rattle.lsp_frame.specs.declared.message.Message.TheVariants.{Response as ResponseMessage};
 ghost use Rattle.ra_config.specs.Initialize.{initial_config};
-ghost use Rattle.server.specs.Stages.{by_settings, replied};
+ghost use Rattle.server.specs.Stages.{Setup, by_settings, replied};
 ghost use Rattle.server.specs.Talking.{Answers, IfWaiting, IsInStep, stage_of};
 
 use crate::handshake::replies::{no_workspace, welcome};
+use analysis_host::Analysis;
 use lsp_frame::{Handshake, Message, RequestId, Response, Step};
 use plain::{Json, NoMemory};
 use ra_config::{Config, ConfigFault};
@@ -27,8 +28,6 @@ pub(crate) enum Answer {
     Reply(Response),
     /// The session begins, with these settings.
     Begins(Config),
-    /// The client leaves.
-    Leaves,
 }
 
 impl Negotiation {
@@ -44,7 +43,7 @@ impl Negotiation {
     }
 
     /// Accepts an `initialize`, or refuses it and begins anew. After an `Err` the negotiation is spent.
-    fn accept(
+    fn accept<A: Analysis>(
         &mut self,
         alloc: Global,
         threads: u32,
@@ -53,13 +52,13 @@ impl Negotiation {
     ) -> Result<Response, NoMemory>
         requires begun { self.old.handshake ≡ true }
         ensures in_step { IfOk result (λ _. IsInStep self.new) }
-        ensures value { IfOk result (λ response. by_settings id (initial_config params.now threads) ≡ replied response (stage_of self.new.config)) }
+        ensures value { IfOk result (λ response. by_settings A.server_info id (initial_config params.now threads) ≡ replied response (stage_of self.new.config)) }
         ensures writable { IfOk result (λ response. AreWritable (ResponseMessage response)) }
     {
         match Config::from_initialize(alloc, params, threads)? {
             // What is replaced is dropped by a call: spelled out here, settings are what the proof would cost.
             Ok(config) => {
-                let response = welcome(alloc, id, &config);
+                let response = welcome::<A>(alloc, id, &config);
                 drop(self.config.replace(config));
                 response
             }
@@ -70,8 +69,8 @@ impl Negotiation {
         }
     }
 
-    /// What the next message comes to. After an `Err` the negotiation is spent.
-    pub(crate) fn take(
+    /// What the next message comes to, which isn't `exit`. After an `Err` the negotiation is spent.
+    pub(crate) fn take<A: Analysis>(
         &mut self,
         alloc: Global,
         threads: u32,
@@ -79,19 +78,18 @@ impl Negotiation {
     ) -> Result<Answer, NoMemory>
         requires in_step { IsInStep self.old }
         ensures in_step { IfOk result (λ answer. IfWaiting answer (IsInStep self.new)) }
-        ensures answers { IfOk result (Answers threads self.old.config message self.new.config) }
+        ensures answers { let setup : Setup = record { threads = threads; info = A.server_info } in IfOk result (Answers setup self.old.config message self.new.config) }
     {
         match self.handshake.step(message)? {
             Step::Initialize(id, params) => {
-                Ok(Answer::Reply(self.accept(alloc, threads, id, &params)?))
+                Ok(Answer::Reply(self.accept::<A>(alloc, threads, id, &params)?))
             }
             Step::Refuse(response) => Ok(Answer::Reply(response)),
-            Step::Ignore => Ok(Answer::Nothing),
+            Step::Ignore | Step::Exit => Ok(Answer::Nothing),
             Step::Initialized => Ok(match self.config.take() {
                 Some(config) => Answer::Begins(config),
                 None => Answer::Nothing,
             }),
-            Step::Exit => Ok(Answer::Leaves),
         }
     }
 }

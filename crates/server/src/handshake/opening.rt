@@ -1,21 +1,22 @@
 // The handshake over a host and a sink.
-ghost use Rattle.std.specs.Prelude.{◌≡◌, ◌≤◌, ◌<◌, ◌^◌, List, Option, ℕ, false, OnOk, IfErr};
+ghost use Rattle.std.specs.Prelude.{◌≡◌, ◌≤◌, ◌<◌, ◌^◌, [], List, Option, ℕ, false, OnOk, IfErr};
 ghost use Rattle.std.specs.FinMap as map;
 ghost use Rattle.lsp_frame.specs.Frames.{cut_of};
 ghost use Rattle.lsp_frame.specs.Written.{AreWritable};
 ghost use Rattle.lsp_frame.specs.declared.frame.Cut.TheVariants.{NeedMore};
 ghost use Rattle.lsp_frame.specs.declared.message.Message.TheVariants.{Response as ResponseMessage};
-ghost use Rattle.session_port.specs.Record.{Rose, after_ok, added};
+ghost use Rattle.session_port.specs.Record.{Rose, after_ok, added, took};
 ghost use Rattle.session_laws.specs.Run.{fed_bytes, told_of};
-ghost use Rattle.server.specs.Opening.{Opens, bytes_of};
-ghost use Rattle.server.specs.Talking.{Advances, AdvancesByEvent, IsInStep, IsWriteError, first_talk, opening_of};
+ghost use Rattle.server.specs.Opening.{IsHostError, Opens, bytes_of};
+ghost use Rattle.server.specs.Stages.{Setup};
+ghost use Rattle.server.specs.Talking.{Advances, AdvancesByEvent, IsInStep, IsReplied, IsWriteError, first_talk, opening_of};
 
 use crate::handshake::negotiation::{Answer, Negotiation};
-use crate::handshake::reading::{Coming, feed, next_message};
 use analysis_host::Analysis;
 use lsp_frame::{FrameReader, Message, Response, write_message};
+use plain::Items;
 use ra_config::Config;
-use session_laws::{Counter, SessionError};
+use session::{Coming, Counter, SessionError, feed, next_message};
 use session_port::{Host, HostError, HostEvent, Sink};
 use std::alloc::Global;
 
@@ -75,6 +76,52 @@ fn put_reply<S: Sink>(alloc: Global, response: Response, sink: &mut S) -> Result
     }
 }
 
+// Hands on what was written: the host takes an empty list of commands, as behind a turn.
+fn hand_on<H: Host<A>, A: Analysis>(alloc: Global, host: &mut H) -> Result<(), SessionError>
+    requires host_fresh { H.spent host.old ≡ false }
+    ensures host_fresh { OnOk result (H.spent host.new ≡ false) }
+    ensures out { OnOk result (H.out host.new ≡ H.out host.old) }
+    ensures calls { H.calls host.new ≡ after_ok result (λ _. added (H.calls host.old) (took [])) (H.calls host.old) }
+    ensures handed { OnOk result (H.handed host.new ≡ H.handed host.old) }
+    ensures err { IfErr result IsHostError }
+    ensures honest_stays { H.honest host.new ≡ H.honest host.old }
+    ensures host_later { H.faults host.old ≤ H.faults host.new }
+    ensures host_fault { result ≡ Err SessionError.HostFault → Rose (H.faults host.old) (H.faults host.new) }
+{
+    match host.order(Items::new(alloc)) {
+        Ok(()) => Ok(()),
+        Err(HostError::Failed) => Err(SessionError::HostFault),
+        Err(HostError::NoMemory) => Err(SessionError::NoMemory),
+    }
+}
+
+// Writes a reply and hands it on.
+fn reply<H: Host<A>, S: Sink, A: Analysis>(
+    alloc: Global,
+    response: Response,
+    host: &mut H,
+    sink: &mut S,
+) -> Result<(), SessionError>
+    requires writable { AreWritable (ResponseMessage response) }
+    requires host_fresh { H.spent host.old ≡ false }
+    requires sink_fresh { S.spent sink.old ≡ false }
+    ensures host_fresh { OnOk result (H.spent host.new ≡ false) }
+    ensures sink_fresh { OnOk result (S.spent sink.new ≡ false) }
+    ensures out { OnOk result (H.out host.new ≡ H.out host.old) }
+    ensures told { IsReplied response (told_of (H.calls host.old) (S.turns sink.old)) (told_of (H.calls host.new) (S.turns sink.new)) result }
+    ensures handed { OnOk result (H.handed host.new ≡ H.handed host.old) }
+    ensures honest_stays { H.honest host.new ≡ H.honest host.old }
+    ensures host_later { H.faults host.old ≤ H.faults host.new }
+    ensures host_fault { result ≡ Err SessionError.HostFault → Rose (H.faults host.old) (H.faults host.new) }
+    ensures sink_later { S.faults sink.old ≤ S.faults sink.new }
+    ensures write_fault { result ≡ Err SessionError.WriteFault → Rose (S.faults sink.old) (S.faults sink.new) }
+{
+    match put_reply(alloc, response, sink) {
+        Ok(()) => hand_on(alloc, host),
+        Err(error) => Err(error),
+    }
+}
+
 // What the host gives next, where no whole frame is held. What is no bytes is passed over.
 fn take_event<H: Host<A>, A: Analysis>(talk: &mut Talk, host: &mut H) -> Result<(), SessionError>
     requires host_fresh { H.spent host.old ≡ false }
@@ -85,7 +132,7 @@ fn take_event<H: Host<A>, A: Analysis>(talk: &mut Talk, host: &mut H) -> Result<
     requires fits { fed_bytes talk.old.reader < 2 ^ 64 }
     ensures host_fresh { OnOk result (H.spent host.new ≡ false) }
     ensures idle { OnOk result (H.out host.new ≡ map.empty) }
-    ensures event { (threads : ℕ) (turns : Option (List (List ℕ))) → AdvancesByEvent threads talk.old talk.new (told_of (H.calls host.old) turns) (told_of (H.calls host.new) turns) result }
+    ensures event { (setup : Setup) (turns : Option (List (List ℕ))) → AdvancesByEvent setup talk.old talk.new (told_of (H.calls host.old) turns) (told_of (H.calls host.new) turns) result }
     ensures handed { H.handed host.new ≡ H.handed host.old }
     ensures honest_stays { H.honest host.new ≡ H.honest host.old }
     ensures host_later { H.faults host.old ≤ H.faults host.new }
@@ -129,8 +176,8 @@ fn advance<H: Host<A>, S: Sink, A: Analysis>(
     ensures host_fresh { OnOk result (H.spent host.new ≡ false) }
     ensures sink_fresh { OnOk result (S.spent sink.new ≡ false) }
     ensures idle { OnOk result (H.out host.new ≡ map.empty) }
-    ensures turn { Advances threads talk.old talk.new (told_of (H.calls host.old) (S.turns sink.old)) (told_of (H.calls host.new) (S.turns sink.new)) result }
-    ensures handed { H.handed host.new ≡ H.handed host.old }
+    ensures turn { let setup : Setup = record { threads = threads; info = A.server_info } in Advances setup talk.old talk.new (told_of (H.calls host.old) (S.turns sink.old)) (told_of (H.calls host.new) (S.turns sink.new)) result }
+    ensures handed { OnOk result (H.handed host.new ≡ H.handed host.old) }
     ensures honest_stays { H.honest host.new ≡ H.honest host.old }
     ensures host_later { H.faults host.old ≤ H.faults host.new }
     ensures host_fault { result ≡ Err SessionError.HostFault → Rose (H.faults host.old) (H.faults host.new) }
@@ -138,15 +185,15 @@ fn advance<H: Host<A>, S: Sink, A: Analysis>(
     ensures write_fault { result ≡ Err SessionError.WriteFault → Rose (S.faults sink.old) (S.faults sink.new) }
 {
     match next_message(&mut talk.reader)? {
-        Coming::Message(message) => match talk.negotiation.take(alloc, threads, message)? {
+        Coming::Message(message) => match talk.negotiation.take::<A>(alloc, threads, message)? {
             Answer::Nothing => Ok(Turned::Going),
-            Answer::Reply(response) => match put_reply(alloc, response, sink) {
+            Answer::Reply(response) => match reply(alloc, response, host, sink) {
                 Ok(()) => Ok(Turned::Going),
                 Err(error) => Err(error),
             },
             Answer::Begins(config) => Ok(Turned::Started(config)),
-            Answer::Leaves => Ok(Turned::Gone),
         },
+        Coming::Exit => Ok(Turned::Gone),
         Coming::BadFrame { at } => Err(SessionError::BadFrame { at }),
         Coming::BadMessage { at } => Err(SessionError::BadMessage { at }),
         Coming::Waits => match take_event(talk, host) {
@@ -168,9 +215,9 @@ fn talk_on<H: Host<A>, S: Sink, A: Analysis>(
     requires idle { H.out host.old ≡ map.empty }
     requires host_fresh { H.spent host.old ≡ false }
     requires sink_fresh { S.spent sink.old ≡ false }
-    ensures opens { Opens threads (told_of (H.calls host.old) (S.turns sink.old)) (told_of (H.calls host.new) (S.turns sink.new)) (opening_of talk.new.reader result) }
+    ensures opens { let setup : Setup = record { threads = threads; info = A.server_info } in Opens setup (told_of (H.calls host.old) (S.turns sink.old)) (told_of (H.calls host.new) (S.turns sink.new)) (opening_of talk.new.reader result) }
     ensures idle { OnOk result (H.out host.new ≡ map.empty) }
-    ensures handed { H.handed host.new ≡ H.handed host.old }
+    ensures handed { OnOk result (H.handed host.new ≡ H.handed host.old) }
     ensures honest_stays { H.honest host.new ≡ H.honest host.old }
     ensures host_fresh { OnOk result (H.spent host.new ≡ false) }
     ensures sink_fresh { OnOk result (S.spent sink.new ≡ false) }
@@ -190,7 +237,7 @@ fn talk_on<H: Host<A>, S: Sink, A: Analysis>(
 }
 
 /// The handshake with a client: from the first message to `initialized` or `exit`, with so many threads in the
-/// settings. Each reply is one turn of the sink, and nothing is ordered at the host.
+/// settings. Each reply is one turn of the sink, behind which the host takes an empty list of commands.
 pub fn initialize<H: Host<A>, S: Sink, A: Analysis>(
     alloc: Global,
     threads: u32,
@@ -202,12 +249,13 @@ pub fn initialize<H: Host<A>, S: Sink, A: Analysis>(
     requires host_fresh { H.spent host.old ≡ false }
     requires sink_fresh { S.spent sink.old ≡ false }
 
-    // Each message is the handshake's step, over the inputs of the host's events; and what ended it is its result.
-    ensures opens { Opens threads (told_of (H.calls host.old) (S.turns sink.old)) (told_of (H.calls host.new) (S.turns sink.new)) result }
+    // Each message is the handshake's step, over the inputs of the host's events; each reply is written before the next
+    // event is asked for; and what ended it is its result.
+    ensures opens { let setup : Setup = record { threads = threads; info = A.server_info } in Opens setup (told_of (H.calls host.old) (S.turns sink.old)) (told_of (H.calls host.new) (S.turns sink.new)) result }
 
     // A session can begin on the same host and sink.
     ensures idle { OnOk result (H.out host.new ≡ map.empty) }
-    ensures handed { H.handed host.new ≡ H.handed host.old }
+    ensures handed { OnOk result (H.handed host.new ≡ H.handed host.old) }
     ensures honest_stays { H.honest host.new ≡ H.honest host.old }
     ensures host_fresh { OnOk result (H.spent host.new ≡ false) }
     ensures sink_fresh { OnOk result (S.spent sink.new ≡ false) }

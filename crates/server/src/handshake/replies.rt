@@ -1,12 +1,12 @@
 // What a client is answered while it begins.
-ghost use Rattle.std.specs.Prelude.{◌≡◌, true, IfOk};
-ghost use Rattle.plain.specs.Plain.{is_plain};
+ghost use Rattle.std.specs.Prelude.{◌≡◌, IfOk};
 ghost use Rattle.serde_json.specs.Data.{string};
 ghost use Rattle.lsp_frame.specs.Written.{AreWritable};
 ghost use Rattle.lsp_frame.specs.declared.message.Message.TheVariants.{Response as ResponseMessage};
-ghost use Rattle.server.specs.Replies.{encoding_name, synchronization, server_capabilities, server_info, initialize_result, welcome, no_workspace};
+ghost use Rattle.server.specs.Replies.{encoding_name, synchronization, server_capabilities, initialize_result, welcome, no_workspace};
 
-use dispatch::{refusal, response_with};
+use analysis_host::{Analysis, ServerInfo};
+use dispatch::refusal;
 use lsp_frame::{RequestId, Response};
 use plain::{Json, Members, NoMemory, Text};
 use ra_config::Config;
@@ -40,46 +40,64 @@ fn synchronization(alloc: Global) -> Result<Json, NoMemory>
     Ok(members.into_json())
 }
 
-// What the server can do.
-fn server_capabilities(alloc: Global, encoding: PositionEncoding) -> Result<Json, NoMemory>
-    ensures { IfOk result (λ json. json ≡ server_capabilities encoding) }
+// What the server can do, by what it says itself.
+fn server_capabilities(
+    alloc: Global,
+    mut own: Members,
+    encoding: PositionEncoding,
+) -> Result<Json, NoMemory>
+    ensures { IfOk result (λ json. json ≡ server_capabilities own encoding) }
 {
-    let mut members = Members::new(alloc);
-    members.put(alloc, "hoverProvider", Json::from_bool(true))?;
-    members.put(
+    own.put(
         alloc,
         "positionEncoding",
         text(alloc, encoding_name(encoding))?,
     )?;
-    members.put(alloc, "textDocumentSync", synchronization(alloc)?)?;
-    Ok(members.into_json())
+    own.put(alloc, "textDocumentSync", synchronization(alloc)?)?;
+    Ok(own.into_json())
 }
 
-fn server_info(alloc: Global) -> Result<Json, NoMemory>
-    ensures { IfOk result (λ json. json ≡ server_info) }
+fn initialize_result(
+    alloc: Global,
+    info: ServerInfo,
+    encoding: PositionEncoding,
+) -> Result<Json, NoMemory>
+    ensures { IfOk result (λ json. json ≡ initialize_result info encoding) }
 {
+    let ServerInfo {
+        name,
+        version,
+        capabilities,
+    } = info;
+    let mut named = Members::new(alloc);
+    named.put(alloc, "name", Json::from_text(name))?;
+    named.put(alloc, "version", Json::from_text(version))?;
     let mut members = Members::new(alloc);
-    members.put(alloc, "name", text(alloc, "ra_serve")?)?;
-    members.put(alloc, "version", text(alloc, "1")?)?;
-    Ok(members.into_json())
-}
-
-fn initialize_result(alloc: Global, encoding: PositionEncoding) -> Result<Json, NoMemory>
-    ensures value { IfOk result (λ json. json ≡ initialize_result encoding) }
-    ensures plain { IfOk result (λ json. is_plain json ≡ true) }
-{
-    let mut members = Members::new(alloc);
-    members.put(alloc, "capabilities", server_capabilities(alloc, encoding)?)?;
-    members.put(alloc, "serverInfo", server_info(alloc)?)?;
+    members.put(
+        alloc,
+        "capabilities",
+        server_capabilities(alloc, capabilities, encoding)?,
+    )?;
+    members.put(alloc, "serverInfo", named.into_json())?;
     Ok(members.into_json())
 }
 
 /// The answer to an `initialize` that these settings come of.
-pub(crate) fn welcome(alloc: Global, id: RequestId, config: &Config) -> Result<Response, NoMemory>
-    ensures value { IfOk result (λ response. response ≡ welcome id config.now) }
+pub(crate) fn welcome<A: Analysis>(
+    alloc: Global,
+    id: RequestId,
+    config: &Config,
+) -> Result<Response, NoMemory>
+    ensures value { IfOk result (λ response. response ≡ welcome A.server_info id config.now) }
     ensures writable { IfOk result (λ response. AreWritable (ResponseMessage response)) }
 {
-    Ok(response_with(id, initialize_result(alloc, config.encodings())?))
+    let info = A::server_info(alloc)?;
+    let value = initialize_result(alloc, info, config.encodings())?;
+    Ok(Response {
+        id: Some(id),
+        result: Some(value),
+        error: None,
+    })
 }
 
 /// The answer to one that names no workspace.

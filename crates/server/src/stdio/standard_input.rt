@@ -1,7 +1,7 @@
 // A reader as a source.
-ghost use Rattle.std.specs.Prelude.{◌≡◌, ◌≤◌, ◌<◌, length, false, None, IfOk, IfSome, OnErr};
+ghost use Rattle.std.specs.Prelude.{◌≡◌, ◌≤◌, ◌<◌, [], length, ℕ, List, false, Option, None, Err, IfOk, IfSome, OnErr};
 ghost use Rattle.std.specs.Io.KnownBytes.{Keeps};
-ghost use Rattle.session_port.specs.Record.{HasCause, IsPiece, Rose};
+ghost use Rattle.session_port.specs.Record.{HasCause, IsPiece};
 ghost use Rattle.server.specs.Streams.{IsTaken};
 
 use plain::Bytes;
@@ -22,17 +22,17 @@ pub struct StandardInput<R: Read + Drop> {
 }
 
 impl<R: Read + Drop> Model for StandardInput<R> {
-    ghost use Rattle.std.specs.Io.Buffered.{reader_remaining};
+    ghost use Rattle.std.specs.Io.Buffered.{reader_buffer, reader_remaining};
     ghost use Rattle.server.specs.Streams.{InputData};
 
     ghost Value = { InputData };
 
-    ghost view = { λ s. record { left = reader_remaining R.remaining s.reader; faults = s.faults } };
+    ghost view = { λ s. record { left = reader_remaining R.remaining s.reader; ahead = reader_buffer s.reader; faults = s.faults } };
 }
 
 impl<R: Read + Drop> StandardInput<R> {
     pub fn new(alloc: Global, reader: R) -> io::Result<Self>
-        ensures { IfOk result (λ s. s ≡ record { left = R.remaining reader; faults = 0 }) }
+        ensures { IfOk result (λ s. s ≡ record { left = R.remaining reader; ahead = []; faults = 0 }) }
     {
         Ok(StandardInput {
             alloc,
@@ -94,13 +94,15 @@ fn take_piece<B: BufRead>(
 }
 
 impl<R: Read + Drop> StandardInput<R> {
-    /// Counts a failure.
+    /// Counts a failure of the reader. Where bytes were read ahead it is none: they can be taken.
     fn fail(&mut self) -> HostError
-        ensures failed { result ≡ HostError.Failed }
+        ensures failed { result ≡ HostError.Failed → self.new.ahead ≡ [] }
         ensures left { self.new.left ≡ self.old.left }
-        ensures cause { Rose self.old.faults self.new.faults }
-        ensures later { self.old.faults ≤ self.new.faults }
+        ensures cause { HasCause {T = Option (List ℕ)} self.old.faults self.new.faults (Err result) }
     {
+        if !self.reader.buffer().is_empty() {
+            return HostError::NoMemory;
+        }
         self.faults = self.faults.saturating_add(1);
         HostError::Failed
     }
@@ -132,6 +134,9 @@ impl<R: Read + Drop> Source for StandardInput<R> {
         // What the reader has left, if it tells.
         ensures taken { IfOk result (IsTaken self.old.left self.new.left) }
         ensures untaken { OnErr result (Keeps self.old.left self.new.left) }
+
+        // It fails where nothing was read ahead. So want of memory for a piece, which stands there then, is no failure.
+        ensures failed { result ≡ Err HostError.Failed → self.new.ahead ≡ [] }
     {
         // Reads again where a signal came in between.
         'reading: for _ in 0..u64::MAX {

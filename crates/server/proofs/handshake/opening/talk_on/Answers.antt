@@ -9,7 +9,7 @@ pub messages-init : goal.messages-init
 messages-init g c =
     let told = told_of (g.H.Host.calls c.args.host.now) (g.S.Sink.turns c.args.sink.now) in
     record {
-      so_far = rw c.requires.first (stretch-none c.args.threads first_talk told);
+      so_far = rw c.requires.first (stretch-none (record { threads = c.args.threads; info = g.A.Analysis.server_info }) first_talk told);
       in_step = rw c.requires.first refl;
       fits = rw c.requires.first (omega arith);
       idle = c.requires.idle;

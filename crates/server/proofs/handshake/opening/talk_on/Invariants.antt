@@ -6,7 +6,7 @@ use Rattle.server.proofs.handshake.opening.talk_on.Given as goal
 
 abbrev pub invariant-messages : goal.invariant-messages
 invariant-messages g l = record {
-  so_far : Stretch l.threads first_talk l.talk (told_of (g.H.Host.calls l.fn.host) (g.S.Sink.turns l.fn.sink)) (told_of (g.H.Host.calls l.host) (g.S.Sink.turns l.sink));
+  so_far : Stretch (record { threads = l.threads; info = g.A.Analysis.server_info }) first_talk l.talk (told_of (g.H.Host.calls l.fn.host) (g.S.Sink.turns l.fn.sink)) (told_of (g.H.Host.calls l.host) (g.S.Sink.turns l.sink));
   in_step : IsInStep l.talk.negotiation;
   fits : fed_bytes l.talk.reader < 2 ^ 64;
   idle : g.H.Host.out l.host ≡ map.empty;
