@@ -50,6 +50,10 @@ use Rattle.desk.specs.WorkEnds.{work_ended}
 use Rattle.desk.specs.declared.state.ends.WorkEnd.{WorkEnd}
 use Rattle.desk.specs.declared.state.ends.WorkEnd.TheVariants.{Fetched, Built, Checked, Loaded}
 use Rattle.session_laws.proofs.WorkEnds.{work_kept, work-versions}
+use Rattle.session_laws.proofs.OwnJobs.{before-is, fetch_begun, fetch_part-leaves, load_behind, load-due-same, parts_from_fetch, step-split}
+use Rattle.session_model.specs.OwnJobs.{OwnJob, before_fetch, build_job, checks_among_tasks, checks_back, fetch_job, fetch_jobs, jobs_due, load_job}
+use Rattle.session_model.specs.OwnJobs.{own_job, parts_before_fetch, run_jobs, run_jobs_behind}
+use Rattle.session_laws.proofs.Rows.{session_in}
 use Rattle.desk.specs.Meaning.{Meaning}
 use Rattle.desk.specs.Reactions.{Reaction, cancel_row, message_row, request_row}
 use Rattle.desk.specs.Steps.{cancelled, counted as counted_at_desk, handed_over, kept as kept_at_desk, requested, taken as taken_at_desk}
@@ -71,14 +75,14 @@ use Rattle.session_model.specs.Checking.{check_kept, check_kind}
 use Rattle.session_model.specs.Crates.{builds_crates, crate_data, is_unknown, with_crates}
 use Rattle.session_model.specs.Fetching.{fetch_kept, folders_told_if, settings_told, with_fetches}
 use Rattle.session_model.specs.Hearing.{heard_of, told_by}
-use Rattle.session_model.specs.Inputs.{batch_of, cancelled_by, check_count, checks_among, file_count, files_among, files_noticed}
+use Rattle.session_model.specs.Inputs.{batch_of, cancelled_by, file_count, files_among, files_noticed}
 use Rattle.session_model.specs.Loading.{MacroPaths, crates_loaded, load_due, load_kept, with_due_load}
 use Rattle.session_model.specs.Machine.{all_resumed, answer_taken, asked, asked_for_settings, asked_if, at_client, at_desk, at_files, at_workspaces, batched, begin_part, begun_fetches, build_handed_over, build_part}
 use Rattle.session_model.specs.Machine.{build_started, build_taken, changed_at, client_in, closed, closed_at, closing_part, counted, crates_arrived, crates_built, desk_in, effects_done, end_taken, work_taken, fetch_waits, settings_filed, sources_deferred, event_part, fetch_handed_over}
-use Rattle.session_model.specs.Machine.{fetch_part, fetch_started, fetch_taken, files_changed, files_done, files_followed, files_in, files_part, files_processed, files_processed_if, folders_taken, followed, happened, in_state, kept, knowing, later_parts}
+use Rattle.session_model.specs.Machine.{fetch_part, fetch_started, fetch_taken, files_changed, files_done, files_followed, files_in, files_part, files_processed, files_processed_if, folders_taken, followed, happened, in_state, kept, knowing}
 use Rattle.session_model.specs.Machine.{load_handed_over, load_started, load_taken, loader_set, macros_taken, noticed, opened_at, quiet_done, quiet_part, received, refreshed, register_part, resumed, revised, roots_renewed, runs_started, save_noted}
-use Rattle.session_model.specs.Machine.{saved_at, saved_file, saves_registered, some_processed, start_parts, state_in, status_changed, status_done, status_kept, status_part, status_told, step, switch_done, switch_part, switched_to, taken, taken_in}
-use Rattle.session_model.specs.Machine.{text_shown, timed, timer_set, told, turned, Turning, turning, warned, watchers_registered, with_client, with_desk, with_files, with_sources, with_state, with_status, with_workspaces}
+use Rattle.session_model.specs.Machine.{saved_at, saved_file, saves_registered, some_processed, state_in, status_changed, status_done, status_kept, status_part, status_told, step, switch_done, switch_part, switched_to, taken, taken_in}
+use Rattle.session_model.specs.Machine.{publish_part, text_shown, timed, timer_set, told, turned, Turning, turning, warned, watchers_registered, with_client, with_desk, with_files, with_sources, with_state, with_status, with_workspaces}
 use Rattle.session_model.specs.RunEnds.{AreTooMany, NeedsMore, Numbers, needs_of}
 use Rattle.session_model.specs.Rows.{batch_row, machine_after, notice_row, place_after_message, row, scene_within, turn_begun}
 use Rattle.session_model.specs.Run.{begun}
@@ -306,7 +310,7 @@ followed-does (follows.GoOn msrv version initial) w =
     (from-same (requests 1) w v (watchers_registered v) (same-state w.state v.state (warned-same msrv w)) (watched-does v))
 
 -- it may ask the client, build crate data, and give a version each of the workspaces and of the loader's settings
-abbrev for_switch : Numbers
+abbrev pub for_switch : Numbers
 for_switch = record none { requests = 1; revisions = 1; versions = 1; settings = 1 }
 
 switch-cases : (made : Result (Follows × Workspaces) Counter) (w : Working State) → Moves w.state.workspaces (left_or w.state.workspaces made) → IfErr made (RefusesSwitch w.state.workspaces)
@@ -330,45 +334,51 @@ switch-does w =
 
 -- ---- jobs of the session's own
 
-fetch-does : (may : Bool) (w : Working State) → Does (jobs 1) w (fetch_started may w)
+-- the session's own work that starts is that which is due
+fetch-does : (may : Bool) (w : Working State) → Does (jobs (length (fetch_job w.state (fetch_to_start may w.state.workspaces.fetches)))) w (fetch_started may w)
 unfolding fetch_started fetch_handed_over
 fetch-does may w = by_fetch (fetch_to_start may w.state.workspaces.fetches)
   where
     now : Working State
     now = at_workspaces (with_fetches (start_fetch may)) w
 
-    by_fetch : (fetch : Option (List ℕ × FetchRequest)) → Does (jobs 1) w (fetch_handed_over fetch now)
-    by_fetch None = does-same (jobs 1) w now refl
+    by_fetch : (fetch : Option (List ℕ × FetchRequest)) → Does (jobs (length (fetch_job w.state fetch))) w (fetch_handed_over fetch now)
+    by_fetch None = does-same (jobs 0) w now refl
     by_fetch (Some fetch) = job-counts (snapshot_of now.state) _ now
 
-load-does : (load : Option MacroPaths) (w : Working State) → Does (jobs 1) w (load_handed_over load w)
+load-does : (s : State) (load : Option MacroPaths) (w : Working State) → Does (jobs (length (load_job s load))) w (load_handed_over load w)
 unfolding load_handed_over
-load-does None w = does-same (jobs 1) w w refl
-load-does (Some paths) w = job-counts (snapshot_of w.state) _ w
+load-does s None w = does-same (jobs 0) w w refl
+load-does s (Some paths) w = job-counts (snapshot_of w.state) _ w
 
 -- no load starts where build data does
-run-does : (build : Option ℕ) (w : Working State) → Does (jobs 1) w (and_then (build_handed_over build w) (load_started build))
+run-does : (s : State) (build : Option ℕ) (w : Working State) → load_due build w.state.workspaces ≡ load_due build s.workspaces
+    → Does (jobs (length (build_job s build ++ load_behind build s))) w (and_then (build_handed_over build w) (load_started build))
 unfolding build_handed_over load_started load_handed_over
-run-does None w = load-does (load_due None w.state.workspaces) (at_workspaces (with_due_load None) w)
-run-does (Some version) w =
+run-does s None w same =
+    subst (λ (o : Option MacroPaths). Does (jobs (length (load_job (with_workspaces (with_due_load None s.workspaces) s) o))) w
+    (load_handed_over (load_due None w.state.workspaces) (at_workspaces (with_due_load None) w))) same
+    (load-does (with_workspaces (with_due_load None s.workspaces) s) (load_due None w.state.workspaces) (at_workspaces (with_due_load None) w))
+run-does s (Some version) w same =
     then-same (jobs 1) w (build_handed_over (Some version) w) (at_workspaces (with_due_load (Some version))) (λ v. refl) (job-counts (snapshot_of w.state) _ w)
 
-runs-do : (w : Working State) → Does (jobs 1) w (runs_started w)
+runs-do : (w : Working State) → Does (jobs (length (run_jobs w.state))) w (runs_started w)
 unfolding runs_started build_started
-runs-do w = run-does (build_due w.state.workspaces) (at_workspaces with_due_build w)
+runs-do w = run-does w.state (build_due w.state.workspaces) (at_workspaces with_due_build w) (load-due-same (build_due w.state.workspaces) w.state.workspaces)
 
 -- as many as two are
 jobs-then : (n m all : ℕ) (w : Working State) (r : Result (Working State) Counter) (f : Working State → Result (Working State) Counter) → n + m ≡ all → Does (jobs n) w r
     → ((v : Working State) → Does (jobs m) v (f v)) → Does (jobs all) w (and_then r f)
 jobs-then n m all w r f sum p q = subst (λ k. Does (jobs k) w (and_then r f)) sum (does-then (jobs n) (jobs m) w r f p q)
 
-resumed-do : (tasks : List DeferredTask) (w : Working State) → Does (jobs (checks_among tasks)) w (all_resumed tasks w)
+resumed-do : (s : State) (tasks : List DeferredTask) (w : Working State) → Does (jobs (length (checks_among_tasks s tasks))) w (all_resumed tasks w)
 unfolding resumed
-resumed-do [] w = does-same (jobs 0) w w refl
-resumed-do (CheckIfIndexed path ∷ tasks) w = resumed-do tasks w
-resumed-do (CheckProcMacroSources files ∷ tasks) w =
-    jobs-then 1 (checks_among tasks) (checks_among tasks + 1) w (at_desk (handed_over (snapshot_of w.state) Worker (check_kind (snapshot_of w.state) files)) w) (all_resumed tasks) (omega arith)
-    (job-counts (snapshot_of w.state) (check_kind (snapshot_of w.state) files) w) (resumed-do tasks)
+resumed-do s [] w = does-same (jobs 0) w w refl
+resumed-do s (CheckIfIndexed path ∷ tasks) w = resumed-do s tasks w
+resumed-do s (CheckProcMacroSources files ∷ tasks) w =
+    jobs-then 1 (length (checks_among_tasks s tasks)) (length (own_job s (check_kind (snapshot_of s) files) ∷ checks_among_tasks s tasks)) w
+    (at_desk (handed_over (snapshot_of w.state) Worker (check_kind (snapshot_of w.state) files)) w) (all_resumed tasks) (omega arith)
+    (job-counts (snapshot_of w.state) (check_kind (snapshot_of w.state) files) w) (resumed-do s tasks)
 
 -- ---- jobs for requests
 
@@ -474,9 +484,9 @@ batch-does meaning turns s (m ∷ ms) w h =
 -- ---- notifications
 
 -- what an event gives
-abbrev for_event : Meaning → State → Input → Numbers
+abbrev pub for_event : Meaning → State → Input → Numbers
 for_event meaning s input = record none {
-  jobs = length (row meaning input (place_of s)).jobs + check_count input;
+  jobs = length (row meaning input (place_of s)).jobs + length (checks_back s input);
   requests = 1;
   revisions = length (batch_of input);
   files = file_count input;
@@ -691,9 +701,9 @@ event-does meaning s (Deferred tasks) =
     let w : Working State = turn_begun s in
     let input : Input = Next (Deferred tasks) in
     event-holds (for_event meaning s (Next (Deferred tasks))) (turn_begun s) (happened meaning (Deferred tasks) (turn_begun s))
-    (counts-more state_ahead (jobs (checks_among tasks)) (for_event meaning s input) (held w.state) (all_resumed tasks w)
+    (counts-more state_ahead (jobs (length (checks_among_tasks s tasks))) (for_event meaning s input) (held w.state) (all_resumed tasks w)
     (at-most _ _ (omega arith) (omega arith) (omega arith) (omega arith) (omega arith) (omega arith) (omega arith))
-    (resumed-do tasks w))
+    (resumed-do s tasks w))
 event-does meaning s (Timer ticket) =
     event-holds (for_event meaning s (Next (Timer ticket))) (turn_begun s) (happened meaning (Timer ticket) (turn_begun s))
     (does-same (for_event meaning s (Next (Timer ticket))) (turn_begun s) (timed ticket (turn_begun s)) (held-workspaces (turn_begun s).state (with_fetches (fire ticket) s.workspaces) (fire-runs 0 ticket s.workspaces).versions))
@@ -716,11 +726,11 @@ taken_in-does meaning s event =
 
 -- ---- whole turns
 
-abbrev turning_ahead : Working Turning → State
+abbrev pub turning_ahead : Working Turning → State
 turning_ahead t = ahead t.state.state
 
 -- a part of a turn
-abbrev PartDoes : Numbers → Working Turning → Result (Working Turning) Counter → Type 0
+abbrev pub PartDoes : Numbers → Working Turning → Result (Working Turning) Counter → Type 0
 PartDoes needs t r = Counts turning_ahead needs (held t.state.state) r
 
 part-does : (needs : Numbers) (part : Working State → Result (Working State) Counter) (t : Working Turning) → Does needs (record { state = t.state.state; out = t.out }) (part (record { state = t.state.state; out = t.out }))
@@ -754,61 +764,115 @@ closing-does : (t : Working Turning) → PartDoes none t (closing_part t)
 unfolding closing_part
 closing-does t = part-does none (closed t.state.facts) t (ending-does t.state.facts _)
 
--- the parts behind the event: a switch, the files, what the client shows, a fetch, a run of build data or a load, and a status
-abbrev for_parts : Numbers
-for_parts = record none { jobs = 2; requests = 6; revisions = 1; versions = 1; settings = 1 }
-
-files_part-does : (t : Working Turning) → PartDoes none t (files_part t)
+pub files_part-does : (t : Working Turning) → PartDoes none t (files_part t)
 unfolding files_part
 files_part-does t =
     parts-same none t (in_state files_done t) (knowing (some_processed t.state.state.files)) (λ u. refl)
     (part-does none files_done t (done-does _))
 
-later-does : (input : Input) (t : Working Turning) → PartDoes for_parts t (later_parts input t)
-unfolding switch_part quiet_part fetch_part build_part status_part
-later-does input t =
-    parts-then for_switch (record none { jobs = 2; requests = 5 }) t (switch_part t) _ (part-does for_switch switch_done t (switch-does _))
-    (λ t. parts-then none (record none { jobs = 2; requests = 5 }) t (files_part t) _ (files_part-does t)
-    (λ t. parts-then (requests 4) (record none { jobs = 2; requests = 1 }) t (quiet_part t) _ (part-does (requests 4) (quiet_done t.state.facts) t (quiet-does t.state.facts _))
-    (λ t. parts-then (jobs 1) (record none { jobs = 1; requests = 1 }) t (fetch_part input t) _ (part-does (jobs 1) (fetch_started (may_start input t.state.state.client.settings)) t (fetch-does _ _))
-    (λ t. parts-then (jobs 1) (requests 1) t (build_part t) _ (part-does (jobs 1) runs_started t (runs-do _))
-    (λ t. parts-then (requests 1) none t (status_part t) closing_part (part-does (requests 1) status_done t (status-does _)) closing-does)))))
+pub switch_part-does : (t : Working Turning) → PartDoes for_switch t (switch_part t)
+unfolding switch_part
+switch_part-does t = part-does for_switch switch_done t (switch-does _)
 
-begun-does : (w : Working State) → Does none w (begun_fetches w)
-unfolding begun_fetches
-begun-does w = does-same none w (at_workspaces (with_fetches (start_up (discovers w.state.client.settings))) w) refl
+pub quiet_part-does : (t : Working Turning) → PartDoes (requests 4) t (quiet_part t)
+unfolding quiet_part
+quiet_part-does t = part-does (requests 4) (quiet_done t.state.facts) t (quiet-does t.state.facts _)
 
-start-does : (t : Working Turning) → PartDoes (record none { jobs = 1; requests = 2 }) t (start_parts t)
-unfolding status_part register_part begin_part fetch_part
-start-does t =
-    parts-then (requests 1) (record none { jobs = 1; requests = 1 }) t (status_part t) _ (part-does (requests 1) status_done t (status-does _))
-    (λ t. parts-then (requests 1) (jobs 1) t (register_part t) _ (part-does (requests 1) saves_registered t (registered-does _))
-    (λ t. parts-then none (jobs 1) t (begin_part t) _ (part-does none begun_fetches t (begun-does _))
-    (λ t. parts-then (jobs 1) none t (fetch_part Start t) closing_part (part-does (jobs 1) (fetch_started (may_start Start t.state.state.client.settings)) t (fetch-does _ _)) closing-does)))
+pub status_part-does : (t : Working Turning) → PartDoes (requests 1) t (status_part t)
+unfolding status_part
+status_part-does t = part-does (requests 1) status_done t (status-does _)
+
+pub register_part-does : (t : Working Turning) → PartDoes (requests 1) t (register_part t)
+unfolding register_part
+register_part-does t = part-does (requests 1) saves_registered t (registered-does _)
+
+pub begin_part-does : (t : Working Turning) → PartDoes none t (begin_part t)
+unfolding begin_part begun_fetches
+begin_part-does t = part-does none begun_fetches t (does-same none (session_in t) (at_workspaces (with_fetches (start_up (discovers t.state.state.client.settings))) (session_in t)) refl)
+
+-- an event
+abbrev pub for_event_part : Meaning → State → Event → Numbers
+for_event_part meaning s event = both (turns 1) (both (for_event meaning s (Next event)) (revisions 1))
+
+pub event_part-does : (meaning : Meaning) (s : State) (event : Event) → Counts turning_ahead (for_event_part meaning s event) (given s) (event_part meaning event (turning (begun s)))
+unfolding event_part
+event_part-does meaning s event =
+    counts-within turning_ahead (for_event_part meaning s event) (given s) state_in with_state (taken_in meaning event) (turning (begun s)) (taken_in-does meaning s event)
+
+-- what comes before the session's own work: behind an event a switch, the files, and what the client shows
+abbrev for_parts_before : Meaning → Input → State → Numbers
+for_parts_before meaning Start s = both (revisions 1) (requests 2)
+for_parts_before meaning (Next event) s = both (for_event_part meaning s event) (both for_switch (requests 4))
+
+parts-before-do : (meaning : Meaning) (s : State) (input : Input)
+    → Counts turning_ahead (for_parts_before meaning input s) (given s) (parts_before_fetch meaning input (turning (begun s)))
+parts-before-do meaning s Start =
+    let t : Working Turning = turning (begun s) in
+    counts-behind turning_ahead (revisions 1) (requests 2) (given s) (held s) (parts_before_fetch meaning Start t) (more-held s)
+    (parts-then (requests 1) (requests 1) t (status_part t) _ (status_part-does t)
+    (λ t. parts-then (requests 1) none t (register_part t) begin_part (register_part-does t) begin_part-does))
+parts-before-do meaning s (Next event) =
+    counts-then turning_ahead turning_ahead (for_event_part meaning s event) (both for_switch (requests 4)) (given s) (event_part meaning event (turning (begun s))) _ (event_part-does meaning s event)
+    (λ t is. parts-then for_switch (requests 4) t (switch_part t) _ (switch_part-does t)
+    (λ t. parts-then none (requests 4) t (files_part t) _ (files_part-does t)
+    (λ t. parts-then (requests 4) none t (quiet_part t) publish_part (quiet_part-does t) (λ t. gives-same none (held t.state.state) (held t.state.state) refl))))
+
+-- the work itself, and behind an event a status
+abbrev for_work : ℕ → Numbers
+for_work n = record none { jobs = n; requests = 1 }
+
+fetch_part-does : (input : Input) (t : Working Turning) → PartDoes (jobs (length (fetch_jobs input t.state.state))) t (fetch_part input t)
+unfolding fetch_part
+fetch_part-does input t = part-does (jobs (length (fetch_jobs input t.state.state))) (fetch_started (may_start input t.state.state.client.settings)) t (fetch-does _ _)
+
+-- where a fetch has been started
+build_part-does : (event : Event) (t u : Working Turning) → fetch_part (Next event) t ≡ Ok u
+    → PartDoes (jobs (length (run_jobs_behind (Next event) (fetch_begun (Next event) t.state.state)))) u (build_part u)
+unfolding build_part
+build_part-does event t u is =
+    let fetched : State = fetch_begun (Next event) t.state.state in
+    let same : run_jobs u.state.state ≡ run_jobs fetched = IfOk-at_ok (λ (u : Working Turning). run_jobs u.state.state ≡ run_jobs fetched) is (fetch_part-leaves (Next event) t) in
+    subst (λ (own : List OwnJob). PartDoes (jobs (length own)) u (in_state runs_started u)) same (part-does (jobs (length (run_jobs u.state.state))) runs_started u (runs-do _))
+
+parts-from-do : (input : Input) (t : Working Turning) → PartDoes (for_work (length (jobs_due input t.state.state))) t (parts_from_fetch input t)
+parts-from-do Start t =
+    let own = fetch_jobs Start t.state.state in
+    counts-more turning_ahead (both (jobs (length own)) none) (for_work (length (own ++ []))) (held t.state.state) (parts_from_fetch Start t)
+    (at-most _ _ (omega arith) (omega (arith, length-append own [])) (omega arith) (omega arith) (omega arith) (omega arith) (omega arith))
+    (parts-then (jobs (length own)) none t (fetch_part Start t) closing_part (fetch_part-does Start t) closing-does)
+parts-from-do (Next event) t =
+    let input : Input = Next event in
+    let first = fetch_jobs input t.state.state in
+    let later = run_jobs_behind input (fetch_begun input t.state.state) in
+    let needs : Numbers = both (jobs (length first)) (both (jobs (length later)) (requests 1)) in
+    counts-more turning_ahead needs (for_work (length (first ++ later))) (held t.state.state) (parts_from_fetch input t)
+    (at-most _ _ (omega arith) (omega (arith, length-append first later)) (omega arith) (omega arith) (omega arith) (omega arith) (omega arith))
+    (counts-then turning_ahead turning_ahead (jobs (length first)) (both (jobs (length later)) (requests 1)) (held t.state.state) (fetch_part input t) _ (fetch_part-does input t)
+    (λ u is. parts-then (jobs (length later)) (requests 1) u (build_part u) _ (build_part-does event t u is)
+    (λ t. parts-then (requests 1) none t (status_part t) closing_part (status_part-does t) closing-does)))
 
 -- the facts are forgotten
 forgets : (needs n : Numbers) (r : Result (Working Turning) Counter) → Counts turning_ahead needs n r → Counts state_ahead needs n (and_then r turned)
 forgets needs n (Ok t) h = h
 forgets needs n (Err counter) h = h
 
+few-own : (meaning : Meaning) (s : State) (input : Input)
+    → AtMost (both (for_parts_before meaning input s) (for_work (length (jobs_due input (before_fetch meaning input s))))) (needs_of meaning input (place_of s))
+few-own meaning s Start = at-most _ _ (omega arith) (omega arith) (omega arith) (omega arith) (omega arith) (omega arith) (omega arith)
+few-own meaning s (Next event) =
+    at-most _ _ (omega arith) (omega (arith, length-append (checks_back s (Next event)) (jobs_due (Next event) (before_fetch meaning (Next event) s)))) (omega arith) (omega arith) (omega arith)
+    (omega arith) (omega arith)
+
 pub step-does : (meaning : Meaning) (s : State) (input : Input) → Counts state_ahead (needs_of meaning input (place_of s)) (given s) (step meaning input (begun s))
-unfolding step event_part
-step-does meaning s Start =
-    let start : Numbers = record none { jobs = 1; requests = 2 } in
-    forgets (needs_of meaning Start (place_of s)) (given s) (start_parts (turning (begun s)))
-    (counts-more turning_ahead (both (revisions 1) start) (needs_of meaning Start (place_of s)) (given s) (start_parts (turning (begun s)))
-    (at-most _ _ (omega arith) (omega arith) (omega arith) (omega arith) (omega arith) (omega arith) (omega arith))
-    (counts-behind turning_ahead (revisions 1) start (given s) (held s) (start_parts (turning (begun s))) (more-held s) (start-does (turning (begun s)))))
-step-does meaning s (Next event) =
-    let input : Input = Next event in
-    let t : Working Turning = turning (begun s) in
-    let first : Numbers = both (turns 1) (both (for_event meaning s input) (revisions 1)) in
-    let turn = and_then (event_part meaning event t) (later_parts input) in
-    forgets (needs_of meaning input (place_of s)) (given s) turn
-    (counts-more turning_ahead (both first for_parts) (needs_of meaning input (place_of s)) (given s) turn
-    (at-most _ _ (omega arith) (omega arith) (omega arith) (omega arith) (omega arith) (omega arith) (omega arith))
-    (counts-then turning_ahead turning_ahead first for_parts (given s) (event_part meaning event t) (later_parts input)
-    (counts-within turning_ahead first (given s) state_in with_state (taken_in meaning event) t (taken_in-does meaning s event)) (λ u is. later-does input u)))
+step-does meaning s input =
+    let before = parts_before_fetch meaning input (turning (begun s)) in
+    let due = jobs_due input (before_fetch meaning input s) in
+    subst (Counts state_ahead (needs_of meaning input (place_of s)) (given s)) (sym (step-split meaning input s))
+    (forgets (needs_of meaning input (place_of s)) (given s) (and_then before (parts_from_fetch input))
+    (counts-more turning_ahead (both (for_parts_before meaning input s) (for_work (length due))) (needs_of meaning input (place_of s)) (given s) (and_then before (parts_from_fetch input))
+    (few-own meaning s input)
+    (counts-then turning_ahead turning_ahead (for_parts_before meaning input s) (for_work (length due)) (given s) before (parts_from_fetch input) (parts-before-do meaning s input)
+    (λ t is. subst (λ (o : State). PartDoes (for_work (length (jobs_due input o))) t (parts_from_fetch input t)) (sym (before-is meaning input s t is)) (parts-from-do input t)))))
 
 same-err : (c d : Counter) → (let r : Result (Working State) Counter = Err c in r) ≡ Err d → c ≡ d
 same-err c d is = cc

@@ -12,8 +12,9 @@ use Rattle.session_port.specs.declared.fault.Counter.TheVariants.{Revisions, Tur
 use Rattle.desk.specs.Meaning.{Meaning}
 use Rattle.session_model.specs.Course.{Course, Stop as CourseStop, takes, stops, waits, exit, client_gone}
 use Rattle.session_model.specs.Course.{bad_frame, bad_message, bytes_in, session_course}
-use Rattle.session_model.specs.Inputs.{batch_of, check_count, file_count, turns_after}
+use Rattle.session_model.specs.Inputs.{batch_of, file_count, turns_after}
 use Rattle.session_model.specs.Machine.{step}
+use Rattle.session_model.specs.OwnJobs.{own_jobs}
 use Rattle.session_model.specs.Places.{Place, placed}
 use Rattle.session_model.specs.Rows.{row}
 use Rattle.session_model.specs.Run.{Turn, begun, commands_of, fed_bytes, taking}
@@ -67,14 +68,13 @@ given_at place = record {
   settings = place.rest.workspaces.loader_version;
 }
 
--- those that a turn may need. The start has no number and makes no switch. Jobs are those of the row, the checks that
--- the input brings back, a fetch, and a run of build data or a load of macros. The client may be asked for its
--- settings, to watch files, to ask anew for four things that it shows, and for a button. The world may change for each
--- message of a batch, for a switch and for the files
+-- those that a turn may need. The start has no number and makes no switch. Jobs are those of the row and the session's
+-- own. The client may be asked for its settings, to watch files, to ask anew for four things that it shows, and for a
+-- button. The world may change for each message of a batch, for a switch and for the files
 abbrev pub needs_of : Meaning → Input → Place → Numbers
 needs_of meaning input place = record {
   turns = turns_after input 0;
-  jobs = length (row meaning input place).jobs + check_count input + 2;
+  jobs = length (row meaning input place).jobs + length (own_jobs meaning input place.rest);
   requests = 7;
   revisions = length (batch_of input) + 2;
   files = file_count input;
