@@ -19,8 +19,10 @@ use Rattle.desk.specs.Steps.{requested, admitted, noted}
 use Rattle.desk.specs.Scene.{Scene}
 
 -- a request whose id waits
-pub requested_again : (meaning : Meaning) (scene : Scene) (r : Request) (state new : Desk) (out : Written) (other : ℕ) → Registers state.turns r.id state.pending new.pending (AlreadyPending other)
-    → new ≡ record state { pending = new.pending } → requested meaning scene r (record { state = state; out = out }) ≡ Ok (replied (already_pending r.id) (record { state = new; out = out }))
+pub requested_again : (meaning : Meaning) (scene : Scene) (r : Request) (state new : Desk) (out : Written) (other : ℕ)
+    → Registers state.turns r.id state.pending new.pending (AlreadyPending other)
+    → new ≡ record state { pending = new.pending } → requested meaning scene r (record { state = state; out = out }) ≡ Ok
+    (replied (already_pending r.id) (record { state = new; out = out }))
 unfolding requested
 requested_again meaning scene r state new out other registers others =
     let same : new ≡ state = others ∙ ap (λ p. record state { pending = p }) registers.1 in
@@ -28,16 +30,19 @@ requested_again meaning scene r state new out other registers others =
     rw (waits, same) refl
 
 -- it is refused under the id that waits
-pub refused_again : {T : Type 0} (meaning : Meaning) (scene : Scene) (r : Request) (state mid new : Desk) (out out_now : Written) (ticket : ℕ) (result : Result T TurnError)
+pub refused_again : {T : Type 0} (meaning : Meaning) (scene : Scene) (r : Request) (state mid new : Desk) (out out_now : Written) (ticket : ℕ)
+    (result : Result T TurnError)
     → Registers state.turns r.id state.pending mid.pending (AlreadyPending ticket) → mid ≡ record state { pending = mid.pending }
     → ((id : RequestId) → id_of ticket mid.pending ≡ Some id → Gives result (replied (already_pending id) (record { state = mid; out = out })) new out_now)
     → Meets result (requested meaning scene r (record { state = state; out = out })) new out_now
 refused_again meaning scene r state mid new out out_now ticket result registers others refused =
     let waits : id_of ticket mid.pending ≡ Some r.id = ap (id_of ticket) registers.1 ∙ ticket_of-is ticket r.id state.pending registers.0 in
-    subst (λ (m : Result (Working Desk) Counter). Meets result m new out_now) (sym (requested_again meaning scene r state mid out ticket registers others)) (refused r.id waits)
+    subst (λ (m : Result (Working Desk) Counter). Meets result m new out_now) (sym (requested_again meaning scene r state mid out ticket registers others))
+    (refused r.id waits)
 
 -- and one whose id is new
-pub requested_new : (meaning : Meaning) (scene : Scene) (r : Request) (state new : Desk) (out : Written) → Registers state.turns r.id state.pending new.pending New → new ≡ record state { pending = new.pending }
+pub requested_new : (meaning : Meaning) (scene : Scene) (r : Request) (state new : Desk) (out : Written)
+    → Registers state.turns r.id state.pending new.pending New → new ≡ record state { pending = new.pending }
     → requested meaning scene r (record { state = state; out = out }) ≡ admitted meaning scene r.method r.params (record { state = new; out = out })
 unfolding requested noted
 requested_new meaning scene r state new out registers others =

@@ -20,7 +20,14 @@ pub record Desk : Type 0 where
 
 -- the desk before any turn, where so many turns were counted and so many jobs handed over
 abbrev pub new_desk_at : ℕ → ℕ → Desk
-new_desk_at turns handed = record { turns = turns; pending = none_pending; jobs = map.empty; handed = handed; shutdown = false }
+new_desk_at turns handed = record {
+  turns = turns;
+  pending = none_pending;
+  jobs = map.empty;
+  handed = handed;
+  shutdown =
+      false;
+}
 
 abbrev pub new_desk : Desk
 new_desk = new_desk_at 0 0

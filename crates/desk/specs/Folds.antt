@@ -1,6 +1,8 @@
--- What the lists of a turn leave of the desk, and what is promised of it: each response answers one request that waits, and each request that waits
+-- What the lists of a turn leave of the desk, and what is promised of it: each response answers one request that waits,
+-- and each request that waits
 -- is held by exactly one job for each of its parts that is not reported.
-use Rattle.std.specs.Prelude.{◌≡◌, ℕ, ◌+◌, ◌&&◌, List, [], ◌∷◌, length, Contains, Bool, true, false, Option, None, Some, is_some}
+use Rattle.std.specs.Prelude.{◌≡◌, ℕ, ◌+◌, ◌&&◌, List, [], ◌∷◌, length, Contains, Bool, true, false, Option, None, Some}
+use Rattle.std.specs.Prelude.{is_some}
 use Rattle.std.specs.Prelude.{if◌then◌else◌}
 use Rattle.std.specs.FinMap as map
 use Rattle.std.specs.List.{filter}
@@ -38,7 +40,8 @@ abbrev pub closed_by : List Response → Pending → Pending
 closed_by [] pending = pending
 closed_by (response ∷ responses) pending = closed_by responses (closed_with response.id pending)
 
--- the one response refuses the request whose id is pending, and closes nothing; else the request waits, and the responses close
+-- the one response refuses the request whose id is pending, and closes nothing; else the request waits, and the
+-- responses close
 abbrev pub after_request : Bool → ℕ → RequestId → List Response → Pending → Pending
 after_request true ticket id responses pending = pending
 after_request false ticket id responses pending = closed_by responses (registered ticket id pending)
@@ -59,9 +62,11 @@ answers_null (response ∷ responses) = is_null_result response.result
 -- a request `shutdown` was answered with null
 abbrev pub shutdown_after : Option Request → List Response → Bool → Bool
 shutdown_after None responses shutdown = shutdown
-shutdown_after (Some r) responses shutdown = if is_shutdown (row_of r.method) && answers_null responses then true else shutdown
+shutdown_after (Some r) responses shutdown = if is_shutdown (row_of r.method) && answers_null responses then true
+    else shutdown
 
--- what a message of a job leaves for the next one of its batch: the jobs that it hands over are counted, and are out from the end of the turn on
+-- what a message of a job leaves for the next one of its batch: the jobs that it hands over are counted, and are out
+-- from the end of the turn on
 abbrev pub desk_past : TaskMsg → Reaction → Desk → Desk
 desk_past message done desk = record desk {
   pending = closed_by (responses_of done) desk.pending;
@@ -92,13 +97,15 @@ pub record IsHeld (ticket : ℕ) (parts : List ℕ) (jobs : Jobs) : Type 0 where
 -- each pending request is held
 abbrev pub AreHeld : Desk → Type 0
 AreHeld desk =
-    (ticket : ℕ) (id : RequestId) → id_of ticket desk.pending ≡ Some id → IsHeld ticket (unreported ticket desk) desk.jobs
+    (ticket : ℕ) (id : RequestId) → id_of ticket desk.pending ≡ Some id
+    → IsHeld ticket (unreported ticket desk) desk.jobs
 
 -- each response answers the pending request of its id, and closes it
 abbrev pub AreAnswers : List Response → Pending → Type 0
 AreAnswers [] pending = Unit {0}
 AreAnswers (response ∷ responses) pending =
-    (id : RequestId) × (response.id ≡ Some id) × (is_pending id pending ≡ true) × AreAnswers responses (closed id pending)
+    (id : RequestId) × (response.id ≡ Some id) × (is_pending id pending ≡ true)
+    × AreAnswers responses (closed id pending)
 
 -- a request whose id is pending already is refused at once, and nothing else is answered
 abbrev pub AnswersRequest : Bool → ℕ → RequestId → List Response → Pending → Type 0

@@ -23,7 +23,8 @@ use Rattle.session_port.specs.Jobs.{final_of, fitting_job}
 use Rattle.session_port.specs.declared.event.TaskMsg.{TaskMsg}
 use Rattle.session_port.specs.declared.job.Job.{Job}
 use Rattle.session_port.specs.declared.job.JobKind.{JobKind}
-use Rattle.session_port.specs.declared.job.JobKind.TheVariants.{Request as RequestJob, ProcMacroSources, FetchWorkspaces, FetchBuildData, LoadProcMacros}
+use Rattle.session_port.specs.declared.job.JobKind.TheVariants.{Request as RequestJob, ProcMacroSources}
+use Rattle.session_port.specs.declared.job.JobKind.TheVariants.{FetchWorkspaces, FetchBuildData, LoadProcMacros}
 use Rattle.session_port.specs.declared.job.JobResult.{JobResult}
 use Rattle.session_port.specs.Written.{responses_in}
 use Rattle.desk.specs.Desk.{Desk, waiting_for}
@@ -72,21 +73,25 @@ planned_row meaning scene handed plans.Shutdown ticket id row params = state_row
 planned_row meaning scene handed plans.Refuse ticket id row params = says (shut_already id)
 planned_row meaning scene handed plans.Unknown ticket id row params = says (unknown_request id)
 planned_row meaning scene handed plans.Default ticket id row params = says (response_with id (default_of row))
-planned_row meaning scene handed plans.Identity ticket id row params = if_read (can_read meaning row params) id (says (response_with id params))
+planned_row meaning scene handed plans.Identity ticket id row params =
+    if_read (can_read meaning row params) id (says (response_with id params))
 planned_row meaning scene handed plans.State ticket id row params = state_row id (request_of row params)
 planned_row meaning scene handed plans.OnLoop ticket id row params =
-    if_read (can_read meaning row params) id (says (finding_reply id (meaning.answer scene.snapshot (RequestAsk row params))))
+    if_read (can_read meaning row params) id
+    (says (finding_reply id (meaning.answer scene.snapshot (RequestAsk row params))))
 planned_row meaning scene handed (plans.Job class) ticket id row params =
     if_read (can_read meaning row params) id (hands_over handed scene.snapshot class ticket row params)
 
 -- a request of a row
 abbrev pub class_row : Meaning → Scene → Desk → ℕ → RequestId → RowId → Data → Reaction
 class_row meaning scene desk ticket id row params =
-    planned_row meaning scene desk.handed (plan (Some row) scene.loading scene.incomplete desk.shutdown) ticket id row params
+    planned_row meaning scene desk.handed (plan (Some row) scene.loading scene.incomplete desk.shutdown) ticket id row
+    params
 
 -- a request that isn't `shutdown`
 abbrev pub method_row : Meaning → Scene → Desk → ℕ → Option RowId → Request → Reaction
-method_row meaning scene desk ticket None r = if desk.shutdown then says (shut_already r.id) else says (unknown_request r.id)
+method_row meaning scene desk ticket None r =
+    if desk.shutdown then says (shut_already r.id) else says (unknown_request r.id)
 method_row meaning scene desk ticket (Some row) r = class_row meaning scene desk ticket r.id row r.params
 
 abbrev pub shutdown_row : RequestId → Data → Reaction
@@ -95,17 +100,20 @@ shutdown_row id params = if is_unit params then says (response_with id null) els
 -- a request whose id isn't pending
 abbrev pub new_row : Meaning → Scene → Desk → ℕ → Request → Reaction
 new_row meaning scene desk ticket r =
-    if is_shutdown (row_of r.method) then shutdown_row r.id r.params else method_row meaning scene desk ticket (row_of r.method) r
+    if is_shutdown (row_of r.method) then shutdown_row r.id r.params else method_row meaning scene desk ticket
+    (row_of r.method) r
 
 -- a request that is read by the turn of this number
 abbrev pub request_row : Meaning → Scene → Desk → ℕ → Request → Reaction
-request_row meaning scene desk ticket r = if is_pending r.id desk.pending then says (already_pending r.id) else new_row meaning scene desk ticket r
+request_row meaning scene desk ticket r = if is_pending r.id desk.pending then says (already_pending r.id)
+    else new_row meaning scene desk ticket r
 
 -- a request that the client cancels
 abbrev pub cancel_row : RequestId → Desk → Reaction
 cancel_row id desk = if is_pending id desk.pending then says (canceled_by_client id) else silent
 
--- a job that stopped, of a request that is pending: where the revision is above the job's snapshot's and the row isn't to be tried again, the request is
+-- a job that stopped, of a request that is pending: where the revision is above the job's snapshot's and the row isn't
+-- to be tried again, the request is
 -- refused; else it is taken as one that is read here, under its ticket
 abbrev pub stopped_row : Meaning → Scene → Desk → RequestId → ℕ → JobKind → Reaction
 stopped_row meaning scene desk id revision (RequestJob ticket row params) =

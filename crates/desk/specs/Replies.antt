@@ -6,7 +6,8 @@ use Rattle.lsp_frame.specs.declared.message.Response.{Response}
 use Rattle.analysis_host.specs.Answers.{Finding, answer, fault}
 use Rattle.dispatch.specs.Responses.{response_with, refusal, fault_code}
 use Rattle.method_table.specs.declared.class.Class.{Class}
-use Rattle.method_table.specs.declared.class.Class.TheVariants.{State, OnLoop, Formatting, Latency, DocumentDiagnostic, Worker, Identity}
+use Rattle.method_table.specs.declared.class.Class.TheVariants.{State, OnLoop, Formatting, Latency, DocumentDiagnostic}
+use Rattle.method_table.specs.declared.class.Class.TheVariants.{Worker, Identity}
 use Rattle.session_port.specs.Jobs.{value_of}
 use Rattle.session_port.specs.declared.job.JobResult.{JobResult}
 use Rattle.session_port.specs.declared.job.JobResult.TheVariants.{Value, Fault, Cancelled, NoMemory}

@@ -1,5 +1,6 @@
 -- What the desk does: with a request that is read, one that is cancelled, and the messages of jobs.
-use Rattle.std.specs.Prelude.{ℕ, ◌+◌, ◌&&◌, Bool, true, false, not, List, decimal, drop, Option, None, Some, Result, Ok, Err, if◌then◌else◌, ltb}
+use Rattle.std.specs.Prelude.{ℕ, ◌+◌, ◌&&◌, Bool, true, false, not, List, decimal, drop, Option, None, Some, Result, Ok}
+use Rattle.std.specs.Prelude.{Err, if◌then◌else◌, ltb}
 use Rattle.std.specs.FinMap as map
 use Rattle.serde_json.specs.Data.{Data, null}
 use Rattle.lsp_frame.specs.Pending.{is_pending, id_of, registered, closed}
@@ -25,7 +26,8 @@ use Rattle.session_port.specs.declared.command.LogCode.TheVariants.{UnknownReque
 use Rattle.session_port.specs.declared.event.TaskMsg.{TaskMsg}
 use Rattle.session_port.specs.declared.job.Job.{Job}
 use Rattle.session_port.specs.declared.job.JobKind.{JobKind}
-use Rattle.session_port.specs.declared.job.JobKind.TheVariants.{Request as RequestJob, ProcMacroSources, FetchWorkspaces, FetchBuildData, LoadProcMacros}
+use Rattle.session_port.specs.declared.job.JobKind.TheVariants.{Request as RequestJob, ProcMacroSources}
+use Rattle.session_port.specs.declared.job.JobKind.TheVariants.{FetchWorkspaces, FetchBuildData, LoadProcMacros}
 use Rattle.session_port.specs.declared.job.JobResult.{JobResult}
 use Rattle.session_port.specs.Working.{Working, and_then, next_number, replied, ordered, logged}
 use Rattle.session_port.specs.declared.fault.Counter.{Counter}
@@ -39,12 +41,13 @@ use Rattle.desk.specs.Scene.{Scene}
 -- ---- what is written
 
 -- a pending request is answered, and so closed
-unfoldable pub answered : RequestId → Response → Working Desk → Working Desk
-answered id response w = replied response (record w { state = record w.state { pending = closed id w.state.pending } })
+unfoldable pub request_answered : RequestId → Response → Working Desk → Working Desk
+request_answered id response w = replied response
+    (record w { state = record w.state { pending = closed id w.state.pending } })
 
 unfoldable pub answered_if : Option RequestId → (RequestId → Response) → Working Desk → Working Desk
 answered_if None reply w = w
-answered_if (Some id) reply w = answered id (reply id) w
+answered_if (Some id) reply w = request_answered id (reply id) w
 
 -- the request of a ticket is answered, where it waits
 unfoldable pub responded : ℕ → (RequestId → Response) → Working Desk → Working Desk
@@ -72,7 +75,8 @@ dispatched scene class ticket row params w = handed_over scene.snapshot class (R
 
 -- a request is answered by its own params, where they can be read
 unfoldable pub echoed : Bool → ℕ → Data → Working Desk → Working Desk
-echoed reads ticket params w = if reads then responded ticket (λ id. response_with id params) w else responded ticket invalid_params w
+echoed reads ticket params w = if reads then responded ticket (λ id. response_with id params) w
+    else responded ticket invalid_params w
 
 -- the same by a query on the present snapshot
 unfoldable pub queried : Meaning → Scene → Bool → ℕ → RowId → Data → Working Desk → Working Desk
@@ -95,11 +99,14 @@ unfoldable pub planned : Meaning → Scene → Plan → ℕ → RowId → Data �
 planned meaning scene plans.Shutdown ticket row params w = Ok (stated ticket (request_of row params) w)
 planned meaning scene plans.Refuse ticket row params w = Ok (responded ticket shut_already w)
 planned meaning scene plans.Unknown ticket row params w = Ok (responded ticket unknown_request w)
-planned meaning scene plans.Default ticket row params w = Ok (responded ticket (λ id. response_with id (default_of row)) w)
+planned meaning scene plans.Default ticket row params w =
+    Ok (responded ticket (λ id. response_with id (default_of row)) w)
 planned meaning scene plans.Identity ticket row params w = Ok (echoed (can_read meaning row params) ticket params w)
 planned meaning scene plans.State ticket row params w = Ok (stated ticket (request_of row params) w)
-planned meaning scene plans.OnLoop ticket row params w = Ok (queried meaning scene (can_read meaning row params) ticket row params w)
-planned meaning scene (plans.Job class) ticket row params w = submitted scene (can_read meaning row params) class ticket row params w
+planned meaning scene plans.OnLoop ticket row params w =
+    Ok (queried meaning scene (can_read meaning row params) ticket row params w)
+planned meaning scene (plans.Job class) ticket row params w =
+    submitted scene (can_read meaning row params) class ticket row params w
 
 -- a request of a row
 unfoldable pub classed : Meaning → Scene → ℕ → RowId → Data → Working Desk → Result (Working Desk) Counter
@@ -118,7 +125,8 @@ asked meaning scene (Some row) method params w = classed meaning scene w.state.t
 -- the request `shutdown`: from now on no other request is taken
 unfoldable pub shut_down : Data → Working Desk → Working Desk
 shut_down params w =
-    if is_unit params then responded w.state.turns (λ id. response_with id null) (record w { state = record w.state { shutdown = true } })
+    if is_unit params then responded w.state.turns (λ id. response_with id null)
+    (record w { state = record w.state { shutdown = true } })
     else responded w.state.turns invalid_params w
 
 -- a request that waits now, under the turn's number
@@ -133,27 +141,31 @@ requested meaning scene r w =
 
 -- the request of an id is cancelled, where it is pending; its job stays out
 unfoldable pub cancelled : RequestId → Working Desk → Working Desk
-cancelled id w = if is_pending id w.state.pending then answered id (canceled_by_client id) w else w
+cancelled id w = if is_pending id w.state.pending then request_answered id (canceled_by_client id) w else w
 
 -- ---- results
 
--- where the revision is above that of the job's snapshot, a row that isn't to be tried again is refused; else the request is taken as one that is
+-- where the revision is above that of the job's snapshot, a row that isn't to be tried again is refused; else the
+-- request is taken as one that is
 -- read now, under the ticket that it has
 unfoldable pub stopped : Meaning → Scene → ℕ → JobKind → Working Desk → Result (Working Desk) Counter
 stopped meaning scene revision (RequestJob ticket row params) w =
-    if ltb revision scene.snapshot.revision && not (retries row) then Ok (responded ticket (stopped_reply (class_of row)) w)
+    if ltb revision scene.snapshot.revision && not (retries row)
+    then Ok (responded ticket (stopped_reply (class_of row)) w)
     else classed meaning scene ticket row params w
 stopped meaning scene revision (ProcMacroSources files) w = Ok w
 stopped meaning scene revision (FetchWorkspaces projects detached path force) w = Ok w
 stopped meaning scene revision (FetchBuildData version) w = Ok w
 stopped meaning scene revision (LoadProcMacros paths ignored) w = Ok w
 
-unfoldable pub settled : Meaning → Scene → Option Response → RequestId → Job → Working Desk → Result (Working Desk) Counter
-settled meaning scene (Some response) id job w = Ok (answered id response w)
+unfoldable pub settled : Meaning → Scene → Option Response → RequestId → Job → Working Desk
+    → Result (Working Desk) Counter
+settled meaning scene (Some response) id job w = Ok (request_answered id response w)
 settled meaning scene None id job w = stopped meaning scene job.snapshot.revision job.kind w
 
 -- a job's result, where its request still waits
-unfoldable pub delivered : Meaning → Scene → Option RequestId → Job → JobResult → Working Desk → Result (Working Desk) Counter
+unfoldable pub delivered : Meaning → Scene → Option RequestId → Job → JobResult → Working Desk
+    → Result (Working Desk) Counter
 delivered meaning scene None job result w = Ok w
 delivered meaning scene (Some id) job result w = settled meaning scene (finished_reply id result) id job w
 
@@ -166,7 +178,8 @@ brought meaning scene (Some result) job w = delivered meaning scene (waiting_for
 unfoldable pub ended : Meaning → Scene → Option Job → TaskMsg → Working Desk → Result (Working Desk) Counter
 ended meaning scene None message w = Ok (logged StrangeResult (decimal message.job) w)
 ended meaning scene (Some job) message w =
-    brought meaning scene (final_of message.body) job (record w { state = record w.state { jobs = map.remove w.state.jobs message.job } })
+    brought meaning scene (final_of message.body) job
+    (record w { state = record w.state { jobs = map.remove w.state.jobs message.job } })
 
 abbrev pub taken : Meaning → Scene → TaskMsg → Working Desk → Result (Working Desk) Counter
 taken meaning scene message w = ended meaning scene (fitting_job message w.state.jobs) message w
@@ -174,5 +187,7 @@ taken meaning scene message w = ended meaning scene (fitting_job message w.state
 -- ---- the end of a turn
 
 -- the jobs that were handed over after so many commands are out
-unfoldable pub kept : ℕ → Working Desk → Working Desk
-kept before w = record w { state = record w.state { jobs = after_order (drop before w.out.commands) w.state.jobs } }
+unfoldable pub jobs_kept : ℕ → Working Desk → Working Desk
+jobs_kept before w = record w {
+  state = record w.state { jobs = after_order (drop before w.out.commands) w.state.jobs };
+}

@@ -7,7 +7,8 @@ use Rattle.session_port.specs.Jobs.{Jobs, final_of, fitting_job}
 use Rattle.session_port.specs.declared.event.TaskMsg.{TaskMsg}
 use Rattle.session_port.specs.declared.job.Job.{Job}
 use Rattle.session_port.specs.declared.job.JobKind.{JobKind}
-use Rattle.session_port.specs.declared.job.JobKind.TheVariants.{Request, ProcMacroSources, FetchWorkspaces, FetchBuildData, LoadProcMacros}
+use Rattle.session_port.specs.declared.job.JobKind.TheVariants.{Request, ProcMacroSources, FetchWorkspaces}
+use Rattle.session_port.specs.declared.job.JobKind.TheVariants.{FetchBuildData, LoadProcMacros}
 use Rattle.session_port.specs.declared.job.JobResult.{JobResult}
 use Rattle.session_port.specs.declared.job.JobResult.TheVariants.{Value, Fault, Cancelled, NoMemory}
 use Rattle.session_port.specs.declared.job.JobValue.{JobValue}

@@ -6,7 +6,7 @@ ghost use Rattle.session_port.specs.Meets.{Meets, Gives};
 ghost use Rattle.session_port.specs.Working.{next_number, replied, ordered, logged};
 ghost use Rattle.session_port.specs.declared.fault.TurnError.TheVariants.{Exhausted};
 ghost use Rattle.desk.specs.Desk.{new_desk, new_desk_at};
-ghost use Rattle.desk.specs.Steps.{counted, kept, responded};
+ghost use Rattle.desk.specs.Steps.{counted, jobs_kept, responded};
 ghost use Rattle.lsp_frame.specs.Pending.{IsAbove};
 ghost use Rattle.lsp_frame.specs.Written.{AreWritable};
 ghost use Rattle.lsp_frame.specs.declared.message.Message.TheVariants.{Response as ResponseMessage};
@@ -149,9 +149,9 @@ impl Desk {
     }
 
     /// The jobs that this turn hands over, behind so many commands, are out.
-    #[tactic(auto, unfolding(crate::specs::Steps::kept))]
+    #[tactic(auto, unfolding(crate::specs::Steps::jobs_kept))]
     pub fn keep_jobs(&mut self, before: usize, out: &mut TurnOut) -> Result<(), TurnError>
-        ensures { Gives result (kept before (record { state = self.old; out = out.old })) self.new out.new }
+        ensures { Gives result (jobs_kept before (record { state = self.old; out = out.old })) self.new out.new }
     {
         put_jobs(&mut self.jobs, behind(out.commands(), before))?;
         Ok(())

@@ -21,5 +21,6 @@ fit-out body (Some found) job is = by_test (fits found body) is
     by_test false is = absurd cc
 
 -- one that fits a job takes it off
-pub after_message-some : (message : TaskMsg) (out : Jobs) (job : Job) → fitting_job message out ≡ Some job → (after_message message out ≡ map.remove out message.job) × (map.get out message.job ≡ Some job)
+pub after_message-some : (message : TaskMsg) (out : Jobs) (job : Job) → fitting_job message out ≡ Some job
+    → (after_message message out ≡ map.remove out message.job) × (map.get out message.job ≡ Some job)
 after_message-some message out job is = (ap (λ o. without_fitting o message out) is, fit-out message.body (map.get out message.job) job is)

@@ -1,5 +1,6 @@
 -- A row keeps what holds of a desk, and answers each request once.
-use Rattle.std.proofs.Common.{◌≡◌, ◌≢◌, ℕ, ◌+◌, ◌<◌, ◌≤◌, List, [], ◌∷◌, ◌++◌, length, Bool, true, false, refl, sym, ap, ◌∙◌, subst, arith, append-nil, inl, inr}
+use Rattle.std.proofs.Common.{◌≡◌, ◌≢◌, ℕ, ◌+◌, ◌<◌, ◌≤◌, List, [], ◌∷◌, ◌++◌, length, Bool, true, false, refl, sym, ap, ◌∙◌, subst, arith, append-nil, inl}
+use Rattle.std.proofs.Common.{inr}
 use Rattle.std.specs.Prelude.{Option, None, Some, is_some, option_and_then, if◌then◌else◌}
 use Rattle.std.specs.FinMap as map
 use Rattle.lsp_frame.specs.Pending.{Pending, id_of, ticket_of as ticket_with, is_pending, registered, completed, closed, closed_at, none_pending}
@@ -7,7 +8,8 @@ use Rattle.lsp_frame.specs.declared.message.RequestId.{RequestId}
 use Rattle.lsp_frame.specs.declared.message.Request.{Request}
 use Rattle.lsp_frame.specs.declared.message.Response.{Response}
 use Rattle.serde_json.specs.Data.{Data}
-use Rattle.lsp_frame.proofs.InStep.{none-distinct, registered-distinct, completed-distinct, completed-closed, closed-registered, ticket_of-is, is_pending-found, id_of-registered}
+use Rattle.lsp_frame.proofs.InStep.{none-distinct, registered-distinct, completed-distinct, completed-closed, closed-registered, ticket_of-is, is_pending-found}
+use Rattle.lsp_frame.proofs.InStep.{id_of-registered}
 use Rattle.method_table.specs.declared.class.PoolClass.{PoolClass}
 use Rattle.method_table.specs.declared.row_id.RowId.{RowId}
 use Rattle.session_port.specs.Jobs.{Jobs, ticket_of, final_of, fits_final, if_fits, fitting_job, after_message}
@@ -19,7 +21,8 @@ use Rattle.session_port.specs.declared.job.JobResult.{JobResult}
 use Rattle.desk.specs.Desk.{Desk, new_desk, waiting_for}
 use Rattle.desk.specs.Folds.{AreHeld, IsHeld, AreAnswers, AnswersOnce, closed_by, closed_with, desk_past, pending_after}
 use Rattle.desk.specs.Meaning.{Meaning}
-use Rattle.desk.specs.Reactions.{Reaction, responses_of, silent, says, hands_over, new_row, request_row, cancel_row, ticket_row, final_row, fitting_row, message_row}
+use Rattle.desk.specs.Reactions.{Reaction, responses_of, silent, says, hands_over, new_row, request_row, cancel_row, ticket_row, final_row, fitting_row}
+use Rattle.desk.specs.Reactions.{message_row}
 use Rattle.desk.specs.Replies.{already_pending, canceled_by_client, finished_reply}
 use Rattle.desk.specs.Scene.{Scene}
 use Rattle.desk.specs.Slots.{parts_left, unreported}
@@ -47,13 +50,30 @@ SoundOf turns p js handed revision = Sound (desk_of turns p js handed) revision
 
 -- that `shutdown` was requested changes nothing of it
 pub sound-parts : (desk : Desk) (revision : ℕ) → Sound desk revision → SoundOf desk.turns desk.pending desk.jobs desk.handed revision
-sound-parts desk revision s = record { distinct = s.distinct; tickets = s.tickets; numbers = s.numbers; below = s.below; revisions = s.revisions; held = s.held }
+sound-parts desk revision s = record {
+  distinct = s.distinct;
+  tickets = s.tickets;
+  numbers = s.numbers;
+  below = s.below;
+  revisions = s.revisions;
+  held =
+      s.held;
+}
 
 pub sound-whole : (desk : Desk) (revision : ℕ) → SoundOf desk.turns desk.pending desk.jobs desk.handed revision → Sound desk revision
-sound-whole desk revision s = record { distinct = s.distinct; tickets = s.tickets; numbers = s.numbers; below = s.below; revisions = s.revisions; held = s.held }
+sound-whole desk revision s = record {
+  distinct = s.distinct;
+  tickets = s.tickets;
+  numbers = s.numbers;
+  below = s.below;
+  revisions = s.revisions;
+  held =
+      s.held;
+}
 
 -- later turns, more jobs that were handed over, and a later revision
-pub sound-later : (turns turns_now : ℕ) (p : Pending) (js : Jobs) (handed handed_now revision revision_now : ℕ) → turns ≤ turns_now → handed ≤ handed_now → revision ≤ revision_now
+pub sound-later : (turns turns_now : ℕ) (p : Pending) (js : Jobs) (handed handed_now revision revision_now : ℕ) → turns ≤ turns_now → handed ≤ handed_now
+    → revision ≤ revision_now
     → SoundOf turns p js handed revision → SoundOf turns_now p js handed_now revision_now
 sound-later turns turns_now p js handed handed_now revision revision_now more given rises s = record {
   distinct = s.distinct;
@@ -65,14 +85,16 @@ sound-later turns turns_now p js handed handed_now revision revision_now more gi
 }
 
 -- a turn went by
-pub sound-next : (turns : ℕ) (p : Pending) (js : Jobs) (handed revision : ℕ) → SoundOf turns p js handed revision → SoundOf (turns + 1) p js (handed + 0) revision
+pub sound-next : (turns : ℕ) (p : Pending) (js : Jobs) (handed revision : ℕ) → SoundOf turns p js handed revision
+    → SoundOf (turns + 1) p js (handed + 0) revision
 sound-next turns p js handed revision s = sound-later turns (turns + 1) p js handed (handed + 0) revision revision (omega arith) (omega arith) (omega arith) s
 
 pub sound-stays : (turns : ℕ) (p : Pending) (js : Jobs) (handed revision : ℕ) → SoundOf turns p js handed revision → SoundOf turns p js (handed + 0) revision
 sound-stays turns p js handed revision s = sound-later turns turns p js handed (handed + 0) revision revision (omega arith) (omega arith) (omega arith) s
 
 -- no request of the next turn's number waits
-ticket-free : (turns : ℕ) (p : Pending) (o : Option RequestId) → map.get p (turns + 1) ≡ o → ((ticket : ℕ) (id : RequestId) → id_of ticket p ≡ Some id → ticket ≤ turns) → o ≡ None
+ticket-free : (turns : ℕ) (p : Pending) (o : Option RequestId) → map.get p (turns + 1) ≡ o
+    → ((ticket : ℕ) (id : RequestId) → id_of ticket p ≡ Some id → ticket ≤ turns) → o ≡ None
 ticket-free turns p None is below = refl
 ticket-free turns p (Some id) is below = absurd (omega (arith, below (turns + 1) id is))
 
@@ -106,7 +128,8 @@ sound-off turns p js handed revision n found is none s = record {
 }
 
 -- a job came back, and its request is closed
-sound-without : (turns : ℕ) (p : Pending) (js : Jobs) (handed revision n t : ℕ) (found : Job) (id : RequestId) → map.get js n ≡ Some found → ticket_of found.kind ≡ Some t → id_of t p ≡ Some id
+sound-without : (turns : ℕ) (p : Pending) (js : Jobs) (handed revision n t : ℕ) (found : Job) (id : RequestId) → map.get js n ≡ Some found
+    → ticket_of found.kind ≡ Some t → id_of t p ≡ Some id
     → SoundOf turns p js handed revision → SoundOf turns (completed t p) (map.remove js n) handed revision
 unfolding completed
 sound-without turns p js handed revision n t found id is its waits s = record {
@@ -126,7 +149,8 @@ sound-without turns p js handed revision n t found id is its waits s = record {
         (λ elsewhere. (elsewhere, sym (get-remove_other by_number_total by_number_same p t u elsewhere) ∙ there))
 
 -- a request was read, and its job handed over
-sound-request : (turns : ℕ) (p : Pending) (js : Jobs) (handed revision : ℕ) (id : RequestId) (job : Job) → is_pending id p ≡ false → ticket_of job.kind ≡ Some (turns + 1) → job.snapshot.revision ≤ revision
+sound-request : (turns : ℕ) (p : Pending) (js : Jobs) (handed revision : ℕ) (id : RequestId) (job : Job) → is_pending id p ≡ false
+    → ticket_of job.kind ≡ Some (turns + 1) → job.snapshot.revision ≤ revision
     → SoundOf turns p js handed revision → SoundOf (turns + 1) (registered (turns + 1) id p) (map.insert js (handed + 1) job) (handed + 1) revision
 unfolding registered
 sound-request turns p js handed revision id job new its no_later s = record {
@@ -145,7 +169,8 @@ sound-request turns p js handed revision id job new its no_later s = record {
       (λ other. s.revisions n j t (was n j other there) is_for);
   held = λ t i waits. by_key by_number_total by_number_same t (turns + 1)
       (λ same. subst (λ o. IsHeld t (parts_left o) now) (sym waits) (same-held t (turns + 1) (0 ∷ []) now same
-      (held-first (turns + 1) handed job js (first-slot job.kind (turns + 1) its) (λ n j there is_for. let h = s.below n j (turns + 1) there is_for in absurd (omega arith)))))
+      (held-first (turns + 1) handed job js (first-slot job.kind (turns + 1) its)
+      (λ n j there is_for. let h = s.below n j (turns + 1) there is_for in absurd (omega arith)))))
       (λ other. let was_waiting : map.get p t ≡ Some i = sym (get-insert_other by_number_total by_number_same p (turns + 1) id t other) ∙ waits in
       same-left t i p (registered (turns + 1) id p) now was_waiting waits
       (held-beside t (parts_left (id_of t p)) handed job js s.numbers (λ e. other (some-same t (turns + 1) (sym e ∙ its))) (s.held t i was_waiting)));
@@ -170,7 +195,8 @@ sound-request turns p js handed revision id job new its no_later s = record {
     its_ticket n j t same there is_for = some-same t (turns + 1) (sym is_for ∙ ap (λ (k : Job). ticket_of k.kind) (sym (it_is n j same there)) ∙ its)
 
 -- a request is closed, and its job stays out
-sound-shut : (turns : ℕ) (p : Pending) (js : Jobs) (handed revision t : ℕ) (id : RequestId) → id_of t p ≡ Some id → SoundOf turns p js handed revision → SoundOf turns (completed t p) js handed revision
+sound-shut : (turns : ℕ) (p : Pending) (js : Jobs) (handed revision t : ℕ) (id : RequestId) → id_of t p ≡ Some id → SoundOf turns p js handed revision
+    → SoundOf turns (completed t p) js handed revision
 unfolding completed
 sound-shut turns p js handed revision t id waits s = record {
   distinct = completed-distinct t p s.distinct;
@@ -186,17 +212,20 @@ sound-shut turns p js handed revision t id waits s = record {
         (λ same. none-some i (sym (get-remove_same by_number_total by_number_same p t) ∙ ap (map.get (map.remove p t)) (sym same) ∙ there))
         (λ elsewhere. sym (get-remove_other by_number_total by_number_same p t u elsewhere) ∙ there)
 
-closed-cases : (turns : ℕ) (p : Pending) (js : Jobs) (handed revision : ℕ) (id : RequestId) (o : Option ℕ) → ticket_with id p ≡ o → SoundOf turns p js handed revision → SoundOf turns (closed_at o p) js handed revision
+closed-cases : (turns : ℕ) (p : Pending) (js : Jobs) (handed revision : ℕ) (id : RequestId) (o : Option ℕ) → ticket_with id p ≡ o
+    → SoundOf turns p js handed revision → SoundOf turns (closed_at o p) js handed revision
 closed-cases turns p js handed revision id None is s = s
 closed-cases turns p js handed revision id (Some t) is s = sound-shut turns p js handed revision t id (ticket_of-is t id p is) s
 
 -- a request is closed by its id, and its job stays out
-sound-closed : (turns : ℕ) (p : Pending) (js : Jobs) (handed revision : ℕ) (id : RequestId) → SoundOf turns p js handed revision → SoundOf turns (closed id p) js handed revision
+sound-closed : (turns : ℕ) (p : Pending) (js : Jobs) (handed revision : ℕ) (id : RequestId) → SoundOf turns p js handed revision
+    → SoundOf turns (closed id p) js handed revision
 unfolding closed
 sound-closed turns p js handed revision id s = closed-cases turns p js handed revision id (ticket_with id p) refl s
 
 -- a job came back, and another one is handed over for its request
-sound-again : (turns : ℕ) (p : Pending) (js : Jobs) (handed revision n ticket : ℕ) (found job : Job) → map.get js n ≡ Some found → ticket_of found.kind ≡ Some ticket → ticket_of job.kind ≡ Some ticket → job.snapshot.revision ≤ revision
+sound-again : (turns : ℕ) (p : Pending) (js : Jobs) (handed revision n ticket : ℕ) (found job : Job) → map.get js n ≡ Some found
+    → ticket_of found.kind ≡ Some ticket → ticket_of job.kind ≡ Some ticket → job.snapshot.revision ≤ revision
     → SoundOf turns p js handed revision → SoundOf turns p (map.insert (map.remove js n) (handed + 1) job) (handed + 1) revision
 sound-again turns p js handed revision n ticket found job is was_for its no_later s = record {
   distinct = s.distinct;
@@ -214,7 +243,8 @@ sound-again turns p js handed revision n ticket found job is was_for its no_late
       (λ same. same-held t ticket (parts_left (id_of t p)) now same
       (held-again ticket 0 (parts_left (id_of t p)) handed n found job js s.numbers is (first-slot found.kind ticket was_for) (first-slot job.kind ticket its)
       (same-held ticket t (parts_left (id_of t p)) js (sym same) (s.held t id waits))))
-      (λ other. held-beside t (parts_left (id_of t p)) handed job (map.remove js n) (λ m j there. s.numbers m j (still-out n m js j there)) (λ e. other (some-same t ticket (sym e ∙ its)))
+      (λ other. held-beside t (parts_left (id_of t p)) handed job (map.remove js n) (λ m j there. s.numbers m j (still-out n m js j there))
+      (λ e. other (some-same t ticket (sym e ∙ its)))
       (held-without t n (parts_left (id_of t p)) found js is (λ e. other (some-same t ticket (sym e ∙ was_for))) (s.held t id waits)));
 }
   where
@@ -239,8 +269,10 @@ sound-beside turns p js handed revision job none s = record {
   numbers = λ n j there. by_key by_number_total by_number_same n (handed + 1)
       (λ same. omega arith)
       (λ other. let h = s.numbers n j (was n j other there) in omega arith);
-  below = λ n j t there is_for. by_key by_number_total by_number_same n (handed + 1) (λ same. not_its n j t same there is_for) (λ other. s.below n j t (was n j other there) is_for);
-  revisions = λ n j t there is_for. by_key by_number_total by_number_same n (handed + 1) (λ same. not_its n j t same there is_for) (λ other. s.revisions n j t (was n j other there) is_for);
+  below = λ n j t there is_for. by_key by_number_total by_number_same n (handed + 1) (λ same. not_its n j t same there is_for)
+      (λ other. s.below n j t (was n j other there) is_for);
+  revisions = λ n j t there is_for. by_key by_number_total by_number_same n (handed + 1) (λ same. not_its n j t same there is_for)
+      (λ other. s.revisions n j t (was n j other there) is_for);
   held = λ t id waits. held-beside t (parts_left (id_of t p)) handed job js s.numbers (λ its. none-some t (sym none ∙ its)) (s.held t id waits);
 }
   where
@@ -292,10 +324,18 @@ registered-waits p ticket id = is_pending-found ticket id (registered ticket id 
 
 -- the job that is handed over for a ticket
 abbrev pub job_for : Scene → ℕ → PoolClass → ℕ → RowId → Data → Job
-job_for scene handed class ticket row_id params = record { number = handed + 1; class = class; kind = RequestJob ticket row_id params; snapshot = scene.snapshot }
+job_for scene handed class ticket row_id params = record {
+  number = handed + 1;
+  class = class;
+  kind = RequestJob ticket row_id params;
+  snapshot =
+      scene.snapshot;
+}
 
-new-kept : (scene : Scene) (r : Request) (desk : Desk) (done : Reaction) → is_pending r.id desk.pending ≡ false → Reacts scene desk.handed (desk.turns + 1) r.id done
-    → SoundOf desk.turns desk.pending desk.jobs desk.handed scene.snapshot.revision → Keeps (desk.turns + 1) (Some r) (desk.turns + 1) desk desk.jobs scene.snapshot.revision done
+new-kept : (scene : Scene) (r : Request) (desk : Desk) (done : Reaction) → is_pending r.id desk.pending ≡ false
+    → Reacts scene desk.handed (desk.turns + 1) r.id done
+    → SoundOf desk.turns desk.pending desk.jobs desk.handed scene.snapshot.revision
+    → Keeps (desk.turns + 1) (Some r) (desk.turns + 1) desk desk.jobs scene.snapshot.revision done
 new-kept scene r desk done new (inl (response, is, says_it)) s =
     subst (Keeps (desk.turns + 1) (Some r) (desk.turns + 1) desk desk.jobs scene.snapshot.revision) (sym says_it) (record {
       sound = rw (new, is) (said-sound desk.turns desk.pending desk.jobs desk.handed scene.snapshot.revision r.id new s);
@@ -303,14 +343,18 @@ new-kept scene r desk done new (inl (response, is, says_it)) s =
     })
 new-kept scene r desk done new (inr (class, row_id, params, hands)) s =
     subst (Keeps (desk.turns + 1) (Some r) (desk.turns + 1) desk desk.jobs scene.snapshot.revision) (sym hands) (record {
-      sound = rw new (sound-request desk.turns desk.pending desk.jobs desk.handed scene.snapshot.revision r.id (job_for scene desk.handed class (desk.turns + 1) row_id params) new refl (omega arith) s);
+      sound = rw new (sound-request desk.turns desk.pending desk.jobs desk.handed scene.snapshot.revision r.id
+          (job_for scene desk.handed class (desk.turns + 1) row_id params) new refl (omega arith) s);
       once = rw new tt;
     })
 
-request-cases : (meaning : Meaning) (scene : Scene) (r : Request) (desk : Desk) (b : Bool) → is_pending r.id desk.pending ≡ b → SoundOf desk.turns desk.pending desk.jobs desk.handed scene.snapshot.revision
-    → Keeps (desk.turns + 1) (Some r) (desk.turns + 1) desk desk.jobs scene.snapshot.revision (if b then says (already_pending r.id) else new_row meaning scene desk (desk.turns + 1) r)
+request-cases : (meaning : Meaning) (scene : Scene) (r : Request) (desk : Desk) (b : Bool) → is_pending r.id desk.pending ≡ b
+    → SoundOf desk.turns desk.pending desk.jobs desk.handed scene.snapshot.revision
+    → Keeps (desk.turns + 1) (Some r) (desk.turns + 1) desk desk.jobs scene.snapshot.revision
+    (if b then says (already_pending r.id) else new_row meaning scene desk (desk.turns + 1) r)
 request-cases meaning scene r desk true h s = record { sound = rw h (sound-next _ _ _ _ _ s); once = rw h refl }
-request-cases meaning scene r desk false h s = new-kept scene r desk (new_row meaning scene desk (desk.turns + 1) r) h (new-reacts meaning scene desk (desk.turns + 1) r) s
+request-cases meaning scene r desk false h s = new-kept scene r desk (new_row meaning scene desk (desk.turns + 1) r) h
+    (new-reacts meaning scene desk (desk.turns + 1) r) s
 
 -- a request that the next turn reads
 pub request-kept : (meaning : Meaning) (scene : Scene) (r : Request) (desk : Desk) → Sound desk scene.snapshot.revision
@@ -318,9 +362,11 @@ pub request-kept : (meaning : Meaning) (scene : Scene) (r : Request) (desk : Des
 request-kept meaning scene r desk s = request-cases meaning scene r desk (is_pending r.id desk.pending) refl (sound-parts desk scene.snapshot.revision s)
 
 -- a turn that does nothing
-pub idle-kept : (ticket turns : ℕ) (desk : Desk) (revision : ℕ) → desk.turns ≤ turns → Sound desk revision → Keeps ticket None turns desk desk.jobs revision silent
+pub idle-kept : (ticket turns : ℕ) (desk : Desk) (revision : ℕ) → desk.turns ≤ turns → Sound desk revision
+    → Keeps ticket None turns desk desk.jobs revision silent
 idle-kept ticket turns desk revision more s = record {
-  sound = sound-later desk.turns turns desk.pending desk.jobs desk.handed (desk.handed + 0) revision revision more (omega arith) (omega arith) (sound-parts desk revision s);
+  sound = sound-later desk.turns turns desk.pending desk.jobs desk.handed (desk.handed + 0) revision revision more (omega arith) (omega arith)
+      (sound-parts desk revision s);
   once = tt;
 }
 
@@ -333,7 +379,8 @@ cancel-cases id desk revision true waits s = record {
 cancel-cases id desk revision false waits s = idle-kept (desk.turns + 1) (desk.turns + 1) desk revision (omega arith) s
 
 -- a request that the next turn cancels
-pub cancel-kept : (id : RequestId) (desk : Desk) (revision : ℕ) → Sound desk revision → Keeps (desk.turns + 1) None (desk.turns + 1) desk desk.jobs revision (cancel_row id desk)
+pub cancel-kept : (id : RequestId) (desk : Desk) (revision : ℕ) → Sound desk revision
+    → Keeps (desk.turns + 1) None (desk.turns + 1) desk desk.jobs revision (cancel_row id desk)
 cancel-kept id desk revision s = cancel-cases id desk revision (is_pending id desk.pending) refl s
 
 -- ---- messages of a batch
@@ -350,13 +397,15 @@ above-append first (x ∷ xs) ys a b = (a.0, above-append first xs ys a.1 b)
 with-later : (first n : ℕ) (js : List Job) (out : Jobs) → n ≤ first → AreAbove first js → map.get (with_jobs js out) n ≡ map.get out n
 with-later first n [] out early late = refl
 with-later first n (j ∷ js) out early late =
-    with-later first n js (map.insert out j.number j) early late.1 ∙ get-insert_other by_number_total by_number_same out j.number j n (λ same. let h = late.0 in omega arith)
+    with-later first n js (map.insert out j.number j) early late.1
+    ∙ get-insert_other by_number_total by_number_same out j.number j n (λ same. let h = late.0 in omega arith)
 
 -- and don't mind whether it is taken off before or after
 without-later : (first n : ℕ) (js : List Job) (out : Jobs) → n ≤ first → AreAbove first js → with_jobs js (map.remove out n) ≡ map.remove (with_jobs js out) n
 without-later first n [] out early late = refl
 without-later first n (j ∷ js) out early late =
-    ap (with_jobs js) (insert-remove by_number_total by_number_same out j.number j n (λ same. let h = late.0 in omega arith)) ∙ without-later first n js (map.insert out j.number j) early late.1
+    ap (with_jobs js) (insert-remove by_number_total by_number_same out j.number j n (λ same. let h = late.0 in omega arith))
+    ∙ without-later first n js (map.insert out j.number j) early late.1
 
 -- within a batch: the desk is sound with the jobs that it hands over; those of earlier turns have numbers up to the first, these have later ones
 pub record Batching (first : ℕ) (desk : Desk) (js : List Job) (revision : ℕ) : Type 0 where
@@ -370,10 +419,12 @@ pub batching-begins : (desk : Desk) (revision : ℕ) → Sound desk revision →
 batching-begins desk revision s = record { sound = sound-parts desk revision s; early = s.numbers; late = tt; given = omega arith }
 
 abbrev pub Going : ℕ → Desk → List Job → ℕ → TaskMsg → Reaction → Type 0
-Going first desk js revision message done = Batching first (desk_past message done desk) (js ++ done.jobs) revision × AreAnswers (responses_of done) desk.pending
+Going first desk js revision message done = Batching first (desk_past message done desk) (js ++ done.jobs) revision
+    × AreAnswers (responses_of done) desk.pending
 
 -- a message that fits no job
-going-none : (first : ℕ) (desk : Desk) (js : List Job) (revision : ℕ) (message : TaskMsg) → fitting_job message desk.jobs ≡ None → Batching first desk js revision → Going first desk js revision message silent
+going-none : (first : ℕ) (desk : Desk) (js : List Job) (revision : ℕ) (message : TaskMsg) → fitting_job message desk.jobs ≡ None
+    → Batching first desk js revision → Going first desk js revision message silent
 going-none first desk js revision message none b = (
   record {
     sound = subst (λ xs. SoundOf desk.turns desk.pending (with_jobs xs (after_message message desk.jobs)) (desk.handed + 0) revision) (sym (append-nil js))
@@ -396,7 +447,8 @@ record Took (first : ℕ) (desk : Desk) (js : List Job) (revision : ℕ) (messag
   is_there : map.get (with_jobs js desk.jobs) message.job ≡ Some found
   left : with_jobs js (after_message message desk.jobs) ≡ map.remove (with_jobs js desk.jobs) message.job
 
-took : (first : ℕ) (desk : Desk) (js : List Job) (revision : ℕ) (message : TaskMsg) (found : Job) → fitting_job message desk.jobs ≡ Some found → Batching first desk js revision → Took first desk js revision message found
+took : (first : ℕ) (desk : Desk) (js : List Job) (revision : ℕ) (message : TaskMsg) (found : Job) → fitting_job message desk.jobs ≡ Some found
+    → Batching first desk js revision → Took first desk js revision message found
 took first desk js revision message found is b =
     let k = after_message-some message desk.jobs found is in
     let early : message.job ≤ first = b.early message.job found k.1 in
@@ -409,16 +461,20 @@ took first desk js revision message found is b =
     }
 
 -- what is out after a message was out before it
-early-on : (first : ℕ) (desk : Desk) (js : List Job) (revision : ℕ) (message : TaskMsg) (found : Job) → Took first desk js revision message found → (n : ℕ) (job : Job) → map.get (after_message message desk.jobs) n ≡ Some job → n ≤ first
-early-on first desk js revision message found t n job there = t.before.early n job (still-out message.job n desk.jobs job (ap (λ out. map.get out n) (sym t.gone) ∙ there))
+early-on : (first : ℕ) (desk : Desk) (js : List Job) (revision : ℕ) (message : TaskMsg) (found : Job) → Took first desk js revision message found
+    → (n : ℕ) (job : Job) → map.get (after_message message desk.jobs) n ≡ Some job → n ≤ first
+early-on first desk js revision message found t n job there =
+    t.before.early n job (still-out message.job n desk.jobs job (ap (λ out. map.get out n) (sym t.gone) ∙ there))
 
 -- the message does nothing
-going-off : (first : ℕ) (desk : Desk) (js : List Job) (revision : ℕ) (message : TaskMsg) (found : Job) → WaitsNowhere desk.pending found → Took first desk js revision message found → Going first desk js revision message silent
+going-off : (first : ℕ) (desk : Desk) (js : List Job) (revision : ℕ) (message : TaskMsg) (found : Job) → WaitsNowhere desk.pending found
+    → Took first desk js revision message found → Going first desk js revision message silent
 going-off first desk js revision message found none t = (
   record {
     sound = subst (λ xs. SoundOf desk.turns desk.pending (with_jobs xs (after_message message desk.jobs)) (desk.handed + 0) revision) (sym (append-nil js))
         (subst (λ out. SoundOf desk.turns desk.pending out (desk.handed + 0) revision) (sym t.left)
-        (sound-stays _ _ _ _ _ (sound-off desk.turns desk.pending (with_jobs js desk.jobs) desk.handed revision message.job found t.is_there none t.before.sound)));
+        (sound-stays _ _ _ _ _ (sound-off desk.turns desk.pending (with_jobs js desk.jobs) desk.handed revision message.job found t.is_there none
+        t.before.sound)));
     early = early-on first desk js revision message found t;
     late = subst (AreAbove first) (sym (append-nil js)) t.before.late;
     given = let g = t.before.given in omega arith;
@@ -427,15 +483,18 @@ going-off first desk js revision message found none t = (
 )
 
 -- its request is answered
-going-said : (first : ℕ) (desk : Desk) (js : List Job) (revision : ℕ) (message : TaskMsg) (found : Job) (ticket : ℕ) (id : RequestId) (response : Response) → ticket_of found.kind ≡ Some ticket → id_of ticket desk.pending ≡ Some id
+going-said : (first : ℕ) (desk : Desk) (js : List Job) (revision : ℕ) (message : TaskMsg) (found : Job) (ticket : ℕ) (id : RequestId) (response : Response)
+    → ticket_of found.kind ≡ Some ticket → id_of ticket desk.pending ≡ Some id
     → response.id ≡ Some id → Took first desk js revision message found → Going first desk js revision message (says response)
 going-said first desk js revision message found ticket id response its waits is t = (
   record {
-    sound = subst (λ xs. SoundOf desk.turns (closed_with response.id desk.pending) (with_jobs xs (after_message message desk.jobs)) (desk.handed + 0) revision) (sym (append-nil js))
+    sound = subst (λ xs. SoundOf desk.turns (closed_with response.id desk.pending) (with_jobs xs (after_message message desk.jobs)) (desk.handed + 0) revision)
+        (sym (append-nil js))
         (subst (λ q. SoundOf desk.turns q (with_jobs js (after_message message desk.jobs)) (desk.handed + 0) revision)
         (sym (ap (λ o. closed_with o desk.pending) is ∙ sym (completed-closed ticket id desk.pending t.before.sound.distinct waits)))
         (subst (λ out. SoundOf desk.turns (completed ticket desk.pending) out (desk.handed + 0) revision) (sym t.left)
-        (sound-stays _ _ _ _ _ (sound-without desk.turns desk.pending (with_jobs js desk.jobs) desk.handed revision message.job ticket found id t.is_there its waits t.before.sound))));
+        (sound-stays _ _ _ _ _ (sound-without desk.turns desk.pending (with_jobs js desk.jobs) desk.handed revision message.job ticket found id t.is_there its
+        waits t.before.sound))));
     early = early-on first desk js revision message found t;
     late = subst (AreAbove first) (sym (append-nil js)) t.before.late;
     given = let g = t.before.given in omega arith;
@@ -444,12 +503,16 @@ going-said first desk js revision message found ticket id response its waits is 
 )
 
 -- a job is handed over for it
-going-again : (first : ℕ) (scene : Scene) (desk : Desk) (js : List Job) (message : TaskMsg) (found : Job) (ticket : ℕ) (class : PoolClass) (row_id : RowId) (params : Data) → ticket_of found.kind ≡ Some ticket
-    → Took first desk js scene.snapshot.revision message found → Going first desk js scene.snapshot.revision message (hands_over desk.handed scene.snapshot class ticket row_id params)
+going-again : (first : ℕ) (scene : Scene) (desk : Desk) (js : List Job) (message : TaskMsg) (found : Job) (ticket : ℕ) (class : PoolClass) (row_id : RowId)
+    (params : Data) → ticket_of found.kind ≡ Some ticket
+    → Took first desk js scene.snapshot.revision message found
+    → Going first desk js scene.snapshot.revision message (hands_over desk.handed scene.snapshot class ticket row_id params)
 going-again first scene desk js message found ticket class row_id params its t = (
   record {
-    sound = subst (λ out. SoundOf desk.turns desk.pending out (desk.handed + 1) scene.snapshot.revision) (sym (with_jobs-append js (job ∷ []) (after_message message desk.jobs) ∙ ap (λ out. map.insert out (desk.handed + 1) job) t.left))
-        (sound-again desk.turns desk.pending (with_jobs js desk.jobs) desk.handed scene.snapshot.revision message.job ticket found job t.is_there its refl (omega arith) t.before.sound);
+    sound = subst (λ out. SoundOf desk.turns desk.pending out (desk.handed + 1) scene.snapshot.revision)
+        (sym (with_jobs-append js (job ∷ []) (after_message message desk.jobs) ∙ ap (λ out. map.insert out (desk.handed + 1) job) t.left))
+        (sound-again desk.turns desk.pending (with_jobs js desk.jobs) desk.handed scene.snapshot.revision message.job ticket found job t.is_there its refl
+        (omega arith) t.before.sound);
     early = early-on first desk js scene.snapshot.revision message found t;
     late = above-append first js _ t.before.late (let g = t.before.given in omega arith, tt);
     given = let g = t.before.given in omega arith;
@@ -460,17 +523,21 @@ going-again first scene desk js message found ticket class row_id params its t =
     job : Job
     job = job_for scene desk.handed class ticket row_id params
 
-going-reacts : (first : ℕ) (scene : Scene) (desk : Desk) (js : List Job) (message : TaskMsg) (found : Job) (ticket : ℕ) (id : RequestId) (done : Reaction) → ticket_of found.kind ≡ Some ticket → id_of ticket desk.pending ≡ Some id
-    → Reacts scene desk.handed ticket id done → Took first desk js scene.snapshot.revision message found → Going first desk js scene.snapshot.revision message done
+going-reacts : (first : ℕ) (scene : Scene) (desk : Desk) (js : List Job) (message : TaskMsg) (found : Job) (ticket : ℕ) (id : RequestId) (done : Reaction)
+    → ticket_of found.kind ≡ Some ticket → id_of ticket desk.pending ≡ Some id
+    → Reacts scene desk.handed ticket id done → Took first desk js scene.snapshot.revision message found
+    → Going first desk js scene.snapshot.revision message done
 going-reacts first scene desk js message found ticket id done its waits (inl (response, is, says_it)) t =
-    subst (Going first desk js scene.snapshot.revision message) (sym says_it) (going-said first desk js scene.snapshot.revision message found ticket id response its waits is t)
+    subst (Going first desk js scene.snapshot.revision message) (sym says_it)
+    (going-said first desk js scene.snapshot.revision message found ticket id response its waits is t)
 going-reacts first scene desk js message found ticket id done its waits (inr (class, row_id, params, hands)) t =
     subst (Going first desk js scene.snapshot.revision message) (sym hands) (going-again first scene desk js message found ticket class row_id params its t)
 
 -- what a job is for, by the ticket of its kind
 for-none : (job : Job) (desk : Desk) (o : Option ℕ) → ticket_of job.kind ≡ o → waiting_for job desk ≡ None → WaitsNowhere desk.pending job
 for-none job desk None is none = λ ticket its. none-some ticket (sym is ∙ its)
-for-none job desk (Some t) is none = λ ticket its. ap (λ u. id_of u desk.pending) (some-same ticket t (sym its ∙ is)) ∙ sym (ap (λ k. option_and_then (λ u. id_of u desk.pending) k) is) ∙ none
+for-none job desk (Some t) is none = λ ticket its. ap (λ u. id_of u desk.pending) (some-same ticket t (sym its ∙ is))
+    ∙ sym (ap (λ k. option_and_then (λ u. id_of u desk.pending) k) is) ∙ none
 
 -- the ticket of a job whose request waits, and its id
 pub record HasTicket (job : Job) (desk : Desk) (id : RequestId) : Type 0 where
@@ -485,77 +552,93 @@ for-some job desk id (Some t) is waits = record { ticket = t; its = is; waits = 
 pub has-ticket : (job : Job) (desk : Desk) (id : RequestId) → waiting_for job desk ≡ Some id → HasTicket job desk id
 has-ticket job desk id waits = for-some job desk id (ticket_of job.kind) refl waits
 
-going-ticket : (meaning : Meaning) (first : ℕ) (scene : Scene) (desk : Desk) (js : List Job) (message : TaskMsg) (found : Job) (o : Option RequestId) (result : JobResult) → waiting_for found desk ≡ o
-    → Took first desk js scene.snapshot.revision message found → Going first desk js scene.snapshot.revision message (ticket_row meaning scene desk o found result)
+going-ticket : (meaning : Meaning) (first : ℕ) (scene : Scene) (desk : Desk) (js : List Job) (message : TaskMsg) (found : Job) (o : Option RequestId)
+    (result : JobResult) → waiting_for found desk ≡ o
+    → Took first desk js scene.snapshot.revision message found
+    → Going first desk js scene.snapshot.revision message (ticket_row meaning scene desk o found result)
 going-ticket meaning first scene desk js message found None result none t =
     going-off first desk js scene.snapshot.revision message found (for-none found desk (ticket_of found.kind) refl none) t
 going-ticket meaning first scene desk js message found (Some id) result waits t =
     let k = has-ticket found desk id waits in
-    going-reacts first scene desk js message found k.ticket id _ k.its k.waits (result-reacts meaning scene desk k.ticket id found result (finished_reply id result) refl k.its) t
+    going-reacts first scene desk js message found k.ticket id _ k.its k.waits
+    (result-reacts meaning scene desk k.ticket id found result (finished_reply id result) refl k.its) t
 
 -- what fits a job tells how it has ended
-fit-final : (message : TaskMsg) (o : Option Job) (found : Job) (final : Option JobResult) → option_and_then (if_fits message.body) o ≡ Some found → final_of message.body ≡ final → (result : JobResult) × (final ≡ Some result)
+fit-final : (message : TaskMsg) (o : Option Job) (found : Job) (final : Option JobResult) → option_and_then (if_fits message.body) o ≡ Some found
+    → final_of message.body ≡ final → (result : JobResult) × (final ≡ Some result)
 fit-final message None found final fits is = none-some found fits
 fit-final message (Some job) found (Some result) fits is = (result, refl)
 fit-final message (Some job) found None fits is = none-some found (sym (ap (λ f. if fits_final job.kind f then Some job else None) is) ∙ fits)
 
-going-final : (meaning : Meaning) (first : ℕ) (scene : Scene) (desk : Desk) (js : List Job) (message : TaskMsg) (found : Job) (final : Option JobResult) → final_of message.body ≡ final → fitting_job message desk.jobs ≡ Some found
+going-final : (meaning : Meaning) (first : ℕ) (scene : Scene) (desk : Desk) (js : List Job) (message : TaskMsg) (found : Job) (final : Option JobResult)
+    → final_of message.body ≡ final → fitting_job message desk.jobs ≡ Some found
     → Took first desk js scene.snapshot.revision message found → Going first desk js scene.snapshot.revision message (final_row meaning scene desk final found)
 going-final meaning first scene desk js message found None final is t =
     let k = fit-final message (map.get desk.jobs message.job) found None is final in none-some k.0 k.1
-going-final meaning first scene desk js message found (Some result) final is t = going-ticket meaning first scene desk js message found (waiting_for found desk) result refl t
+going-final meaning first scene desk js message found (Some result) final is t =
+    going-ticket meaning first scene desk js message found (waiting_for found desk) result refl t
 
-going-fitting : (meaning : Meaning) (first : ℕ) (scene : Scene) (desk : Desk) (js : List Job) (message : TaskMsg) (o : Option Job) → fitting_job message desk.jobs ≡ o
+going-fitting : (meaning : Meaning) (first : ℕ) (scene : Scene) (desk : Desk) (js : List Job) (message : TaskMsg) (o : Option Job)
+    → fitting_job message desk.jobs ≡ o
     → Batching first desk js scene.snapshot.revision → Going first desk js scene.snapshot.revision message (fitting_row meaning scene desk o message)
 going-fitting meaning first scene desk js message None is b = going-none first desk js scene.snapshot.revision message is b
 going-fitting meaning first scene desk js message (Some found) is b =
     going-final meaning first scene desk js message found (final_of message.body) refl is (took first desk js scene.snapshot.revision message found is b)
 
 -- a message of a job
-pub message-going : (meaning : Meaning) (first : ℕ) (scene : Scene) (desk : Desk) (js : List Job) (message : TaskMsg) → Batching first desk js scene.snapshot.revision
+pub message-going : (meaning : Meaning) (first : ℕ) (scene : Scene) (desk : Desk) (js : List Job) (message : TaskMsg)
+    → Batching first desk js scene.snapshot.revision
     → Going first desk js scene.snapshot.revision message (message_row meaning scene desk message)
 message-going meaning first scene desk js message b = going-fitting meaning first scene desk js message (fitting_job message desk.jobs) refl b
 
 -- ---- one row, and then the turn's end
 
-keeps-whole : (turns : ℕ) (request : Option Request) (done : Reaction) (jobs : Jobs) (desk : Desk) (revision : ℕ) → Keeps turns request turns desk jobs revision done → KeepsSound turns request done jobs desk revision
+keeps-whole : (turns : ℕ) (request : Option Request) (done : Reaction) (jobs : Jobs) (desk : Desk) (revision : ℕ)
+    → Keeps turns request turns desk jobs revision done → KeepsSound turns request done jobs desk revision
 keeps-whole turns request done jobs desk revision k = record { sound = sound-whole (desk_then turns request done jobs desk) revision k.sound; once = k.once }
 
 pub request-sound : (meaning : Meaning) (scene : Scene) (desk : Desk) (r : Request) → Sound desk scene.snapshot.revision
     → KeepsSound (desk.turns + 1) (Some r) (request_row meaning scene desk (desk.turns + 1) r) desk.jobs desk scene.snapshot.revision
 request-sound meaning scene desk r s = keeps-whole (desk.turns + 1) (Some r) _ desk.jobs desk scene.snapshot.revision (request-kept meaning scene r desk s)
 
-pub cancel-sound : (desk : Desk) (revision : ℕ) (id : RequestId) → Sound desk revision → KeepsSound (desk.turns + 1) None (cancel_row id desk) desk.jobs desk revision
+pub cancel-sound : (desk : Desk) (revision : ℕ) (id : RequestId) → Sound desk revision
+    → KeepsSound (desk.turns + 1) None (cancel_row id desk) desk.jobs desk revision
 cancel-sound desk revision id s = keeps-whole (desk.turns + 1) None _ desk.jobs desk revision (cancel-kept id desk revision s)
 
 pub message-sound : (meaning : Meaning) (scene : Scene) (desk : Desk) (message : TaskMsg) → Sound desk scene.snapshot.revision
     → KeepsSound (desk.turns + 1) None (message_row meaning scene desk message) (after_message message desk.jobs) desk scene.snapshot.revision
 message-sound meaning scene desk message s =
     let done = message_row meaning scene desk message in
-    let going : Going desk.handed desk [] scene.snapshot.revision message done = message-going meaning desk.handed scene desk [] message (batching-begins desk scene.snapshot.revision s) in
+    let going : Going desk.handed desk [] scene.snapshot.revision message done =
+    message-going meaning desk.handed scene desk [] message (batching-begins desk scene.snapshot.revision s) in
     keeps-whole (desk.turns + 1) None done (after_message message desk.jobs) desk scene.snapshot.revision
     (record { sound = sound-later desk.turns (desk.turns + 1) _ _ _ _ _ _ (omega arith) (omega arith) (omega arith) going.0.sound; once = going.1 })
 
 -- ---- one request
 
-new-cases : (meaning : Meaning) (scene : Scene) (desk : Desk) (ticket : ℕ) (r : Request) (b : Bool) → b ≡ false → Reacts scene desk.handed ticket r.id (if b then says (already_pending r.id) else new_row meaning scene desk ticket r)
+new-cases : (meaning : Meaning) (scene : Scene) (desk : Desk) (ticket : ℕ) (r : Request) (b : Bool) → b ≡ false
+    → Reacts scene desk.handed ticket r.id (if b then says (already_pending r.id) else new_row meaning scene desk ticket r)
 new-cases meaning scene desk ticket r true new = absurd cc
 new-cases meaning scene desk ticket r false new = new-reacts meaning scene desk ticket r
 
-pub request-reacts : (meaning : Meaning) (scene : Scene) (desk : Desk) (ticket : ℕ) (r : Request) → is_pending r.id desk.pending ≡ false → Reacts scene desk.handed ticket r.id (request_row meaning scene desk ticket r)
+pub request-reacts : (meaning : Meaning) (scene : Scene) (desk : Desk) (ticket : ℕ) (r : Request) → is_pending r.id desk.pending ≡ false
+    → Reacts scene desk.handed ticket r.id (request_row meaning scene desk ticket r)
 request-reacts meaning scene desk ticket r new = new-cases meaning scene desk ticket r (is_pending r.id desk.pending) new
 
-pub message-reacts : (meaning : Meaning) (scene : Scene) (desk : Desk) (message : TaskMsg) (job : Job) (ticket : ℕ) (id : RequestId) → fitting_job message desk.jobs ≡ Some job → ticket_of job.kind ≡ Some ticket → id_of ticket desk.pending ≡ Some id
+pub message-reacts : (meaning : Meaning) (scene : Scene) (desk : Desk) (message : TaskMsg) (job : Job) (ticket : ℕ) (id : RequestId)
+    → fitting_job message desk.jobs ≡ Some job → ticket_of job.kind ≡ Some ticket → id_of ticket desk.pending ≡ Some id
     → Reacts scene desk.handed ticket id (message_row meaning scene desk message)
 message-reacts meaning scene desk message job ticket id is its waits =
     let k = fit-final message (map.get desk.jobs message.job) job (final_of message.body) is refl in
     let there : waiting_for job desk ≡ Some id = ap (λ o. option_and_then (λ u. id_of u desk.pending) o) its ∙ waits in
     let row : message_row meaning scene desk message ≡ ticket_row meaning scene desk (Some id) job k.0 =
-    ap (λ o. fitting_row meaning scene desk o message) is ∙ ap (λ o. final_row meaning scene desk o job) k.1 ∙ ap (λ o. ticket_row meaning scene desk o job k.0) there in
+    ap (λ o. fitting_row meaning scene desk o message) is ∙ ap (λ o. final_row meaning scene desk o job) k.1
+    ∙ ap (λ o. ticket_row meaning scene desk o job k.0) there in
     subst (Reacts scene desk.handed ticket id) (sym row) (result-reacts meaning scene desk ticket id job k.0 (finished_reply id k.0) refl its)
 
 -- ---- one part
 
 -- a request of which one part is left has one job out
-pub one-held : (desk : Desk) (ticket part : ℕ) (id : RequestId) → AreHeld desk → id_of ticket desk.pending ≡ Some id → unreported ticket desk ≡ part ∷ [] → IsHeldByOne ticket desk.jobs
+pub one-held : (desk : Desk) (ticket part : ℕ) (id : RequestId) → AreHeld desk → id_of ticket desk.pending ≡ Some id → unreported ticket desk ≡ part ∷ []
+    → IsHeldByOne ticket desk.jobs
 one-held desk ticket part id held waits one = held-by_one ticket part desk.jobs (subst (λ parts. IsHeld ticket parts desk.jobs) one (held ticket id waits))

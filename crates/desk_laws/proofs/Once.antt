@@ -48,11 +48,13 @@ closes-none : (p : Pending) → Closes [] p p
 closes-none p = record { differ = tt; were = λ t h. absurd h; gone = λ t h. absurd h; kept = λ t id is. is; lost = λ t w. inl w }
 
 -- what waits nowhere any more
-stays-gone : (t : ℕ) (before after : Pending) (o : Option RequestId) → id_of t after ≡ o → ((id : RequestId) → id_of t after ≡ Some id → id_of t before ≡ Some id) → id_of t before ≡ None → id_of t after ≡ None
+stays-gone : (t : ℕ) (before after : Pending) (o : Option RequestId) → id_of t after ≡ o
+    → ((id : RequestId) → id_of t after ≡ Some id → id_of t before ≡ Some id) → id_of t before ≡ None → id_of t after ≡ None
 stays-gone t before after None is kept none = is
 stays-gone t before after (Some id) is kept none = none-some id (sym none ∙ kept id is)
 
-closes-one : (ticket : ℕ) (id : RequestId) (rest : List ℕ) (p after : Pending) → id_of ticket p ≡ Some id → Closes rest (completed ticket p) after → Closes (ticket ∷ rest) p after
+closes-one : (ticket : ℕ) (id : RequestId) (rest : List ℕ) (p after : Pending) → id_of ticket p ≡ Some id → Closes rest (completed ticket p) after
+    → Closes (ticket ∷ rest) p after
 closes-one ticket id rest p after there c = record {
   differ = (λ h. let w = c.were ticket h in none-some w.0 (sym (id_of-completed ticket p) ∙ w.1), c.differ);
   were = were;
@@ -71,19 +73,23 @@ closes-one ticket id rest p after there c = record {
     were t (inr h) = let w = c.were t h in (w.0, (waits-completed ticket t w.0 p w.1).before)
 
     gone : (t : ℕ) → IsAmong (ticket ∷ rest) t → id_of t after ≡ None
-    gone t (inl is) = stays-gone t (completed ticket p) after (id_of t after) refl (λ i k. c.kept t i k) (ap (λ u. id_of u (completed ticket p)) is ∙ id_of-completed ticket p)
+    gone t (inl is) = stays-gone t (completed ticket p) after (id_of t after) refl (λ i k. c.kept t i k)
+        (ap (λ u. id_of u (completed ticket p)) is ∙ id_of-completed ticket p)
     gone t (inr h) = c.gone t h
 
-closes-with : (id : RequestId) (o : Option ℕ) (rest : Pending → List ℕ) (after : Pending → Pending) (p : Pending) → ticket_of id p ≡ o → ((q : Pending) → Closes (rest q) q (after q))
+closes-with : (id : RequestId) (o : Option ℕ) (rest : Pending → List ℕ) (after : Pending → Pending) (p : Pending) → ticket_of id p ≡ o
+    → ((q : Pending) → Closes (rest q) q (after q))
     → Closes (option_to_list o ++ rest (closed_at o p)) p (after (closed_at o p))
 closes-with id None rest after p is on = on p
-closes-with id (Some ticket) rest after p is on = closes-one ticket id (rest (completed ticket p)) p (after (completed ticket p)) (ticket_of-is ticket id p is) (on (completed ticket p))
+closes-with id (Some ticket) rest after p is on = closes-one ticket id (rest (completed ticket p)) p (after (completed ticket p)) (ticket_of-is ticket id p is)
+    (on (completed ticket p))
 
 closes-id : (o : Option RequestId) (rest : Pending → List ℕ) (after : Pending → Pending) (p : Pending) → ((q : Pending) → Closes (rest q) q (after q))
     → Closes (answered_with o p ++ rest (closed_with o p)) p (after (closed_with o p))
 closes-id None rest after p on = on p
 closes-id (Some id) rest after p on =
-    subst (λ q. Closes (option_to_list (ticket_of id p) ++ rest q) p (after q)) (sym (closed-is id p (ticket_of id p) refl)) (closes-with id (ticket_of id p) rest after p refl on)
+    subst (λ q. Closes (option_to_list (ticket_of id p) ++ rest q) p (after q)) (sym (closed-is id p (ticket_of id p) refl))
+    (closes-with id (ticket_of id p) rest after p refl on)
 
 pub closes : (responses : List Response) (p : Pending) → Closes (answered_in responses p) p (closed_by responses p)
 closes [] p = closes-none p
@@ -128,14 +134,16 @@ turns-request r ticket id responses p false =
       lost = λ t w. c.lost t (there-beside ticket id p t w);
     }
 
-pub turn-closes : (ticket : ℕ) (request : Option Request) (responses : List Response) (p : Pending) → Turns request ticket (answered_at ticket request responses p) p (pending_after ticket request responses p)
+pub turn-closes : (ticket : ℕ) (request : Option Request) (responses : List Response) (p : Pending)
+    → Turns request ticket (answered_at ticket request responses p) p (pending_after ticket request responses p)
 turn-closes ticket None responses p =
     let c = closes responses p in
     record { differ = c.differ; were = λ t h. inl (c.were t h); gone = c.gone; kept = λ t w. inl (w.0, c.kept t w.0 w.1); lost = c.lost }
 turn-closes ticket (Some r) responses p = turns-request r ticket r.id responses p (is_pending r.id p)
 
 -- where each response answers, so many requests are answered as there are responses
-with-one : (id : RequestId) (p : Pending) (o : Option ℕ) (rest : List ℕ) (n : ℕ) → ticket_of id p ≡ o → is_pending id p ≡ true → length rest ≡ n → length (option_to_list o ++ rest) ≡ n + 1
+with-one : (id : RequestId) (p : Pending) (o : Option ℕ) (rest : List ℕ) (n : ℕ) → ticket_of id p ≡ o → is_pending id p ≡ true → length rest ≡ n
+    → length (option_to_list o ++ rest) ≡ n + 1
 with-one id p None rest n is waits same = none-true (sym (ap is_some is) ∙ waits)
   where
     none-true : {P : Type 0} → false ≡ true → P

@@ -31,18 +31,22 @@ use Rattle.desk_laws.proofs.Settling.{finding-id, finished-id, stopped-id}
 says-reacts : (scene : Scene) (handed ticket : ℕ) (id : RequestId) (response : Response) → response.id ≡ Some id → Reacts scene handed ticket id (says response)
 says-reacts scene handed ticket id response is = inl (response, is, refl)
 
-either-reacts : (scene : Scene) (handed ticket : ℕ) (id : RequestId) (b : Bool) (x y : Reaction) → Reacts scene handed ticket id x → Reacts scene handed ticket id y → Reacts scene handed ticket id (if b then x else y)
+either-reacts : (scene : Scene) (handed ticket : ℕ) (id : RequestId) (b : Bool) (x y : Reaction) → Reacts scene handed ticket id x
+    → Reacts scene handed ticket id y → Reacts scene handed ticket id (if b then x else y)
 either-reacts scene handed ticket id true x y p q = p
 either-reacts scene handed ticket id false x y p q = q
 
-read-reacts : (scene : Scene) (handed ticket : ℕ) (id : RequestId) (reads : Bool) (done : Reaction) → Reacts scene handed ticket id done → Reacts scene handed ticket id (if_read reads id done)
-read-reacts scene handed ticket id reads done p = either-reacts scene handed ticket id reads done (says (invalid_params id)) p (says-reacts scene handed ticket id (invalid_params id) refl)
+read-reacts : (scene : Scene) (handed ticket : ℕ) (id : RequestId) (reads : Bool) (done : Reaction) → Reacts scene handed ticket id done
+    → Reacts scene handed ticket id (if_read reads id done)
+read-reacts scene handed ticket id reads done p = either-reacts scene handed ticket id reads done (says (invalid_params id)) p
+    (says-reacts scene handed ticket id (invalid_params id) refl)
 
 state-reacts : (scene : Scene) (handed ticket : ℕ) (id : RequestId) (o : Option StateRequest) → Reacts scene handed ticket id (state_row id o)
 state-reacts scene handed ticket id None = says-reacts scene handed ticket id (invalid_params id) refl
 state-reacts scene handed ticket id (Some request) = says-reacts scene handed ticket id (response_with id null) refl
 
-plan-reacts : (meaning : Meaning) (scene : Scene) (handed : ℕ) (p : Plan) (ticket : ℕ) (id : RequestId) (row : RowId) (params : Data) → Reacts scene handed ticket id (planned_row meaning scene handed p ticket id row params)
+plan-reacts : (meaning : Meaning) (scene : Scene) (handed : ℕ) (p : Plan) (ticket : ℕ) (id : RequestId) (row : RowId) (params : Data)
+    → Reacts scene handed ticket id (planned_row meaning scene handed p ticket id row params)
 plan-reacts meaning scene handed plans.Shutdown ticket id row params = state-reacts scene handed ticket id (request_of row params)
 plan-reacts meaning scene handed plans.Refuse ticket id row params = says-reacts scene handed ticket id (shut_already id) refl
 plan-reacts meaning scene handed plans.Unknown ticket id row params = says-reacts scene handed ticket id (unknown_request id) refl
@@ -56,24 +60,29 @@ plan-reacts meaning scene handed plans.OnLoop ticket id row params =
 plan-reacts meaning scene handed (plans.Job class) ticket id row params =
     read-reacts scene handed ticket id (can_read meaning row params) _ (inr (class, row, params, refl))
 
-class-reacts : (meaning : Meaning) (scene : Scene) (desk : Desk) (ticket : ℕ) (id : RequestId) (row : RowId) (params : Data) → Reacts scene desk.handed ticket id (class_row meaning scene desk ticket id row params)
-class-reacts meaning scene desk ticket id row params = plan-reacts meaning scene desk.handed (plan (Some row) scene.loading scene.incomplete desk.shutdown) ticket id row params
+class-reacts : (meaning : Meaning) (scene : Scene) (desk : Desk) (ticket : ℕ) (id : RequestId) (row : RowId) (params : Data)
+    → Reacts scene desk.handed ticket id (class_row meaning scene desk ticket id row params)
+class-reacts meaning scene desk ticket id row params = plan-reacts meaning scene desk.handed (plan (Some row) scene.loading scene.incomplete desk.shutdown)
+    ticket id row params
 
-method-reacts : (meaning : Meaning) (scene : Scene) (desk : Desk) (ticket : ℕ) (o : Option RowId) (r : Request) → Reacts scene desk.handed ticket r.id (method_row meaning scene desk ticket o r)
+method-reacts : (meaning : Meaning) (scene : Scene) (desk : Desk) (ticket : ℕ) (o : Option RowId) (r : Request)
+    → Reacts scene desk.handed ticket r.id (method_row meaning scene desk ticket o r)
 method-reacts meaning scene desk ticket None r =
     either-reacts scene desk.handed ticket r.id desk.shutdown (says (shut_already r.id)) (says (unknown_request r.id))
     (says-reacts scene desk.handed ticket r.id (shut_already r.id) refl) (says-reacts scene desk.handed ticket r.id (unknown_request r.id) refl)
 method-reacts meaning scene desk ticket (Some row) r = class-reacts meaning scene desk ticket r.id row r.params
 
 -- a request that is read
-pub new-reacts : (meaning : Meaning) (scene : Scene) (desk : Desk) (ticket : ℕ) (r : Request) → Reacts scene desk.handed ticket r.id (new_row meaning scene desk ticket r)
+pub new-reacts : (meaning : Meaning) (scene : Scene) (desk : Desk) (ticket : ℕ) (r : Request)
+    → Reacts scene desk.handed ticket r.id (new_row meaning scene desk ticket r)
 new-reacts meaning scene desk ticket r =
     either-reacts scene desk.handed ticket r.id (is_shutdown (row_of r.method)) _ _
     (either-reacts scene desk.handed ticket r.id (is_unit r.params) (says (response_with r.id null)) (says (invalid_params r.id))
     (says-reacts scene desk.handed ticket r.id (response_with r.id null) refl) (says-reacts scene desk.handed ticket r.id (invalid_params r.id) refl))
     (method-reacts meaning scene desk ticket (row_of r.method) r)
 
-stop-reacts : (meaning : Meaning) (scene : Scene) (desk : Desk) (ticket : ℕ) (id : RequestId) (revision : ℕ) (kind : JobKind) → ticket_of kind ≡ Some ticket → Reacts scene desk.handed ticket id (stopped_row meaning scene desk id revision kind)
+stop-reacts : (meaning : Meaning) (scene : Scene) (desk : Desk) (ticket : ℕ) (id : RequestId) (revision : ℕ) (kind : JobKind) → ticket_of kind ≡ Some ticket
+    → Reacts scene desk.handed ticket id (stopped_row meaning scene desk id revision kind)
 stop-reacts meaning scene desk ticket id revision (RequestJob t row params) is =
     let same : t ≡ ticket = cc in
     either-reacts scene desk.handed ticket id (ltb revision scene.snapshot.revision && not (retries row)) (says (stopped_reply (class_of row) id)) _
@@ -85,7 +94,9 @@ stop-reacts meaning scene desk ticket id revision (FetchBuildData version) is = 
 stop-reacts meaning scene desk ticket id revision (LoadProcMacros paths ignored) is = absurd cc
 
 -- a result of a job whose request waits
-pub result-reacts : (meaning : Meaning) (scene : Scene) (desk : Desk) (ticket : ℕ) (id : RequestId) (job : Job) (result : JobResult) (o : Option Response) → finished_reply id result ≡ o → ticket_of job.kind ≡ Some ticket
+pub result-reacts : (meaning : Meaning) (scene : Scene) (desk : Desk) (ticket : ℕ) (id : RequestId) (job : Job) (result : JobResult) (o : Option Response)
+    → finished_reply id result ≡ o → ticket_of job.kind ≡ Some ticket
     → Reacts scene desk.handed ticket id (result_row meaning scene desk o id job)
-result-reacts meaning scene desk ticket id job result (Some response) is its = says-reacts scene desk.handed ticket id response (finished-id id result response is)
+result-reacts meaning scene desk ticket id job result (Some response) is its =
+    says-reacts scene desk.handed ticket id response (finished-id id result response is)
 result-reacts meaning scene desk ticket id job result None is its = stop-reacts meaning scene desk ticket id job.snapshot.revision job.kind its

@@ -25,25 +25,30 @@ use Rattle.session_port.specs.declared.fault.Counter.{Counter}
 use Rattle.session_port.specs.declared.fault.Counter.TheVariants.{Jobs, Turns}
 use Rattle.desk.specs.Desk.{Desk, waiting_for}
 use Rattle.desk.specs.Meaning.{Meaning, can_read}
-use Rattle.desk.specs.Reactions.{Reaction, says, hands_over, if_read, planned_row, class_row, method_row, shutdown_row, new_row, request_row, stopped_row, result_row, ticket_row, final_row, fitting_row, message_row}
+use Rattle.desk.specs.Reactions.{Reaction, says, hands_over, if_read, planned_row, class_row, method_row, shutdown_row, new_row, request_row, stopped_row}
+use Rattle.desk.specs.Reactions.{result_row, ticket_row, final_row, fitting_row, message_row}
 use Rattle.desk.specs.Replies.{already_pending, stopped_reply, finished_reply}
-use Rattle.desk.specs.Steps.{dispatched, submitted, planned, classed, asked, noted, shut_down, admitted, requested, counted, responded, stopped, settled, delivered, brought, ended, taken}
+use Rattle.desk.specs.Steps.{dispatched, submitted, planned, classed, asked, noted, shut_down, admitted, requested, counted, responded, stopped, settled}
+use Rattle.desk.specs.Steps.{delivered, brought, ended, taken}
 use Rattle.desk.specs.Scene.{Scene}
 use Rattle.desk_laws.proofs.Settling.{row-without, without}
 
 -- ---- parts that may be refused, one after another
 
-pub err-and_then : {X Y E : Type 0} (r : Result X E) (f : X → Result Y E) (P : E → Type 0) → IfErr r P → ((x : X) → r ≡ Ok x → IfErr (f x) P) → IfErr (and_then r f) P
+pub err-and_then : {X Y E : Type 0} (r : Result X E) (f : X → Result Y E) (P : E → Type 0) → IfErr r P → ((x : X) → r ≡ Ok x → IfErr (f x) P)
+    → IfErr (and_then r f) P
 err-and_then (Ok x) f P p q = q x refl
 err-and_then (Err e) f P p q = p
 
-next-cases : {Y : Type 0} (b : Bool) (n : ℕ) (counter : Counter) (f : ℕ → Result Y Counter) (P : Counter → Type 0) → ltb n (2 ^ 64 - 1) ≡ b → (2 ^ 64 - 1 ≤ n → P counter) → IfErr (f (n + 1)) P
+next-cases : {Y : Type 0} (b : Bool) (n : ℕ) (counter : Counter) (f : ℕ → Result Y Counter) (P : Counter → Type 0) → ltb n (2 ^ 64 - 1) ≡ b
+    → (2 ^ 64 - 1 ≤ n → P counter) → IfErr (f (n + 1)) P
     → IfErr (and_then (if b then Ok (n + 1) else Err counter) f) P
 next-cases true n counter f P h last on = on
 next-cases false n counter f P h last on = last (ltb-false _ _ h)
 
 -- the next number is refused only where the last one was used
-pub err-next : {Y : Type 0} (n : ℕ) (counter : Counter) (f : ℕ → Result Y Counter) (P : Counter → Type 0) → (2 ^ 64 - 1 ≤ n → P counter) → IfErr (f (n + 1)) P → IfErr (and_then (next_number n counter) f) P
+pub err-next : {Y : Type 0} (n : ℕ) (counter : Counter) (f : ℕ → Result Y Counter) (P : Counter → Type 0) → (2 ^ 64 - 1 ≤ n → P counter) → IfErr (f (n + 1)) P
+    → IfErr (and_then (next_number n counter) f) P
 err-next n counter f P last on = next-cases (ltb n (2 ^ 64 - 1)) n counter f P refl last on
 
 pub err-weaker : {X E : Type 0} (r : Result X E) (P Q : E → Type 0) → IfErr r P → ((e : E) → P e → Q e) → IfErr r Q
@@ -70,7 +75,8 @@ dispatch-errs scene class ticket row params w =
     err-next w.state.handed Jobs _ (TooMany w.state.handed done) (λ last. (refl, omega (arith, last))) tt
 
 submit-errs : (scene : Scene) (reads : Bool) (class : PoolClass) (ticket : ℕ) (id : RequestId) (row : RowId) (params : Data) (w : Working Desk)
-    → IfErr (submitted scene reads class ticket row params w) (TooMany w.state.handed (if_read reads id (hands_over w.state.handed scene.snapshot class ticket row params)))
+    → IfErr (submitted scene reads class ticket row params w)
+    (TooMany w.state.handed (if_read reads id (hands_over w.state.handed scene.snapshot class ticket row params)))
 unfolding submitted
 submit-errs scene true class ticket id row params w = dispatch-errs scene class ticket row params w
 submit-errs scene false class ticket id row params w = tt
@@ -90,7 +96,8 @@ plan-errs meaning scene (plans.Job class) ticket id row params w = submit-errs s
 class-errs : (meaning : Meaning) (scene : Scene) (ticket : ℕ) (id : RequestId) (row : RowId) (params : Data) (w : Working Desk)
     → IfErr (classed meaning scene ticket row params w) (TooMany w.state.handed (class_row meaning scene w.state ticket id row params))
 unfolding classed
-class-errs meaning scene ticket id row params w = plan-errs meaning scene (plan (Some row) scene.loading scene.incomplete w.state.shutdown) ticket id row params w
+class-errs meaning scene ticket id row params w = plan-errs meaning scene (plan (Some row) scene.loading scene.incomplete w.state.shutdown) ticket id row params
+    w
 
 -- ---- requests
 
@@ -117,7 +124,8 @@ unfolding admitted
 request-cases meaning scene r w refused true = tt
 request-cases meaning scene r w refused false = admit-errs meaning scene r w (is_shutdown (row_of r.method))
 
-pub request-errs : (meaning : Meaning) (scene : Scene) (r : Request) (w : Working Desk) → IfErr (requested meaning scene r w) (TooMany w.state.handed (request_row meaning scene w.state w.state.turns r))
+pub request-errs : (meaning : Meaning) (scene : Scene) (r : Request) (w : Working Desk)
+    → IfErr (requested meaning scene r w) (TooMany w.state.handed (request_row meaning scene w.state w.state.turns r))
 unfolding requested
 request-errs meaning scene r w = request-cases meaning scene r w _ (is_pending r.id w.state.pending)
 
@@ -132,7 +140,8 @@ stop-cases meaning scene ticket id row params w false = class-errs meaning scene
 stop-errs : (meaning : Meaning) (scene : Scene) (id : RequestId) (revision : ℕ) (kind : JobKind) (w : Working Desk)
     → IfErr (stopped meaning scene revision kind w) (TooMany w.state.handed (stopped_row meaning scene w.state id revision kind))
 unfolding stopped
-stop-errs meaning scene id revision (RequestJob ticket row params) w = stop-cases meaning scene ticket id row params w (ltb revision scene.snapshot.revision && not (retries row))
+stop-errs meaning scene id revision (RequestJob ticket row params) w =
+    stop-cases meaning scene ticket id row params w (ltb revision scene.snapshot.revision && not (retries row))
 stop-errs meaning scene id revision (ProcMacroSources files) w = tt
 stop-errs meaning scene id revision (FetchWorkspaces projects detached path force) w = tt
 stop-errs meaning scene id revision (FetchBuildData version) w = tt
@@ -161,8 +170,10 @@ job-errs : (meaning : Meaning) (scene : Scene) (job : Option Job) (message : Tas
 unfolding ended
 job-errs meaning scene None message w = tt
 job-errs meaning scene (Some job) message w =
-    subst (λ d. IfErr (brought meaning scene (final_of message.body) job (without message.job w)) (TooMany w.state.handed d)) (row-without meaning scene w.state (map.remove w.state.jobs message.job) (final_of message.body) job)
+    subst (λ d. IfErr (brought meaning scene (final_of message.body) job (without message.job w)) (TooMany w.state.handed d))
+    (row-without meaning scene w.state (map.remove w.state.jobs message.job) (final_of message.body) job)
     (final-errs meaning scene (final_of message.body) job (without message.job w))
 
-pub message-errs : (meaning : Meaning) (scene : Scene) (message : TaskMsg) (w : Working Desk) → IfErr (taken meaning scene message w) (TooMany w.state.handed (message_row meaning scene w.state message))
+pub message-errs : (meaning : Meaning) (scene : Scene) (message : TaskMsg) (w : Working Desk)
+    → IfErr (taken meaning scene message w) (TooMany w.state.handed (message_row meaning scene w.state message))
 message-errs meaning scene message w = job-errs meaning scene (fitting_job message w.state.jobs) message w

@@ -5,7 +5,8 @@ use Rattle.session_port.specs.Working.{Working, and_then, next_number, put_back,
 use Rattle.session_port.specs.declared.fault.Counter.{Counter}
 
 -- a part whose answers all have P goes on to a part whose answers all have Q
-pub IfOk-and_then : {X Y E : Type 0} (r : Result X E) (f : X → Result Y E) (P : X → Type 0) (Q : Y → Type 0) → IfOk r P → ((x : X) → P x → IfOk (f x) Q) → IfOk (and_then r f) Q
+pub IfOk-and_then : {X Y E : Type 0} (r : Result X E) (f : X → Result Y E) (P : X → Type 0) (Q : Y → Type 0) → IfOk r P → ((x : X) → P x → IfOk (f x) Q)
+    → IfOk (and_then r f) Q
 IfOk-and_then (Ok x) f P Q p q = q x p
 IfOk-and_then (Err e) f P Q p q = tt
 
@@ -17,15 +18,18 @@ pub IfOk-if : {X E : Type 0} (b : Bool) (r s : Result X E) (Q : X → Type 0) �
 IfOk-if true r s Q p q = p
 IfOk-if false r s Q p q = q
 
-next-cases : {Y : Type 0} (b : Bool) (n : ℕ) (counter : Counter) (f : ℕ → Result Y Counter) (Q : Y → Type 0) → IfOk (f n) Q → IfOk (and_then (if b then Ok n else Err counter) f) Q
+next-cases : {Y : Type 0} (b : Bool) (n : ℕ) (counter : Counter) (f : ℕ → Result Y Counter) (Q : Y → Type 0) → IfOk (f n) Q
+    → IfOk (and_then (if b then Ok n else Err counter) f) Q
 next-cases true n counter f Q q = q
 next-cases false n counter f Q q = tt
 
 -- the next number is one more, where there is one
-pub IfOk-next : {Y : Type 0} (n : ℕ) (counter : Counter) (f : ℕ → Result Y Counter) (Q : Y → Type 0) → IfOk (f (n + 1)) Q → IfOk (and_then (next_number n counter) f) Q
+pub IfOk-next : {Y : Type 0} (n : ℕ) (counter : Counter) (f : ℕ → Result Y Counter) (Q : Y → Type 0) → IfOk (f (n + 1)) Q
+    → IfOk (and_then (next_number n counter) f) Q
 IfOk-next n counter f Q q = next-cases (ltb n (2 ^ 64 - 1)) (n + 1) counter f Q q
 
-within-cases : {S P : Type 0} (put : P → S → S) (state : S) (r : Result (Working P) Counter) (Q : Working S → Type 0) → IfOk r (λ v. Q (record { state = put v.state state; out = v.out })) → IfOk (put_back put state r) Q
+within-cases : {S P : Type 0} (put : P → S → S) (state : S) (r : Result (Working P) Counter) (Q : Working S → Type 0)
+    → IfOk r (λ v. Q (record { state = put v.state state; out = v.out })) → IfOk (put_back put state r) Q
 within-cases put state (Ok v) Q q = q
 within-cases put state (Err counter) Q q = tt
 
@@ -35,7 +39,8 @@ pub IfOk-within : {S P : Type 0} (get : S → P) (put : P → S → S) (step : W
 unfolding within
 IfOk-within get put step w Q q = within-cases put w.state (step (record { state = get w.state; out = w.out })) Q q
 
-refused-cases : {S P : Type 0} (put : P → S → S) (state : S) (r : Result (Working P) Counter) (Q : Counter → Type 0) → IfErr r Q → IfErr (put_back put state r) Q
+refused-cases : {S P : Type 0} (put : P → S → S) (state : S) (r : Result (Working P) Counter) (Q : Counter → Type 0) → IfErr r Q
+    → IfErr (put_back put state r) Q
 refused-cases put state (Ok v) Q q = tt
 refused-cases put state (Err counter) Q q = q
 

@@ -43,9 +43,11 @@ use Rattle.session_port.specs.declared.fault.Counter.{Counter}
 use Rattle.desk.specs.Desk.{Desk, waiting_for}
 use Rattle.desk.specs.Folds.{closed_by, closed_with, shutdown_after}
 use Rattle.desk.specs.Meaning.{Meaning, can_read}
-use Rattle.desk.specs.Reactions.{Reaction, responses_of, silent, says, joined, hands_over, if_read, state_row, planned_row, class_row, method_row, shutdown_row, new_row, request_row, cancel_row, stopped_row, result_row, ticket_row, final_row, fitting_row, message_row}
+use Rattle.desk.specs.Reactions.{Reaction, responses_of, silent, says, joined, hands_over, if_read, state_row, planned_row, class_row, method_row, shutdown_row}
+use Rattle.desk.specs.Reactions.{new_row, request_row, cancel_row, stopped_row, result_row, ticket_row, final_row, fitting_row, message_row}
 use Rattle.desk.specs.Replies.{already_pending, invalid_params, unknown_request, shut_already, canceled_by_client, stopped_reply, finding_reply, finished_reply}
-use Rattle.desk.specs.Steps.{answered, answered_if, responded, noted, dispatched, echoed, queried, submitted, stated, planned, classed, unknown, asked, shut_down, admitted, requested, cancelled, stopped, settled, delivered, brought, ended, taken}
+use Rattle.desk.specs.Steps.{request_answered, answered_if, responded, noted, dispatched, echoed, queried, submitted, stated, planned, classed, unknown, asked}
+use Rattle.desk.specs.Steps.{shut_down, admitted, requested, cancelled, stopped, settled, delivered, brought, ended, taken}
 use Rattle.desk.specs.Scene.{Scene}
 use Rattle.desk_laws.specs.Settled.{Settled}
 use Rattle.desk_laws.proofs.Appends.{closed_by-append, responses-append, passed-append, spawned-append, asked-append}
@@ -107,8 +109,9 @@ finished-id id (Cancelled saw) response is = absurd cc
 finished-id id NoMemory response is = sym (ap (λ (r : Response). r.id) (some-same _ response is))
 
 -- a pending request is answered
-pub answer-settles : (id : RequestId) (response : Response) (w : Working Desk) → response.id ≡ Some id → Settled None w (answered id response w) (says response) w.state.jobs
-unfolding answered replied
+pub answer-settles : (id : RequestId) (response : Response) (w : Working Desk) → response.id ≡ Some id
+    → Settled None w (request_answered id response w) (says response) w.state.jobs
+unfolding request_answered replied
 answer-settles id response w is = record {
   written = refl;
   spawns = sym (append-nil _);
@@ -151,17 +154,20 @@ log-settles code text w = record {
 }
 
 -- the request of a ticket is answered
-responded-is : (ticket : ℕ) (id : RequestId) (reply : RequestId → Response) (w : Working Desk) → id_of ticket w.state.pending ≡ Some id → responded ticket reply w ≡ answered id (reply id) w
+responded-is : (ticket : ℕ) (id : RequestId) (reply : RequestId → Response) (w : Working Desk) → id_of ticket w.state.pending ≡ Some id
+    → responded ticket reply w ≡ request_answered id (reply id) w
 unfolding responded answered_if
 responded-is ticket id reply w waits = ap (λ o. answered_if o reply w) waits
 
-respond-settles : (ticket : ℕ) (id : RequestId) (reply : RequestId → Response) (w : Working Desk) → id_of ticket w.state.pending ≡ Some id → (reply id).id ≡ Some id
+respond-settles : (ticket : ℕ) (id : RequestId) (reply : RequestId → Response) (w : Working Desk) → id_of ticket w.state.pending ≡ Some id
+    → (reply id).id ≡ Some id
     → Settled None w (responded ticket reply w) (says (reply id)) w.state.jobs
 respond-settles ticket id reply w waits is =
     subst (λ v. Settled None w v (says (reply id)) w.state.jobs) (sym (responded-is ticket id reply w waits)) (answer-settles id (reply id) w is)
 
 -- a request of an unknown method is answered and logged
-unknown-settles : (ticket : ℕ) (id : RequestId) (method : List ℕ) (w : Working Desk) → id_of ticket w.state.pending ≡ Some id → Settled None w (unknown ticket method w) (says (unknown_request id)) w.state.jobs
+unknown-settles : (ticket : ℕ) (id : RequestId) (method : List ℕ) (w : Working Desk) → id_of ticket w.state.pending ≡ Some id
+    → Settled None w (unknown ticket method w) (says (unknown_request id)) w.state.jobs
 unfolding unknown
 unknown-settles ticket id method w waits =
     let v = responded ticket unknown_request w in
@@ -187,39 +193,48 @@ dispatch-settles scene class ticket row params w =
     })
 
 -- a request is answered where its params can be read, and refused else
-read-settles : (reads : Bool) (ticket : ℕ) (id : RequestId) (reply : RequestId → Response) (w : Working Desk) → id_of ticket w.state.pending ≡ Some id → (reply id).id ≡ Some id
+read-settles : (reads : Bool) (ticket : ℕ) (id : RequestId) (reply : RequestId → Response) (w : Working Desk) → id_of ticket w.state.pending ≡ Some id
+    → (reply id).id ≡ Some id
     → Settled None w (if reads then responded ticket reply w else responded ticket invalid_params w) (if_read reads id (says (reply id))) w.state.jobs
 read-settles true ticket id reply w waits is = respond-settles ticket id reply w waits is
 read-settles false ticket id reply w waits is = respond-settles ticket id invalid_params w waits refl
 
-state-settles : (ticket : ℕ) (id : RequestId) (o : Option StateRequest) (w : Working Desk) → id_of ticket w.state.pending ≡ Some id → Settled None w (stated ticket o w) (state_row id o) w.state.jobs
+state-settles : (ticket : ℕ) (id : RequestId) (o : Option StateRequest) (w : Working Desk) → id_of ticket w.state.pending ≡ Some id
+    → Settled None w (stated ticket o w) (state_row id o) w.state.jobs
 unfolding stated
 state-settles ticket id None w waits = respond-settles ticket id invalid_params w waits refl
 state-settles ticket id (Some request) w waits = respond-settles ticket id (λ i. response_with i null) w waits refl
 
-submit-settles : (scene : Scene) (reads : Bool) (class : PoolClass) (ticket : ℕ) (id : RequestId) (row : RowId) (params : Data) (w : Working Desk) → id_of ticket w.state.pending ≡ Some id
-    → IfOk (submitted scene reads class ticket row params w) (λ v. Settled None w v (if_read reads id (hands_over w.state.handed scene.snapshot class ticket row params)) w.state.jobs)
+submit-settles : (scene : Scene) (reads : Bool) (class : PoolClass) (ticket : ℕ) (id : RequestId) (row : RowId) (params : Data) (w : Working Desk)
+    → id_of ticket w.state.pending ≡ Some id
+    → IfOk (submitted scene reads class ticket row params w)
+    (λ v. Settled None w v (if_read reads id (hands_over w.state.handed scene.snapshot class ticket row params)) w.state.jobs)
 unfolding submitted
 submit-settles scene true class ticket id row params w waits = dispatch-settles scene class ticket row params w
 submit-settles scene false class ticket id row params w waits = respond-settles ticket id invalid_params w waits refl
 
-plan-settles : (meaning : Meaning) (scene : Scene) (p : Plan) (ticket : ℕ) (id : RequestId) (row : RowId) (params : Data) (w : Working Desk) → id_of ticket w.state.pending ≡ Some id
+plan-settles : (meaning : Meaning) (scene : Scene) (p : Plan) (ticket : ℕ) (id : RequestId) (row : RowId) (params : Data) (w : Working Desk)
+    → id_of ticket w.state.pending ≡ Some id
     → IfOk (planned meaning scene p ticket row params w) (λ v. Settled None w v (planned_row meaning scene w.state.handed p ticket id row params) w.state.jobs)
 unfolding planned echoed queried
 plan-settles meaning scene plans.Shutdown ticket id row params w waits = state-settles ticket id (request_of row params) w waits
 plan-settles meaning scene plans.Refuse ticket id row params w waits = respond-settles ticket id shut_already w waits refl
 plan-settles meaning scene plans.Unknown ticket id row params w waits = respond-settles ticket id unknown_request w waits refl
 plan-settles meaning scene plans.Default ticket id row params w waits = respond-settles ticket id (λ i. response_with i (default_of row)) w waits refl
-plan-settles meaning scene plans.Identity ticket id row params w waits = read-settles (can_read meaning row params) ticket id (λ i. response_with i params) w waits refl
+plan-settles meaning scene plans.Identity ticket id row params w waits = read-settles (can_read meaning row params) ticket id (λ i. response_with i params) w
+    waits refl
 plan-settles meaning scene plans.State ticket id row params w waits = state-settles ticket id (request_of row params) w waits
 plan-settles meaning scene plans.OnLoop ticket id row params w waits = read-settles (can_read meaning row params) ticket id _ w waits (finding-id id _)
-plan-settles meaning scene (plans.Job class) ticket id row params w waits = submit-settles scene (can_read meaning row params) class ticket id row params w waits
+plan-settles meaning scene (plans.Job class) ticket id row params w waits =
+    submit-settles scene (can_read meaning row params) class ticket id row params w waits
 
 -- a request of a row, under its ticket
-pub class-settles : (meaning : Meaning) (scene : Scene) (ticket : ℕ) (id : RequestId) (row : RowId) (params : Data) (w : Working Desk) → id_of ticket w.state.pending ≡ Some id
+pub class-settles : (meaning : Meaning) (scene : Scene) (ticket : ℕ) (id : RequestId) (row : RowId) (params : Data) (w : Working Desk)
+    → id_of ticket w.state.pending ≡ Some id
     → IfOk (classed meaning scene ticket row params w) (λ v. Settled None w v (class_row meaning scene w.state ticket id row params) w.state.jobs)
 unfolding classed
-class-settles meaning scene ticket id row params w waits = plan-settles meaning scene (plan (Some row) scene.loading scene.incomplete w.state.shutdown) ticket id row params w waits
+class-settles meaning scene ticket id row params w waits = plan-settles meaning scene (plan (Some row) scene.loading scene.incomplete w.state.shutdown) ticket
+    id row params w waits
 
 -- ---- requests
 
@@ -227,7 +242,8 @@ class-settles meaning scene ticket id row params w waits = plan-settles meaning 
 abbrev Reads : Request → Working Desk → Reaction → Working Desk → Type 0
 Reads r w done v = Settled (Some r) w v done w.state.jobs
 
-read-on : (r : Request) (w v : Working Desk) (done : Reaction) → is_pending r.id w.state.pending ≡ false → shutdown_after (Some r) (responses_of done) w.state.shutdown ≡ w.state.shutdown
+read-on : (r : Request) (w v : Working Desk) (done : Reaction) → is_pending r.id w.state.pending ≡ false
+    → shutdown_after (Some r) (responses_of done) w.state.shutdown ≡ w.state.shutdown
     → Settled None (noted r.id w) v done w.state.jobs → Reads r w done v
 unfolding noted
 read-on r w v done new stays a = record {
@@ -243,7 +259,8 @@ read-on r w v done new stays a = record {
 }
 
 -- the same of a method that isn't shutdown
-other-on : (r : Request) (w v : Working Desk) (done : Reaction) → is_pending r.id w.state.pending ≡ false → is_shutdown (row_of r.method) ≡ false → Settled None (noted r.id w) v done w.state.jobs → Reads r w done v
+other-on : (r : Request) (w v : Working Desk) (done : Reaction) → is_pending r.id w.state.pending ≡ false → is_shutdown (row_of r.method) ≡ false
+    → Settled None (noted r.id w) v done w.state.jobs → Reads r w done v
 other-on r w v done new other a = read-on r w v done new (rw other refl) a
 
 -- it waits under the turn's number
@@ -253,7 +270,8 @@ noted-waits id w = id_of-registered w.state.turns id w.state.pending
 
 -- a request of a method that has no row
 unknown-cases : (r : Request) (w : Working Desk) (b : Bool) → id_of w.state.turns w.state.pending ≡ Some r.id
-    → IfOk {E = Counter} (if b then Ok (responded w.state.turns shut_already w) else Ok (unknown w.state.turns r.method w)) (λ v. Settled None w v (if b then says (shut_already r.id) else says (unknown_request r.id)) w.state.jobs)
+    → IfOk {E = Counter} (if b then Ok (responded w.state.turns shut_already w) else Ok (unknown w.state.turns r.method w))
+    (λ v. Settled None w v (if b then says (shut_already r.id) else says (unknown_request r.id)) w.state.jobs)
 unknown-cases r w true waits = respond-settles w.state.turns r.id shut_already w waits refl
 unknown-cases r w false waits = unknown-settles w.state.turns r.id r.method w waits
 
@@ -266,7 +284,8 @@ method-settles meaning scene r (Some row) w waits = class-settles meaning scene 
 -- shutdown is requested
 shutdown-cases : (r : Request) (w : Working Desk) (b : Bool) → is_pending r.id w.state.pending ≡ false → is_shutdown (row_of r.method) ≡ true
     → Reads r w (if b then says (response_with r.id null) else says (invalid_params r.id))
-    (if b then responded w.state.turns (λ id. response_with id null) (record (noted r.id w) { state = record (noted r.id w).state { shutdown = true } }) else responded w.state.turns invalid_params (noted r.id w))
+    (if b then responded w.state.turns (λ id. response_with id null) (record (noted r.id w) { state = record (noted r.id w).state { shutdown = true } })
+    else responded w.state.turns invalid_params (noted r.id w))
 unfolding noted
 shutdown-cases r w true new named =
     let v : Working Desk = record (noted r.id w) { state = record (noted r.id w).state { shutdown = true } } in
@@ -284,9 +303,11 @@ shutdown-cases r w true new named =
       shutdown = a.shutdown ∙ sym (rw named refl);
     }
 shutdown-cases r w false new named =
-    read-on r w _ (says (invalid_params r.id)) new (rw named refl) (respond-settles w.state.turns r.id invalid_params (noted r.id w) (id_of-registered w.state.turns r.id w.state.pending) refl)
+    read-on r w _ (says (invalid_params r.id)) new (rw named refl)
+    (respond-settles w.state.turns r.id invalid_params (noted r.id w) (id_of-registered w.state.turns r.id w.state.pending) refl)
 
-admit-cases : (meaning : Meaning) (scene : Scene) (r : Request) (w : Working Desk) (b : Bool) → is_pending r.id w.state.pending ≡ false → is_shutdown (row_of r.method) ≡ b
+admit-cases : (meaning : Meaning) (scene : Scene) (r : Request) (w : Working Desk) (b : Bool) → is_pending r.id w.state.pending ≡ false
+    → is_shutdown (row_of r.method) ≡ b
     → IfOk (if b then Ok (shut_down r.params (noted r.id w)) else asked meaning scene (row_of r.method) r.method r.params (noted r.id w))
     (λ v. Reads r w (if b then shutdown_row r.id r.params else method_row meaning scene w.state w.state.turns (row_of r.method) r) v)
 unfolding shut_down noted
@@ -298,12 +319,14 @@ admit-cases meaning scene r w false new other =
     (λ v a. other-on r w v done new other a)
   where
     method-noted : (meaning : Meaning) (scene : Scene) (r : Request) (o : Option RowId) (w : Working Desk)
-        → IfOk (asked meaning scene o r.method r.params (noted r.id w)) (λ v. Settled None (noted r.id w) v (method_row meaning scene w.state w.state.turns o r) w.state.jobs)
+        → IfOk (asked meaning scene o r.method r.params (noted r.id w))
+        (λ v. Settled None (noted r.id w) v (method_row meaning scene w.state w.state.turns o r) w.state.jobs)
     method-noted meaning scene r None w = method-settles meaning scene r None (noted r.id w) (id_of-registered w.state.turns r.id w.state.pending)
     method-noted meaning scene r (Some row) w = method-settles meaning scene r (Some row) (noted r.id w) (id_of-registered w.state.turns r.id w.state.pending)
 
 -- the id is pending: nothing is registered
-refused-reads : (r : Request) (w : Working Desk) → is_pending r.id w.state.pending ≡ true → Reads r w (says (already_pending r.id)) (replied (already_pending r.id) w)
+refused-reads : (r : Request) (w : Working Desk) → is_pending r.id w.state.pending ≡ true
+    → Reads r w (says (already_pending r.id)) (replied (already_pending r.id) w)
 unfolding replied
 refused-reads r w is = record {
   written = refl;
@@ -329,11 +352,13 @@ request-cases meaning scene r w true is = refused-reads r w is
 request-cases meaning scene r w false is = admit-cases meaning scene r w (is_shutdown (row_of r.method)) is refl
 
 -- a request that is read
-pub request-settles : (meaning : Meaning) (scene : Scene) (r : Request) (w : Working Desk) → IfOk (requested meaning scene r w) (λ v. Settled (Some r) w v (request_row meaning scene w.state w.state.turns r) w.state.jobs)
+pub request-settles : (meaning : Meaning) (scene : Scene) (r : Request) (w : Working Desk)
+    → IfOk (requested meaning scene r w) (λ v. Settled (Some r) w v (request_row meaning scene w.state w.state.turns r) w.state.jobs)
 unfolding requested
 request-settles meaning scene r w = request-cases meaning scene r w (is_pending r.id w.state.pending) refl
 
-cancel-cases : (id : RequestId) (w : Working Desk) (b : Bool) → Settled None w (if b then answered id (canceled_by_client id) w else w) (if b then says (canceled_by_client id) else silent) w.state.jobs
+cancel-cases : (id : RequestId) (w : Working Desk) (b : Bool) → Settled None w (if b then request_answered id (canceled_by_client id) w else w)
+    (if b then says (canceled_by_client id) else silent) w.state.jobs
 cancel-cases id w true = answer-settles id (canceled_by_client id) w refl
 cancel-cases id w false = nothing-settles w
 
@@ -353,7 +378,8 @@ stopped-id classes.DocumentDiagnostic id = refl
 stopped-id classes.Worker id = refl
 stopped-id classes.Identity id = refl
 
-stop-cases : (meaning : Meaning) (scene : Scene) (ticket : ℕ) (id : RequestId) (row : RowId) (params : Data) (w : Working Desk) (b : Bool) → id_of ticket w.state.pending ≡ Some id
+stop-cases : (meaning : Meaning) (scene : Scene) (ticket : ℕ) (id : RequestId) (row : RowId) (params : Data) (w : Working Desk) (b : Bool)
+    → id_of ticket w.state.pending ≡ Some id
     → IfOk (if b then Ok (responded ticket (stopped_reply (class_of row)) w) else classed meaning scene ticket row params w)
     (λ v. Settled None w v (if b then says (stopped_reply (class_of row) id) else class_row meaning scene w.state ticket id row params) w.state.jobs)
 stop-cases meaning scene ticket id row params w true waits = respond-settles ticket id (stopped_reply (class_of row)) w waits (stopped-id (class_of row) id)
@@ -365,19 +391,22 @@ IsFor kind pending request = option_and_then (λ ticket. id_of ticket pending) (
 stop-settles : (meaning : Meaning) (scene : Scene) (id : RequestId) (revision : ℕ) (kind : JobKind) (w : Working Desk) → IsFor kind w.state.pending (Some id)
     → IfOk (stopped meaning scene revision kind w) (λ v. Settled None w v (stopped_row meaning scene w.state id revision kind) w.state.jobs)
 unfolding stopped
-stop-settles meaning scene id revision (RequestJob ticket row params) w waits = stop-cases meaning scene ticket id row params w (ltb revision scene.snapshot.revision && not (retries row)) waits
+stop-settles meaning scene id revision (RequestJob ticket row params) w waits =
+    stop-cases meaning scene ticket id row params w (ltb revision scene.snapshot.revision && not (retries row)) waits
 stop-settles meaning scene id revision (ProcMacroSources files) w waits = nothing-settles w
 stop-settles meaning scene id revision (FetchWorkspaces projects detached path force) w waits = nothing-settles w
 stop-settles meaning scene id revision (FetchBuildData version) w waits = nothing-settles w
 stop-settles meaning scene id revision (LoadProcMacros paths ignored) w waits = nothing-settles w
 
-result-settles : (meaning : Meaning) (scene : Scene) (id : RequestId) (job : Job) (result : JobResult) (o : Option Response) (w : Working Desk) → finished_reply id result ≡ o → waiting_for job w.state ≡ Some id
+result-settles : (meaning : Meaning) (scene : Scene) (id : RequestId) (job : Job) (result : JobResult) (o : Option Response) (w : Working Desk)
+    → finished_reply id result ≡ o → waiting_for job w.state ≡ Some id
     → IfOk (settled meaning scene o id job w) (λ v. Settled None w v (result_row meaning scene w.state o id job) w.state.jobs)
 unfolding settled
 result-settles meaning scene id job result (Some response) w is waits = answer-settles id response w (finished-id id result response is)
 result-settles meaning scene id job result None w is waits = stop-settles meaning scene id job.snapshot.revision job.kind w waits
 
-ticket-settles : (meaning : Meaning) (scene : Scene) (request : Option RequestId) (job : Job) (result : JobResult) (w : Working Desk) → waiting_for job w.state ≡ request
+ticket-settles : (meaning : Meaning) (scene : Scene) (request : Option RequestId) (job : Job) (result : JobResult) (w : Working Desk)
+    → waiting_for job w.state ≡ request
     → IfOk (delivered meaning scene request job result w) (λ v. Settled None w v (ticket_row meaning scene w.state request job result) w.state.jobs)
 unfolding delivered
 ticket-settles meaning scene None job result w waits = nothing-settles w
@@ -393,11 +422,13 @@ abbrev pub without : ℕ → Working Desk → Working Desk
 without number w = record w { state = record w.state { jobs = map.remove w.state.jobs number } }
 
 -- a row doesn't ask which jobs are out, once its own is found
-pub row-without : (meaning : Meaning) (scene : Scene) (desk : Desk) (jobs : Jobs) (final : Option JobResult) (job : Job) → final_row meaning scene (record desk { jobs = jobs }) final job ≡ final_row meaning scene desk final job
+pub row-without : (meaning : Meaning) (scene : Scene) (desk : Desk) (jobs : Jobs) (final : Option JobResult) (job : Job)
+    → final_row meaning scene (record desk { jobs = jobs }) final job ≡ final_row meaning scene desk final job
 row-without meaning scene desk jobs None job = refl
 row-without meaning scene desk jobs (Some result) job = by_request (waiting_for job desk)
   where
-    by_kind : (id : RequestId) (revision : ℕ) (kind : JobKind) → stopped_row meaning scene (record desk { jobs = jobs }) id revision kind ≡ stopped_row meaning scene desk id revision kind
+    by_kind : (id : RequestId) (revision : ℕ) (kind : JobKind) → stopped_row meaning scene (record desk { jobs = jobs }) id revision kind ≡ stopped_row meaning
+        scene desk id revision kind
     by_kind id revision (RequestJob ticket row params) = refl
     by_kind id revision (ProcMacroSources files) = refl
     by_kind id revision (FetchWorkspaces projects detached path force) = refl
@@ -434,7 +465,8 @@ job-settles meaning scene None message w is =
 job-settles meaning scene (Some job) message w is =
     let done = final_row meaning scene w.state (final_of message.body) job in
     let fewer = map.remove w.state.jobs message.job in
-    IfOk-weaker _ (λ v. Settled None (without message.job w) v (final_row meaning scene (without message.job w).state (final_of message.body) job) fewer) (λ v. Settled None w v done (after_message message w.state.jobs))
+    IfOk-weaker _ (λ v. Settled None (without message.job w) v (final_row meaning scene (without message.job w).state (final_of message.body) job) fewer)
+    (λ v. Settled None w v done (after_message message w.state.jobs))
     (final-settles meaning scene (final_of message.body) job (without message.job w))
     (λ v a. subst (Settled None w v done) (sym (after_message-some message w.state.jobs job is).0)
     (subst (λ d. Settled None w v d fewer) (row-without meaning scene w.state fewer (final_of message.body) job) (settled-from w v message.job _ fewer a)))
@@ -446,30 +478,37 @@ message-settles meaning scene message w = job-settles meaning scene (fitting_job
 
 -- ---- no row asks how many turns were counted
 
-request-turns-method : (meaning : Meaning) (scene : Scene) (desk : Desk) (turns ticket : ℕ) (o : Option RowId) (r : Request) → method_row meaning scene (record desk { turns = turns }) ticket o r ≡ method_row meaning scene desk ticket o r
+request-turns-method : (meaning : Meaning) (scene : Scene) (desk : Desk) (turns ticket : ℕ) (o : Option RowId) (r : Request)
+    → method_row meaning scene (record desk { turns = turns }) ticket o r ≡ method_row meaning scene desk ticket o r
 request-turns-method meaning scene desk turns ticket None r = refl
 request-turns-method meaning scene desk turns ticket (Some row) r = refl
 
-pub request-turns : (meaning : Meaning) (scene : Scene) (desk : Desk) (turns ticket : ℕ) (r : Request) → request_row meaning scene (record desk { turns = turns }) ticket r ≡ request_row meaning scene desk ticket r
+pub request-turns : (meaning : Meaning) (scene : Scene) (desk : Desk) (turns ticket : ℕ) (r : Request)
+    → request_row meaning scene (record desk { turns = turns }) ticket r ≡ request_row meaning scene desk ticket r
 request-turns meaning scene desk turns ticket r =
-    ap (λ done. if is_pending r.id desk.pending then says (already_pending r.id) else if is_shutdown (row_of r.method) then shutdown_row r.id r.params else done)
+    ap (λ done. if is_pending r.id desk.pending then says (already_pending r.id) else if is_shutdown (row_of r.method) then shutdown_row r.id r.params
+    else done)
     (request-turns-method meaning scene desk turns ticket (row_of r.method) r)
 
-pub message-turns : (meaning : Meaning) (scene : Scene) (desk : Desk) (turns : ℕ) (message : TaskMsg) → message_row meaning scene (record desk { turns = turns }) message ≡ message_row meaning scene desk message
+pub message-turns : (meaning : Meaning) (scene : Scene) (desk : Desk) (turns : ℕ) (message : TaskMsg)
+    → message_row meaning scene (record desk { turns = turns }) message ≡ message_row meaning scene desk message
 message-turns meaning scene desk turns message = by_job (fitting_job message desk.jobs)
   where
-    by_kind : (id : RequestId) (revision : ℕ) (kind : JobKind) → stopped_row meaning scene (record desk { turns = turns }) id revision kind ≡ stopped_row meaning scene desk id revision kind
+    by_kind : (id : RequestId) (revision : ℕ) (kind : JobKind) → stopped_row meaning scene (record desk { turns = turns }) id revision kind ≡ stopped_row
+        meaning scene desk id revision kind
     by_kind id revision (RequestJob ticket row params) = refl
     by_kind id revision (ProcMacroSources files) = refl
     by_kind id revision (FetchWorkspaces projects detached path force) = refl
     by_kind id revision (FetchBuildData version) = refl
     by_kind id revision (LoadProcMacros paths ignored) = refl
 
-    by_reply : (o : Option Response) (id : RequestId) (job : Job) → result_row meaning scene (record desk { turns = turns }) o id job ≡ result_row meaning scene desk o id job
+    by_reply : (o : Option Response) (id : RequestId) (job : Job) → result_row meaning scene (record desk { turns = turns }) o id job ≡ result_row meaning scene
+        desk o id job
     by_reply (Some response) id job = refl
     by_reply None id job = by_kind id job.snapshot.revision job.kind
 
-    by_request : (o : Option RequestId) (job : Job) (result : JobResult) → ticket_row meaning scene (record desk { turns = turns }) o job result ≡ ticket_row meaning scene desk o job result
+    by_request : (o : Option RequestId) (job : Job) (result : JobResult) → ticket_row meaning scene (record desk { turns = turns }) o job result ≡ ticket_row
+        meaning scene desk o job result
     by_request None job result = refl
     by_request (Some id) job result = by_reply (finished_reply id result) id job
 

@@ -15,7 +15,8 @@ answered_with (Some id) pending = option_to_list (ticket_of id pending)
 -- those that responses answer, one after another
 abbrev pub answered_in : List Response → Pending → List ℕ
 answered_in [] pending = []
-answered_in (response ∷ responses) pending = answered_with response.id pending ++ answered_in responses (closed_with response.id pending)
+answered_in (response ∷ responses) pending =
+    answered_with response.id pending ++ answered_in responses (closed_with response.id pending)
 
 -- a request whose id is pending is refused, and that answers no other; else it waits first, under the turn's number
 abbrev pub answered_request : Bool → ℕ → RequestId → List Response → Pending → List ℕ

@@ -11,17 +11,21 @@ use Rattle.desk.specs.Desk.{Desk}
 use Rattle.desk.specs.Folds.{AreHeld, AnswersOnce, pending_after, shutdown_after}
 use Rattle.desk.specs.Reactions.{Reaction, responses_of}
 
--- the ids that wait are distinct, and turns that were have read them; the jobs out have numbers that were given; those for requests are for ones that
+-- the ids that wait are distinct, and turns that were have read them; the jobs out have numbers that were given; those
+-- for requests are for ones that
 -- turns have read, and have snapshots of no later revision; and each request that waits is held by them
 pub record Sound (desk : Desk) (revision : ℕ) : Type 0 where
   pub distinct : AreDistinct desk.pending
   pub tickets : (ticket : ℕ) (id : RequestId) → id_of ticket desk.pending ≡ Some id → ticket ≤ desk.turns
   pub numbers : (n : ℕ) (job : Job) → map.get desk.jobs n ≡ Some job → n ≤ desk.handed
-  pub below : (n : ℕ) (job : Job) (ticket : ℕ) → map.get desk.jobs n ≡ Some job → ticket_of job.kind ≡ Some ticket → ticket ≤ desk.turns
-  pub revisions : (n : ℕ) (job : Job) (ticket : ℕ) → map.get desk.jobs n ≡ Some job → ticket_of job.kind ≡ Some ticket → job.snapshot.revision ≤ revision
+  pub below : (n : ℕ) (job : Job) (ticket : ℕ) → map.get desk.jobs n ≡ Some job → ticket_of job.kind ≡ Some ticket
+      → ticket ≤ desk.turns
+  pub revisions : (n : ℕ) (job : Job) (ticket : ℕ) → map.get desk.jobs n ≡ Some job → ticket_of job.kind ≡ Some ticket
+      → job.snapshot.revision ≤ revision
   pub held : AreHeld desk
 
--- the desk after the turn of this number, which read this request, if any, did this, and left these jobs of earlier turns out
+-- the desk after the turn of this number, which read this request, if any, did this, and left these jobs of earlier
+-- turns out
 abbrev pub desk_then : ℕ → Option Request → Reaction → Jobs → Desk → Desk
 desk_then turns request done jobs desk = record {
   turns = turns;
@@ -32,7 +36,8 @@ desk_then turns request done jobs desk = record {
 }
 
 -- the turn keeps what holds, and each of its responses answers one request
-pub record KeepsSound (turns : ℕ) (request : Option Request) (done : Reaction) (jobs : Jobs) (desk : Desk) (revision : ℕ) : Type 0 where
+pub record KeepsSound (turns : ℕ) (request : Option Request) (done : Reaction) (jobs : Jobs) (desk : Desk)
+    (revision : ℕ) : Type 0 where
   pub sound : Sound (desk_then turns request done jobs desk) revision
   pub once : AnswersOnce turns request (responses_of done) desk.pending
 

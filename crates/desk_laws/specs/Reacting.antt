@@ -12,4 +12,5 @@ use Rattle.desk.specs.Scene.{Scene}
 abbrev pub Reacts : Scene → ℕ → ℕ → RequestId → Reaction → Type 0
 Reacts scene handed ticket id done =
     ((response : Response) × (response.id ≡ Some id) × (done ≡ says response))
-    ⊎ ((class : PoolClass) × (row : RowId) × (params : Data) × (done ≡ hands_over handed scene.snapshot class ticket row params))
+    ⊎ ((class : PoolClass) × (row : RowId) × (params : Data)
+    × (done ≡ hands_over handed scene.snapshot class ticket row params))

@@ -20,14 +20,16 @@ pub record PassesOver (number_of : Command → Option ℕ) : Type 0 where
   pub logs : (code : LogCode) (text : List ℕ) → number_of (Log code text) ≡ None
   pub defers : (task : DeferredTask) → number_of (Defer task) ≡ None
 
--- between these two these messages were written and no other, and these jobs handed over, and this request, if any, was read by the turn that is counted. These jobs
+-- between these two these messages were written and no other, and these jobs handed over, and this request, if any, was
+-- read by the turn that is counted. These jobs
 -- of earlier turns are out, nothing was ordered but jobs, log lines and tasks that are put off, and the turns stay
 pub record Settled (request : Option Request) (w v : Working Desk) (done : Reaction) (jobs : Jobs) : Type 0 where
   pub written : v.out.messages ≡ w.out.messages ++ done.messages
   pub spawns : spawned v.out.commands ≡ spawned w.out.commands ++ done.jobs
   -- each of the jobs is for a request
   pub asked : asked_among done.jobs ≡ done.jobs
-  pub others : (number_of : Command → Option ℕ) → PassesOver number_of → filter_map number_of v.out.commands ≡ filter_map number_of w.out.commands
+  pub others : (number_of : Command → Option ℕ) → PassesOver number_of
+      → filter_map number_of v.out.commands ≡ filter_map number_of w.out.commands
   pub turns : v.state.turns ≡ w.state.turns
   pub pending : v.state.pending ≡ pending_after w.state.turns request (responses_of done) w.state.pending
   pub out : v.state.jobs ≡ jobs

@@ -35,8 +35,10 @@ use Rattle.workspaces.specs.declared.requests.WaitingCrates.{WaitingCrates}
 use Rattle.session_model.specs.Building.{build_kept}
 use Rattle.session_model.specs.Fetching.{fetch_kept}
 use Rattle.session_model.specs.Loading.{crates_loaded, load_kept}
-use Rattle.session_model.specs.Machine.{Turning, at_desk, at_files, at_workspaces, build_taken, files_done, knowing, crates_arrived, desk_in, end_taken, work_taken, fetch_taken, files_followed, files_in, files_part, files_processed}
-use Rattle.session_model.specs.Machine.{files_processed_if, in_state, load_taken, macros_taken, quiet_done, refreshed, settings_filed, some_processed, state_in, taken, with_client, with_desk, with_files, with_sources, with_state}
+use Rattle.session_model.specs.Machine.{Turning, at_desk, at_files, at_workspaces, build_taken, files_done, knowing, crates_arrived, desk_in, end_taken}
+use Rattle.session_model.specs.Machine.{work_taken, fetch_taken, files_followed, files_in, files_part, files_processed}
+use Rattle.session_model.specs.Machine.{files_processed_if, in_state, load_taken, macros_taken, quiet_done, refreshed, settings_filed, some_processed, state_in}
+use Rattle.session_model.specs.Machine.{message_taken, with_client, with_desk, with_files, with_sources, with_state}
 use Rattle.session_model.specs.Asking.{is_refresh_due}
 use Rattle.session_model.specs.Sources.{change_for, client_with, further_files, is_settled, parents_told}
 use Rattle.session_model.specs.State.{Sources, State, scene_of, snapshot_of}
@@ -82,7 +84,8 @@ counted : (b : Bool) (before mid after : ℕ) → mid ≡ before + 1 → after �
 counted true before mid after p q = omega (arith, p, q)
 counted false before mid after p q = omega (arith, p, q)
 
-brought-files : (crates : CrateData) (s t : State) (files : SessionFiles) → after_crates s.sources.roots crates s.files ≡ Ok files → after_processing s.sources.roots files ≡ Ok t.files → BringsFiles s t
+brought-files : (crates : CrateData) (s t : State) (files : SessionFiles) → after_crates s.sources.roots crates s.files ≡ Ok files
+    → after_processing s.sources.roots files ≡ Ok t.files → BringsFiles s t
 brought-files crates s t files first second =
     let roots = s.sources.roots in
     let c = crates_keep roots crates s.files files first in
@@ -101,16 +104,20 @@ abbrev Brings : Option CrateData → State → State → Type 0
 Brings None s t = t.files ≡ s.files
 Brings (Some crates) s t = BringsFiles s t
 
-arrive-brings : (crates : Option CrateData) (w : Working State) → IfOk (and_then (crates_arrived crates w) (files_processed_if (is_some crates))) (λ v. Brings crates w.state v.state)
+arrive-brings : (crates : Option CrateData) (w : Working State) → IfOk (and_then (crates_arrived crates w) (files_processed_if (is_some crates)))
+    (λ v. Brings crates w.state v.state)
 unfolding crates_arrived files_processed_if
 arrive-brings None w = refl
 arrive-brings (Some crates) w =
     let roots = w.state.sources.roots in
-    IfOk-and_then (at_files (crates_put roots crates) w) files_processed (λ v. (after_crates roots crates w.state.files ≡ Ok v.state.files) × (v.state.sources.roots ≡ roots)) (λ v. BringsFiles w.state v.state)
+    IfOk-and_then (at_files (crates_put roots crates) w) files_processed
+    (λ v. (after_crates roots crates w.state.files ≡ Ok v.state.files) × (v.state.sources.roots ≡ roots)) (λ v. BringsFiles w.state v.state)
     (IfOk-within files_in with_files (crates_put roots crates) w _
-    (IfOk-weaker _ (PutsCrates roots crates (record { state = w.state.files; out = w.out })) _ (crates-put roots crates (record { state = w.state.files; out = w.out })) (λ v p. (p.is, refl))))
+    (IfOk-weaker _ (PutsCrates roots crates (record { state = w.state.files; out = w.out })) _
+    (crates-put roots crates (record { state = w.state.files; out = w.out })) (λ v p. (p.is, refl))))
     (λ v (is, same). IfOk-weaker (files_processed v) (AreProcessed v) (λ u. BringsFiles w.state u.state) (processed-is v)
-    (λ u done. brought-files crates w.state u.state v.state.files is (subst (λ (rs : List Root). after_processing rs v.state.files ≡ Ok u.state.files) same done)))
+    (λ u done. brought-files crates w.state u.state v.state.files is
+    (subst (λ (rs : List Root). after_processing rs v.state.files ≡ Ok u.state.files) same done)))
 
 -- the crate data that comes with what ends, where the workspaces were these before it: that which waited for a load of macros
 abbrev crates_with : WorkEnd → Workspaces → Option CrateData
@@ -138,7 +145,8 @@ load-brings told w =
 work-brings : (end : WorkEnd) (w : Working State) → IfOk (work_taken end w) (λ v. Brings (crates_with end w.state.workspaces) w.state v.state)
 unfolding work_taken fetch_taken build_taken
 work-brings (Fetched found) w =
-    let v : Working State = at_workspaces (fetch_kept found) w in ap (λ (s : State). s.files) (logged_if-same FetchError (fetch_fault v.state.client.settings v.state.workspaces) v)
+    let v : Working State = at_workspaces (fetch_kept found) w in ap (λ (s : State). s.files)
+    (logged_if-same FetchError (fetch_fault v.state.client.settings v.state.workspaces) v)
 work-brings (Built made) w =
     let v : Working State = at_workspaces (build_kept made) w in ap (λ (s : State). s.files) (logged_if-same BuildError (build_fault v.state.workspaces) v)
 work-brings (Checked roots) w = refl
@@ -168,13 +176,16 @@ brings-before (Some crates) s t u same b = record {
 abbrev MessageBrings : TaskMsg → State → State → Type 0
 MessageBrings message s t = Brings (crates_by (work_ended message s.desk.jobs) s.workspaces) s t
 
-message-brings : (meaning : Meaning) (message : TaskMsg) (w : Working State) → IfOk (taken meaning message w) (λ v. MessageBrings message w.state v.state)
-unfolding taken
+message-brings : (meaning : Meaning) (message : TaskMsg) (w : Working State)
+    → IfOk (message_taken meaning message w) (λ v. MessageBrings message w.state v.state)
+unfolding message_taken
 message-brings meaning message w =
     let end = work_ended message w.state.desk.jobs in
-    IfOk-and_then (at_desk (taken_at_desk meaning (scene_of w.state) message) w) (end_taken end) (λ v. Before w.state v.state) (λ v. MessageBrings message w.state v.state)
+    IfOk-and_then (at_desk (taken_at_desk meaning (scene_of w.state) message) w) (end_taken end) (λ v. Before w.state v.state)
+    (λ v. MessageBrings message w.state v.state)
     (IfOk-within desk_in with_desk (taken_at_desk meaning (scene_of w.state) message) w _
-    (ok-from (taken_at_desk meaning (scene_of w.state) message (record { state = w.state.desk; out = w.out })) _ (λ v is. record { files = refl; sources = refl; workspaces = refl })))
+    (ok-from (taken_at_desk meaning (scene_of w.state) message (record { state = w.state.desk; out = w.out })) _
+    (λ v is. record { files = refl; sources = refl; workspaces = refl })))
     (λ v before. IfOk-weaker (end_taken end v) (λ u. Brings (crates_by end v.state.workspaces) v.state u.state) _ (end-brings end v)
     (λ u b. brings-before (crates_by end w.state.workspaces) w.state v.state u.state before
     (subst (λ (ws : Workspaces). Brings (crates_by end ws) v.state u.state) before.workspaces b)))
@@ -183,13 +194,14 @@ may-bring : (crates : Option CrateData) (s t : State) → Brings crates s t → 
 may-bring None s t b = inl b
 may-bring (Some crates) s t b = inr b
 
-pub message-may-bring : (meaning : Meaning) (message : TaskMsg) (w v : Working State) → taken meaning message w ≡ Ok v → MayBringFiles w.state v.state
+pub message-may-bring : (meaning : Meaning) (message : TaskMsg) (w v : Working State) → message_taken meaning message w ≡ Ok v → MayBringFiles w.state v.state
 message-may-bring meaning message w v is =
     may-bring (crates_by (work_ended message w.state.desk.jobs) w.state.workspaces) w.state v.state
     (IfOk-at_ok (λ (v : Working State). MessageBrings message w.state v.state) is (message-brings meaning message w))
 
 -- a final message of a load says how it ended
-final-told : (kind : JobKind) (final : Option JobResult) → is_load kind ≡ true → fits_final kind final ≡ true → (told : LoadEnd) × (option_and_then (work_end_of kind) final ≡ Some (Loaded told))
+final-told : (kind : JobKind) (final : Option JobResult) → is_load kind ≡ true → fits_final kind final ≡ true → (told : LoadEnd)
+    × (option_and_then (work_end_of kind) final ≡ Some (Loaded told))
 final-told kind None loads fit = true-false (sym fit)
 final-told (RequestJob ticket row params) (Some result) loads fit = true-false (sym loads)
 final-told (ProcMacroSources files) (Some result) loads fit = true-false (sym loads)
@@ -198,19 +210,23 @@ final-told (FetchBuildData version) (Some result) loads fit = true-false (sym lo
 final-told (LoadProcMacros paths ignored) (Some result) loads fit = load-has-end result fit
 
 -- and crate data that waits comes with it
-waiting-comes : (b : Bool) (o : Option WaitingCrates) (f : WaitingCrates → CrateData) → b ≡ true → is_some o ≡ true → (crates : CrateData) × ((if b then option_map f o else None) ≡ Some crates)
+waiting-comes : (b : Bool) (o : Option WaitingCrates) (f : WaitingCrates → CrateData) → b ≡ true → is_some o ≡ true → (crates : CrateData)
+    × ((if b then option_map f o else None) ≡ Some crates)
 waiting-comes b None f busy some = true-false (sym some)
 waiting-comes b (Some crates) f busy some = (f crates, ap (λ c. if c then Some (f crates) else None) busy)
 
-pub ended-brings : (meaning : Meaning) (message : TaskMsg) (w v : Working State) → taken meaning message w ≡ Ok v → EndsWait message w.state → BringsFiles w.state v.state
+pub ended-brings : (meaning : Meaning) (message : TaskMsg) (w v : Working State) → message_taken meaning message w ≡ Ok v → EndsWait message w.state
+    → BringsFiles w.state v.state
 ended-brings meaning message w v is ends =
     let fit = fit-true message.body (map.get w.state.desk.jobs message.job) ends.job ends.fits in
     let told = final-told ends.job.kind (final_of message.body) ends.loads fit in
     let loads : Loads = w.state.workspaces.loads in
     let comes = waiting-comes loads.queue.in_progress loads.waiting (macros_put (macros_of told.0 (listed_for loads.waiting))) ends.in_progress ends.waits in
     let ended : work_ended message w.state.desk.jobs ≡ Some (Loaded told.0) = ap (work_told message) ends.fits ∙ told.1 in
-    let crates : crates_by (work_ended message w.state.desk.jobs) w.state.workspaces ≡ Some comes.0 = ap (λ (o : Option WorkEnd). crates_by o w.state.workspaces) ended ∙ comes.1 in
-    subst (λ (o : Option CrateData). Brings o w.state v.state) crates (IfOk-at_ok (λ (v : Working State). MessageBrings message w.state v.state) is (message-brings meaning message w))
+    let crates : crates_by (work_ended message w.state.desk.jobs) w.state.workspaces ≡ Some comes.0 =
+    ap (λ (o : Option WorkEnd). crates_by o w.state.workspaces) ended ∙ comes.1 in
+    subst (λ (o : Option CrateData). Brings o w.state v.state) crates
+    (IfOk-at_ok (λ (v : Working State). MessageBrings message w.state v.state) is (message-brings meaning message w))
 
 -- ---- of which roots settings files are
 
@@ -223,15 +239,18 @@ some-same x y e = cc
 none-some : {P : Type 0} (x : RootFile) → None ≡ Some x → P
 none-some x e = absurd cc
 
-by-local : (roots : List Root) (made found : RootFile) (b : Bool) → is_local_at roots made.root ≡ b → made.root ≡ root_of roots made.path → (if b then Some made else None) ≡ Some found → OfRoot roots found
+by-local : (roots : List Root) (made found : RootFile) (b : Bool) → is_local_at roots made.root ≡ b → made.root ≡ root_of roots made.path
+    → (if b then Some made else None) ≡ Some found → OfRoot roots found
 by-local roots made found true local root is = subst (OfRoot roots) (some-same made found is) (root, local)
 by-local roots made found false local root is = none-some found is
 
 in-root : (roots : List Root) (file : SettingsFile) (found : RootFile) → file_in roots file ≡ Some found → OfRoot roots found
 in-root roots file found is =
-    by-local roots (record { root = root_of roots file.path; path = file.path; text = text_in file.contents }) found (is_local_at roots (root_of roots file.path)) refl refl is
+    by-local roots (record { root = root_of roots file.path; path = file.path; text = text_in file.contents }) found
+    (is_local_at roots (root_of roots file.path)) refl refl is
 
-at-workspace : (b : Bool) (roots : List Root) (file : SettingsFile) (found : RootFile) → (if b then file_in roots file else None) ≡ Some found → OfRoot roots found
+at-workspace : (b : Bool) (roots : List Root) (file : SettingsFile) (found : RootFile) → (if b then file_in roots file else None) ≡ Some found
+    → OfRoot roots found
 at-workspace true roots file found is = in-root roots file found is
 at-workspace false roots file found is = none-some found is
 
@@ -239,19 +258,23 @@ at-crate : (b : Bool) (roots : List Root) (file : SettingsFile) (found : RootFil
 at-crate true roots file found is = none-some found is
 at-crate false roots file found is = in-root roots file found is
 
-cons-roots : (roots : List Root) (o : Option RootFile) (rest : List RootFile) → ((found : RootFile) → o ≡ Some found → OfRoot roots found) → AreOfRoots roots rest → AreOfRoots roots (cons_option o rest)
+cons-roots : (roots : List Root) (o : Option RootFile) (rest : List RootFile) → ((found : RootFile) → o ≡ Some found → OfRoot roots found)
+    → AreOfRoots roots rest → AreOfRoots roots (cons_option o rest)
 cons-roots roots None rest each others = others
 cons-roots roots (Some found) rest each others = (each found refl, others)
 
-workspace-roots : (roots : List Root) (workspaces : List ProjectWorkspace) (files : List SettingsFile) → AreOfRoots roots (workspace_files roots workspaces files)
+workspace-roots : (roots : List Root) (workspaces : List ProjectWorkspace) (files : List SettingsFile)
+    → AreOfRoots roots (workspace_files roots workspaces files)
 workspace-roots roots workspaces [] = tt
 workspace-roots roots workspaces (file ∷ files) =
-    cons-roots roots (workspace_file roots workspaces file) (workspace_files roots workspaces files) (at-workspace (is_at_workspace workspaces file.path) roots file) (workspace-roots roots workspaces files)
+    cons-roots roots (workspace_file roots workspaces file) (workspace_files roots workspaces files)
+    (at-workspace (is_at_workspace workspaces file.path) roots file) (workspace-roots roots workspaces files)
 
 crate-roots : (roots : List Root) (workspaces : List ProjectWorkspace) (files : List SettingsFile) → AreOfRoots roots (crate_files roots workspaces files)
 crate-roots roots workspaces [] = tt
 crate-roots roots workspaces (file ∷ files) =
-    cons-roots roots (crate_file roots workspaces file) (crate_files roots workspaces files) (at-crate (is_at_workspace workspaces file.path) roots file) (crate-roots roots workspaces files)
+    cons-roots roots (crate_file roots workspaces file) (crate_files roots workspaces files) (at-crate (is_at_workspace workspaces file.path) roots file)
+    (crate-roots roots workspaces files)
 
 change-roots : (b : Bool) (roots : List Root) (parents : Option (List (ℕ × ℕ))) (workspaces : List ProjectWorkspace) (files : List SettingsFile)
     → IsOfRoots roots (if b then None else Some (change_of roots parents workspaces files))
@@ -272,7 +295,8 @@ filed-by-roots files w =
 
 -- ---- what is shown
 
-pub part-knows : (t : Working Turning) → IfOk (files_part t) (λ v. v.state.facts ≡ record t.state.facts { processed = not t.state.state.files.loading && has_changed t.state.state.files })
+pub part-knows : (t : Working Turning) → IfOk (files_part t)
+    (λ v. v.state.facts ≡ record t.state.facts { processed = not t.state.state.files.loading && has_changed t.state.state.files })
 unfolding files_part
 part-knows t =
     IfOk-and_then (in_state files_done t) (λ v. Ok (knowing (some_processed t.state.state.files) v)) (λ v. v.state.facts ≡ t.state.facts) _
@@ -298,18 +322,22 @@ due-by was now done quiet (inr some) = (λ i. quiet i && (not was || some i)) �
 abbrev if_due : Bool → Working State → Result (Working State) Counter
 if_due due w = if due then refreshed w.state.client.settings.capabilities w else Ok w
 
-quiet-is : (facts : Facts) (w : Working State) (due : Bool) → is_refresh_due facts.quiescent (is_quiescent w.state.files w.state.workspaces) facts.processed ≡ due → quiet_done facts w ≡ if_due due w
+quiet-is : (facts : Facts) (w : Working State) (due : Bool) → is_refresh_due facts.quiescent (is_quiescent w.state.files w.state.workspaces) facts.processed ≡
+    due → quiet_done facts w ≡ if_due due w
 unfolding quiet_done
 quiet-is facts w due is = ap (λ b. if_due b w) is
 
 session_in : Working Turning → Working State
 session_in t = record { state = t.state.state; out = t.out }
 
-pub shown-anew : (t : Turning) (out : Written) → IsShownAnew t → quiet_done t.facts (record { state = t.state; out = out }) ≡ refreshed t.state.client.settings.capabilities (record { state = t.state; out = out })
+pub shown-anew : (t : Turning) (out : Written) → IsShownAnew t
+    → quiet_done t.facts (record { state = t.state; out = out }) ≡ refreshed t.state.client.settings.capabilities (record { state = t.state; out = out })
 shown-anew t out anew =
-    quiet-is t.facts (record { state = t.state; out = out }) true (due-by t.facts.quiescent (is_quiescent t.state.files t.state.workspaces) t.facts.processed anew.quiescent anew.since)
+    quiet-is t.facts (record { state = t.state; out = out }) true
+    (due-by t.facts.quiescent (is_quiescent t.state.files t.state.workspaces) t.facts.processed anew.quiescent anew.since)
 
-pub not-shown : (t : Turning) (out : Written) → (IsShownAnew t → ⊥) → quiet_done t.facts (record { state = t.state; out = out }) ≡ Ok (record { state = t.state; out = out })
+pub not-shown : (t : Turning) (out : Written) → (IsShownAnew t → ⊥)
+    → quiet_done t.facts (record { state = t.state; out = out }) ≡ Ok (record { state = t.state; out = out })
 not-shown t out none =
     let now = is_quiescent t.state.files t.state.workspaces in
     let due = is_refresh_due t.facts.quiescent now t.facts.processed in

@@ -4,7 +4,8 @@ use Rattle.std.proofs.lemmas.Bool.{leb-true, ltb-false}
 use Rattle.std.proofs.lemmas.List.{length-append}
 use Rattle.std.specs.FinMap as map
 use Rattle.std.specs.Prelude.{◌==◌, ◌||◌, ℤ, Err, if◌then◌else◌, is_some, ltb, None, Ok, Option, Result, Some}
-use Rattle.docs_vfs.specs.Files.{Files, and_then as and_then_table, contents_at, file_id_of, is_full, is_marked, kept_at, kept_of, mark_in, next_file, number_in, put_at, put_in, same_contents, set_in}
+use Rattle.docs_vfs.specs.Files.{Files, and_then as and_then_table, contents_at, file_id_of, is_full, is_marked, kept_at, kept_of, mark_in, next_file}
+use Rattle.docs_vfs.specs.Files.{number_in, put_at, put_in, same_contents, set_in}
 use Rattle.docs_vfs.specs.declared.file_kinds.ChangedFile.{ChangedFile}
 use Rattle.docs_vfs.specs.declared.file_kinds.FileId.{FileId}
 use Rattle.docs_vfs.specs.declared.file_kinds.FileRow.{FileRow}
@@ -35,8 +36,10 @@ use Rattle.desk.specs.Desk.{Desk}
 use Rattle.desk.specs.Steps.{handed_over}
 use Rattle.session_files.specs.Changing.{text_after}
 use Rattle.session_files.proofs.SoundLemmas.{taken_none}
-use Rattle.session_files.specs.Folds.{after_changed, after_crates, after_each_changed, after_each_loaded, after_editing, after_loaded, after_message, after_messages, after_opening, after_processing}
-use Rattle.session_files.specs.Folds.{are_some, changed_files, contents_put, has_changed, is_excluded, is_open, made_of, mark_put, table_put, taken_up, text_edited, text_put, version_put, with_changes, with_table, world_put}
+use Rattle.session_files.specs.Folds.{after_changed, after_crates, after_each_changed, after_each_loaded, after_editing, after_loaded, after_message}
+use Rattle.session_files.specs.Folds.{after_messages, after_opening, after_processing}
+use Rattle.session_files.specs.Folds.{are_some, changed_files, contents_put, has_changed, is_excluded, is_open, made_of, mark_put, table_put, taken_up}
+use Rattle.session_files.specs.Folds.{text_edited, text_put, version_put, with_changes, with_table, world_put}
 use Rattle.session_files.specs.SessionFiles.{SessionFiles}
 use Rattle.session_files.specs.Steps.{become}
 use Rattle.session_files.specs.Texts.{holds_text}
@@ -75,7 +78,8 @@ pub record AtMost (a b : Numbers) : Type 0 where
   pub versions : a.versions ≤ b.versions
   pub settings : a.settings ≤ b.settings
 
-pub at-most : (a b : Numbers) → a.turns ≤ b.turns → a.jobs ≤ b.jobs → a.requests ≤ b.requests → a.revisions ≤ b.revisions → a.files ≤ b.files → a.versions ≤ b.versions → a.settings ≤ b.settings
+pub at-most : (a b : Numbers) → a.turns ≤ b.turns → a.jobs ≤ b.jobs → a.requests ≤ b.requests → a.revisions ≤ b.revisions → a.files ≤ b.files
+    → a.versions ≤ b.versions → a.settings ≤ b.settings
     → AtMost a b
 at-most a b turns jobs requests revisions files versions settings =
     record { turns = turns; jobs = jobs; requests = requests; revisions = revisions; files = files; versions = versions; settings = settings }
@@ -113,9 +117,12 @@ gives-same needs before after same = subst (λ (n : Numbers). AtMost n (both bef
 
 pub gives-on : (a b n m k : Numbers) → AtMost m (both n a) → AtMost k (both m b) → AtMost k (both n (both a b))
 gives-on a b n m k p q =
-    at-most _ _ (on-then n.turns m.turns k.turns a.turns b.turns p.turns q.turns) (on-then n.jobs m.jobs k.jobs a.jobs b.jobs p.jobs q.jobs) (on-then n.requests m.requests k.requests a.requests b.requests p.requests q.requests)
-    (on-then n.revisions m.revisions k.revisions a.revisions b.revisions p.revisions q.revisions) (on-then n.files m.files k.files a.files b.files p.files q.files)
-    (on-then n.versions m.versions k.versions a.versions b.versions p.versions q.versions) (on-then n.settings m.settings k.settings a.settings b.settings p.settings q.settings)
+    at-most _ _ (on-then n.turns m.turns k.turns a.turns b.turns p.turns q.turns) (on-then n.jobs m.jobs k.jobs a.jobs b.jobs p.jobs q.jobs)
+    (on-then n.requests m.requests k.requests a.requests b.requests p.requests q.requests)
+    (on-then n.revisions m.revisions k.revisions a.revisions b.revisions p.revisions q.revisions)
+    (on-then n.files m.files k.files a.files b.files p.files q.files)
+    (on-then n.versions m.versions k.versions a.versions b.versions p.versions q.versions)
+    (on-then n.settings m.settings k.settings a.settings b.settings p.settings q.settings)
 
 many-on : (a b n m : Numbers) (counter : Counter) → AtMost m (both n a) → AreTooMany m b counter → AreTooMany n (both a b) counter
 many-on a b n m counters.Turns p h = on-then n.turns m.turns (2 ^ 64) a.turns b.turns p.turns h
@@ -139,7 +146,8 @@ many-more a b n counters.LoaderSettings le (inr h) = inr (more (2 ^ 32) n.settin
 
 -- ---- steps
 
-pub counts-behind : {Y : Type 0} (after : Y → State) (a b n m : Numbers) (r : Result Y Counter) → AtMost m (both n a) → Counts after b m r → Counts after (both a b) n r
+pub counts-behind : {Y : Type 0} (after : Y → State) (a b n m : Numbers) (r : Result Y Counter) → AtMost m (both n a) → Counts after b m r
+    → Counts after (both a b) n r
 counts-behind after a b n m (Ok y) p q = gives-on a b n m (given (after y)) p q
 counts-behind after a b n m (Err counter) p q = many-on a b n m counter p q
 
@@ -149,7 +157,8 @@ pub counts-then : {X Y : Type 0} (of : X → State) (after : Y → State) (a b n
 counts-then of after a b n (Ok x) f p q = counts-behind after a b n (given (of x)) (f x) p (q x refl)
 counts-then of after a b n (Err counter) f p q = many-more a (both a b) n counter (none-more a b) p
 
-pub counts-if : {X : Type 0} (of : X → State) (needs n : Numbers) (b : Bool) (r q : Result X Counter) → Counts of needs n r → Counts of needs n q → Counts of needs n (if b then r else q)
+pub counts-if : {X : Type 0} (of : X → State) (needs n : Numbers) (b : Bool) (r q : Result X Counter) → Counts of needs n r → Counts of needs n q
+    → Counts of needs n (if b then r else q)
 counts-if of needs n true r q x y = x
 counts-if of needs n false r q x y = y
 
@@ -157,7 +166,8 @@ counts-if of needs n false r q x y = y
 pub counts-more : {X : Type 0} (of : X → State) (a b n : Numbers) (r : Result X Counter) → AtMost a b → Counts of a n r → Counts of b n r
 counts-more of a b n (Ok x) le h =
     let now = given (of x) in
-    at-most _ _ (more now.turns n.turns a.turns b.turns h.turns le.turns) (more now.jobs n.jobs a.jobs b.jobs h.jobs le.jobs) (more now.requests n.requests a.requests b.requests h.requests le.requests)
+    at-most _ _ (more now.turns n.turns a.turns b.turns h.turns le.turns) (more now.jobs n.jobs a.jobs b.jobs h.jobs le.jobs)
+    (more now.requests n.requests a.requests b.requests h.requests le.requests)
     (more now.revisions n.revisions a.revisions b.revisions h.revisions le.revisions) (more now.files n.files a.files b.files h.files le.files)
     (more now.versions n.versions a.versions b.versions h.versions le.versions) (more now.settings n.settings a.settings b.settings h.settings le.settings)
 counts-more of a b n (Err counter) le h = many-more a b n counter le h
@@ -168,7 +178,8 @@ put-counts of needs n put state (Ok v) h = h
 put-counts of needs n put state (Err counter) h = h
 
 -- a step of one part of the state
-pub counts-within : {S P : Type 0} (of : Working S → State) (needs n : Numbers) (get : S → P) (put : P → S → S) (step : Working P → Result (Working P) Counter) (w : Working S)
+pub counts-within : {S P : Type 0} (of : Working S → State) (needs n : Numbers) (get : S → P) (put : P → S → S) (step : Working P → Result (Working P) Counter)
+    (w : Working S)
     → Counts (λ (v : Working P). of (record { state = put v.state w.state; out = v.out })) needs n (step (record { state = get w.state; out = w.out }))
     → Counts of needs n (within get put step w)
 unfolding within
@@ -194,11 +205,13 @@ abbrev pub held : State → Numbers
 held s = given (ahead s)
 
 -- workspaces that get no version
-pub given-workspaces : (s : State) (workspaces : Workspaces) → versions_of workspaces ≡ versions_of s.workspaces → given (with_workspaces workspaces s) ≡ given s
+pub given-workspaces : (s : State) (workspaces : Workspaces) → versions_of workspaces ≡ versions_of s.workspaces
+    → given (with_workspaces workspaces s) ≡ given s
 given-workspaces s workspaces same = ap (λ (versions : ℕ × ℕ). record (given s) { versions = versions.0; settings = versions.1 }) same
 
 -- workspaces that get these
-pub gives-versions : (s : State) (workspaces : Workspaces) → workspaces.version ≤ s.workspaces.version + 1 → workspaces.loader_version ≤ s.workspaces.loader_version + 1
+pub gives-versions : (s : State) (workspaces : Workspaces) → workspaces.version ≤ s.workspaces.version + 1
+    → workspaces.loader_version ≤ s.workspaces.loader_version + 1
     → AtMost (given (with_workspaces workspaces s)) (both (given s) (record none { versions = 1; settings = 1 }))
 gives-versions s workspaces version settings =
     at-most _ _ (still s.desk.turns 0) (still s.desk.handed 0) (still s.client.asked.given 0) (still s.files.host.revision 0)
@@ -209,12 +222,15 @@ gives-versions s workspaces version settings =
 abbrev pub requests : ℕ → Numbers
 requests n = record none { requests = n }
 
-gives-requests : (s : State) (client : Client) (n : ℕ) → client.asked.given ≤ s.client.asked.given + n → AtMost (given (with_client client s)) (both (given s) (requests n))
+gives-requests : (s : State) (client : Client) (n : ℕ) → client.asked.given ≤ s.client.asked.given + n
+    → AtMost (given (with_client client s)) (both (given s) (requests n))
 gives-requests s client n le =
-    at-most _ _ (still s.desk.turns 0) (still s.desk.handed 0) le (still s.files.host.revision 0) (still (files_given s.files.table) 0) (still s.workspaces.version 0)
+    at-most _ _ (still s.desk.turns 0) (still s.desk.handed 0) le (still s.files.host.revision 0) (still (files_given s.files.table) 0)
+    (still s.workspaces.version 0)
     (still s.workspaces.loader_version 0)
 
-asked-cases : (message : Outgo) (handler : ReqHandler) (s : State) (w : Working Client) (b : Bool) → w.state ≡ s.client → (w.state.asked.given == number_limit) ≡ b
+asked-cases : (message : Outgo) (handler : ReqHandler) (s : State) (w : Working Client) (b : Bool) → w.state ≡ s.client
+    → (w.state.asked.given == number_limit) ≡ b
     → Counts (λ (v : Working Client). with_client v.state s) (requests 1) (given s)
     (if b then Err counters.Outgoing else Ok (written (request_at w.state.asked.given message) (record w { state = after_asking handler w.state })))
 unfolding written
@@ -223,7 +239,8 @@ asked-cases message handler s w true its all =
 asked-cases message handler s w false its some =
     let same = ap (λ (c : Client). c.asked.given) its in gives-requests s (after_asking handler w.state) 1 (omega (arith, same))
 
-pub request-counts : (message : Outgo) (handler : ReqHandler) (w : Working State) → Counts state_ahead (requests 1) (held w.state) (at_client (asked_for message handler) w)
+pub request-counts : (message : Outgo) (handler : ReqHandler) (w : Working State)
+    → Counts state_ahead (requests 1) (held w.state) (at_client (asked_for message handler) w)
 unfolding asked_for
 request-counts message handler w =
     counts-within state_ahead (requests 1) (held w.state) client_in with_client (asked_for message handler) w
@@ -240,19 +257,23 @@ jobs n = record none { jobs = n }
 pub gives-desk : (needs : Numbers) (s : State) (desk : Desk) → desk.turns ≤ s.desk.turns + needs.turns → desk.handed ≤ s.desk.handed + needs.jobs
     → AtMost (given (with_desk desk s)) (both (given s) needs)
 gives-desk needs s desk turns jobs =
-    at-most _ _ turns jobs (still s.client.asked.given needs.requests) (still s.files.host.revision needs.revisions) (still (files_given s.files.table) needs.files)
+    at-most _ _ turns jobs (still s.client.asked.given needs.requests) (still s.files.host.revision needs.revisions)
+    (still (files_given s.files.table) needs.files)
     (still s.workspaces.version needs.versions) (still s.workspaces.loader_version needs.settings)
 
-pub next-counts : {Y : Type 0} (of : Y → State) (needs before : Numbers) (n : ℕ) (counter : Counter) (f : ℕ → Y) (b : Bool) → ltb n (2 ^ 64 - 1) ≡ b → AtMost (given (of (f (n + 1)))) (both before needs)
+pub next-counts : {Y : Type 0} (of : Y → State) (needs before : Numbers) (n : ℕ) (counter : Counter) (f : ℕ → Y) (b : Bool) → ltb n (2 ^ 64 - 1) ≡ b
+    → AtMost (given (of (f (n + 1)))) (both before needs)
     → (2 ^ 64 - 1 ≤ n → AreTooMany before needs counter) → Counts of needs before (and_then (if b then Ok (n + 1) else Err counter) (λ m. Ok (f m)))
 next-counts of needs before n counter f true is gives short = gives
 next-counts of needs before n counter f false is gives short = short (ltb-false n (2 ^ 64 - 1) is)
 
-pub job-counts : (snapshot : SnapshotData) (kind : JobKind) (w : Working State) → Counts state_ahead (jobs 1) (held w.state) (at_desk (handed_over snapshot Worker kind) w)
+pub job-counts : (snapshot : SnapshotData) (kind : JobKind) (w : Working State)
+    → Counts state_ahead (jobs 1) (held w.state) (at_desk (handed_over snapshot Worker kind) w)
 unfolding ordered
 job-counts snapshot kind w =
     counts-within state_ahead (jobs 1) (held w.state) desk_in with_desk (handed_over snapshot Worker kind) w
-    (next-counts (λ (v : Working Desk). with_desk v.state (ahead w.state)) (jobs 1) (held w.state) w.state.desk.handed counters.Jobs _ (ltb w.state.desk.handed (2 ^ 64 - 1)) refl
+    (next-counts (λ (v : Working Desk). with_desk v.state (ahead w.state)) (jobs 1) (held w.state) w.state.desk.handed counters.Jobs _
+    (ltb w.state.desk.handed (2 ^ 64 - 1)) refl
     (gives-desk (jobs 1) (ahead w.state) (record w.state.desk { handed = w.state.desk.handed + 1 }) (omega arith) (omega arith)) (λ last. omega (arith, last)))
 
 -- ---- the numbers of files
@@ -297,11 +318,13 @@ set-cases table true r h = omega arith
 set-cases table false (Ok made) h = h
 set-cases table false (Err fault) h = h
 
-mark-cases : (table : Files) (b : Bool) (r : Result Files TableFault) → TableGives (λ (made : Files). made) table r → TableGives (λ (made : Files). made) table (if b then Ok table else r)
+mark-cases : (table : Files) (b : Bool) (r : Result Files TableFault) → TableGives (λ (made : Files). made) table r
+    → TableGives (λ (made : Files). made) table (if b then Ok table else r)
 mark-cases table true r h = omega arith
 mark-cases table false r h = h
 
-table-counts : (path : List ℕ) (s : State) (r : Result Files TableFault) → TableGives (λ (made : Files). made) s.files.table r → CountsFiles 1 s (table_put path r s.files)
+table-counts : (path : List ℕ) (s : State) (r : Result Files TableFault) → TableGives (λ (made : Files). made) s.files.table r
+    → CountsFiles 1 s (table_put path r s.files)
 table-counts path s (Ok table) h = gives-files s (with_table path table s.files) 1 0 h (still s.files.host.revision 0)
 table-counts path s (Err fault) h = h
 
@@ -310,12 +333,14 @@ unfolding contents_put
 contents-count path contents s =
     let table = s.files.table in
     table-counts path s (made_of (set_in table path contents))
-    (set-cases table (is_marked (kept_at table path) || same_contents (contents_at table path) contents) (put_in table path (kept_of contents)) (put-gives table path (kept_of contents)))
+    (set-cases table (is_marked (kept_at table path) || same_contents (contents_at table path) contents) (put_in table path (kept_of contents))
+    (put-gives table path (kept_of contents)))
 
 mark-counts : (path : List ℕ) (s : State) → CountsFiles 1 s (mark_put path s.files)
 unfolding mark_put
 mark-counts path s =
-    table-counts path s (mark_in s.files.table path) (mark-cases s.files.table (is_marked (kept_at s.files.table path)) (put_in s.files.table path Excluded) (put-gives s.files.table path Excluded))
+    table-counts path s (mark_in s.files.table path) (mark-cases s.files.table (is_marked (kept_at s.files.table path)) (put_in s.files.table path Excluded)
+    (put-gives s.files.table path Excluded))
 
 same-files : (n : ℕ) (s : State) → CountsFiles n s (Ok s.files)
 same-files n s = gives-same (files n) (given s) (given s) refl
@@ -323,19 +348,23 @@ same-files n s = gives-same (files n) (given s) (given s) refl
 files-if : (n : ℕ) (s : State) (b : Bool) (r q : Result SessionFiles Counter) → CountsFiles n s r → CountsFiles n s q → CountsFiles n s (if b then r else q)
 files-if n s b r q x y = counts-if (λ (now : SessionFiles). with_files now s) (files n) (given s) b r q x y
 
-pub opening-counts : (excludes : List (List ℕ)) (path : List ℕ) (version : ℤ) (text : List ℕ) (s : State) → CountsFiles 1 s (after_opening excludes path version text s.files)
+pub opening-counts : (excludes : List (List ℕ)) (path : List ℕ) (version : ℤ) (text : List ℕ) (s : State)
+    → CountsFiles 1 s (after_opening excludes path version text s.files)
 unfolding after_opening
 opening-counts excludes path version text s =
     let opened : State = with_files (text_put path text (version_put path version s.files)) s in
-    files-if 1 s (is_excluded excludes path) (mark_put path opened.files) (contents_put path (Some text) opened.files) (mark-counts path opened) (contents-count path (Some text) opened)
+    files-if 1 s (is_excluded excludes path) (mark_put path opened.files) (contents_put path (Some text) opened.files) (mark-counts path opened)
+    (contents-count path (Some text) opened)
 
 text-counts : (path text : List ℕ) (s : State) → CountsFiles 1 s (text_edited path text s.files)
 unfolding text_edited
 text-counts path text s =
     let edited : State = with_files (text_put path text s.files) s in
-    files-if 1 s (holds_text (map.get s.files.texts path) text) (Ok s.files) (contents_put path (Some text) edited.files) (same-files 1 s) (contents-count path (Some text) edited)
+    files-if 1 s (holds_text (map.get s.files.texts path) text) (Ok s.files) (contents_put path (Some text) edited.files) (same-files 1 s)
+    (contents-count path (Some text) edited)
 
-pub editing-counts : (columns : PositionEncoding) (path : List ℕ) (version : ℤ) (edits : List ContentChange) (s : State) → CountsFiles 1 s (after_editing columns path version edits s.files)
+pub editing-counts : (columns : PositionEncoding) (path : List ℕ) (version : ℤ) (edits : List ContentChange) (s : State)
+    → CountsFiles 1 s (after_editing columns path version edits s.files)
 unfolding after_editing
 editing-counts columns path version edits s =
     text-counts path (text_after columns edits (map.get s.files.texts path)) (with_files (version_put path version s.files) s)
@@ -345,12 +374,14 @@ editing-counts columns path version edits s =
 changed-counts : (file : LoadedFile) (s : State) → CountsFiles 1 s (after_changed file s.files)
 unfolding after_changed
 changed-counts file s =
-    files-if 1 s (is_open file.path s.files) (Ok s.files) (contents_put file.path file.contents s.files) (same-files 1 s) (contents-count file.path file.contents s)
+    files-if 1 s (is_open file.path s.files) (Ok s.files) (contents_put file.path file.contents s.files) (same-files 1 s)
+    (contents-count file.path file.contents s)
 
 loaded-counts : (file : LoadedFile) (s : State) → CountsFiles 1 s (after_loaded file s.files)
 unfolding after_loaded
 loaded-counts file s =
-    files-if 1 s (is_open file.path s.files || is_some (file_id_of s.files.table file.path)) (Ok s.files) (contents_put file.path file.contents s.files) (same-files 1 s)
+    files-if 1 s (is_open file.path s.files || is_some (file_id_of s.files.table file.path)) (Ok s.files) (contents_put file.path file.contents s.files)
+    (same-files 1 s)
     (contents-count file.path file.contents s)
 
 -- as many as two are
@@ -371,7 +402,8 @@ each-loaded : (list : List LoadedFile) (s : State) → CountsFiles (length list)
 unfolding after_each_loaded
 each-loaded [] s = same-files 0 s
 each-loaded (file ∷ later) s =
-    files-then 1 (length later) (length (file ∷ later)) s (after_loaded file s.files) (after_each_loaded later) (omega arith) (loaded-counts file s) (λ now. each-loaded later (with_files now s))
+    files-then 1 (length later) (length (file ∷ later)) s (after_loaded file s.files) (after_each_loaded later) (omega arith) (loaded-counts file s)
+    (λ now. each-loaded later (with_files now s))
 
 message-counts : (message : LoaderMsg) (s : State) → CountsFiles (files_brought message) s (after_message message s.files)
 unfolding after_message
@@ -383,7 +415,8 @@ pub messages-count : (messages : List LoaderMsg) (s : State) → CountsFiles (fi
 unfolding after_messages
 messages-count [] s = same-files 0 s
 messages-count (message ∷ later) s =
-    files-then (files_brought message) (files_among later) (files_among (message ∷ later)) s (after_message message s.files) (after_messages later) refl (message-counts message s)
+    files-then (files_brought message) (files_among later) (files_among (message ∷ later)) s (after_message message s.files) (after_messages later) refl
+    (message-counts message s)
     (λ now. messages-count later (with_files now s))
 
 -- ---- revisions
@@ -396,7 +429,8 @@ abbrev pub files_ahead : State → SessionFiles → State
 files_ahead s files = ahead (with_files files s)
 
 -- one revision more, and these files are to be processed then
-world-counts : (s : State) (host : HostData) (now : SessionFiles) (n : ℕ) (b : Bool) → ltb s.files.host.revision (2 ^ 64 - 1) ≡ b → host.revision ≡ s.files.host.revision + 1
+world-counts : (s : State) (host : HostData) (now : SessionFiles) (n : ℕ) (b : Bool) → ltb s.files.host.revision (2 ^ 64 - 1) ≡ b
+    → host.revision ≡ s.files.host.revision + 1
     → files_given now.table ≡ files_given s.files.table → pending now + 1 ≤ pending s.files + n
     → Counts (files_ahead s) (revisions n) (held s) (world_put (if b then Ok host else Err Exhausted) now)
 world-counts s host now n true is once table few =
@@ -433,7 +467,8 @@ pub become-ahead : (needs before : Numbers) (s : State) (r : Result SessionFiles
 become-ahead needs before s (Ok now) w h = h
 become-ahead needs before s (Err counter) w h = h
 
-pub become-counts : (needs before : Numbers) (s : State) (r : Result SessionFiles Counter) (w : Working SessionFiles) → Counts (λ (v : SessionFiles). with_files v s) needs before r
+pub become-counts : (needs before : Numbers) (s : State) (r : Result SessionFiles Counter) (w : Working SessionFiles)
+    → Counts (λ (v : SessionFiles). with_files v s) needs before r
     → Counts (λ (v : Working SessionFiles). with_files v.state s) needs before (become r w)
 become-counts needs before s (Ok now) w h = h
 become-counts needs before s (Err counter) w h = h

@@ -1,5 +1,6 @@
 -- What each part of a turn lets into the world, and what it makes of the settings.
-use Rattle.std.proofs.Common.{◌≡◌, ℕ, ◌+◌, ◌-◌, ◌^◌, List, [], ◌∷◌, ◌++◌, length, map, Bool, true, false, ltb, refl, sym, ap, ◌∙◌, subst, arith, inl, inr, true≢false}
+use Rattle.std.proofs.Common.{◌≡◌, ℕ, ◌+◌, ◌-◌, ◌^◌, List, [], ◌∷◌, ◌++◌, length, map, Bool, true, false, ltb, refl, sym, ap, ◌∙◌, subst, arith, inl, inr}
+use Rattle.std.proofs.Common.{true≢false}
 use Rattle.std.specs.Prelude.{◌⊎◌, ◌&&◌, ◌||◌, ◌==◌, not, Option, None, Some, is_none, unwrap_or, Result, Ok, Err, if◌then◌else◌}
 use Rattle.std.specs.FinMap as finmap
 use Rattle.std.specs.List.{list_any}
@@ -24,13 +25,15 @@ use Rattle.layered_settings.specs.Search.{Parents}
 use Rattle.layered_settings.specs.declared.change.ConfigChange.{ConfigChange}
 use Rattle.project_model.specs.declared.crates.CrateData.{CrateData}
 use Rattle.ra_config.specs.Config.{ConfigData}
-use Rattle.session_files.specs.Folds.{after_crates, after_processing, changed_files, crates_with, have_come_or_gone, is_modification, taken_up, with_changes, world_change, world_put}
+use Rattle.session_files.specs.Folds.{after_crates, after_processing, changed_files, crates_with, have_come_or_gone, is_modification, taken_up, with_changes}
+use Rattle.session_files.specs.Folds.{world_change, world_put}
 use Rattle.session_files.specs.SessionFiles.{SessionFiles}
 use Rattle.session_files.specs.Texts.{file_change}
 use Rattle.session_port.specs.declared.fault.Counter.{Counter}
 use Rattle.session_model.specs.Sources.{change_for, client_with, is_settled}
 use Rattle.session_model.specs.State.{Sources, State}
-use Rattle.session_laws.specs.Entering.{ArePresent, AreEntries, Enters, Entry, KeepsSettings, brings_roots, comes_or_goes, crates_after, hold_settings, holds_settings, roots_after, texts_after}
+use Rattle.session_laws.specs.Entering.{ArePresent, AreEntries, Enters, Entry, KeepsSettings, brings_roots, comes_or_goes, crates_after, hold_settings}
+use Rattle.session_laws.specs.Entering.{holds_settings, roots_after, texts_after}
 
 -- ---- entries, one after another
 
@@ -95,7 +98,8 @@ parents_in s = s.client.settings.settings.parents
 -- the parents that wait stay so, and those of the settings too; or what waits is told
 abbrev pub TellsParents : State → State → Type 0
 TellsParents s t =
-    ((t.sources.parents ≡ s.sources.parents) × (parents_in t ≡ parents_in s)) ⊎ ((t.sources.parents ≡ None) × (parents_in t ≡ parents_after s.sources.parents (parents_in s)))
+    ((t.sources.parents ≡ s.sources.parents) × (parents_in t ≡ parents_in s))
+    ⊎ ((t.sources.parents ≡ None) × (parents_in t ≡ parents_after s.sources.parents (parents_in s)))
 
 -- these enter, while the roots that are present stay. Where this flag isn't set, settings stay but for settings files and parents that wait
 pub record Alters (tells : Bool) (s t : State) : Type 0 where
@@ -158,7 +162,8 @@ alters-still tells s t still = record {
 
 -- ---- crate data
 
-put-host : (b : Bool) (host : HostData) (files now : SessionFiles) → (let r : Result HostData WorldFault = if b then Ok host else Err Exhausted in world_put r files) ≡ Ok now → now.host ≡ host
+put-host : (b : Bool) (host : HostData) (files now : SessionFiles)
+    → (let r : Result HostData WorldFault = if b then Ok host else Err Exhausted in world_put r files) ≡ Ok now → now.host ≡ host
 put-host true host files now is = sym (ap host_in is)
   where
     host_in : Result SessionFiles Counter → HostData
@@ -170,7 +175,8 @@ put-host false host files now is = absurd cc
 abbrev crates_host : List Root → CrateData → HostData → HostData
 crates_host roots crates host = record { world = with_change (crates_with roots crates) host.world; revision = host.revision + 1 }
 
-crates-host : (roots : List Root) (crates : CrateData) (files now : SessionFiles) → after_crates roots crates files ≡ Ok now → now.host ≡ crates_host roots crates files.host
+crates-host : (roots : List Root) (crates : CrateData) (files now : SessionFiles) → after_crates roots crates files ≡ Ok now
+    → now.host ≡ crates_host roots crates files.host
 unfolding after_crates
 crates-host roots crates files now is = put-host (ltb files.host.revision (2 ^ 64 - 1)) (crates_host roots crates files.host) files now is
 
@@ -180,10 +186,12 @@ crates_entry roots crates = record { present = roots; crates = Some crates; file
 crates-enter : (roots : List Root) (crates : CrateData) (host : HostData) → Enters (crates_entry roots crates ∷ []) host (crates_host roots crates host)
 crates-enter roots crates host = record { each = (inl (refl, refl), tt); texts = refl; roots = refl; crates = refl; revision = refl }
 
-pub crates-alter : (tells : Bool) (crates : CrateData) (s : State) (files : SessionFiles) → after_crates s.sources.roots crates s.files ≡ Ok files → Alters tells s (record s { files = files })
+pub crates-alter : (tells : Bool) (crates : CrateData) (s : State) (files : SessionFiles) → after_crates s.sources.roots crates s.files ≡ Ok files
+    → Alters tells s (record s { files = files })
 crates-alter tells crates s files is = record {
   entries = crates_entry s.sources.roots crates ∷ [];
-  enters = subst (Enters (crates_entry s.sources.roots crates ∷ []) s.files.host) (sym (crates-host s.sources.roots crates s.files files is)) (crates-enter s.sources.roots crates s.files.host);
+  enters = subst (Enters (crates_entry s.sources.roots crates ∷ []) s.files.host) (sym (crates-host s.sources.roots crates s.files files is))
+      (crates-enter s.sources.roots crates s.files.host);
   present = (refl, tt);
   roots = refl;
   parents = inl (refl, refl);
@@ -216,7 +224,8 @@ files-enter : (roots : List Root) (file : ChangedFile) (later : List ChangedFile
 files-enter roots file later host = record {
   each = (inr (refl, λ none. absurd (omega (arith, none))), tt);
   texts = refl;
-  roots = given (have_come_or_gone (file ∷ later)) (list_any (λ (f : ChangedFile). comes_or_goes f.kind) (file ∷ later)) roots host.world.roots (any-comes (file ∷ later));
+  roots = given (have_come_or_gone (file ∷ later)) (list_any (λ (f : ChangedFile). comes_or_goes f.kind) (file ∷ later)) roots host.world.roots
+      (any-comes (file ∷ later));
   crates = refl;
   revision = refl;
 }
@@ -226,7 +235,8 @@ abbrev pub files_entries : List Root → List ChangedFile → List Entry
 files_entries roots [] = []
 files_entries roots (file ∷ later) = files_entry roots (file ∷ later) ∷ []
 
-list-enters : (roots : List Root) (list : List ChangedFile) (files now : SessionFiles) → with_changes roots list (taken_up files) ≡ Ok now → Enters (files_entries roots list) files.host now.host
+list-enters : (roots : List Root) (list : List ChangedFile) (files now : SessionFiles) → with_changes roots list (taken_up files) ≡ Ok now
+    → Enters (files_entries roots list) files.host now.host
 list-enters roots [] files now is = subst (Enters [] files.host) (ap host_in is) (enters-none files.host)
   where
     host_in : Result SessionFiles Counter → HostData
@@ -234,9 +244,11 @@ list-enters roots [] files now is = subst (Enters [] files.host) (ap host_in is)
     host_in (Err counter) = files.host
 list-enters roots (file ∷ later) files now is =
     subst (Enters (files_entry roots (file ∷ later) ∷ []) files.host)
-    (sym (put-host (ltb files.host.revision (2 ^ 64 - 1)) (files_host roots (file ∷ later) files.host) (taken_up files) now is)) (files-enter roots file later files.host)
+    (sym (put-host (ltb files.host.revision (2 ^ 64 - 1)) (files_host roots (file ∷ later) files.host) (taken_up files) now is))
+    (files-enter roots file later files.host)
 
-pub processing-enters : (roots : List Root) (files now : SessionFiles) → after_processing roots files ≡ Ok now → Enters (files_entries roots (changed_files files)) files.host now.host
+pub processing-enters : (roots : List Root) (files now : SessionFiles) → after_processing roots files ≡ Ok now
+    → Enters (files_entries roots (changed_files files)) files.host now.host
 unfolding after_processing
 processing-enters roots files now is = list-enters roots (changed_files files) files now is
 
@@ -260,7 +272,8 @@ none-among (file ∷ list) none =
 abbrev pub filed_client : List SettingsFile → State → Client
 filed_client files s = client_with (change_for files s.files.host.world.roots s.sources s.workspaces.present) s.client
 
-changed-parents : (change : ConfigChange) (client : Client) → (after_change change client).settings.settings.parents ≡ parents_after change.parents client.settings.settings.parents
+changed-parents : (change : ConfigChange) (client : Client) → (after_change change client).settings.settings.parents ≡ parents_after change.parents
+    client.settings.settings.parents
 unfolding after
 changed-parents change client = refl
 
@@ -269,7 +282,8 @@ settled-none None b is = refl
 settled-none (Some pairs) b is = absurd (true≢false (sym is))
 
 by-settled : (b : Bool) (files : List SettingsFile) (s : State) → is_settled files s.sources ≡ b
-    → (client_with (if b then None else Some (change_of s.files.host.world.roots s.sources.parents s.workspaces.present files)) s.client).settings.settings.parents
+    → (client_with (if b then None else Some (change_of s.files.host.world.roots s.sources.parents s.workspaces.present files))
+    s.client).settings.settings.parents
     ≡ parents_after s.sources.parents (parents_in s)
 by-settled true files s is = sym (ap (λ o. parents_after o (parents_in s)) (settled-none s.sources.parents (length files == 0) is))
 by-settled false files s is = changed-parents (change_of s.files.host.world.roots s.sources.parents s.workspaces.present files) s.client

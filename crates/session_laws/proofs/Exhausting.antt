@@ -39,7 +39,8 @@ use Rattle.notify.specs.declared.notice.Notice.{Notice}
 use Rattle.notify.specs.declared.notice.Notice.TheVariants as notices
 use Rattle.notify.specs.declared.outgo.MessageKind.{MessageKind}
 use Rattle.notify.specs.declared.outgo.Outgo.{Outgo}
-use Rattle.notify.specs.declared.outgo.Outgo.TheVariants.{CodeLensRefresh, Configuration, DiagnosticRefresh, InlayHintRefresh, SemanticTokensRefresh, ShowMessage, ShowMessageRequest}
+use Rattle.notify.specs.declared.outgo.Outgo.TheVariants.{CodeLensRefresh, Configuration, DiagnosticRefresh, InlayHintRefresh, SemanticTokensRefresh}
+use Rattle.notify.specs.declared.outgo.Outgo.TheVariants.{ShowMessage, ShowMessageRequest}
 use Rattle.client.specs.Client.{Client}
 use Rattle.client.specs.Folds.{asked_after}
 use Rattle.client.specs.Steps.{answered, folders_changed, logged_if, notification_of}
@@ -56,7 +57,7 @@ use Rattle.session_model.specs.OwnJobs.{own_job, parts_before_fetch, run_jobs, r
 use Rattle.session_laws.proofs.Rows.{session_in}
 use Rattle.desk.specs.Meaning.{Meaning}
 use Rattle.desk.specs.Reactions.{Reaction, cancel_row, message_row, request_row}
-use Rattle.desk.specs.Steps.{cancelled, counted as counted_at_desk, handed_over, kept as kept_at_desk, requested, taken as taken_at_desk}
+use Rattle.desk.specs.Steps.{cancelled, counted as counted_at_desk, handed_over, jobs_kept as kept_at_desk, requested, taken as taken_at_desk}
 use Rattle.desk_laws.specs.Settled.{Settled}
 use Rattle.desk_laws.proofs.Refusing.{TooMany, message-errs, request-errs}
 use Rattle.desk_laws.proofs.Settling.{cancel-settles, message-settles, message-turns, request-settles, request-turns}
@@ -77,12 +78,19 @@ use Rattle.session_model.specs.Fetching.{fetch_kept, folders_told_if, settings_t
 use Rattle.session_model.specs.Hearing.{heard_of, told_by}
 use Rattle.session_model.specs.Inputs.{batch_of, cancelled_by, file_count, files_among, files_noticed}
 use Rattle.session_model.specs.Loading.{MacroPaths, crates_loaded, load_due, load_kept, with_due_load}
-use Rattle.session_model.specs.Machine.{all_resumed, answer_taken, asked, asked_for_settings, asked_if, at_client, at_desk, at_files, at_workspaces, batched, begin_part, begun_fetches, build_handed_over, build_part}
-use Rattle.session_model.specs.Machine.{build_started, build_taken, changed_at, client_in, closed, closed_at, closing_part, counted, crates_arrived, crates_built, desk_in, effects_done, end_taken, work_taken, fetch_waits, settings_filed, sources_deferred, event_part, fetch_handed_over}
-use Rattle.session_model.specs.Machine.{fetch_part, fetch_started, fetch_taken, files_changed, files_done, files_followed, files_in, files_part, files_processed, files_processed_if, folders_taken, followed, happened, in_state, kept, knowing}
-use Rattle.session_model.specs.Machine.{load_handed_over, load_started, load_taken, loader_set, macros_taken, noticed, opened_at, quiet_done, quiet_part, received, refreshed, register_part, resumed, revised, roots_renewed, runs_started, save_noted}
-use Rattle.session_model.specs.Machine.{saved_at, saved_file, saves_registered, some_processed, state_in, status_changed, status_done, status_kept, status_part, status_told, step, switch_done, switch_part, switched_to, taken, taken_in}
-use Rattle.session_model.specs.Machine.{publish_part, text_shown, timed, timer_set, told, turned, Turning, turning, warned, watchers_registered, with_client, with_desk, with_files, with_sources, with_state, with_status, with_workspaces}
+use Rattle.session_model.specs.Machine.{all_resumed, answer_taken, request_taken, asked_for_settings, asked_if, at_client, at_desk, at_files, at_workspaces}
+use Rattle.session_model.specs.Machine.{batched, begin_part, begun_fetches, build_handed_over, build_part}
+use Rattle.session_model.specs.Machine.{build_started, build_taken, changed_at, client_in, turn_closed, closed_at, closing_part, turn_counted, crates_arrived}
+use Rattle.session_model.specs.Machine.{crates_built, desk_in, effects_done, end_taken, work_taken, fetch_waits, settings_filed, sources_deferred, event_part}
+use Rattle.session_model.specs.Machine.{fetch_handed_over}
+use Rattle.session_model.specs.Machine.{fetch_part, fetch_started, fetch_taken, files_changed, files_done, files_followed, files_in, files_part}
+use Rattle.session_model.specs.Machine.{files_processed, files_processed_if, folders_taken, switch_followed, happened, in_state, desk_kept, knowing}
+use Rattle.session_model.specs.Machine.{load_handed_over, load_started, load_taken, loader_set, macros_taken, noticed, opened_at, quiet_done, quiet_part}
+use Rattle.session_model.specs.Machine.{received, refreshed, register_part, resumed, revised, roots_renewed, runs_started, save_noted}
+use Rattle.session_model.specs.Machine.{saved_at, saved_file, saves_registered, some_processed, state_in, status_changed, status_done, status_kept, status_part}
+use Rattle.session_model.specs.Machine.{status_told, step, switch_done, switch_part, switch_taken, message_taken, event_taken}
+use Rattle.session_model.specs.Machine.{publish_part, text_shown, timed, timer_set, told, turned, Turning, turning, warned, watchers_registered, with_client}
+use Rattle.session_model.specs.Machine.{with_desk, with_files, with_sources, with_state, with_status, with_workspaces}
 use Rattle.session_model.specs.RunEnds.{AreTooMany, NeedsMore, Numbers, needs_of}
 use Rattle.session_model.specs.Rows.{batch_row, machine_after, notice_row, place_after_message, row, scene_within, turn_begun}
 use Rattle.session_model.specs.Run.{begun}
@@ -101,8 +109,10 @@ use Rattle.session_model.specs.declared.input.Input.{Input}
 use Rattle.session_model.specs.declared.input.Input.TheVariants.{Start, Next}
 use Rattle.session_laws.specs.Invariant.{place_of}
 use Rattle.session_laws.proofs.Batches.{DoesAtDesk, Stays, logged_if-same, or-is, place_now, rest-is, scene-is, settles-within, stays-on, stays-same}
-use Rattle.session_laws.proofs.Counting.{AtMost, Counts, ahead, at-most, become-ahead, become-counts, both, counts-behind, counts-if, counts-more, counts-then, counts-within, crates-count, editing-counts, files, files_ahead, given, given-workspaces}
-use Rattle.session_laws.proofs.Counting.{gives-desk, gives-on, gives-same, gives-versions, held, job-counts, jobs, many-more, messages-count, next-counts, none, none-more, opening-counts, processing-counts, request-counts, requests, revisions, state_ahead, state_at, turns}
+use Rattle.session_laws.proofs.Counting.{AtMost, Counts, ahead, at-most, become-ahead, become-counts, both, counts-behind, counts-if, counts-more, counts-then}
+use Rattle.session_laws.proofs.Counting.{counts-within, crates-count, editing-counts, files, files_ahead, given, given-workspaces}
+use Rattle.session_laws.proofs.Counting.{gives-desk, gives-on, gives-same, gives-versions, held, job-counts, jobs, many-more, messages-count, next-counts, none}
+use Rattle.session_laws.proofs.Counting.{none-more, opening-counts, processing-counts, request-counts, requests, revisions, state_ahead, state_at, turns}
 use Rattle.session_laws.proofs.Events.{files-same, notification_input, noted-same}
 use Rattle.session_laws.proofs.Following.{deferred-same, further-same}
 use Rattle.session_laws.proofs.Processing.{at}
@@ -118,12 +128,14 @@ Does needs w r = Counts state_ahead needs (held w.state) r
 does-same : (needs : Numbers) (w v : Working State) → held v.state ≡ held w.state → Does needs w (Ok v)
 does-same needs w v same = gives-same needs (held w.state) (held v.state) same
 
-does-then : (a b : Numbers) (w : Working State) (r : Result (Working State) Counter) (f : Working State → Result (Working State) Counter) → Does a w r → ((v : Working State) → Does b v (f v))
+does-then : (a b : Numbers) (w : Working State) (r : Result (Working State) Counter) (f : Working State → Result (Working State) Counter) → Does a w r
+    → ((v : Working State) → Does b v (f v))
     → Does (both a b) w (and_then r f)
 does-then a b w r f p q = counts-then state_ahead state_ahead a b (held w.state) r f p (λ v is. q v)
 
 -- and then nothing changes that is counted
-then-same : (needs : Numbers) (w : Working State) (r : Result (Working State) Counter) (f : Working State → Working State) → ((v : Working State) → held (f v).state ≡ held v.state) → Does needs w r
+then-same : (needs : Numbers) (w : Working State) (r : Result (Working State) Counter) (f : Working State → Working State)
+    → ((v : Working State) → held (f v).state ≡ held v.state) → Does needs w r
     → Does needs w (and_then r (λ v. Ok (f v)))
 then-same needs w (Ok v) f same h = subst (λ (n : Numbers). AtMost n (both (held w.state) needs)) (sym (same v)) h
 then-same needs w (Err counter) f same h = h
@@ -147,7 +159,8 @@ asked_if-does false message w = does-same (requests 1) w w refl
 refreshed-does : (can : Capabilities) (w : Working State) → Does (requests 4) w (refreshed can w)
 unfolding refreshed
 refreshed-does can w =
-    does-then (requests 1) (requests 3) w (asked_if can.semantic_tokens_refresh SemanticTokensRefresh w) _ (asked_if-does can.semantic_tokens_refresh SemanticTokensRefresh w)
+    does-then (requests 1) (requests 3) w (asked_if can.semantic_tokens_refresh SemanticTokensRefresh w) _
+    (asked_if-does can.semantic_tokens_refresh SemanticTokensRefresh w)
     (λ v. does-then (requests 1) (requests 2) v (asked_if can.code_lens_refresh CodeLensRefresh v) _ (asked_if-does can.code_lens_refresh CodeLensRefresh v)
     (λ u. does-then (requests 1) (requests 1) u (asked_if can.inlay_hints_refresh InlayHintRefresh u) (asked_if can.diagnostics_refresh DiagnosticRefresh)
     (asked_if-does can.inlay_hints_refresh InlayHintRefresh u) (asked_if-does can.diagnostics_refresh DiagnosticRefresh)))
@@ -155,7 +168,8 @@ refreshed-does can w =
 quiet-does : (facts : Facts) (w : Working State) → Does (requests 4) w (quiet_done facts w)
 unfolding quiet_done
 quiet-does facts w =
-    counts-if state_ahead (requests 4) (held w.state) _ (refreshed w.state.client.settings.capabilities w) (Ok w) (refreshed-does w.state.client.settings.capabilities w) (does-same (requests 4) w w refl)
+    counts-if state_ahead (requests 4) (held w.state) _ (refreshed w.state.client.settings.capabilities w) (Ok w)
+    (refreshed-does w.state.client.settings.capabilities w) (does-same (requests 4) w w refl)
 
 registered-does : (w : Working State) → Does (requests 1) w (saves_registered w)
 unfolding saves_registered
@@ -189,16 +203,19 @@ abbrev Gives : Numbers → Working State → Result (Working State) Counter → 
 Gives needs w r = Counts state_at needs (given w.state) r
 
 files-do : (needs : Numbers) (w : Working State) (work : Working SessionFiles → Result (Working SessionFiles) Counter)
-    → Counts (λ (v : Working SessionFiles). with_files v.state w.state) needs (given w.state) (work (record { state = w.state.files; out = w.out })) → Gives needs w (at_files work w)
+    → Counts (λ (v : Working SessionFiles). with_files v.state w.state) needs (given w.state) (work (record { state = w.state.files; out = w.out }))
+    → Gives needs w (at_files work w)
 files-do needs w work h = counts-within state_at needs (given w.state) files_in with_files work w h
 
 world-do : (needs : Numbers) (w : Working State) (work : Working SessionFiles → Result (Working SessionFiles) Counter)
-    → Counts (λ (v : Working SessionFiles). files_ahead w.state v.state) needs (held w.state) (work (record { state = w.state.files; out = w.out })) → Does needs w (at_files work w)
+    → Counts (λ (v : Working SessionFiles). files_ahead w.state v.state) needs (held w.state) (work (record { state = w.state.files; out = w.out }))
+    → Does needs w (at_files work w)
 world-do needs w work h = counts-within state_ahead needs (held w.state) files_in with_files work w h
 
 crates-do : (roots : List Root) (crates : CrateData) (w : Working State) → Does (revisions 1) w (at_files (crates_put roots crates) w)
 unfolding crates_put
-crates-do roots crates w = world-do (revisions 1) w (crates_put roots crates) (become-ahead (revisions 1) (held w.state) w.state _ _ (crates-count roots crates w.state))
+crates-do roots crates w = world-do (revisions 1) w (crates_put roots crates)
+    (become-ahead (revisions 1) (held w.state) w.state _ _ (crates-count roots crates w.state))
 
 arrived-does : (crates : Option CrateData) (w : Working State) → Does (revisions 1) w (crates_arrived crates w)
 unfolding crates_arrived
@@ -224,9 +241,10 @@ followed-same (change ∷ changes) w =
     let settings = change_for effects.settings w.state.files.host.world.roots w.state.sources w.state.workspaces.present in
     let put : Working State = record w { state = with_sources (parents_told w.state.sources) (with_client (client_with settings w.state.client) w.state) } in
     let deferred = sources_deferred effects.macro_sources filed in
-    held-workspaces deferred.state (fetch_planned deferred.state.desk.turns effects.fetch deferred.state.workspaces) (planned-runs deferred.state.desk.turns effects.fetch deferred.state.workspaces).versions
+    held-workspaces deferred.state (fetch_planned deferred.state.desk.turns effects.fetch deferred.state.workspaces)
+    (planned-runs deferred.state.desk.turns effects.fetch deferred.state.workspaces).versions
     ∙ same-state put.state deferred.state (deferred-same effects.macro_sources filed ∙ further-same (further_files settings) put)
-    ∙ ap (λ (asked : Outgoing ReqHandler). record (held w.state) { requests = asked.given }) (change-asks settings w.state.client)
+    ∙ ap (λ (request_taken : Outgoing ReqHandler). record (held w.state) { requests = request_taken.given }) (change-asks settings w.state.client)
 
 processed-does : (w : Working State) → Does none w (files_processed w)
 unfolding files_processed processed
@@ -266,7 +284,8 @@ version-cases : (version : ℕ) (b : Bool) → (version == last_loader_version) 
 version-cases version true is = let last : version ≡ 4294967295 = eqb-true _ _ is in omega (arith, last)
 version-cases version false is = tt
 
-renewed-none : (new : List ProjectWorkspace) (msrv : List (List ℕ)) (asks goes_on : Bool) (workspaces : Workspaces) → WhereNone (renewed_by new msrv asks goes_on workspaces) (HadLast workspaces.loader_version)
+renewed-none : (new : List ProjectWorkspace) (msrv : List (List ℕ)) (asks goes_on : Bool) (workspaces : Workspaces)
+    → WhereNone (renewed_by new msrv asks goes_on workspaces) (HadLast workspaces.loader_version)
 renewed-none new msrv asks true workspaces =
     map-none _ (next_version true workspaces.loader_version) (HadLast workspaces.loader_version)
     (version-cases workspaces.loader_version (workspaces.loader_version == last_loader_version) refl)
@@ -293,35 +312,39 @@ by-none settings workspaces false is = let last = ltb-false workspaces.version (
 abbrev RefusesSwitch : Workspaces → Counter → Type 0
 RefusesSwitch workspaces counter = (counter ≡ counters.LoaderSettings) × HadLasts workspaces
 
-made-cases : (settings : ConfigData) (files : SessionFiles) (due : Bool) (made : Option (Follows × Workspaces)) (workspaces : Workspaces) → WhereNone made (HadLasts workspaces)
+made-cases : (settings : ConfigData) (files : SessionFiles) (due : Bool) (made : Option (Follows × Workspaces)) (workspaces : Workspaces)
+    → WhereNone made (HadLasts workspaces)
     → IfErr (if due then with_crates settings files (unless_exhausted made) else Ok (follows.Nothing, workspaces)) (RefusesSwitch workspaces)
 made-cases settings files false made workspaces h = tt
 made-cases settings files true None workspaces h = (refl, h)
 made-cases settings files true (Some made) workspaces h = tt
 
-followed-does : (next : Follows) (w : Working State) → Does (requests 1) w (followed next w)
-unfolding followed roots_renewed
+followed-does : (next : Follows) (w : Working State) → Does (requests 1) w (switch_followed next w)
+unfolding switch_followed roots_renewed
 followed-does follows.Nothing w = does-same (requests 1) w w refl
 followed-does follows.CrateData w = does-same (requests 1) w w refl
 followed-does (follows.Wait msrv) w = does-same (requests 1) w (warned msrv w) (same-state w.state (warned msrv w).state (warned-same msrv w))
 followed-does (follows.GoOn msrv version initial) w =
     let v : Working State = warned msrv w in
-    then-same (requests 1) w (watchers_registered v) (λ u. roots_renewed (loader_set version u)) (λ u. same-state u.state (loader_set version u).state (loader-same version u))
+    then-same (requests 1) w (watchers_registered v) (λ u. roots_renewed (loader_set version u))
+    (λ u. same-state u.state (loader_set version u).state (loader-same version u))
     (from-same (requests 1) w v (watchers_registered v) (same-state w.state v.state (warned-same msrv w)) (watched-does v))
 
 -- it may ask the client, build crate data, and give a version each of the workspaces and of the loader's settings
 abbrev pub for_switch : Numbers
 for_switch = record none { requests = 1; revisions = 1; versions = 1; settings = 1 }
 
-switch-cases : (made : Result (Follows × Workspaces) Counter) (w : Working State) → Moves w.state.workspaces (left_or w.state.workspaces made) → IfErr made (RefusesSwitch w.state.workspaces)
-    → Does for_switch w (switched_to made w)
-unfolding switched_to
+switch-cases : (made : Result (Follows × Workspaces) Counter) (w : Working State) → Moves w.state.workspaces (left_or w.state.workspaces made)
+    → IfErr made (RefusesSwitch w.state.workspaces)
+    → Does for_switch w (switch_taken made w)
+unfolding switch_taken
 switch-cases (Err counter) w moves h = subst (AreTooMany (held w.state) for_switch) (sym h.0) h.1
 switch-cases (Ok made) w moves h =
     let now : Working State = at_workspaces (λ before. made.1) w in
     counts-behind state_ahead (record none { versions = 1; settings = 1 }) (record none { requests = 1; revisions = 1 }) (held w.state) (held now.state) _
     (gives-versions (ahead w.state) made.1 moves.version moves.settings)
-    (does-then (requests 1) (revisions 1) now (followed made.0 now) (crates_built (builds_crates w.state.client.settings made.0)) (followed-does made.0 now)
+    (does-then (requests 1) (revisions 1) now (switch_followed made.0 now) (crates_built (builds_crates w.state.client.settings made.0))
+    (followed-does made.0 now)
     (built-does (builds_crates w.state.client.settings made.0)))
 
 switch-does : (w : Working State) → Does for_switch w (switch_done w)
@@ -330,7 +353,8 @@ switch-does w =
     let workspaces = w.state.workspaces in
     let settings = w.state.client.settings in
     switch-cases (switch_made settings w.state.files workspaces) w (made-moves settings w.state.files workspaces)
-    (made-cases settings w.state.files (is_switch_due w.state.files workspaces) (switch_by settings workspaces) workspaces (by-none settings workspaces (ltb workspaces.version (2 ^ 64 - 1)) refl))
+    (made-cases settings w.state.files (is_switch_due w.state.files workspaces) (switch_by settings workspaces) workspaces
+    (by-none settings workspaces (ltb workspaces.version (2 ^ 64 - 1)) refl))
 
 -- ---- jobs of the session's own
 
@@ -367,7 +391,8 @@ unfolding runs_started build_started
 runs-do w = run-does w.state (build_due w.state.workspaces) (at_workspaces with_due_build w) (load-due-same (build_due w.state.workspaces) w.state.workspaces)
 
 -- as many as two are
-jobs-then : (n m all : ℕ) (w : Working State) (r : Result (Working State) Counter) (f : Working State → Result (Working State) Counter) → n + m ≡ all → Does (jobs n) w r
+jobs-then : (n m all : ℕ) (w : Working State) (r : Result (Working State) Counter) (f : Working State → Result (Working State) Counter) → n + m ≡ all
+    → Does (jobs n) w r
     → ((v : Working State) → Does (jobs m) v (f v)) → Does (jobs all) w (and_then r f)
 jobs-then n m all w r f sum p q = subst (λ k. Does (jobs k) w (and_then r f)) sum (does-then (jobs n) (jobs m) w r f p q)
 
@@ -392,7 +417,8 @@ many-jobs : (given before n most : ℕ) → before ≡ given → n ≤ most → 
 many-jobs given before n most p le h = omega (arith, p, le, h)
 
 -- what the desk does hands over these jobs
-desk-counts : (needs : Numbers) (s : State) (request : Option Request) (w : Working Desk) (done : Reaction) (out : Jobs) (r : Result (Working Desk) Counter) → w.state.turns ≡ s.desk.turns
+desk-counts : (needs : Numbers) (s : State) (request : Option Request) (w : Working Desk) (done : Reaction) (out : Jobs) (r : Result (Working Desk) Counter)
+    → w.state.turns ≡ s.desk.turns
     → w.state.handed ≡ s.desk.handed → length done.jobs ≤ needs.jobs → IfOk r (λ v. Settled request w v done out) → IfErr r (TooMany w.state.handed done)
     → Counts (λ (v : Working Desk). with_desk v.state s) needs (given s) r
 desk-counts needs s request w done out (Ok v) turns handed few settles errs =
@@ -401,8 +427,9 @@ desk-counts needs s request w done out (Ok v) turns handed few settles errs =
 desk-counts needs s request w done out (Err counter) turns handed few settles errs =
     subst (AreTooMany (given s) needs) (sym errs.0) (many-jobs s.desk.handed w.state.handed (length done.jobs) needs.jobs handed few errs.1)
 
-request-does : (meaning : Meaning) (s : State) (r : Request) (needs : Numbers) → length (row meaning (Next (Lsp (lsp.Request r))) (place_of s)).jobs ≤ needs.jobs
-    → Does needs (turn_begun s) (asked meaning r (turn_begun s))
+request-does : (meaning : Meaning) (s : State) (r : Request) (needs : Numbers)
+    → length (row meaning (Next (Lsp (lsp.Request r))) (place_of s)).jobs ≤ needs.jobs
+    → Does needs (turn_begun s) (request_taken meaning r (turn_begun s))
 request-does meaning s r needs few =
     let w : Working State = turn_begun s in
     let done = request_row meaning (scene_of s) w.state.desk (s.desk.turns + 1) r in
@@ -411,7 +438,8 @@ request-does meaning s r needs few =
     (λ v. held-workspaces v.state (request_told r w.state.desk v.state.workspaces) (request-runs 0 r w.state.desk v.state.workspaces).versions)
     (counts-within state_ahead needs (held w.state) desk_in with_desk (requested meaning (scene_of s) r) w
     (desk-counts needs (ahead w.state) (Some r) (at w) done s.desk.jobs (requested meaning (scene_of s) r (at w)) refl refl
-    (subst (λ (d : Reaction). length d.jobs ≤ needs.jobs) (sym same) few) (request-settles meaning (scene_of s) r (at w)) (request-errs meaning (scene_of s) r (at w))))
+    (subst (λ (d : Reaction). length d.jobs ≤ needs.jobs) (sym same) few) (request-settles meaning (scene_of s) r (at w))
+    (request-errs meaning (scene_of s) r (at w))))
 
 -- ---- batches
 
@@ -425,14 +453,16 @@ kept-same end w = held-workspaces w.state (work_kept end w.state.workspaces) (wo
 -- but that of a load of macros may bring crate data into the world
 work-does : (end : WorkEnd) (w : Working State) → Does (revisions 1) w (work_taken end w)
 unfolding work_taken fetch_taken build_taken load_taken macros_taken
-work-does (Fetched found) w = does-same (revisions 1) w (fetch_taken found w) (logged-same _ _ (at_workspaces (fetch_kept found) w) ∙ kept-same (Fetched found) w)
+work-does (Fetched found) w = does-same (revisions 1) w (fetch_taken found w)
+    (logged-same _ _ (at_workspaces (fetch_kept found) w) ∙ kept-same (Fetched found) w)
 work-does (Built made) w = does-same (revisions 1) w (build_taken made w) (logged-same _ _ (at_workspaces (build_kept made) w) ∙ kept-same (Built made) w)
 work-does (Checked roots) w = does-same (revisions 1) w (at_workspaces (check_kept roots) w) (kept-same (Checked roots) w)
 work-does (Loaded told) w =
     let l : Working State = at_workspaces (load_kept told) w in
     let crates : Option CrateData = crates_loaded told w.state.workspaces in
     from-same (revisions 1) w l (and_then (crates_arrived crates l) (files_processed_if (is_some crates))) (kept-same (Loaded told) w)
-    (does-then (revisions 1) none l (crates_arrived crates l) (files_processed_if (is_some crates)) (arrived-does crates l) (processed_if-does (is_some crates)))
+    (does-then (revisions 1) none l (crates_arrived crates l) (files_processed_if (is_some crates)) (arrived-does crates l)
+    (processed_if-does (is_some crates)))
 
 end-does : (end : Option WorkEnd) (w : Working State) → Does (revisions 1) w (end_taken end w)
 unfolding end_taken
@@ -447,18 +477,20 @@ plus-none : (n : ℕ) → n + 0 ≡ n
 plus-none n = omega arith
 
 taken-does : (meaning : Meaning) (turns : ℕ) (message : TaskMsg) (w : Working State)
-    → Does (for_messages (length (message_row meaning (scene_of w.state) (record w.state.desk { turns = turns }) message).jobs) 1) w (taken meaning message w)
-unfolding taken
+    → Does (for_messages (length (message_row meaning (scene_of w.state) (record w.state.desk { turns = turns }) message).jobs) 1) w
+    (message_taken meaning message w)
+unfolding message_taken
 taken-does meaning turns message w =
     let scene = scene_of w.state in
     let done = message_row meaning scene (record w.state.desk { turns = turns }) message in
     let plain = message_row meaning scene w.state.desk message in
     let same : length plain.jobs ≡ length done.jobs = ap (λ (d : Reaction). length d.jobs) (sym (message-turns meaning scene w.state.desk turns message)) in
     let out = w.state.desk.jobs in
-    subst (λ n. Does (for_messages n 1) w (taken meaning message w)) (plus-none (length done.jobs))
+    subst (λ n. Does (for_messages n 1) w (message_taken meaning message w)) (plus-none (length done.jobs))
     (does-then (jobs (length done.jobs)) (revisions 1) w (at_desk (taken_at_desk meaning scene message) w) _
     (counts-within state_ahead (jobs (length done.jobs)) (held w.state) desk_in with_desk (taken_at_desk meaning scene message) w
-    (desk-counts (jobs (length done.jobs)) (ahead w.state) None (at w) plain (after_message message out) (taken_at_desk meaning scene message (at w)) refl refl (omega (arith, same))
+    (desk-counts (jobs (length done.jobs)) (ahead w.state) None (at w) plain (after_message message out) (taken_at_desk meaning scene message (at w)) refl refl
+    (omega (arith, same))
     (message-settles meaning scene message (at w)) (message-errs meaning scene message (at w))))
     (end-does (work_ended message out)))
 
@@ -473,11 +505,12 @@ batch-does meaning turns s (m ∷ ms) w h =
     let others : Numbers = for_messages (length rest.jobs) (length ms) in
     counts-more state_ahead (both first others) (for_messages (length (done.jobs ++ rest.jobs)) (length (m ∷ ms))) (held w.state) (batched meaning (m ∷ ms) w)
     (at-most _ _ (omega arith) (omega (arith, length-append done.jobs rest.jobs)) (omega arith) (omega arith) (omega arith) (omega arith) (omega arith))
-    (counts-then state_ahead state_ahead first others (held w.state) (taken meaning m w) (batched meaning ms)
-    (subst (λ scene. Does (for_messages (length (message_row meaning scene place.desk m).jobs) 1) w (taken meaning m w)) (sym (scene-is s turns w h)) (taken-does meaning turns m w))
+    (counts-then state_ahead state_ahead first others (held w.state) (message_taken meaning m w) (batched meaning ms)
+    (subst (λ scene. Does (for_messages (length (message_row meaning scene place.desk m).jobs) 1) w (message_taken meaning m w)) (sym (scene-is s turns w h))
+    (taken-does meaning turns m w))
     (λ v is. let a : DoesAtDesk w v done (after_message m w.state.desk.jobs) =
     IfOk-at_ok (λ v. DoesAtDesk w v done (after_message m w.state.desk.jobs)) is (settles-within meaning s turns m w h) in
-    let next : machine_after meaning m w ≡ v = IfOk-at_ok (λ v. machine_after meaning m w ≡ v) is (or-is w (taken meaning m w)) in
+    let next : machine_after meaning m w ≡ v = IfOk-at_ok (λ v. machine_after meaning m w ≡ v) is (or-is w (message_taken meaning m w)) in
     subst (λ (r : Reaction). Does (for_messages (length r.jobs) (length ms)) v (batched meaning ms v)) (rest-is meaning s turns m ms w v done next a)
     (batch-does meaning turns s ms v (stays-on s w.state v.state h a.stays))))
 
@@ -496,8 +529,10 @@ gives-none : (needs : Numbers) (w v : Working State) → given v.state ≡ given
 gives-none needs w v same = gives-same needs (given w.state) (given v.state) same
 
 -- files that it brings
-event-files : (meaning : Meaning) (s : State) (input : Input) (n : ℕ) (work : Working SessionFiles → Result (Working SessionFiles) Counter) → file_count input ≡ n
-    → Counts (λ (v : Working SessionFiles). with_files v.state (turn_begun s).state) (files n) (given (turn_begun s).state) (work (record { state = s.files; out = (turn_begun s).out }))
+event-files : (meaning : Meaning) (s : State) (input : Input) (n : ℕ) (work : Working SessionFiles → Result (Working SessionFiles) Counter)
+    → file_count input ≡ n
+    → Counts (λ (v : Working SessionFiles). with_files v.state (turn_begun s).state) (files n) (given (turn_begun s).state)
+    (work (record { state = s.files; out = (turn_begun s).out }))
     → Gives (for_event meaning s input) (turn_begun s) (at_files work (turn_begun s))
 event-files meaning s input n work count h =
     counts-more state_at (files n) (for_event meaning s input) (given (turn_begun s).state) (at_files work (turn_begun s))
@@ -507,31 +542,37 @@ event-files meaning s input n work count h =
 opened-does : (meaning : Meaning) (s : State) (n : Notification) (document : DidOpen) (o : Result (List ℕ) UrlFault) → file_count (notification_input n) ≡ 1
     → Gives (for_event meaning s (notification_input n)) (turn_begun s) (opened_at o document (turn_begun s))
 unfolding opened_at opened logged ordered
-opened-does meaning s n document (Err fault) one = gives-none (for_event meaning s (notification_input n)) (turn_begun s) (logged BadPath document.uri (turn_begun s)) refl
+opened-does meaning s n document (Err fault) one = gives-none (for_event meaning s (notification_input n)) (turn_begun s)
+    (logged BadPath document.uri (turn_begun s)) refl
 opened-does meaning s n document (Ok path) one =
     let excludes = excludes_in s.client.settings in
     event-files meaning s (notification_input n) 1 (opened excludes path document.version document.text) one
-    (become-counts (files 1) (given (turn_begun s).state) (turn_begun s).state _ _ (opening-counts excludes path document.version document.text (turn_begun s).state))
+    (become-counts (files 1) (given (turn_begun s).state) (turn_begun s).state _ _
+    (opening-counts excludes path document.version document.text (turn_begun s).state))
 
 edited-cases : (needs before : Numbers) (s : State) (b : Bool) (r : Result (Working SessionFiles) Counter) (w : Working SessionFiles)
-    → Counts (λ (v : Working SessionFiles). with_files v.state s) needs before r → Counts (λ (v : Working SessionFiles). with_files v.state s) needs before (Ok w)
+    → Counts (λ (v : Working SessionFiles). with_files v.state s) needs before r
+    → Counts (λ (v : Working SessionFiles). with_files v.state s) needs before (Ok w)
     → Counts (λ (v : Working SessionFiles). with_files v.state s) needs before (if b then r else Ok w)
 edited-cases needs before s b r w p q = counts-if (λ (v : Working SessionFiles). with_files v.state s) needs before b r (Ok w) p q
 
 changed-does : (meaning : Meaning) (s : State) (n : Notification) (change : DidChange) (o : Result (List ℕ) UrlFault) → file_count (notification_input n) ≡ 1
     → Gives (for_event meaning s (notification_input n)) (turn_begun s) (changed_at o change (turn_begun s))
 unfolding changed_at changed edited logged ordered
-changed-does meaning s n change (Err fault) one = gives-none (for_event meaning s (notification_input n)) (turn_begun s) (logged BadPath change.uri (turn_begun s)) refl
+changed-does meaning s n change (Err fault) one = gives-none (for_event meaning s (notification_input n)) (turn_begun s)
+    (logged BadPath change.uri (turn_begun s)) refl
 changed-does meaning s n change (Ok path) one =
     let columns = columns_in s.client.settings in
     let t : State = (turn_begun s).state in
     event-files meaning s (notification_input n) 1 (changed columns path change.version change.changes) one
-    (edited-cases (files 1) (given t) t _ _ _ (become-counts (files 1) (given t) t _ _ (editing-counts columns path change.version change.changes t)) (gives-same (files 1) (given t) (given t) refl))
+    (edited-cases (files 1) (given t) t _ _ _ (become-counts (files 1) (given t) t _ _ (editing-counts columns path change.version change.changes t))
+    (gives-same (files 1) (given t) (given t) refl))
 
 closed-does : (needs : Numbers) (s : State) (uri : List ℕ) (o : Result (List ℕ) UrlFault) → Gives needs (turn_begun s) (closed_at o uri (turn_begun s))
 unfolding closed_at closed_document logged ordered
 closed-does needs s uri (Err fault) = gives-none needs (turn_begun s) (logged BadPath uri (turn_begun s)) refl
-closed-does needs s uri (Ok path) = files-do needs (turn_begun s) (λ f. Ok (closed_document path f)) (gives-same needs (given (turn_begun s).state) (given (turn_begun s).state) refl)
+closed-does needs s uri (Ok path) = files-do needs (turn_begun s) (λ f. Ok (closed_document path f))
+    (gives-same needs (given (turn_begun s).state) (given (turn_begun s).state) refl)
 
 -- from here on an event gives no more than these and the revision of files that have changed behind it
 abbrev EventDoes : Numbers → Working State → Result (Working State) Counter → Type 0
@@ -543,7 +584,8 @@ one-pending false revision most le = omega (arith, le)
 
 more-held : (s : State) → AtMost (held s) (both (given s) (revisions 1))
 more-held s =
-    at-most _ _ (omega arith) (omega arith) (omega arith) (one-pending (has_changed s.files) s.files.host.revision s.files.host.revision (omega arith)) (omega arith) (omega arith) (omega arith)
+    at-most _ _ (omega arith) (omega arith) (omega arith) (one-pending (has_changed s.files) s.files.host.revision s.files.host.revision (omega arith))
+    (omega arith) (omega arith) (omega arith)
 
 -- where it changes files
 event-gives : (needs : Numbers) (w : Working State) (r : Result (Working State) Counter) → Gives needs w r → EventDoes needs w r
@@ -565,10 +607,12 @@ saved-does needs s uri (Ok path) =
     let noted : Working State = save_noted (is_unknown s.files.ids path) path w in
     does-same needs w (saved_file path w)
     (held-workspaces noted.state (path_saved s.client.settings s.files path noted.state.workspaces)
-    (save-runs 0 s.client.settings s.files path noted.state.workspaces).versions ∙ same-state w.state noted.state (noted-same (is_unknown s.files.ids path) path w))
+    (save-runs 0 s.client.settings s.files path noted.state.workspaces).versions
+    ∙ same-state w.state noted.state (noted-same (is_unknown s.files.ids path) path w))
 
 -- a step of what is agreed with the client that gives no number
-client-does : (needs : Numbers) (w : Working State) (step : Working Client → Working Client) → (step (record { state = w.state.client; out = w.out })).state.asked.given ≡ w.state.client.asked.given
+client-does : (needs : Numbers) (w : Working State) (step : Working Client → Working Client)
+    → (step (record { state = w.state.client; out = w.out })).state.asked.given ≡ w.state.client.asked.given
     → Does needs w (at_client (λ c. Ok (step c)) w)
 client-does needs w step same =
     counts-within state_ahead needs (held w.state) client_in with_client (λ c. Ok (step c)) w
@@ -577,23 +621,27 @@ client-does needs w step same =
 folders-does : (needs : Numbers) (s : State) (added removed : List (List ℕ)) → Does needs (turn_begun s) (folders_taken added removed (turn_begun s))
 folders-does needs s added removed =
     let client : Working Client = record { state = s.client; out = (turn_begun s).out } in
-    then-same needs (turn_begun s) (at_client (λ c. Ok (folders_changed added removed c)) (turn_begun s)) (at_workspaces (folders_told_if (goes_by_folders s.client.settings)))
-    (λ v. held-workspaces v.state (folders_told_if (goes_by_folders s.client.settings) v.state.workspaces) (folders-runs 0 (goes_by_folders s.client.settings) v.state.workspaces).versions)
+    then-same needs (turn_begun s) (at_client (λ c. Ok (folders_changed added removed c)) (turn_begun s))
+    (at_workspaces (folders_told_if (goes_by_folders s.client.settings)))
+    (λ v. held-workspaces v.state (folders_told_if (goes_by_folders s.client.settings) v.state.workspaces)
+    (folders-runs 0 (goes_by_folders s.client.settings) v.state.workspaces).versions)
     (client-does needs (turn_begun s) (folders_changed added removed) (ap (λ (c : Client). c.asked.given) (folders-do added removed client).is))
 
-without-same : {K : Type 0} (o : Option ℕ) (asked : Outgoing K) → (without o asked).given ≡ asked.given
-without-same None asked = refl
-without-same (Some number) asked = refl
+without-same : {K : Type 0} (o : Option ℕ) (request_taken : Outgoing K) → (without o request_taken).given ≡ request_taken.given
+without-same None request_taken = refl
+without-same (Some number) request_taken = refl
 
-after-same : (o : Option RequestId) (asked : Outgoing ReqHandler) → (asked_after o asked).given ≡ asked.given
-after-same None asked = refl
-after-same (Some id) asked = without-same (number_of id) asked
+after-same : (o : Option RequestId) (request_taken : Outgoing ReqHandler) → (asked_after o request_taken).given ≡ request_taken.given
+after-same None request_taken = refl
+after-same (Some id) request_taken = without-same (number_of id) request_taken
 
 answer-does : (needs : Numbers) (s : State) (r : Response) → Does needs (turn_begun s) (answer_taken r (turn_begun s))
 answer-does needs s r =
     let client : Working Client = record { state = s.client; out = (turn_begun s).out } in
-    then-same needs (turn_begun s) (at_client (λ c. Ok (answered r c)) (turn_begun s)) (λ v. at_workspaces (settings_told s.client.settings v.state.client.settings) v)
-    (λ v. held-workspaces v.state (settings_told s.client.settings v.state.client.settings v.state.workspaces) (settings-runs 0 s.client.settings v.state.client.settings v.state.workspaces).versions)
+    then-same needs (turn_begun s) (at_client (λ c. Ok (answered r c)) (turn_begun s))
+    (λ v. at_workspaces (settings_told s.client.settings v.state.client.settings) v)
+    (λ v. held-workspaces v.state (settings_told s.client.settings v.state.client.settings v.state.workspaces)
+    (settings-runs 0 s.client.settings v.state.client.settings v.state.workspaces).versions)
     (client-does needs (turn_begun s) (answered r) (ap (λ (c : Client). c.asked.given) (answered-does r client).is ∙ after-same r.id s.client.asked))
 
 cancel-does : (meaning : Meaning) (s : State) (n : Notification) (id : RequestId) → told_by (heard_of n) ≡ Some (notices.CancelRequest id)
@@ -602,10 +650,13 @@ cancel-does meaning s n id heard =
     let needs = for_event meaning s (notification_input n) in
     let w : Working State = turn_begun s in
     let settles = cancel-settles id (at w) in
-    let jobs : length (row meaning (notification_input n) (place_of s)).jobs ≡ length (cancel_row id s.desk).jobs = ap (λ o. length (notice_row (cancelled_by o) s.desk).jobs) heard in
+    let jobs : length (row meaning (notification_input n) (place_of s)).jobs ≡ length (cancel_row id s.desk).jobs =
+    ap (λ o. length (notice_row (cancelled_by o) s.desk).jobs) heard in
     counts-within state_ahead needs (held w.state) desk_in with_desk (λ d. Ok (cancelled id d)) w
-    (gives-desk needs (ahead w.state) (cancelled id (at w)).state (few-turns w.state.desk.turns w.state.desk.turns (cancelled id (at w)).state.turns needs.turns refl settles.turns)
-    (few-jobs w.state.desk.handed w.state.desk.handed (cancelled id (at w)).state.handed (length (cancel_row id s.desk).jobs) needs.jobs refl settles.handed (omega (arith, jobs))))
+    (gives-desk needs (ahead w.state) (cancelled id (at w)).state
+    (few-turns w.state.desk.turns w.state.desk.turns (cancelled id (at w)).state.turns needs.turns refl settles.turns)
+    (few-jobs w.state.desk.handed w.state.desk.handed (cancelled id (at w)).state.handed (length (cancel_row id s.desk).jobs) needs.jobs refl settles.handed
+    (omega (arith, jobs))))
 
 told-does : (meaning : Meaning) (s : State) (n : Notification) (notice : Notice) → told_by (heard_of n) ≡ Some notice
     → EventDoes (for_event meaning s (notification_input n)) (turn_begun s) (told notice (turn_begun s))
@@ -669,12 +720,14 @@ heard-does meaning s n Silent is =
 
 -- ---- events
 
-gives-then : (needs : Numbers) (w : Working State) (r : Result (Working State) Counter) (f : Working State → Working State) → ((v : Working State) → given (f v).state ≡ given v.state)
+gives-then : (needs : Numbers) (w : Working State) (r : Result (Working State) Counter) (f : Working State → Working State)
+    → ((v : Working State) → given (f v).state ≡ given v.state)
     → Gives needs w r → Gives needs w (and_then r (λ v. Ok (f v)))
 gives-then needs w (Ok v) f same h = subst (λ (n : Numbers). AtMost n (both (given w.state) needs)) (sym (same v)) h
 gives-then needs w (Err counter) f same h = h
 
-event-does : (meaning : Meaning) (s : State) (event : Event) → EventDoes (for_event meaning s (Next event)) (turn_begun s) (happened meaning event (turn_begun s))
+event-does : (meaning : Meaning) (s : State) (event : Event)
+    → EventDoes (for_event meaning s (Next event)) (turn_begun s) (happened meaning event (turn_begun s))
 unfolding happened received loaded
 event-does meaning s (Lsp (lsp.Request r)) =
     event-holds (for_event meaning s (Next (Lsp (lsp.Request r)))) (turn_begun s) (happened meaning (Lsp (lsp.Request r)) (turn_begun s))
@@ -687,7 +740,8 @@ event-does meaning s (Task batch) =
     let w : Working State = turn_begun s in
     let input : Input = Next (Task batch) in
     event-holds (for_event meaning s (Next (Task batch))) (turn_begun s) (happened meaning (Task batch) (turn_begun s))
-    (counts-more state_ahead (for_messages (length (row meaning input (place_of s)).jobs) (length batch)) (for_event meaning s input) (held w.state) (batched meaning batch w)
+    (counts-more state_ahead (for_messages (length (row meaning input (place_of s)).jobs) (length batch)) (for_event meaning s input) (held w.state)
+    (batched meaning batch w)
     (at-most _ _ (omega arith) (omega arith) (omega arith) (omega arith) (omega arith) (omega arith) (omega arith))
     (batch-does meaning s.desk.turns s batch w (stays-same s (turn_begun s).state refl refl (record { present = refl; version = refl }))))
 event-does meaning s (Vfs messages) =
@@ -695,8 +749,10 @@ event-does meaning s (Vfs messages) =
     let input : Input = Next (Vfs messages) in
     event-gives (for_event meaning s (Next (Vfs messages))) (turn_begun s) (happened meaning (Vfs messages) (turn_begun s))
     (gives-then (for_event meaning s input) w (at_files (loaded messages) w) (λ v. at_workspaces (renewed_if (bring_files messages) v.state.desk.turns) v)
-    (λ v. given-workspaces v.state (renewed_if (bring_files messages) v.state.desk.turns v.state.workspaces) (renewed-runs (bring_files messages) v.state.desk.turns v.state.workspaces).versions)
-    (event-files meaning s input (files_among messages) (loaded messages) refl (become-counts (files (files_among messages)) (given w.state) w.state _ _ (messages-count messages w.state))))
+    (λ v. given-workspaces v.state (renewed_if (bring_files messages) v.state.desk.turns v.state.workspaces)
+    (renewed-runs (bring_files messages) v.state.desk.turns v.state.workspaces).versions)
+    (event-files meaning s input (files_among messages) (loaded messages) refl
+    (become-counts (files (files_among messages)) (given w.state) w.state _ _ (messages-count messages w.state))))
 event-does meaning s (Deferred tasks) =
     let w : Working State = turn_begun s in
     let input : Input = Next (Deferred tasks) in
@@ -706,21 +762,22 @@ event-does meaning s (Deferred tasks) =
     (resumed-do s tasks w))
 event-does meaning s (Timer ticket) =
     event-holds (for_event meaning s (Next (Timer ticket))) (turn_begun s) (happened meaning (Timer ticket) (turn_begun s))
-    (does-same (for_event meaning s (Next (Timer ticket))) (turn_begun s) (timed ticket (turn_begun s)) (held-workspaces (turn_begun s).state (with_fetches (fire ticket) s.workspaces) (fire-runs 0 ticket s.workspaces).versions))
+    (does-same (for_event meaning s (Next (Timer ticket))) (turn_begun s) (timed ticket (turn_begun s))
+    (held-workspaces (turn_begun s).state (with_fetches (fire ticket) s.workspaces) (fire-runs 0 ticket s.workspaces).versions))
 
-counted-does : (s : State) → Gives (turns 1) (begun s) (counted (begun s))
-unfolding counted counted_at_desk
+counted-does : (s : State) → Gives (turns 1) (begun s) (turn_counted (begun s))
+unfolding turn_counted counted_at_desk
 counted-does s =
     counts-within state_at (turns 1) (given s) desk_in with_desk counted_at_desk (begun s)
     (next-counts (λ (v : Working Desk). with_desk v.state s) (turns 1) (given s) s.desk.turns counters.Turns _ (ltb s.desk.turns (2 ^ 64 - 1)) refl
     (gives-desk (turns 1) s (record s.desk { turns = s.desk.turns + 1 }) (omega arith) (omega arith)) (λ last. omega (arith, last)))
 
 taken_in-does : (meaning : Meaning) (s : State) (event : Event)
-    → Counts state_ahead (both (turns 1) (both (for_event meaning s (Next event)) (revisions 1))) (given s) (taken_in meaning event (begun s))
-unfolding taken_in
+    → Counts state_ahead (both (turns 1) (both (for_event meaning s (Next event)) (revisions 1))) (given s) (event_taken meaning event (begun s))
+unfolding event_taken
 taken_in-does meaning s event =
     let needs = for_event meaning s (Next event) in
-    counts-then state_at state_ahead (turns 1) (both needs (revisions 1)) (given s) (counted (begun s)) (happened meaning event) (counted-does s)
+    counts-then state_at state_ahead (turns 1) (both needs (revisions 1)) (given s) (turn_counted (begun s)) (happened meaning event) (counted-does s)
     (λ v is. let same : v ≡ turn_begun s = IfOk-at_ok (λ v. v ≡ turn_begun s) is (counted-is s) in
     subst (λ w. EventDoes needs w (happened meaning event w)) (sym same) (event-does meaning s event))
 
@@ -733,16 +790,19 @@ turning_ahead t = ahead t.state.state
 abbrev pub PartDoes : Numbers → Working Turning → Result (Working Turning) Counter → Type 0
 PartDoes needs t r = Counts turning_ahead needs (held t.state.state) r
 
-part-does : (needs : Numbers) (part : Working State → Result (Working State) Counter) (t : Working Turning) → Does needs (record { state = t.state.state; out = t.out }) (part (record { state = t.state.state; out = t.out }))
+part-does : (needs : Numbers) (part : Working State → Result (Working State) Counter) (t : Working Turning)
+    → Does needs (record { state = t.state.state; out = t.out }) (part (record { state = t.state.state; out = t.out }))
     → PartDoes needs t (in_state part t)
 part-does needs part t h = counts-within turning_ahead needs (held t.state.state) state_in with_state part t h
 
-parts-then : (a b : Numbers) (t : Working Turning) (r : Result (Working Turning) Counter) (f : Working Turning → Result (Working Turning) Counter) → PartDoes a t r
+parts-then : (a b : Numbers) (t : Working Turning) (r : Result (Working Turning) Counter) (f : Working Turning → Result (Working Turning) Counter)
+    → PartDoes a t r
     → ((u : Working Turning) → PartDoes b u (f u)) → PartDoes (both a b) t (and_then r f)
 parts-then a b t r f p q = counts-then turning_ahead turning_ahead a b (held t.state.state) r f p (λ u is. q u)
 
 -- and then nothing changes that is counted
-parts-same : (needs : Numbers) (t : Working Turning) (r : Result (Working Turning) Counter) (f : Working Turning → Working Turning) → ((u : Working Turning) → held (f u).state.state ≡ held u.state.state)
+parts-same : (needs : Numbers) (t : Working Turning) (r : Result (Working Turning) Counter) (f : Working Turning → Working Turning)
+    → ((u : Working Turning) → held (f u).state.state ≡ held u.state.state)
     → PartDoes needs t r → PartDoes needs t (and_then r (λ u. Ok (f u)))
 parts-same needs t (Ok u) f same h = subst (λ (n : Numbers). AtMost n (both (held t.state.state) needs)) (sym (same u)) h
 parts-same needs t (Err counter) f same h = h
@@ -751,8 +811,8 @@ held-if : (b : Bool) (w u v : Working State) → held u.state ≡ held w.state �
 held-if true w u v p q = p
 held-if false w u v p q = q
 
-ending-does : (facts : Facts) (w : Working State) → Does none w (closed facts w)
-unfolding kept within kept_at_desk revised timer_set ordered
+ending-does : (facts : Facts) (w : Working State) → Does none w (turn_closed facts w)
+unfolding desk_kept within kept_at_desk revised timer_set ordered
 ending-does facts w =
     let now : Working State = record w { state = with_desk (record w.state.desk { jobs = _ }) w.state } in
     let told : Working State = revised facts.revision now in
@@ -762,7 +822,7 @@ ending-does facts w =
 
 closing-does : (t : Working Turning) → PartDoes none t (closing_part t)
 unfolding closing_part
-closing-does t = part-does none (closed t.state.facts) t (ending-does t.state.facts _)
+closing-does t = part-does none (turn_closed t.state.facts) t (ending-does t.state.facts _)
 
 pub files_part-does : (t : Working Turning) → PartDoes none t (files_part t)
 unfolding files_part
@@ -788,16 +848,19 @@ register_part-does t = part-does (requests 1) saves_registered t (registered-doe
 
 pub begin_part-does : (t : Working Turning) → PartDoes none t (begin_part t)
 unfolding begin_part begun_fetches
-begin_part-does t = part-does none begun_fetches t (does-same none (session_in t) (at_workspaces (with_fetches (start_up (discovers t.state.state.client.settings))) (session_in t)) refl)
+begin_part-does t = part-does none begun_fetches t (does-same none (session_in t)
+    (at_workspaces (with_fetches (start_up (discovers t.state.state.client.settings))) (session_in t)) refl)
 
 -- an event
 abbrev pub for_event_part : Meaning → State → Event → Numbers
 for_event_part meaning s event = both (turns 1) (both (for_event meaning s (Next event)) (revisions 1))
 
-pub event_part-does : (meaning : Meaning) (s : State) (event : Event) → Counts turning_ahead (for_event_part meaning s event) (given s) (event_part meaning event (turning (begun s)))
+pub event_part-does : (meaning : Meaning) (s : State) (event : Event)
+    → Counts turning_ahead (for_event_part meaning s event) (given s) (event_part meaning event (turning (begun s)))
 unfolding event_part
 event_part-does meaning s event =
-    counts-within turning_ahead (for_event_part meaning s event) (given s) state_in with_state (taken_in meaning event) (turning (begun s)) (taken_in-does meaning s event)
+    counts-within turning_ahead (for_event_part meaning s event) (given s) state_in with_state (event_taken meaning event) (turning (begun s))
+    (taken_in-does meaning s event)
 
 -- what comes before the session's own work: behind an event a switch, the files, and what the client shows
 abbrev for_parts_before : Meaning → Input → State → Numbers
@@ -812,10 +875,12 @@ parts-before-do meaning s Start =
     (parts-then (requests 1) (requests 1) t (status_part t) _ (status_part-does t)
     (λ t. parts-then (requests 1) none t (register_part t) begin_part (register_part-does t) begin_part-does))
 parts-before-do meaning s (Next event) =
-    counts-then turning_ahead turning_ahead (for_event_part meaning s event) (both for_switch (requests 4)) (given s) (event_part meaning event (turning (begun s))) _ (event_part-does meaning s event)
+    counts-then turning_ahead turning_ahead (for_event_part meaning s event) (both for_switch (requests 4)) (given s)
+    (event_part meaning event (turning (begun s))) _ (event_part-does meaning s event)
     (λ t is. parts-then for_switch (requests 4) t (switch_part t) _ (switch_part-does t)
     (λ t. parts-then none (requests 4) t (files_part t) _ (files_part-does t)
-    (λ t. parts-then (requests 4) none t (quiet_part t) publish_part (quiet_part-does t) (λ t. gives-same none (held t.state.state) (held t.state.state) refl))))
+    (λ t. parts-then (requests 4) none t (quiet_part t) publish_part (quiet_part-does t)
+    (λ t. gives-same none (held t.state.state) (held t.state.state) refl))))
 
 -- the work itself, and behind an event a status
 abbrev for_work : ℕ → Numbers
@@ -823,7 +888,8 @@ for_work n = record none { jobs = n; requests = 1 }
 
 fetch_part-does : (input : Input) (t : Working Turning) → PartDoes (jobs (length (fetch_jobs input t.state.state))) t (fetch_part input t)
 unfolding fetch_part
-fetch_part-does input t = part-does (jobs (length (fetch_jobs input t.state.state))) (fetch_started (may_start input t.state.state.client.settings)) t (fetch-does _ _)
+fetch_part-does input t = part-does (jobs (length (fetch_jobs input t.state.state))) (fetch_started (may_start input t.state.state.client.settings)) t
+    (fetch-does _ _)
 
 -- where a fetch has been started
 build_part-does : (event : Event) (t u : Working Turning) → fetch_part (Next event) t ≡ Ok u
@@ -831,8 +897,10 @@ build_part-does : (event : Event) (t u : Working Turning) → fetch_part (Next e
 unfolding build_part
 build_part-does event t u is =
     let fetched : State = fetch_begun (Next event) t.state.state in
-    let same : run_jobs u.state.state ≡ run_jobs fetched = IfOk-at_ok (λ (u : Working Turning). run_jobs u.state.state ≡ run_jobs fetched) is (fetch_part-leaves (Next event) t) in
-    subst (λ (own : List OwnJob). PartDoes (jobs (length own)) u (in_state runs_started u)) same (part-does (jobs (length (run_jobs u.state.state))) runs_started u (runs-do _))
+    let same : run_jobs u.state.state ≡ run_jobs fetched = IfOk-at_ok (λ (u : Working Turning). run_jobs u.state.state ≡ run_jobs fetched) is
+    (fetch_part-leaves (Next event) t) in
+    subst (λ (own : List OwnJob). PartDoes (jobs (length own)) u (in_state runs_started u)) same
+    (part-does (jobs (length (run_jobs u.state.state))) runs_started u (runs-do _))
 
 parts-from-do : (input : Input) (t : Working Turning) → PartDoes (for_work (length (jobs_due input t.state.state))) t (parts_from_fetch input t)
 parts-from-do Start t =
@@ -847,7 +915,8 @@ parts-from-do (Next event) t =
     let needs : Numbers = both (jobs (length first)) (both (jobs (length later)) (requests 1)) in
     counts-more turning_ahead needs (for_work (length (first ++ later))) (held t.state.state) (parts_from_fetch input t)
     (at-most _ _ (omega arith) (omega (arith, length-append first later)) (omega arith) (omega arith) (omega arith) (omega arith) (omega arith))
-    (counts-then turning_ahead turning_ahead (jobs (length first)) (both (jobs (length later)) (requests 1)) (held t.state.state) (fetch_part input t) _ (fetch_part-does input t)
+    (counts-then turning_ahead turning_ahead (jobs (length first)) (both (jobs (length later)) (requests 1)) (held t.state.state) (fetch_part input t) _
+    (fetch_part-does input t)
     (λ u is. parts-then (jobs (length later)) (requests 1) u (build_part u) _ (build_part-does event t u is)
     (λ t. parts-then (requests 1) none t (status_part t) closing_part (status_part-does t) closing-does)))
 
@@ -860,29 +929,36 @@ few-own : (meaning : Meaning) (s : State) (input : Input)
     → AtMost (both (for_parts_before meaning input s) (for_work (length (jobs_due input (before_fetch meaning input s))))) (needs_of meaning input (place_of s))
 few-own meaning s Start = at-most _ _ (omega arith) (omega arith) (omega arith) (omega arith) (omega arith) (omega arith) (omega arith)
 few-own meaning s (Next event) =
-    at-most _ _ (omega arith) (omega (arith, length-append (checks_back s (Next event)) (jobs_due (Next event) (before_fetch meaning (Next event) s)))) (omega arith) (omega arith) (omega arith)
+    at-most _ _ (omega arith) (omega (arith, length-append (checks_back s (Next event)) (jobs_due (Next event) (before_fetch meaning (Next event) s))))
+    (omega arith) (omega arith) (omega arith)
     (omega arith) (omega arith)
 
-pub step-does : (meaning : Meaning) (s : State) (input : Input) → Counts state_ahead (needs_of meaning input (place_of s)) (given s) (step meaning input (begun s))
+pub step-does : (meaning : Meaning) (s : State) (input : Input)
+    → Counts state_ahead (needs_of meaning input (place_of s)) (given s) (step meaning input (begun s))
 step-does meaning s input =
     let before = parts_before_fetch meaning input (turning (begun s)) in
     let due = jobs_due input (before_fetch meaning input s) in
     subst (Counts state_ahead (needs_of meaning input (place_of s)) (given s)) (sym (step-split meaning input s))
     (forgets (needs_of meaning input (place_of s)) (given s) (and_then before (parts_from_fetch input))
-    (counts-more turning_ahead (both (for_parts_before meaning input s) (for_work (length due))) (needs_of meaning input (place_of s)) (given s) (and_then before (parts_from_fetch input))
+    (counts-more turning_ahead (both (for_parts_before meaning input s) (for_work (length due))) (needs_of meaning input (place_of s)) (given s)
+    (and_then before (parts_from_fetch input))
     (few-own meaning s input)
-    (counts-then turning_ahead turning_ahead (for_parts_before meaning input s) (for_work (length due)) (given s) before (parts_from_fetch input) (parts-before-do meaning s input)
-    (λ t is. subst (λ (o : State). PartDoes (for_work (length (jobs_due input o))) t (parts_from_fetch input t)) (sym (before-is meaning input s t is)) (parts-from-do input t)))))
+    (counts-then turning_ahead turning_ahead (for_parts_before meaning input s) (for_work (length due)) (given s) before (parts_from_fetch input)
+    (parts-before-do meaning s input)
+    (λ t is. subst (λ (o : State). PartDoes (for_work (length (jobs_due input o))) t (parts_from_fetch input t)) (sym (before-is meaning input s t is))
+    (parts-from-do input t)))))
 
 same-err : (c d : Counter) → (let r : Result (Working State) Counter = Err c in r) ≡ Err d → c ≡ d
 same-err c d is = cc
 
-too-many : (needs n : Numbers) (r : Result (Working State) Counter) (counter : Counter) → r ≡ Err counter → Counts state_ahead needs n r → AreTooMany n needs counter
+too-many : (needs n : Numbers) (r : Result (Working State) Counter) (counter : Counter) → r ≡ Err counter → Counts state_ahead needs n r
+    → AreTooMany n needs counter
 too-many needs n (Ok v) counter is h = absurd cc
 too-many needs n (Err c) counter is h = subst (AreTooMany n needs) (same-err c counter is) h
 
 -- where the machine can't take a turn, one more of the counter that it names is needed than there are
-pub step-needs : (meaning : Meaning) (s : State) (input : Input) (counter : Counter) → step meaning input (begun s) ≡ Err counter → NeedsMore meaning (place_of s) input counter
+pub step-needs : (meaning : Meaning) (s : State) (input : Input) (counter : Counter) → step meaning input (begun s) ≡ Err counter
+    → NeedsMore meaning (place_of s) input counter
 step-needs meaning s input counter refused = record {
   refused = refused;
   too_many = too-many (needs_of meaning input (place_of s)) (given s) (step meaning input (begun s)) counter refused (step-does meaning s input);

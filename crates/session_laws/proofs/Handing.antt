@@ -13,13 +13,15 @@ use Rattle.session_port.specs.declared.job.Job.{Job}
 use Rattle.desk.specs.Desk.{Desk}
 use Rattle.desk.specs.Folds.{asked_among, is_asked}
 use Rattle.desk.specs.Meaning.{Meaning}
-use Rattle.desk.specs.Steps.{kept as kept_at_desk}
+use Rattle.desk.specs.Steps.{jobs_kept as kept_at_desk}
 use Rattle.desk_laws.proofs.Appends.{spawned-append}
 use Rattle.desk_laws.proofs.Results.{IfOk-and_then, IfOk-weaker, IfOk-within}
 use Rattle.workspaces.specs.Fetches.{fires}
-use Rattle.session_model.specs.Machine.{Turning, all_resumed, begin_part, build_part, closed, closing_part, counted, event_part, fetch_part, fetch_started, files_done, files_part}
-use Rattle.session_model.specs.Machine.{happened, in_state, kept, knowing, quiet_part, register_part, revised, runs_started, some_processed, state_in, status_part, step}
-use Rattle.session_model.specs.Machine.{switch_part, taken_in, timer_set, turned, turning, with_desk, with_state}
+use Rattle.session_model.specs.Machine.{Turning, all_resumed, begin_part, build_part, turn_closed, closing_part, turn_counted, event_part, fetch_part}
+use Rattle.session_model.specs.Machine.{fetch_started, files_done, files_part}
+use Rattle.session_model.specs.Machine.{happened, in_state, desk_kept, knowing, quiet_part, register_part, revised, runs_started, some_processed, state_in}
+use Rattle.session_model.specs.Machine.{status_part, step}
+use Rattle.session_model.specs.Machine.{switch_part, event_taken, timer_set, turned, turning, with_desk, with_state}
 use Rattle.session_model.specs.OwnJobs.{OwnJob, checks_among_tasks, checks_back, fetch_jobs, jobs_due, numbered_behind, own_jobs, parts_before_fetch, run_jobs}
 use Rattle.session_model.specs.Rows.{row, turn_begun}
 use Rattle.session_model.specs.Run.{Steps, Turn, begun}
@@ -34,11 +36,14 @@ use Rattle.session_laws.specs.Beside.{Beside}
 use Rattle.session_laws.specs.Invariant.{place_of}
 use Rattle.session_laws.proofs.Beside.{beside-spawned}
 use Rattle.session_laws.proofs.Counting.{Counts, given, none, requests}
-use Rattle.session_laws.proofs.Exhausting.{PartDoes, begin_part-does, event_part-does, files_part-does, for_event_part, for_switch, quiet_part-does, register_part-does}
+use Rattle.session_laws.proofs.Exhausting.{PartDoes, begin_part-does, event_part-does, files_part-does, for_event_part, for_switch, quiet_part-does}
+use Rattle.session_laws.proofs.Exhausting.{register_part-does}
 use Rattle.session_laws.proofs.Exhausting.{status_part-does, switch_part-does, turning_ahead}
-use Rattle.session_laws.proofs.OwnJobs.{FetchOver, HandedOver, HandsOver, before-is, checks-over, checks-same, fetch-over, fetch_begun, hands-on, parts_from_fetch}
+use Rattle.session_laws.proofs.OwnJobs.{FetchOver, HandedOver, HandsOver, before-is, checks-over, checks-same, fetch-over, fetch_begun, hands-on}
+use Rattle.session_laws.proofs.OwnJobs.{parts_from_fetch}
 use Rattle.session_laws.proofs.OwnJobs.{plus-none, run-jobs-same, runs-over, step-split}
-use Rattle.session_laws.proofs.Rows.{FilesDone, Going, Part, begin-is, counted-is, event-going, files-done, quiet-is, register-is, session_in, status-is, switch-is}
+use Rattle.session_laws.proofs.Rows.{FilesDone, Going, Part, begin-is, counted-is, event-going, files-done, quiet-is, register-is, session_in, status-is}
+use Rattle.session_laws.proofs.Rows.{switch-is}
 
 -- ---- parts that hand over nothing
 
@@ -52,7 +57,8 @@ still-over w v b le =
     let nothing : spawned b.commands ≡ [] = length-none (spawned b.commands) (omega (arith, grown, le)) in
     record { spawns = beside-spawned w v b ∙ ap (λ (js : List Job). spawned w.out.commands ++ js) nothing; handed = omega (arith, grown, le) }
 
-part-none : (needs : Numbers) (t : Working Turning) (r : Result (Working Turning) Counter) → needs.jobs ≡ 0 → IfOk r (λ v. Beside (session_in t) (session_in v)) → PartDoes needs t r
+part-none : (needs : Numbers) (t : Working Turning) (r : Result (Working Turning) Counter) → needs.jobs ≡ 0 → IfOk r (λ v. Beside (session_in t) (session_in v))
+    → PartDoes needs t r
     → IfOk r (λ v. HandsOver (session_in t) [] (session_in v))
 part-none needs t (Ok v) zero b c =
     let le : v.state.state.desk.handed ≤ t.state.state.desk.handed + needs.jobs = c.jobs in
@@ -80,8 +86,10 @@ none-is jobs n own t r h nothing =
     IfOk-weaker r (λ v. HandsOver (session_in t) [] (session_in v)) _ nothing
     (λ v more. subst (λ (js : List OwnJob). HandedOver jobs n js (session_in v)) (append-nil own) (hands-on jobs n own [] (session_in t) (session_in v) h more))
 
-none-on : (jobs : List Job) (n : ℕ) (own : List OwnJob) (t : Working Turning) (r : Result (Working Turning) Counter) (f : Working Turning → Result (Working Turning) Counter) (Goal : Working Turning → Type 0)
-    → HandedOver jobs n own (session_in t) → IfOk r (λ v. HandsOver (session_in t) [] (session_in v)) → ((v : Working Turning) → HandedOver jobs n own (session_in v) → IfOk (f v) Goal)
+none-on : (jobs : List Job) (n : ℕ) (own : List OwnJob) (t : Working Turning) (r : Result (Working Turning) Counter)
+    (f : Working Turning → Result (Working Turning) Counter) (Goal : Working Turning → Type 0)
+    → HandedOver jobs n own (session_in t) → IfOk r (λ v. HandsOver (session_in t) [] (session_in v))
+    → ((v : Working Turning) → HandedOver jobs n own (session_in v) → IfOk (f v) Goal)
     → IfOk (and_then r f) Goal
 none-on jobs n own t r f Goal h nothing next = IfOk-and_then r f (λ v. HandedOver jobs n own (session_in v)) Goal (none-is jobs n own t r h nothing) next
 
@@ -96,7 +104,8 @@ asked-few : (jobs : List Job) → length (asked_among jobs) ≤ length jobs
 asked-few [] = omega arith
 asked-few (job ∷ jobs) = one-few (is_asked job) job (asked_among jobs) jobs (asked-few jobs)
 
-one-all : (b : Bool) (job : Job) (asked jobs : List Job) → length asked ≤ length jobs → (length jobs ≤ length asked → asked ≡ jobs) → length (job ∷ jobs) ≤ length (if b then job ∷ asked else asked)
+one-all : (b : Bool) (job : Job) (asked jobs : List Job) → length asked ≤ length jobs → (length jobs ≤ length asked → asked ≡ jobs)
+    → length (job ∷ jobs) ≤ length (if b then job ∷ asked else asked)
     → (if b then job ∷ asked else asked) ≡ job ∷ jobs
 one-all true job asked jobs few all le = ap (λ (js : List Job). job ∷ js) (all (omega (arith, le)))
 one-all false job asked jobs few all le = absurd (omega (arith, few, le))
@@ -118,9 +127,11 @@ asked-only meaning s input v g le =
     let as_many : length (spawned v.out.commands) ≡ length jobs = ap (λ (js : List Job). length js) (sym all) ∙ many in
     record { spawns = sym all ∙ does ∙ sym (append-nil jobs); handed = handed ∙ ap (λ n. s.desk.handed + n) as_many ∙ plus-none (s.desk.handed + length jobs) }
 
-no-checks : (meaning : Meaning) (s : State) (event : Event) (r : Result (Working Turning) Counter) → checks_back s (Next event) ≡ [] → IfOk r (Going meaning s (Next event))
+no-checks : (meaning : Meaning) (s : State) (event : Event) (r : Result (Working Turning) Counter) → checks_back s (Next event) ≡ []
+    → IfOk r (Going meaning s (Next event))
     → Counts turning_ahead (for_event_part meaning s event) (given s) r
-    → IfOk r (λ v. HandedOver (row meaning (Next event) (place_of s)).jobs (s.desk.handed + length (row meaning (Next event) (place_of s)).jobs) [] (session_in v))
+    → IfOk r (λ v. HandedOver (row meaning (Next event) (place_of s)).jobs (s.desk.handed + length (row meaning (Next event) (place_of s)).jobs) []
+    (session_in v))
 no-checks meaning s event (Ok v) nothing g c =
     let jobs : List Job = (row meaning (Next event) (place_of s)).jobs in
     let no : length (checks_back s (Next event)) ≡ 0 = ap (λ (own : List OwnJob). length own) nothing in
@@ -131,23 +142,29 @@ no-checks meaning s event (Err counter) nothing g c = tt
 -- checks that come back, where the row is silent
 deferred-over : (meaning : Meaning) (s : State) (tasks : List DeferredTask)
     → IfOk (event_part meaning (Deferred tasks) (turning (begun s))) (λ v. HandedOver [] (s.desk.handed + 0) (checks_among_tasks s tasks) (session_in v))
-unfolding event_part taken_in happened
+unfolding event_part event_taken happened
 deferred-over meaning s tasks =
     let Goal : Working State → Type 0 = λ v. HandedOver [] (s.desk.handed + 0) (checks_among_tasks s tasks) v in
-    IfOk-within state_in with_state (taken_in meaning (Deferred tasks)) (turning (begun s)) (λ v. Goal (session_in v))
-    (IfOk-and_then (counted (begun s)) (happened meaning (Deferred tasks)) (λ v. v ≡ turn_begun s) Goal (counted-is s)
+    IfOk-within state_in with_state (event_taken meaning (Deferred tasks)) (turning (begun s)) (λ v. Goal (session_in v))
+    (IfOk-and_then (turn_counted (begun s)) (happened meaning (Deferred tasks)) (λ v. v ≡ turn_begun s) Goal (counted-is s)
     (λ v is. subst (λ w. IfOk (happened meaning (Deferred tasks) w) Goal) (sym is)
-    (IfOk-weaker (all_resumed tasks (turn_begun s)) (HandsOver (turn_begun s) (checks_among_tasks (turn_begun s).state tasks)) Goal (checks-over tasks (turn_begun s))
+    (IfOk-weaker (all_resumed tasks (turn_begun s)) (HandsOver (turn_begun s) (checks_among_tasks (turn_begun s).state tasks)) Goal
+    (checks-over tasks (turn_begun s))
     (λ v h. subst (λ n. HandedOver [] n (checks_among_tasks s tasks) v) (plus-none s.desk.handed)
     (subst (λ (own : List OwnJob). HandedOver [] s.desk.handed own v) (checks-same (turn_begun s).state.desk s tasks) h)))))
 
 event-over : (meaning : Meaning) (s : State) (event : Event) → IfOk (event_part meaning event (turning (begun s)))
-    (λ v. HandedOver (row meaning (Next event) (place_of s)).jobs (s.desk.handed + length (row meaning (Next event) (place_of s)).jobs) (checks_back s (Next event)) (session_in v))
-event-over meaning s (Lsp message) = no-checks meaning s (Lsp message) (event_part meaning (Lsp message) (turning (begun s))) refl (event-going meaning s (Lsp message)) (event_part-does meaning s (Lsp message))
-event-over meaning s (Task batch) = no-checks meaning s (Task batch) (event_part meaning (Task batch) (turning (begun s))) refl (event-going meaning s (Task batch)) (event_part-does meaning s (Task batch))
-event-over meaning s (Vfs messages) = no-checks meaning s (Vfs messages) (event_part meaning (Vfs messages) (turning (begun s))) refl (event-going meaning s (Vfs messages)) (event_part-does meaning s (Vfs messages))
+    (λ v. HandedOver (row meaning (Next event) (place_of s)).jobs (s.desk.handed + length (row meaning (Next event) (place_of s)).jobs)
+    (checks_back s (Next event)) (session_in v))
+event-over meaning s (Lsp message) = no-checks meaning s (Lsp message) (event_part meaning (Lsp message) (turning (begun s))) refl
+    (event-going meaning s (Lsp message)) (event_part-does meaning s (Lsp message))
+event-over meaning s (Task batch) = no-checks meaning s (Task batch) (event_part meaning (Task batch) (turning (begun s))) refl
+    (event-going meaning s (Task batch)) (event_part-does meaning s (Task batch))
+event-over meaning s (Vfs messages) = no-checks meaning s (Vfs messages) (event_part meaning (Vfs messages) (turning (begun s))) refl
+    (event-going meaning s (Vfs messages)) (event_part-does meaning s (Vfs messages))
 event-over meaning s (Deferred tasks) = deferred-over meaning s tasks
-event-over meaning s (Timer ticket) = no-checks meaning s (Timer ticket) (event_part meaning (Timer ticket) (turning (begun s))) refl (event-going meaning s (Timer ticket)) (event_part-does meaning s (Timer ticket))
+event-over meaning s (Timer ticket) = no-checks meaning s (Timer ticket) (event_part meaning (Timer ticket) (turning (begun s))) refl
+    (event-going meaning s (Timer ticket)) (event_part-does meaning s (Timer ticket))
 
 -- ---- the parts behind it
 
@@ -207,18 +224,20 @@ unfolding build_part
 runs t = IfOk-within state_in with_state runs_started t (λ u. HandsOver (session_in t) (run_jobs t.state.state) (session_in u)) (runs-over (session_in t))
 
 -- an order that is no job
-order-none : (b : Bool) (w : Working State) (command : Command) → spawned (command ∷ []) ≡ [] → spawned (if b then ordered command w else w).out.commands ≡ spawned w.out.commands
+order-none : (b : Bool) (w : Working State) (command : Command) → spawned (command ∷ []) ≡ []
+    → spawned (if b then ordered command w else w).out.commands ≡ spawned w.out.commands
 unfolding ordered
 order-none true w command is = spawned-append w.out.commands (command ∷ []) ∙ ap (λ (js : List Job). spawned w.out.commands ++ js) is ∙ append-nil _
 order-none false w command is = refl
 
-order-unless : (b : Bool) (w : Working State) (command : Command) → spawned (command ∷ []) ≡ [] → spawned (if b then w else ordered command w).out.commands ≡ spawned w.out.commands
+order-unless : (b : Bool) (w : Working State) (command : Command) → spawned (command ∷ []) ≡ []
+    → spawned (if b then w else ordered command w).out.commands ≡ spawned w.out.commands
 unfolding ordered
 order-unless true w command is = refl
 order-unless false w command is = spawned-append w.out.commands (command ∷ []) ∙ ap (λ (js : List Job). spawned w.out.commands ++ js) is ∙ append-nil _
 
-closed-over : (facts : Facts) (w : Working State) → IfOk (closed facts w) (λ v. spawned v.out.commands ≡ spawned w.out.commands)
-unfolding kept within kept_at_desk revised timer_set
+closed-over : (facts : Facts) (w : Working State) → IfOk (turn_closed facts w) (λ v. spawned v.out.commands ≡ spawned w.out.commands)
+unfolding desk_kept within kept_at_desk revised timer_set
 closed-over facts w =
     let now : Working State = record w { state = with_desk (record w.state.desk { jobs = _ }) w.state } in
     let told : Working State = revised facts.revision now in
@@ -227,7 +246,8 @@ closed-over facts w =
 
 closing-over : (t : Working Turning) → IfOk (closing_part t) (λ v. spawned v.out.commands ≡ spawned t.out.commands)
 unfolding closing_part
-closing-over t = IfOk-within state_in with_state (closed t.state.facts) t (λ v. spawned v.out.commands ≡ spawned t.out.commands) (closed-over t.state.facts (session_in t))
+closing-over t = IfOk-within state_in with_state (turn_closed t.state.facts) t (λ v. spawned v.out.commands ≡ spawned t.out.commands)
+    (closed-over t.state.facts (session_in t))
 
 from-over : (jobs : List Job) (n : ℕ) (own : List OwnJob) (input : Input) (t : Working Turning) → HandedOver jobs n own (session_in t)
     → IfOk (parts_from_fetch input t) (λ u. spawned u.out.commands ≡ jobs ++ numbered_behind n (own ++ jobs_due input t.state.state))
@@ -236,7 +256,8 @@ from-over jobs n own Start t h =
     let Goal : Working Turning → Type 0 = λ u. spawned u.out.commands ≡ jobs ++ numbered_behind n (own ++ (first ++ [])) in
     IfOk-and_then (fetch_part Start t) closing_part (Fetches Start t) Goal (fetches Start t)
     (λ u f. IfOk-weaker (closing_part u) (λ v. spawned v.out.commands ≡ spawned u.out.commands) Goal (closing-over u)
-    (λ v same. same ∙ (hands-on jobs n own first (session_in t) (session_in u) h f.hands).spawns ∙ ap (λ (os : List OwnJob). jobs ++ numbered_behind n (own ++ os)) (sym (append-nil first))))
+    (λ v same. same ∙ (hands-on jobs n own first (session_in t) (session_in u) h f.hands).spawns
+    ∙ ap (λ (os : List OwnJob). jobs ++ numbered_behind n (own ++ os)) (sym (append-nil first))))
 from-over jobs n own (Next event) t h =
     let input : Input = Next event in
     let first = fetch_jobs input t.state.state in
@@ -245,7 +266,8 @@ from-over jobs n own (Next event) t h =
     IfOk-and_then (fetch_part input t) _ (Fetches input t) Goal (fetches input t)
     (λ u f. IfOk-and_then (build_part u) _ (λ v. HandsOver (session_in u) (run_jobs u.state.state) (session_in v)) Goal (runs u)
     (λ v r. let all : HandedOver jobs n ((own ++ first) ++ run_jobs u.state.state) (session_in v) =
-    hands-on jobs n (own ++ first) (run_jobs u.state.state) (session_in u) (session_in v) (hands-on jobs n own first (session_in t) (session_in u) h f.hands) r in
+    hands-on jobs n (own ++ first) (run_jobs u.state.state) (session_in u) (session_in v) (hands-on jobs n own first (session_in t) (session_in u) h f.hands) r
+    in
     none-on jobs n ((own ++ first) ++ run_jobs u.state.state) v (status_part v) closing_part Goal all (status-over v)
     (λ x h. IfOk-weaker (closing_part x) (λ y. spawned y.out.commands ≡ spawned x.out.commands) Goal (closing-over x)
     (λ y same. same ∙ h.spawns ∙ ap (λ (os : List OwnJob). jobs ++ numbered_behind n os) (append_assoc own first (run_jobs u.state.state))
@@ -269,11 +291,14 @@ step-over meaning s input =
     subst (λ r. IfOk r Goal) (sym (step-split meaning input s))
     (IfOk-and_then (and_then before (parts_from_fetch input)) turned (λ u. Goal (session_in u)) Goal
     (is-then before (parts_from_fetch input) (λ t. HandedOver jobs n own (session_in t)) (λ u. Goal (session_in u)) (before-over meaning s input)
-    (λ t is h. subst (λ (o : State). IfOk (parts_from_fetch input t) (λ u. spawned u.out.commands ≡ jobs ++ numbered_behind n (own ++ jobs_due input o))) (sym (before-is meaning input s t is))
+    (λ t is h. subst (λ (o : State). IfOk (parts_from_fetch input t) (λ u. spawned u.out.commands ≡ jobs ++ numbered_behind n (own ++ jobs_due input o)))
+    (sym (before-is meaning input s t is))
     (from-over jobs n own input t h))) (λ u g. g))
 
-pub turns-over : (meaning : Meaning) (old : State) (turn : Turn) (new : State) → Steps meaning old turn new → let asked = (row meaning turn.input (place_of old)).jobs in
+pub turns-over : (meaning : Meaning) (old : State) (turn : Turn) (new : State) → Steps meaning old turn new → let asked =
+    (row meaning turn.input (place_of old)).jobs in
     spawned turn.commands ≡ asked ++ numbered_behind (old.desk.handed + length asked) (own_jobs meaning turn.input old)
 turns-over meaning old turn new steps =
     let asked : List Job = (row meaning turn.input (place_of old)).jobs in
-    IfOk-at_ok (λ w. spawned w.out.commands ≡ asked ++ numbered_behind (old.desk.handed + length asked) (own_jobs meaning turn.input old)) steps (step-over meaning old turn.input)
+    IfOk-at_ok (λ w. spawned w.out.commands ≡ asked ++ numbered_behind (old.desk.handed + length asked) (own_jobs meaning turn.input old)) steps
+    (step-over meaning old turn.input)

@@ -43,13 +43,14 @@ use Rattle.notify.specs.declared.notice.Notice.TheVariants as notices
 use Rattle.notify.specs.declared.outgo.MessageKind.{MessageKind}
 use Rattle.notify.specs.declared.outgo.MessageKind.TheVariants.{Warning}
 use Rattle.notify.specs.declared.outgo.Outgo.{Outgo}
-use Rattle.notify.specs.declared.outgo.Outgo.TheVariants.{CodeLensRefresh, Configuration, DiagnosticRefresh, InlayHintRefresh, SemanticTokensRefresh, ShowMessage, ShowMessageRequest}
+use Rattle.notify.specs.declared.outgo.Outgo.TheVariants.{CodeLensRefresh, Configuration, DiagnosticRefresh, InlayHintRefresh, SemanticTokensRefresh}
+use Rattle.notify.specs.declared.outgo.Outgo.TheVariants.{ShowMessage, ShowMessageRequest}
 use Rattle.desk.specs.Desk.{Desk}
 use Rattle.desk.specs.WorkEnds.{BuildEnd, FetchEnd, LoadEnd, work_ended}
 use Rattle.desk.specs.declared.state.ends.WorkEnd.{WorkEnd}
 use Rattle.desk.specs.declared.state.ends.WorkEnd.TheVariants.{Fetched, Built, Checked, Loaded}
 use Rattle.desk.specs.Meaning.{Meaning}
-use Rattle.desk.specs.Steps.{cancelled, counted as counted_at_desk, handed_over, kept as kept_at_desk, requested, taken as taken_at_desk}
+use Rattle.desk.specs.Steps.{cancelled, counted as counted_at_desk, handed_over, jobs_kept as kept_at_desk, requested, taken as taken_at_desk}
 use Rattle.desk_laws.proofs.Results.{IfOk-and_then, IfOk-if, IfOk-weaker, IfOk-within}
 use Rattle.session_files.specs.Folds.{after_closing, changed_files, is_open}
 use Rattle.session_files.specs.SessionFiles.{SessionFiles}
@@ -74,14 +75,22 @@ use Rattle.session_model.specs.Crates.{builds_crates, crate_data, is_unknown}
 use Rattle.session_model.specs.Fetching.{fetch_kept, folders_told_if, settings_told, with_fetches}
 use Rattle.session_model.specs.Hearing.{heard_of, told_by}
 use Rattle.session_model.specs.Loading.{MacroPaths, crates_loaded, load_due, load_kept, load_kind, with_due_load}
-use Rattle.session_model.specs.Machine.{all_resumed, answer_taken, asked, asked_for_settings, asked_if, at_client, at_desk, at_files, at_workspaces, batched, begin_part, begun_fetches}
-use Rattle.session_model.specs.Machine.{brought, build_handed_over, build_part, build_started, build_taken, changed_at, client_in, closed, closed_at, closing_part, counted}
-use Rattle.session_model.specs.Machine.{crates_arrived, crates_built, desk_in, effects_done, end_taken, work_taken, event_part, fetch_handed_over, fetch_part, fetch_started, fetch_taken, fetch_waits}
-use Rattle.session_model.specs.Machine.{file_changed, files_changed, files_done, files_followed, files_in, files_part, files_processed, files_processed_if, folders_taken, followed, further_logged}
-use Rattle.session_model.specs.Machine.{happened, in_state, kept, knowing, later_parts, load_handed_over, prime_part, publish_part, load_started, load_taken, loader_set, macros_taken, noticed, opened_at, quiet_done, quiet_part}
-use Rattle.session_model.specs.Machine.{received, refreshed, register_part, resumed, revised, roots_renewed, runs_started, save_noted, saved_at, saves_registered, settings_filed, some_processed, sources_deferred}
-use Rattle.session_model.specs.Machine.{start_parts, state_in, status_changed, status_done, status_kept, status_part, status_told, step, switch_done, switch_part, switched_to, taken, taken_in, text_shown, timer_set, told}
-use Rattle.session_model.specs.Machine.{turned, Turning, turning, warned, watchers_registered, with_client, with_desk, with_files, with_sources, with_state, with_status}
+use Rattle.session_model.specs.Machine.{all_resumed, answer_taken, request_taken, asked_for_settings, asked_if, at_client, at_desk, at_files, at_workspaces}
+use Rattle.session_model.specs.Machine.{batched, begin_part, begun_fetches}
+use Rattle.session_model.specs.Machine.{loader_taken, build_handed_over, build_part, build_started, build_taken, changed_at, client_in, turn_closed, closed_at}
+use Rattle.session_model.specs.Machine.{closing_part, turn_counted}
+use Rattle.session_model.specs.Machine.{crates_arrived, crates_built, desk_in, effects_done, end_taken, work_taken, event_part, fetch_handed_over, fetch_part}
+use Rattle.session_model.specs.Machine.{fetch_started, fetch_taken, fetch_waits}
+use Rattle.session_model.specs.Machine.{file_changed, files_changed, files_done, files_followed, files_in, files_part, files_processed, files_processed_if}
+use Rattle.session_model.specs.Machine.{folders_taken, switch_followed, further_logged}
+use Rattle.session_model.specs.Machine.{happened, in_state, desk_kept, knowing, later_parts, load_handed_over, prime_part, publish_part, load_started}
+use Rattle.session_model.specs.Machine.{load_taken, loader_set, macros_taken, noticed, opened_at, quiet_done, quiet_part}
+use Rattle.session_model.specs.Machine.{received, refreshed, register_part, resumed, revised, roots_renewed, runs_started, save_noted, saved_at}
+use Rattle.session_model.specs.Machine.{saves_registered, settings_filed, some_processed, sources_deferred}
+use Rattle.session_model.specs.Machine.{start_parts, state_in, status_changed, status_done, status_kept, status_part, status_told, step, switch_done}
+use Rattle.session_model.specs.Machine.{switch_part, switch_taken, message_taken, event_taken, text_shown, timer_set, told}
+use Rattle.session_model.specs.Machine.{turned, Turning, turning, warned, watchers_registered, with_client, with_desk, with_files, with_sources, with_state}
+use Rattle.session_model.specs.Machine.{with_status}
 use Rattle.session_model.specs.Run.{Turn, Steps, begun}
 use Rattle.session_model.specs.Sources.{change_for, further_files, parents_told, sources_now}
 use Rattle.session_model.specs.State.{Sources, State, columns_in, discovers, excludes_in, fetch_kind, goes_by_folders, may_start, scene_of, snapshot_of}
@@ -95,10 +104,12 @@ use Rattle.session_model.specs.declared.input.Event.TheVariants.{Lsp, Task, Vfs,
 use Rattle.session_model.specs.declared.input.Input.{Input}
 use Rattle.session_model.specs.declared.input.Input.TheVariants.{Start, Next}
 use Rattle.session_laws.specs.Entering.{ArePresent, Enters, KeepsSettings, LetsIn, tells_folders, tells_settings}
-use Rattle.session_laws.proofs.Entered.{Alters, Still, TellsParents, alters-on, alters-still, crates-alter, enters-none, enters-on, files_entries, filed-parents, filed-same, filed_client, files-present, none-filed, parents_in}
+use Rattle.session_laws.proofs.Entered.{Alters, Still, TellsParents, alters-on, alters-still, crates-alter, enters-none, enters-on, files_entries}
+use Rattle.session_laws.proofs.Entered.{filed-parents, filed-same, filed_client, files-present, none-filed, parents_in}
 use Rattle.session_laws.proofs.Entered.{processing-enters, still-none, still-on}
 use Rattle.session_laws.proofs.Documented.{edits-keep}
-use Rattle.session_laws.proofs.Filing.{DoesForFiles, Processes, PutsCrates, changed-does, closed-does, crates-put, loaded-does, ok-from, opened-does, processed-does}
+use Rattle.session_laws.proofs.Filing.{DoesForFiles, Processes, PutsCrates, changed-does, closed-does, crates-put, loaded-does, ok-from, opened-does}
+use Rattle.session_laws.proofs.Filing.{processed-does}
 use Rattle.session_laws.proofs.Telling.{DoesForClient, answered-does, asked-does, folders-do}
 
 -- what holds of each outcome
@@ -114,7 +125,8 @@ AltersTo tells w v = Alters tells w.state v.state
 -- ---- steps that let nothing in
 
 desk-still : (work : Working Desk → Result (Working Desk) Counter) (w : Working State) → IfOk (at_desk work w) (StillTo w)
-desk-still work w = IfOk-within desk_in with_desk work w (StillTo w) (all-ok (work (record { state = w.state.desk; out = w.out })) _ (λ v. record { host = refl; sources = refl; settings = refl; errors = refl }))
+desk-still work w = IfOk-within desk_in with_desk work w (StillTo w)
+    (all-ok (work (record { state = w.state.desk; out = w.out })) _ (λ v. record { host = refl; sources = refl; settings = refl; errors = refl }))
 
 workspaces-still : (step : Workspaces → Workspaces) (w : Working State) → StillTo w (at_workspaces step w)
 workspaces-still step w = record { host = refl; sources = refl; settings = refl; errors = refl }
@@ -135,7 +147,8 @@ logged_if-still code (Some text) w = logged-still code text w
 asking-still : (message : Outgo) (handler : ReqHandler) (w : Working State) → IfOk (at_client (asked_for message handler) w) (StillTo w)
 asking-still message handler w =
     IfOk-within client_in with_client (asked_for message handler) w (StillTo w)
-    (IfOk-weaker _ (λ v. DoesForClient (record { state = w.state.client; out = w.out }) v (after_asking handler w.state.client)) _ (asked-does message handler (record { state = w.state.client; out = w.out }))
+    (IfOk-weaker _ (λ v. DoesForClient (record { state = w.state.client; out = w.out }) v (after_asking handler w.state.client)) _
+    (asked-does message handler (record { state = w.state.client; out = w.out }))
     (λ v d. record { host = refl; sources = refl; settings = ap (λ (c : Client). c.settings) d.is; errors = ap (λ (c : Client). c.errors) d.is }))
 
 asked_if-still : (wanted : Bool) (message : Outgo) (w : Working State) → IfOk (asked_if wanted message w) (StillTo w)
@@ -144,14 +157,17 @@ asked_if-still true message w = asking-still message Ignore w
 asked_if-still false message w = still-none w.state
 
 -- one part and then another
-still-then : (r : Result (Working State) Counter) (f : Working State → Result (Working State) Counter) (w : Working State) → IfOk r (StillTo w) → ((v : Working State) → IfOk (f v) (StillTo v)) → IfOk (and_then r f) (StillTo w)
+still-then : (r : Result (Working State) Counter) (f : Working State → Result (Working State) Counter) (w : Working State) → IfOk r (StillTo w)
+    → ((v : Working State) → IfOk (f v) (StillTo v)) → IfOk (and_then r f) (StillTo w)
 still-then r f w first next =
     IfOk-and_then r f (StillTo w) (StillTo w) first (λ v p. IfOk-weaker (f v) (StillTo v) (StillTo w) (next v) (λ u q. still-on w.state v.state u.state p q))
 
-alters-then : (tells : Bool) (r : Result (Working State) Counter) (f : Working State → Result (Working State) Counter) (w : Working State) → IfOk r (AltersTo tells w) → ((v : Working State) → IfOk (f v) (AltersTo tells v))
+alters-then : (tells : Bool) (r : Result (Working State) Counter) (f : Working State → Result (Working State) Counter) (w : Working State)
+    → IfOk r (AltersTo tells w) → ((v : Working State) → IfOk (f v) (AltersTo tells v))
     → IfOk (and_then r f) (AltersTo tells w)
 alters-then tells r f w first next =
-    IfOk-and_then r f (AltersTo tells w) (AltersTo tells w) first (λ v p. IfOk-weaker (f v) (AltersTo tells v) (AltersTo tells w) (next v) (λ u q. alters-on tells w.state v.state u.state p q))
+    IfOk-and_then r f (AltersTo tells w) (AltersTo tells w) first
+    (λ v p. IfOk-weaker (f v) (AltersTo tells v) (AltersTo tells w) (next v) (λ u q. alters-on tells w.state v.state u.state p q))
 
 still-alters : (tells : Bool) (r : Result (Working State) Counter) (w : Working State) → IfOk r (StillTo w) → IfOk r (AltersTo tells w)
 still-alters tells r w h = IfOk-weaker r (StillTo w) (AltersTo tells w) h (λ v s. alters-still tells w.state v.state s)
@@ -159,7 +175,8 @@ still-alters tells r w h = IfOk-weaker r (StillTo w) (AltersTo tells w) h (λ v 
 -- ---- documents and the loader
 
 files-still : (work : Working SessionFiles → Result (Working SessionFiles) Counter) (r : Result SessionFiles Counter) (w : Working State)
-    → IfOk (work (record { state = w.state.files; out = w.out })) (λ v. DoesForFiles (record { state = w.state.files; out = w.out }) v r) → IfOk r (λ (now : SessionFiles). now.host ≡ w.state.files.host)
+    → IfOk (work (record { state = w.state.files; out = w.out })) (λ v. DoesForFiles (record { state = w.state.files; out = w.out }) v r)
+    → IfOk r (λ (now : SessionFiles). now.host ≡ w.state.files.host)
     → IfOk (at_files work w) (StillTo w)
 files-still work r w does keeps =
     IfOk-within files_in with_files work w (StillTo w)
@@ -171,15 +188,18 @@ unfolding opened_at
 opened-still (Err fault) document w = logged-still _ document.uri w
 opened-still (Ok path) document w =
     let excludes = excludes_in w.state.client.settings in
-    files-still (opened excludes path document.version document.text) _ w (opened-does excludes path document.version document.text (record { state = w.state.files; out = w.out }))
-    (ok-from _ (λ (now : SessionFiles). now.host ≡ w.state.files.host) (λ now is. (opening_keeps excludes path document.version document.text w.state.files now is).host))
+    files-still (opened excludes path document.version document.text) _ w
+    (opened-does excludes path document.version document.text (record { state = w.state.files; out = w.out }))
+    (ok-from _ (λ (now : SessionFiles). now.host ≡ w.state.files.host)
+    (λ now is. (opening_keeps excludes path document.version document.text w.state.files now is).host))
 
 changed-still : (o : Result (List ℕ) UrlFault) (change : DidChange) (w : Working State) → IfOk (changed_at o change w) (StillTo w)
 unfolding changed_at
 changed-still (Err fault) change w = logged-still _ change.uri w
 changed-still (Ok path) change w =
     let columns = columns_in w.state.client.settings in
-    files-still (changed columns path change.version change.changes) _ w (changed-does columns path change.version change.changes (record { state = w.state.files; out = w.out }))
+    files-still (changed columns path change.version change.changes) _ w
+    (changed-does columns path change.version change.changes (record { state = w.state.files; out = w.out }))
     (ok-from _ (λ (now : SessionFiles). now.host ≡ w.state.files.host)
     (λ now is. (edits-keep (is_open path w.state.files) columns path change.version change.changes w.state.files now is).host))
 
@@ -187,9 +207,10 @@ closed-still : (o : Result (List ℕ) UrlFault) (uri : List ℕ) (w : Working St
 unfolding closed_at
 closed-still (Err fault) uri w = logged-still _ uri w
 closed-still (Ok path) uri w =
-    files-still (λ f. Ok (closed_document path f)) (Ok (after_closing path w.state.files)) w (closed-does path (record { state = w.state.files; out = w.out })) (closing_keeps path w.state.files).host
+    files-still (λ f. Ok (closed_document path f)) (Ok (after_closing path w.state.files)) w (closed-does path (record { state = w.state.files; out = w.out }))
+    (closing_keeps path w.state.files).host
 
-brought-still : (messages : List LoaderMsg) (w : Working State) → IfOk (brought messages w) (StillTo w)
+brought-still : (messages : List LoaderMsg) (w : Working State) → IfOk (loader_taken messages w) (StillTo w)
 brought-still messages w =
     still-then (at_files (loaded messages) w) _ w
     (files-still (loaded messages) _ w (loaded-does messages (record { state = w.state.files; out = w.out }))
@@ -208,7 +229,8 @@ unfolding saved_at
 saved-still (Err fault) uri w = logged-still _ uri w
 saved-still (Ok path) uri w =
     let noted : Working State = save_noted (is_unknown w.state.files.ids path) path w in
-    still-on w.state noted.state _ (noted-still (is_unknown w.state.files.ids path) path w) (workspaces-still (path_saved w.state.client.settings w.state.files path) noted)
+    still-on w.state noted.state _ (noted-still (is_unknown w.state.files.ids path) path w)
+    (workspaces-still (path_saved w.state.client.settings w.state.files path) noted)
 
 file-still : (url : List ℕ) (o : Result (List ℕ) UrlFault) (w : Working State) → StillTo w (file_changed url o w)
 unfolding file_changed
@@ -234,7 +256,8 @@ unfolding after
 answered-parents None settings = refl
 answered-parents (Some value) settings = refl
 
-pub after-parents : (handler : Option ReqHandler) (r : Response) (settings : ConfigData) → (settings_after handler r settings).settings.parents ≡ settings.settings.parents
+pub after-parents : (handler : Option ReqHandler) (r : Response) (settings : ConfigData)
+    → (settings_after handler r settings).settings.parents ≡ settings.settings.parents
 after-parents None r settings = refl
 after-parents (Some Ignore) r settings = refl
 after-parents (Some OpenLogs) r settings = refl
@@ -256,7 +279,8 @@ answer-alters r w =
     alters-then true (at_client (λ c. Ok (answered r c)) w) _ w
     (IfOk-within client_in with_client (λ c. Ok (answered r c)) w (AltersTo true w)
     (let d = answered-does r (record { state = w.state.client; out = w.out }) in
-    told-alters w.state _ refl refl (ap (λ (c : Client). c.settings.settings.parents) d.is ∙ after-parents (follows r.id w.state.client.asked) r w.state.client.settings)))
+    told-alters w.state _ refl refl (ap (λ (c : Client). c.settings.settings.parents) d.is
+    ∙ after-parents (follows r.id w.state.client.asked) r w.state.client.settings)))
     (λ v. alters-still true v.state _ (workspaces-still (settings_told w.state.client.settings v.state.client.settings) v))
 
 folders-alter : (added removed : List (List ℕ)) (w : Working State) → IfOk (folders_taken added removed w) (AltersTo true w)
@@ -267,8 +291,9 @@ folders-alter added removed w =
     told-alters w.state _ refl refl (ap (λ (c : Client). c.settings.settings.parents) d.is)))
     (λ v. alters-still true v.state _ (workspaces-still (folders_told_if (goes_by_folders w.state.client.settings)) v))
 
-requested-still : (meaning : Meaning) (r : Request) (w : Working State) → IfOk (asked meaning r w) (StillTo w)
-requested-still meaning r w = still-then (at_desk (requested meaning (scene_of w.state) r) w) _ w (desk-still (requested meaning (scene_of w.state) r) w) (λ v. workspaces-still (request_told r w.state.desk) v)
+requested-still : (meaning : Meaning) (r : Request) (w : Working State) → IfOk (request_taken meaning r w) (StillTo w)
+requested-still meaning r w = still-then (at_desk (requested meaning (scene_of w.state) r) w) _ w (desk-still (requested meaning (scene_of w.state) r) w)
+    (λ v. workspaces-still (request_told r w.state.desk) v)
 
 told-alter : (notice : Notice) (w : Working State) → IfOk (told notice w) (AltersTo (tells_folders (Some notice)) w)
 unfolding told
@@ -293,9 +318,10 @@ heard-alters n Malformed w = alters-still false w.state _ (logged-still _ n.meth
 heard-alters n Unhandled w = alters-still false w.state _ (logged-still _ n.method w)
 heard-alters n Silent w = alters-still false w.state w.state (still-none w.state)
 
-message-alters : (meaning : Meaning) (message : Message) (w : Working State) → IfOk (received meaning message w) (AltersTo (tells_settings (Next (Lsp message))) w)
+message-alters : (meaning : Meaning) (message : Message) (w : Working State)
+    → IfOk (received meaning message w) (AltersTo (tells_settings (Next (Lsp message))) w)
 unfolding received
-message-alters meaning (RequestMessage r) w = still-alters false (asked meaning r w) w (requested-still meaning r w)
+message-alters meaning (RequestMessage r) w = still-alters false (request_taken meaning r w) w (requested-still meaning r w)
 message-alters meaning (NotificationMessage n) w = heard-alters n (heard_of n) w
 message-alters meaning (ResponseMessage r) w = answer-alters r w
 
@@ -328,11 +354,16 @@ follows-to (file ∷ later) w =
     let change = change_for effects.settings w.state.files.host.world.roots w.state.sources w.state.workspaces.present in
     let put : Working State = record w { state = with_sources (parents_told w.state.sources) (with_client (filed_client effects.settings w.state) w.state) } in
     let filed : Working State = further_logged (further_files change) put in
-    let same = still-on put.state filed.state (sources_deferred effects.macro_sources filed).state (further-still (further_files change) put) (deferred-still effects.macro_sources filed) in
+    let same = still-on put.state filed.state (sources_deferred effects.macro_sources filed).state (further-still (further_files change) put)
+    (deferred-still effects.macro_sources filed) in
     record {
       host = same.host;
       roots = ap (λ (x : Sources). x.roots) same.sources;
-      parents = inr (ap (λ (x : Sources). x.parents) same.sources, ap (λ (c : ConfigData). c.settings.parents) same.settings ∙ filed-parents effects.settings w.state);
+      parents = inr (
+        ap (λ (x : Sources). x.parents) same.sources,
+        ap (λ (c : ConfigData). c.settings.parents) same.settings
+            ∙ filed-parents effects.settings w.state,
+      );
       settings = λ none waits. record {
         settings = same.settings ∙ ap (λ (c : Client). c.settings) (filed-same effects.settings w.state none waits);
         errors = same.errors ∙ ap (λ (c : Client). c.errors) (filed-same effects.settings w.state none waits);
@@ -356,7 +387,8 @@ files-alter tells w =
       present = files-present roots list;
       roots = f.roots;
       parents = f.parents;
-      settings = λ silent none waits. let kept = f.settings (none-filed roots list none) waits in record { settings = kept.settings; errors = kept.errors };
+      settings = λ silent none waits. let desk_kept = f.settings (none-filed roots list none) waits
+          in record { settings = desk_kept.settings; errors = desk_kept.errors };
     })))
     (λ u a. a)
 
@@ -380,14 +412,16 @@ arrived-alter tells None w = alters-still tells w.state w.state (still-none w.st
 arrived-alter tells (Some crates) w =
     let roots = w.state.sources.roots in
     IfOk-within files_in with_files (crates_put roots crates) w (AltersTo tells w)
-    (IfOk-weaker _ (PutsCrates roots crates (record { state = w.state.files; out = w.out })) _ (crates-put roots crates (record { state = w.state.files; out = w.out }))
+    (IfOk-weaker _ (PutsCrates roots crates (record { state = w.state.files; out = w.out })) _
+    (crates-put roots crates (record { state = w.state.files; out = w.out }))
     (λ v p. crates-alter tells crates w.state v.state p.is))
 
 macros-alter : (tells : Bool) (told : LoadEnd) (w : Working State) → IfOk (macros_taken told w) (AltersTo tells w)
 unfolding macros_taken
 macros-alter tells told w =
     let v : Working State = at_workspaces (load_kept told) w in
-    IfOk-weaker (crates_arrived (crates_loaded told w.state.workspaces) v) (AltersTo tells v) (AltersTo tells w) (arrived-alter tells (crates_loaded told w.state.workspaces) v)
+    IfOk-weaker (crates_arrived (crates_loaded told w.state.workspaces) v) (AltersTo tells v) (AltersTo tells w)
+    (arrived-alter tells (crates_loaded told w.state.workspaces) v)
     (λ u a. alters-on tells w.state v.state u.state (alters-still tells w.state v.state (workspaces-still (load_kept told) w)) a)
 
 processed_if-alters : (tells b : Bool) (w : Working State) → IfOk (files_processed_if b w) (AltersTo tells w)
@@ -413,8 +447,8 @@ unfolding end_taken
 end-alters tells None w = alters-still tells w.state w.state (still-none w.state)
 end-alters tells (Some end) w = work-alters tells end w
 
-pub taken-alters : (tells : Bool) (meaning : Meaning) (message : TaskMsg) (w : Working State) → IfOk (taken meaning message w) (AltersTo tells w)
-unfolding taken
+pub taken-alters : (tells : Bool) (meaning : Meaning) (message : TaskMsg) (w : Working State) → IfOk (message_taken meaning message w) (AltersTo tells w)
+unfolding message_taken
 taken-alters tells meaning message w =
     let jobs = w.state.desk.jobs in
     alters-then tells (at_desk (taken_at_desk meaning (scene_of w.state) message) w) _ w
@@ -423,7 +457,8 @@ taken-alters tells meaning message w =
 
 batch-alters : (tells : Bool) (meaning : Meaning) (batch : List TaskMsg) (w : Working State) → IfOk (batched meaning batch w) (AltersTo tells w)
 batch-alters tells meaning [] w = alters-still tells w.state w.state (still-none w.state)
-batch-alters tells meaning (m ∷ ms) w = alters-then tells (taken meaning m w) (batched meaning ms) w (taken-alters tells meaning m w) (batch-alters tells meaning ms)
+batch-alters tells meaning (m ∷ ms) w = alters-then tells (message_taken meaning m w) (batched meaning ms) w (taken-alters tells meaning m w)
+    (batch-alters tells meaning ms)
 
 -- ---- the event
 
@@ -440,15 +475,16 @@ happened-alters : (meaning : Meaning) (event : Event) (w : Working State) → If
 unfolding happened
 happened-alters meaning (Lsp message) w = message-alters meaning message w
 happened-alters meaning (Task batch) w = batch-alters false meaning batch w
-happened-alters meaning (Vfs messages) w = still-alters false (brought messages w) w (brought-still messages w)
+happened-alters meaning (Vfs messages) w = still-alters false (loader_taken messages w) w (brought-still messages w)
 happened-alters meaning (Deferred tasks) w = still-alters false (all_resumed tasks w) w (all-resumed-still tasks w)
 happened-alters meaning (Timer ticket) w = alters-still false w.state _ (workspaces-still (with_fetches (fire ticket)) w)
 
-event-alters : (meaning : Meaning) (event : Event) (w : Working State) → IfOk (taken_in meaning event w) (AltersTo (tells_settings (Next event)) w)
-unfolding taken_in counted
+event-alters : (meaning : Meaning) (event : Event) (w : Working State) → IfOk (event_taken meaning event w) (AltersTo (tells_settings (Next event)) w)
+unfolding event_taken turn_counted
 event-alters meaning event w =
     let tells = tells_settings (Next event) in
-    alters-then tells (at_desk counted_at_desk w) (happened meaning event) w (still-alters tells (at_desk counted_at_desk w) w (desk-still counted_at_desk w)) (happened-alters meaning event)
+    alters-then tells (at_desk counted_at_desk w) (happened meaning event) w (still-alters tells (at_desk counted_at_desk w) w (desk-still counted_at_desk w))
+    (happened-alters meaning event)
 
 -- ---- the switch
 
@@ -465,7 +501,8 @@ still-renews s t still = record { host = still.host; settings = still.settings; 
 renews-behind : (s t u : State) → Still s t → Renews t u → Renews s u
 renews-behind s t u p q = record { host = q.host ∙ p.host; settings = q.settings ∙ p.settings; errors = q.errors ∙ p.errors; sources = either q.sources }
   where
-    either : (u.sources ≡ t.sources) ⊎ (u.sources ≡ sources_now u.client.settings u.workspaces) → (u.sources ≡ s.sources) ⊎ (u.sources ≡ sources_now u.client.settings u.workspaces)
+    either : (u.sources ≡ t.sources) ⊎ (u.sources ≡ sources_now u.client.settings u.workspaces) → (u.sources ≡ s.sources)
+        ⊎ (u.sources ≡ sources_now u.client.settings u.workspaces)
     either (inl same) = inl (same ∙ p.sources)
     either (inr now) = inr now
 
@@ -474,8 +511,8 @@ unfolding warned written
 warned-still [] w = still-none w.state
 warned-still (text ∷ texts) w = warned-still texts (written (notification_of (ShowMessage text Warning)) w)
 
-followed-renews : (follows : Follows) (w : Working State) → IfOk (followed follows w) (λ v. Renews w.state v.state)
-unfolding followed roots_renewed loader_set ordered watchers_registered
+followed-renews : (follows : Follows) (w : Working State) → IfOk (switch_followed follows w) (λ v. Renews w.state v.state)
+unfolding switch_followed roots_renewed loader_set ordered watchers_registered
 followed-renews Nothing w = still-renews w.state w.state (still-none w.state)
 followed-renews CratesAnew w = still-renews w.state w.state (still-none w.state)
 followed-renews (Wait msrv) w = still-renews w.state _ (warned-still msrv w)
@@ -501,16 +538,19 @@ built-alter tells true w =
     let roots = w.state.sources.roots in
     let crates = crate_data w.state.client.settings w.state.files.ids w.state.workspaces.present in
     IfOk-within files_in with_files (crates_put roots crates) w (AltersTo tells w)
-    (IfOk-weaker _ (PutsCrates roots crates (record { state = w.state.files; out = w.out })) _ (crates-put roots crates (record { state = w.state.files; out = w.out }))
+    (IfOk-weaker _ (PutsCrates roots crates (record { state = w.state.files; out = w.out })) _
+    (crates-put roots crates (record { state = w.state.files; out = w.out }))
     (λ v p. crates-alter tells crates w.state v.state p.is))
 
-switched-behind : (tells : Bool) (made : Result (Follows × Workspaces) Counter) (w : Working State) → IfOk (switched_to made w) (λ v. Behind tells w.state v.state)
-unfolding switched_to
+switched-behind : (tells : Bool) (made : Result (Follows × Workspaces) Counter) (w : Working State)
+    → IfOk (switch_taken made w) (λ v. Behind tells w.state v.state)
+unfolding switch_taken
 switched-behind tells (Err counter) w = tt
 switched-behind tells (Ok made) w =
     let now : Working State = at_workspaces (λ before. made.1) w in
     let built = builds_crates w.state.client.settings made.0 in
-    IfOk-and_then (followed made.0 now) (crates_built built) (λ v. Renews now.state v.state) (λ v. Behind tells w.state v.state) (followed-renews made.0 now)
+    IfOk-and_then (switch_followed made.0 now) (crates_built built) (λ v. Renews now.state v.state) (λ v. Behind tells w.state v.state)
+    (followed-renews made.0 now)
     (λ v r. IfOk-weaker (crates_built built v) (AltersTo tells v) (λ u. Behind tells w.state u.state) (built-alter tells built v)
     (λ u a. record { mid = v.state; renews = renews-behind w.state now.state v.state (workspaces-still (λ before. made.1) w) r; alters = a }))
 
@@ -522,7 +562,8 @@ switch-behind tells w = switched-behind tells (switch_made w.state.client.settin
 
 done-alter : (tells : Bool) (w : Working State) → IfOk (files_done w) (AltersTo tells w)
 unfolding files_done
-done-alter tells w = IfOk-if w.state.files.loading (Ok w) (files_processed w) (AltersTo tells w) (alters-still tells w.state w.state (still-none w.state)) (files-alter tells w)
+done-alter tells w = IfOk-if w.state.files.loading (Ok w) (files_processed w) (AltersTo tells w) (alters-still tells w.state w.state (still-none w.state))
+    (files-alter tells w)
 
 refreshed-still : (can : Capabilities) (w : Working State) → IfOk (refreshed can w) (StillTo w)
 unfolding refreshed
@@ -559,7 +600,8 @@ build-still w = handed (build_due w.state.workspaces)
     handed : (version : Option ℕ) → IfOk (build_handed_over version v) (StillTo w)
     handed None = workspaces-still with_due_build w
     handed (Some version) =
-        IfOk-weaker _ (StillTo v) (StillTo w) (desk-still (handed_over (snapshot_of v.state) Worker (FetchBuildData version)) v) (λ u q. still-on w.state v.state u.state (workspaces-still with_due_build w) q)
+        IfOk-weaker _ (StillTo v) (StillTo w) (desk-still (handed_over (snapshot_of v.state) Worker (FetchBuildData version)) v)
+        (λ u q. still-on w.state v.state u.state (workspaces-still with_due_build w) q)
 
 load-still : (build : Option ℕ) (w : Working State) → IfOk (load_started build w) (StillTo w)
 unfolding load_started load_handed_over
@@ -590,21 +632,24 @@ status-still w =
     let status : Status = status_now w.state.client w.state.files w.state.workspaces in
     still-then (status_changed status w) (λ v. Ok (record v { state = with_status status v.state })) w
     (IfOk-if (is_same_status w.state.status status) (Ok w) (status_told status w) (StillTo w) (still-none w.state)
-    (IfOk-if (takes_status w.state.client.settings) _ _ (StillTo w) (still-none w.state) (shown-still (opens_logs w.state.client.settings w.state.workspaces) (shown_of status) w)))
+    (IfOk-if (takes_status w.state.client.settings) _ _ (StillTo w) (still-none w.state)
+    (shown-still (opens_logs w.state.client.settings w.state.workspaces) (shown_of status) w)))
     (λ v. record { host = refl; sources = refl; settings = refl; errors = refl })
 
 timer-still : (w : Working State) → StillTo w (timer_set w)
 unfolding timer_set
-timer-still w = still-if (fires w.state.desk.turns w.state.workspaces.fetches.waiting) w (ordered (SetTimer w.state.desk.turns) w) w (ordered-still _ w) (still-none w.state)
+timer-still w = still-if (fires w.state.desk.turns w.state.workspaces.fetches.waiting) w (ordered (SetTimer w.state.desk.turns) w) w (ordered-still _ w)
+    (still-none w.state)
 
 revised-still : (before : ℕ) (w : Working State) → StillTo w (revised before w)
 unfolding revised
-revised-still before w = still-if (w.state.files.host.revision == before) w w (ordered (Revise w.state.files.host.revision) w) (still-none w.state) (ordered-still _ w)
+revised-still before w = still-if (w.state.files.host.revision == before) w w (ordered (Revise w.state.files.host.revision) w) (still-none w.state)
+    (ordered-still _ w)
 
-closed-turn-still : (facts : Facts) (w : Working State) → IfOk (closed facts w) (StillTo w)
-unfolding kept
+closed-turn-still : (facts : Facts) (w : Working State) → IfOk (turn_closed facts w) (StillTo w)
+unfolding desk_kept
 closed-turn-still facts w =
-    still-then (kept facts.ordered w) (λ v. Ok (timer_set (revised facts.revision v))) w (desk-still (λ d. Ok (kept_at_desk facts.ordered d)) w)
+    still-then (desk_kept facts.ordered w) (λ v. Ok (timer_set (revised facts.revision v))) w (desk-still (λ d. Ok (kept_at_desk facts.ordered d)) w)
     (λ v. still-on v.state (revised facts.revision v).state _ (revised-still facts.revision v) (timer-still (revised facts.revision v)))
 
 -- ---- whole turns
@@ -613,32 +658,40 @@ closed-turn-still facts w =
 abbrev pub Turns : (State → State → Type 0) → Working Turning → Working Turning → Type 0
 Turns R t v = R t.state.state v.state.state
 
-pub in-state : (R : State → State → Type 0) (part : Working State → Result (Working State) Counter) (t : Working Turning) → IfOk (part (record { state = t.state.state; out = t.out })) (λ v. R t.state.state v.state)
+pub in-state : (R : State → State → Type 0) (part : Working State → Result (Working State) Counter) (t : Working Turning)
+    → IfOk (part (record { state = t.state.state; out = t.out })) (λ v. R t.state.state v.state)
     → IfOk (in_state part t) (Turns R t)
 in-state R part t h = IfOk-within state_in with_state part t (Turns R t) h
 
 -- one more part that lets nothing in
-then-still : (R : State → State → Type 0) (on : (s t u : State) → R s t → Still t u → R s u) (t : Working Turning) (r : Result (Working Turning) Counter) (f : Working Turning → Result (Working Turning) Counter)
+then-still : (R : State → State → Type 0) (on : (s t u : State) → R s t → Still t u → R s u) (t : Working Turning) (r : Result (Working Turning) Counter)
+    (f : Working Turning → Result (Working Turning) Counter)
     → IfOk r (Turns R t) → ((v : Working Turning) → IfOk (f v) (Turns Still v)) → IfOk (and_then r f) (Turns R t)
 then-still R on t r f first next =
-    IfOk-and_then r f (Turns R t) (Turns R t) first (λ v p. IfOk-weaker (f v) (Turns Still v) (Turns R t) (next v) (λ u q. on t.state.state v.state.state u.state.state p q))
+    IfOk-and_then r f (Turns R t) (Turns R t) first (λ v p.
+    IfOk-weaker (f v) (Turns Still v) (Turns R t) (next v) (λ u q. on t.state.state v.state.state u.state.state p q))
 
-still-part : (part : Working State → Result (Working State) Counter) (t : Working Turning) → IfOk (part (record { state = t.state.state; out = t.out })) (StillTo (record { state = t.state.state; out = t.out }))
+still-part : (part : Working State → Result (Working State) Counter) (t : Working Turning)
+    → IfOk (part (record { state = t.state.state; out = t.out })) (StillTo (record { state = t.state.state; out = t.out }))
     → IfOk (in_state part t) (Turns Still t)
 still-part part t h = in-state Still part t h
 
 -- the parts behind the files
 last-still : (event : Event) (t : Working Turning)
-    → IfOk (and_then (quiet_part t) (λ t. and_then (publish_part t) (λ t. and_then (fetch_part (Next event) t) (λ t. and_then (build_part t) (λ t. and_then (prime_part t) (λ t. and_then (status_part t) closing_part))))))
+    → IfOk (and_then (quiet_part t) (λ t. and_then (publish_part t)
+    (λ t. and_then (fetch_part (Next event) t) (λ t. and_then (build_part t) (λ t. and_then (prime_part t) (λ t. and_then (status_part t) closing_part))))))
     (Turns Still t)
 unfolding quiet_part fetch_part build_part status_part closing_part
 last-still event t =
     rest (quiet_part t) _ t (still-part (quiet_done t.state.facts) t (quiet-still t.state.facts _))
-    (λ t. rest (fetch_part (Next event) t) _ t (still-part (fetch_started (may_start (Next event) t.state.state.client.settings)) t (fetch-still (may_start (Next event) t.state.state.client.settings) _))
+    (λ t. rest (fetch_part (Next event) t) _ t (still-part (fetch_started (may_start (Next event) t.state.state.client.settings)) t
+    (fetch-still (may_start (Next event) t.state.state.client.settings) _))
     (λ t. rest (build_part t) _ t (still-part runs_started t (runs-still _))
-    (λ t. rest (status_part t) closing_part t (still-part status_done t (status-still _)) (λ t. still-part (closed t.state.facts) t (closed-turn-still t.state.facts _)))))
+    (λ t. rest (status_part t) closing_part t (still-part status_done t (status-still _))
+    (λ t. still-part (turn_closed t.state.facts) t (closed-turn-still t.state.facts _)))))
   where
-    rest : (r : Result (Working Turning) Counter) (f : Working Turning → Result (Working Turning) Counter) (t : Working Turning) → IfOk r (Turns Still t) → ((v : Working Turning) → IfOk (f v) (Turns Still v))
+    rest : (r : Result (Working Turning) Counter) (f : Working Turning → Result (Working Turning) Counter) (t : Working Turning) → IfOk r (Turns Still t)
+        → ((v : Working Turning) → IfOk (f v) (Turns Still v))
         → IfOk (and_then r f) (Turns Still t)
     rest r f t first next = then-still Still still-on t r f first next
 
@@ -654,18 +707,22 @@ later-behind tells event t =
     IfOk-and_then (switch_part t) _ (Turns (Behind tells) t) (Turns (Behind tells) t) (in-state (Behind tells) switch_done t (switch-behind tells _))
     (λ v b. IfOk-and_then (files_part v) _ (Turns (Alters tells) v) (Turns (Behind tells) t) (files-part tells v)
     (λ u a. IfOk-weaker _ (Turns Still u) (Turns (Behind tells) t) (last-still event u)
-    (λ x still. behind-on tells t.state.state v.state.state x.state.state b (alters-on tells v.state.state u.state.state x.state.state a (alters-still tells u.state.state x.state.state still)))))
+    (λ x still. behind-on tells t.state.state v.state.state x.state.state b
+    (alters-on tells v.state.state u.state.state x.state.state a (alters-still tells u.state.state x.state.state still)))))
 
 start-still : (t : Working Turning) → IfOk (start_parts t) (Turns Still t)
 unfolding status_part register_part begin_part fetch_part closing_part saves_registered begun_fetches
 start-still t =
     rest (status_part t) _ t (still-part status_done t (status-still _))
     (λ t. rest (register_part t) _ t (still-part saves_registered t (asked_if-still _ _ _))
-    (λ t. rest (begin_part t) _ t (still-part begun_fetches t (workspaces-still (with_fetches (start_up (discovers t.state.state.client.settings))) (record { state = t.state.state; out = t.out })))
-    (λ t. rest (fetch_part Start t) closing_part t (still-part (fetch_started (may_start Start t.state.state.client.settings)) t (fetch-still (may_start Start t.state.state.client.settings) _))
-    (λ t. still-part (closed t.state.facts) t (closed-turn-still t.state.facts _)))))
+    (λ t. rest (begin_part t) _ t (still-part begun_fetches t
+    (workspaces-still (with_fetches (start_up (discovers t.state.state.client.settings))) (record { state = t.state.state; out = t.out })))
+    (λ t. rest (fetch_part Start t) closing_part t (still-part (fetch_started (may_start Start t.state.state.client.settings)) t
+    (fetch-still (may_start Start t.state.state.client.settings) _))
+    (λ t. still-part (turn_closed t.state.facts) t (closed-turn-still t.state.facts _)))))
   where
-    rest : (r : Result (Working Turning) Counter) (f : Working Turning → Result (Working Turning) Counter) (t : Working Turning) → IfOk r (Turns Still t) → ((v : Working Turning) → IfOk (f v) (Turns Still v))
+    rest : (r : Result (Working Turning) Counter) (f : Working Turning → Result (Working Turning) Counter) (t : Working Turning) → IfOk r (Turns Still t)
+        → ((v : Working Turning) → IfOk (f v) (Turns Still v))
         → IfOk (and_then r f) (Turns Still t)
     rest r f t first next = then-still Still still-on t r f first next
 
@@ -687,9 +744,10 @@ step-alters meaning Start s =
 step-alters meaning (Next event) s =
     let tells = tells_settings (Next event) in
     let t : Working Turning = turning (begun s) in
-    IfOk-and_then (and_then (event_part meaning event t) (later_parts (Next event))) turned (λ v. Altered (Next event) s v.state.state) (λ v. Altered (Next event) s v.state)
+    IfOk-and_then (and_then (event_part meaning event t) (later_parts (Next event))) turned (λ v. Altered (Next event) s v.state.state)
+    (λ v. Altered (Next event) s v.state)
     (IfOk-and_then (event_part meaning event t) (later_parts (Next event)) (Turns (Alters tells) t) (λ v. Altered (Next event) s v.state.state)
-    (in-state (Alters tells) (taken_in meaning event) t (event-alters meaning event _))
+    (in-state (Alters tells) (event_taken meaning event) t (event-alters meaning event _))
     (λ v a. IfOk-weaker (later_parts (Next event) v) (Turns (Behind tells) v) (λ u. Altered (Next event) s u.state.state) (later-behind tells event v)
     (λ u b. record { behind_event = v.state.state; event = a; behind = b })))
     (λ v a. a)

@@ -16,12 +16,14 @@ use Rattle.session_port.specs.Written.{Written}
 use Rattle.desk.specs.Meaning.{Meaning}
 use Rattle.desk_laws.proofs.Results.{IfOk-and_then, IfOk-weaker}
 use Rattle.session_files.specs.SessionFiles.{SessionFiles}
-use Rattle.workspaces.specs.Switching.{last_loader_version, asks_build, decided, followed as workspaces_followed, next_version, presents, renewed_by, switch_to, switched}
+use Rattle.workspaces.specs.Switching.{last_loader_version, asks_build, decided, followed as workspaces_followed, next_version, presents, renewed_by, switch_to}
+use Rattle.workspaces.specs.Switching.{switched}
 use Rattle.workspaces.specs.Workspaces.{Workspaces}
 use Rattle.workspaces.specs.declared.follows.Follows.{Follows}
 use Rattle.workspaces.specs.declared.follows.Follows.TheVariants.{Nothing, CrateData, Wait, GoOn}
 use Rattle.session_model.specs.Crates.{Numbers, builds_crates, crates_sought, followed_by, waits, with_crates}
-use Rattle.session_model.specs.Machine.{at_workspaces, closed, crates_built, followed, loader_set, roots_renewed, step, switch_done, switched_to, taken_in, warned, watchers_registered}
+use Rattle.session_model.specs.Machine.{at_workspaces, turn_closed, crates_built, switch_followed, loader_set, roots_renewed, step, switch_done, switch_taken}
+use Rattle.session_model.specs.Machine.{event_taken, warned, watchers_registered}
 use Rattle.session_model.specs.Run.{Runs, Turn, begun}
 use Rattle.session_model.specs.State.{State, builds_scripts, discovers, fresh}
 use Rattle.session_model.specs.Switching.{is_switch_due, switch_by, switch_made, unless_exhausted}
@@ -125,7 +127,8 @@ asked-same false workspaces = refl
 renewed-next : (new : List ProjectWorkspace) (msrv : List (List ℕ)) (asks goes_on : Bool) (workspaces : Workspaces)
     → MayMakeNext workspaces.loader_version (renewed_by new msrv asks goes_on workspaces)
 renewed-next new msrv asks goes_on workspaces =
-    renewed-cases msrv (is_empty workspaces.present) goes_on workspaces.loader_version (asks_build asks (presents new workspaces)) (asked-same asks (presents new workspaces))
+    renewed-cases msrv (is_empty workspaces.present) goes_on workspaces.loader_version (asks_build asks (presents new workspaces))
+    (asked-same asks (presents new workspaces))
 
 to-next : (to : Switch) (workspaces : Workspaces) → MayMakeNext workspaces.loader_version (switch_to to workspaces)
 to-next switch.End workspaces = refl
@@ -149,7 +152,8 @@ built-next : (settings : ConfigData) (numbers : Numbers) (before : ℕ) (follows
 built-next settings numbers before Nothing workspaces next = next
 built-next settings numbers before CrateData workspaces next = sought-same (waits settings false) settings numbers workspaces ∙ next
 built-next settings numbers before (Wait msrv) workspaces next = next
-built-next settings numbers before (GoOn msrv version initial) workspaces next = (next.0, sought-same (waits settings initial) settings numbers workspaces ∙ next.1)
+built-next settings numbers before (GoOn msrv version initial) workspaces next =
+    (next.0, sought-same (waits settings initial) settings numbers workspaces ∙ next.1)
 
 crates-next : (settings : ConfigData) (files : SessionFiles) (before : ℕ) (made : Option (Follows × Workspaces)) → MayMakeNext before made
     → IfOk (with_crates settings files (unless_exhausted made)) (MakesNext before)
@@ -161,7 +165,8 @@ made-next : (settings : ConfigData) (files : SessionFiles) (workspaces : Workspa
 made-next settings files workspaces = by (is_switch_due files workspaces)
   where
     by : (due : Bool)
-        → IfOk (if due then with_crates settings files (unless_exhausted (switch_by settings workspaces)) else Ok (Nothing, workspaces)) (MakesNext workspaces.loader_version)
+        → IfOk (if due then with_crates settings files (unless_exhausted (switch_by settings workspaces)) else Ok (Nothing, workspaces))
+        (MakesNext workspaces.loader_version)
     by true =
         crates-next settings files workspaces.loader_version (switch_by settings workspaces)
         (by-next (ltb workspaces.version (2 ^ 64 - 1)) (discovers settings) (builds_scripts settings) workspaces)
@@ -192,14 +197,15 @@ unfolding roots_renewed loader_set ordered
 given-next before count version w next now rises = record {
   count = suc count;
   version = next-count before count (version_in w) now;
-  given = filter_map-append loader_version w.out.commands _ ∙ (λ i. rises i ++ next-place before count version next i ∷ []) ∙ sym (range-more (before + 1) count);
+  given = filter_map-append loader_version w.out.commands _ ∙ (λ i. rises i ++ next-place before count version next i ∷ [])
+      ∙ sym (range-more (before + 1) count);
 }
 
 -- what follows a switch that has left these workspaces
 follows-rise : (before count : ℕ) (follows : Follows) (w : Working State) → IsNext (before + count) follows (version_in w)
     → given_in w ≡ range_with_len (before + 1) count
-    → IfOk (followed follows w) (Rises before)
-unfolding followed watchers_registered
+    → IfOk (switch_followed follows w) (Rises before)
+unfolding switch_followed watchers_registered
 follows-rise before count Nothing w next rises = record { count = count; version = next; given = rises }
 follows-rise before count CrateData w next rises = record { count = count; version = next; given = rises }
 follows-rise before count (Wait msrv) w next rises =
@@ -207,31 +213,35 @@ follows-rise before count (Wait msrv) w next rises =
 follows-rise before count (GoOn msrv version initial) w next rises =
     let v : Working State = warned msrv w in
     let warns = warned-owes SameVersions same-versions msrv w in
-    IfOk-and_then (watchers_registered v) (λ u. Ok (roots_renewed (loader_set version u))) (SameVersions v) (Rises before) (asked_if-owes SameVersions same-versions _ _ v)
+    IfOk-and_then (watchers_registered v) (λ u. Ok (roots_renewed (loader_set version u))) (SameVersions v) (Rises before)
+    (asked_if-owes SameVersions same-versions _ _ v)
     (λ u same. given-next before count version u next.0 (same.version ∙ warns.version ∙ next.1) (same.given ∙ warns.given ∙ rises))
 
 made-rises : (before : ℕ) (made : Result (Follows × Workspaces) Counter) (w : Working State) → (r : Rises before w) → IfOk made (MakesNext (version_in w))
-    → IfOk (switched_to made w) (Rises before)
-unfolding switched_to
+    → IfOk (switch_taken made w) (Rises before)
+unfolding switch_taken
 made-rises before (Err counter) w rises next = tt
 made-rises before (Ok made) w rises next =
     let now : Working State = at_workspaces (λ before. made.1) w in
     let builds : Bool = builds_crates w.state.client.settings made.0 in
-    IfOk-and_then (followed made.0 now) (crates_built builds) (Rises before) (Rises before)
+    IfOk-and_then (switch_followed made.0 now) (crates_built builds) (Rises before) (Rises before)
     (follows-rise before rises.count made.0 now (subst (λ n. IsNext n made.0 made.1.loader_version) rises.version next) rises.given)
-    (λ v r. IfOk-weaker (crates_built builds v) (SameVersions v) (Rises before) (built-owes SameVersions same-versions builds v) (λ u same. rises-same before v u r same))
+    (λ v r. IfOk-weaker (crates_built builds v) (SameVersions v) (Rises before) (built-owes SameVersions same-versions builds v)
+    (λ u same. rises-same before v u r same))
 
 switch-rises : (before : ℕ) (w : Working State) → Rises before w → IfOk (switch_done w) (Rises before)
 unfolding switch_done
 switch-rises before w rises =
-    made-rises before (switch_made w.state.client.settings w.state.files w.state.workspaces) w rises (made-next w.state.client.settings w.state.files w.state.workspaces)
+    made-rises before (switch_made w.state.client.settings w.state.files w.state.workspaces) w rises
+    (made-next w.state.client.settings w.state.files w.state.workspaces)
 
 begun-rises : (s : State) → Rises s.workspaces.loader_version (begun s)
 begun-rises s = record { count = 0; version = omega arith; given = refl }
 
-closed-rises : (before : ℕ) (facts : Facts) (w : Working State) → Rises before w → IfOk (closed facts w) (Rises before)
+closed-rises : (before : ℕ) (facts : Facts) (w : Working State) → Rises before w → IfOk (turn_closed facts w) (Rises before)
 closed-rises before facts w rises =
-    IfOk-weaker (closed facts w) (SameVersions w) (Rises before) (closed-owes SameVersions same-versions (λ revision v. other-passes _ v refl) facts w) (λ v same. rises-same before w v rises same)
+    IfOk-weaker (turn_closed facts w) (SameVersions w) (Rises before) (closed-owes SameVersions same-versions (λ revision v. other-passes _ v refl) facts w)
+    (λ v same. rises-same before w v rises same)
 
 step-rises : (meaning : Meaning) (s : State) (input : Input) → IfOk (step meaning input (begun s)) (Rises s.workspaces.loader_version)
 step-rises meaning s input =
@@ -242,8 +252,9 @@ step-rises meaning s input =
     first : (input : Input) → Begins meaning s input (Rises s.workspaces.loader_version)
     first Start = begun-rises s
     first (Next event) =
-        IfOk-weaker (taken_in meaning event (begun s)) (SameVersions (begun s)) (Rises s.workspaces.loader_version)
-        (event-owes SameVersions same-versions (λ path w. other-passes _ w refl) meaning event (begun s)) (λ v same. rises-same s.workspaces.loader_version (begun s) v (begun-rises s) same)
+        IfOk-weaker (event_taken meaning event (begun s)) (SameVersions (begun s)) (Rises s.workspaces.loader_version)
+        (event-owes SameVersions same-versions (λ path w. other-passes _ w refl) meaning event (begun s))
+        (λ v same. rises-same s.workspaces.loader_version (begun s) v (begun-rises s) same)
 
 -- ---- a run
 
@@ -266,13 +277,15 @@ runs-rise meaning s [] last runs = record {
 }
 runs-rise meaning s (turn ∷ turns) last (mid, steps, runs) =
     let before = s.workspaces.loader_version in
-    let here : Rises before (record { state = mid; out = record { messages = turn.messages; commands = turn.commands } }) = IfOk-at_ok (Rises before) steps (step-rises meaning s turn.input) in
+    let here : Rises before (record { state = mid; out = record { messages = turn.messages; commands = turn.commands } }) =
+    IfOk-at_ok (Rises before) steps (step-rises meaning s turn.input) in
     let rest : RunRises mid.workspaces.loader_version turns last = runs-rise meaning mid turns last runs in
     let start = starts-on before mid.workspaces.loader_version here.count here.version in
     record {
       count = here.count + rest.count;
       version = counts-on before mid.workspaces.loader_version last.workspaces.loader_version here.count rest.count here.version rest.version;
-      given = (λ i. here.given i ++ rest.given i) ∙ ap (λ k. range_with_len (before + 1) here.count ++ range_with_len k rest.count) start ∙ range-on (before + 1) here.count rest.count;
+      given = (λ i. here.given i ++ rest.given i) ∙ ap (λ k. range_with_len (before + 1) here.count ++ range_with_len k rest.count) start
+          ∙ range-on (before + 1) here.count rest.count;
     }
 
 -- over all runs from the beginning

@@ -25,7 +25,8 @@ use Rattle.session_model.specs.Building.{build_due, with_due_build}
 use Rattle.session_model.specs.Checking.{check_kind}
 use Rattle.session_model.specs.Fetching.{with_fetches}
 use Rattle.session_model.specs.Loading.{MacroPaths, load_due, load_kind, with_due_load}
-use Rattle.session_model.specs.Machine.{Turning, all_resumed, at_desk, at_workspaces, build_handed_over, build_part, build_started, closing_part, desk_in, event_part}
+use Rattle.session_model.specs.Machine.{Turning, all_resumed, at_desk, at_workspaces, build_handed_over, build_part, build_started, closing_part, desk_in}
+use Rattle.session_model.specs.Machine.{event_part}
 use Rattle.session_model.specs.Machine.{begin_part, fetch_handed_over, fetch_part, fetch_started, files_part}
 use Rattle.session_model.specs.Machine.{load_handed_over, load_started, prime_part, publish_part, quiet_part, register_part, resumed, runs_started}
 use Rattle.session_model.specs.Machine.{state_in, status_part, step, switch_part, turned, turning, with_desk, with_state, with_workspaces}
@@ -60,13 +61,15 @@ hands-none w v spawns desk = record { spawns = spawns ∙ sym (append-nil _); ha
 plus-first : (n : ℕ) (own : OwnJob) (first : List OwnJob) → n + 1 + length first ≡ n + length (own ∷ first)
 plus-first n own first = omega arith
 
-numbered-append : (given : ℕ) (first later : List OwnJob) → numbered_behind given (first ++ later) ≡ numbered_behind given first ++ numbered_behind (given + length first) later
+numbered-append : (given : ℕ) (first later : List OwnJob) → numbered_behind given (first ++ later) ≡ numbered_behind given first ++ numbered_behind
+    (given + length first) later
 numbered-append given [] later = ap (λ n. numbered_behind n later) (plus-none given)
 numbered-append given (own ∷ first) later =
     ap (λ (js : List Job). (record { number = given + 1; class = own.class; kind = own.kind; snapshot = own.snapshot }) ∷ js)
     (numbered-append (given + 1) first later ∙ ap (λ n. numbered_behind (given + 1) first ++ numbered_behind n later) (plus-first given own first))
 
-pub hands-on : (jobs : List Job) (given : ℕ) (first later : List OwnJob) (v u : Working State) → HandedOver jobs given first v → HandsOver v later u → HandedOver jobs given (first ++ later) u
+pub hands-on : (jobs : List Job) (given : ℕ) (first later : List OwnJob) (v u : Working State) → HandedOver jobs given first v → HandsOver v later u
+    → HandedOver jobs given (first ++ later) u
 hands-on jobs given first later v u p q = record {
   spawns = q.spawns ∙ ap (λ (js : List Job). js ++ numbered_behind v.state.desk.handed later) p.spawns
       ∙ append_assoc jobs (numbered_behind given first) (numbered_behind v.state.desk.handed later)
@@ -90,7 +93,8 @@ one-over kind w =
 pub checks-same : (desk : Desk) (s : State) (tasks : List DeferredTask) → checks_among_tasks (with_desk desk s) tasks ≡ checks_among_tasks s tasks
 checks-same desk s [] = refl
 checks-same desk s (CheckIfIndexed path ∷ tasks) = checks-same desk s tasks
-checks-same desk s (CheckProcMacroSources files ∷ tasks) = ap (λ (own : List OwnJob). own_job s (check_kind (snapshot_of s) files) ∷ own) (checks-same desk s tasks)
+checks-same desk s (CheckProcMacroSources files ∷ tasks) =
+    ap (λ (own : List OwnJob). own_job s (check_kind (snapshot_of s) files) ∷ own) (checks-same desk s tasks)
 
 pub checks-over : (tasks : List DeferredTask) (w : Working State) → IfOk (all_resumed tasks w) (HandsOver w (checks_among_tasks w.state tasks))
 unfolding resumed
@@ -99,7 +103,8 @@ checks-over (CheckIfIndexed path ∷ tasks) w = checks-over tasks w
 checks-over (CheckProcMacroSources files ∷ tasks) w =
     let kind : JobKind = check_kind (snapshot_of w.state) files in
     let first : OwnJob = own_job w.state kind in
-    IfOk-and_then (at_desk (handed_over (snapshot_of w.state) Worker kind) w) (all_resumed tasks) (λ v. HandsOver w (first ∷ []) v × (v.state ≡ with_desk v.state.desk w.state))
+    IfOk-and_then (at_desk (handed_over (snapshot_of w.state) Worker kind) w) (all_resumed tasks)
+    (λ v. HandsOver w (first ∷ []) v × (v.state ≡ with_desk v.state.desk w.state))
     (HandsOver w (first ∷ checks_among_tasks w.state tasks)) (one-over kind w)
     (λ v (hands, state). IfOk-weaker (all_resumed tasks v) (HandsOver v (checks_among_tasks v.state tasks)) _ (checks-over tasks v)
     (λ u more. hands-on (spawned w.out.commands) w.state.desk.handed (first ∷ []) (checks_among_tasks w.state tasks) v u hands
@@ -119,13 +124,19 @@ fetch-over may w = by_fetch (fetch_to_start may w.state.workspaces.fetches) refl
     now : Working State
     now = at_workspaces (with_fetches (start_fetch may)) w
 
-    by_fetch : (fetch : Option (List ℕ × FetchRequest)) → fetch_to_start may w.state.workspaces.fetches ≡ fetch → IfOk (fetch_handed_over fetch now) (FetchOver may w)
-    by_fetch None is = record { hands = subst (λ (o : Option (List ℕ × FetchRequest)). HandsOver w (fetch_job w.state o) now) (sym is) (hands-none w now refl refl); state = refl }
+    by_fetch : (fetch : Option (List ℕ × FetchRequest)) → fetch_to_start may w.state.workspaces.fetches ≡ fetch
+        → IfOk (fetch_handed_over fetch now) (FetchOver may w)
+    by_fetch None is = record {
+      hands = subst (λ (o : Option (List ℕ × FetchRequest)). HandsOver w (fetch_job w.state o) now) (sym is)
+          (hands-none w now refl refl);
+      state = refl;
+    }
     by_fetch (Some fetch) is =
         IfOk-weaker (at_desk (handed_over (snapshot_of now.state) Worker (fetch_kind now.state.client.settings fetch.1)) now) _ (FetchOver may w)
         (one-over (fetch_kind now.state.client.settings fetch.1) now)
         (λ v (hands, state). record {
-          hands = subst (λ (o : Option (List ℕ × FetchRequest)). HandsOver w (fetch_job w.state o) v) (sym is) (record { spawns = hands.spawns; handed = hands.handed });
+          hands = subst (λ (o : Option (List ℕ × FetchRequest)). HandsOver w (fetch_job w.state o) v) (sym is)
+              (record { spawns = hands.spawns; handed = hands.handed });
           state = state;
         })
 
@@ -164,7 +175,8 @@ load-over build w = by_load (load_due build w.state.workspaces)
     by_load : (load : Option MacroPaths) → IfOk (load_handed_over load now) (HandsOver w (load_job now.state load))
     by_load None = hands-none w now refl refl
     by_load (Some paths) =
-        IfOk-weaker (at_desk (handed_over (snapshot_of now.state) Worker (load_kind now.state.client.settings paths)) now) _ (HandsOver w (load_job now.state (Some paths)))
+        IfOk-weaker (at_desk (handed_over (snapshot_of now.state) Worker (load_kind now.state.client.settings paths)) now) _
+        (HandsOver w (load_job now.state (Some paths)))
         (one-over (load_kind now.state.client.settings paths) now) (λ v (hands, state). record { spawns = hands.spawns; handed = hands.handed })
 
 -- a run that starts is nothing to a load
@@ -179,7 +191,8 @@ pub load-due-same : (build : Option ℕ) (workspaces : Workspaces) → load_due 
 load-due-same None workspaces = refl
 load-due-same (Some version) workspaces = refl
 
-load-same : (desk : Desk) (s : State) (build : Option ℕ) → load_behind build (with_desk desk (with_workspaces (with_due_build s.workspaces) s)) ≡ load_behind build s
+load-same : (desk : Desk) (s : State) (build : Option ℕ) → load_behind build (with_desk desk (with_workspaces (with_due_build s.workspaces) s)) ≡ load_behind
+    build s
 load-same desk s build =
     load-job-same desk s build (load_due build (with_due_build s.workspaces))
     ∙ ap (load_job (with_workspaces (with_due_load build s.workspaces) s)) (load-due-same build s.workspaces)
@@ -199,7 +212,8 @@ build-job-same desk s None = refl
 build-job-same desk s (Some version) = refl
 
 load-desk-same : (desk : Desk) (s : State) (build : Option ℕ) (load : Option MacroPaths)
-    → load_job (with_workspaces (with_due_load build s.workspaces) (with_desk desk s)) load ≡ load_job (with_workspaces (with_due_load build s.workspaces) s) load
+    → load_job (with_workspaces (with_due_load build s.workspaces) (with_desk desk s)) load ≡ load_job (with_workspaces (with_due_load build s.workspaces) s)
+    load
 load-desk-same desk s build None = refl
 load-desk-same desk s build (Some paths) = refl
 
@@ -224,7 +238,8 @@ two-split : (r : Result (Working Turning) Counter) (f k : TurnPart) → and_then
 two-split (Ok a) f k = refl
 two-split (Err counter) f k = refl
 
-three-split : (r : Result (Working Turning) Counter) (f g k : TurnPart) → and_then r (λ a. and_then (f a) (λ b. and_then (g b) k)) ≡ and_then (and_then r (λ a. and_then (f a) g)) k
+three-split : (r : Result (Working Turning) Counter) (f g k : TurnPart)
+    → and_then r (λ a. and_then (f a) (λ b. and_then (g b) k)) ≡ and_then (and_then r (λ a. and_then (f a) g)) k
 three-split (Ok a) f g k = two-split (f a) g k
 three-split (Err counter) f g k = refl
 
@@ -245,7 +260,8 @@ unfolding step
 step-split meaning Start s =
     ap (λ r. and_then r turned) (three-split (status_part (turning (begun s))) register_part begin_part (parts_from_fetch Start))
 step-split meaning (Next event) s =
-    ap (λ r. and_then r turned) (five-split (event_part meaning event (turning (begun s))) switch_part files_part quiet_part publish_part (parts_from_fetch (Next event)))
+    ap (λ r. and_then r turned) (five-split (event_part meaning event (turning (begun s))) switch_part files_part quiet_part publish_part
+    (parts_from_fetch (Next event)))
 
 pub before-is : (meaning : Meaning) (input : Input) (s : State) (t : Working Turning) → parts_before_fetch meaning input (turning (begun s)) ≡ Ok t
     → before_fetch meaning input s ≡ t.state.state
@@ -256,7 +272,8 @@ abbrev pub fetch_begun : Input → State → State
 fetch_begun input s = with_workspaces (with_fetches (start_fetch (may_start input s.client.settings)) s.workspaces) s
 
 -- the work that is due behind the fetch is due there
-pub fetch_part-leaves : (input : Input) (t : Working Turning) → IfOk (fetch_part input t) (λ u. run_jobs u.state.state ≡ run_jobs (fetch_begun input t.state.state))
+pub fetch_part-leaves : (input : Input) (t : Working Turning)
+    → IfOk (fetch_part input t) (λ u. run_jobs u.state.state ≡ run_jobs (fetch_begun input t.state.state))
 unfolding fetch_part
 fetch_part-leaves input t =
     let may : Bool = may_start input t.state.state.client.settings in

@@ -21,7 +21,8 @@ use Rattle.client.specs.Steps.{answered, folders_changed}
 use Rattle.desk.specs.Meaning.{Meaning}
 use Rattle.desk_laws.proofs.Results.{IfOk-and_then, IfOk-weaker, IfOk-within}
 use Rattle.session_model.specs.Hearing.{heard_of, told_by}
-use Rattle.session_model.specs.Machine.{answer_taken, at_client, client_in, counted, event_part, folders_taken, happened, later_parts, noticed, received, step, taken_in, told, turned, Turning, turning, with_client}
+use Rattle.session_model.specs.Machine.{answer_taken, at_client, client_in, turn_counted, event_part, folders_taken, happened, later_parts, noticed, received}
+use Rattle.session_model.specs.Machine.{step, event_taken, told, turned, Turning, turning, with_client}
 use Rattle.session_model.specs.Rows.{turn_begun}
 use Rattle.session_model.specs.Run.{Runs, Steps, Turn, begun}
 use Rattle.session_model.specs.State.{Sources, State, fresh}
@@ -94,7 +95,8 @@ alters-takes : (tells : Bool) (s t : State) → Alters tells s t → AreOthers s
 alters-takes tells s t a are = by a.parents
   where
     either : parents_in t ≡ parents_after s.sources.parents (parents_in s)
-        → (parents_after s.sources.parents (parents_in s) ≡ parents_in s) ⊎ (parents_after s.sources.parents (parents_in s) ≡ parents_of (parent_map s.sources.roots)) → Takes s t
+        → (parents_after s.sources.parents (parents_in s) ≡ parents_in s)
+        ⊎ (parents_after s.sources.parents (parents_in s) ≡ parents_of (parent_map s.sources.roots)) → Takes s t
     either is (inl same) = inl (is ∙ same)
     either is (inr roots) = inr (is ∙ roots)
 
@@ -107,7 +109,8 @@ alters-takes tells s t a are = by a.parents
 turn-others : (input : Input) (s t : State) → Altered input s t → AreOthers s → AreOthers t
 turn-others input s t a are =
     let tells = tells_settings input in
-    alters-others tells a.behind.mid t a.behind.alters (renews-others a.behind_event a.behind.mid a.behind.renews (alters-others tells s a.behind_event a.event are))
+    alters-others tells a.behind.mid t a.behind.alters (renews-others a.behind_event a.behind.mid a.behind.renews
+    (alters-others tells s a.behind_event a.event are))
 
 runs-others : (meaning : Meaning) (s : State) (turns : List Turn) (last : State) → Runs meaning s turns last → AreOthers s → AreOthers last
 runs-others meaning s [] last runs are = subst AreOthers (sym runs) are
@@ -123,7 +126,11 @@ others-wait s are =
     let pairs = parent_map s.sources.roots in
     let decides = has_parents_if_equal (parents_in s) pairs in
     record {
-      waits = ((λ none. decides.0 (none-others (has_parents (parents_in s) pairs) pairs (sym are ∙ none))), λ has. are ∙ others-none (parents_in s) s.sources.roots has);
+      waits = (
+        (λ none. decides.0 (none-others (has_parents (parents_in s) pairs) pairs (sym are ∙ none))),
+        λ has. are
+            ∙ others-none (parents_in s) s.sources.roots has,
+      );
       those = λ some is. some-others (has_parents (parents_in s) pairs) some pairs (sym is ∙ are);
     }
 
@@ -207,20 +214,35 @@ record EventTells (client : Client) (s t : State) : Type 0 where
 response-tells : (r : Response) (s : State) → IfOk (answer_taken r (turn_begun s)) (λ v. EventTells (after_answer r s.client) s v.state)
 response-tells r s =
     let w : Working State = turn_begun s in
-    IfOk-and_then (at_client (λ c. Ok (answered r c)) w) _ (λ v. EventTells (after_answer r s.client) s v.state) (λ v. EventTells (after_answer r s.client) s v.state)
+    IfOk-and_then (at_client (λ c. Ok (answered r c)) w) _ (λ v. EventTells (after_answer r s.client) s v.state)
+    (λ v. EventTells (after_answer r s.client) s v.state)
     (IfOk-within client_in with_client (λ c. Ok (answered r c)) w (λ v. EventTells (after_answer r s.client) s v.state)
     (let d = answered-does r (record { state = s.client; out = w.out }) in
-    record { host = refl; sources = refl; parents = ap (λ (c : Client). c.settings.settings.parents) d.is ∙ after-parents (follows r.id s.client.asked) r s.client.settings; has = record { settings = ap (λ (c : Client). c.settings) d.is; errors = ap (λ (c : Client). c.errors) d.is } }))
+    record {
+      host = refl;
+      sources = refl;
+      parents = ap (λ (c : Client). c.settings.settings.parents) d.is
+          ∙ after-parents (follows r.id s.client.asked) r s.client.settings;
+      has =
+          record { settings = ap (λ (c : Client). c.settings) d.is; errors = ap (λ (c : Client). c.errors) d.is };
+    }))
     (λ v e. record { host = e.host; sources = e.sources; parents = e.parents; has = record { settings = e.has.settings; errors = e.has.errors } })
 
 folders-tell : (added removed : List (List ℕ)) (s : State)
     → IfOk (folders_taken added removed (turn_begun s)) (λ v. EventTells (after_folders added removed s.client) s v.state)
 folders-tell added removed s =
     let w : Working State = turn_begun s in
-    IfOk-and_then (at_client (λ c. Ok (folders_changed added removed c)) w) _ (λ v. EventTells (after_folders added removed s.client) s v.state) (λ v. EventTells (after_folders added removed s.client) s v.state)
+    IfOk-and_then (at_client (λ c. Ok (folders_changed added removed c)) w) _ (λ v. EventTells (after_folders added removed s.client) s v.state)
+    (λ v. EventTells (after_folders added removed s.client) s v.state)
     (IfOk-within client_in with_client (λ c. Ok (folders_changed added removed c)) w (λ v. EventTells (after_folders added removed s.client) s v.state)
     (let d = folders-do added removed (record { state = s.client; out = w.out }) in
-    record { host = refl; sources = refl; parents = ap (λ (c : Client). c.settings.settings.parents) d.is; has = record { settings = ap (λ (c : Client). c.settings) d.is; errors = ap (λ (c : Client). c.errors) d.is } }))
+    record {
+      host = refl;
+      sources = refl;
+      parents = ap (λ (c : Client). c.settings.settings.parents) d.is;
+      has =
+          record { settings = ap (λ (c : Client). c.settings) d.is; errors = ap (λ (c : Client). c.errors) d.is };
+    }))
     (λ v e. record { host = e.host; sources = e.sources; parents = e.parents; has = record { settings = e.has.settings; errors = e.has.errors } })
 
 notice-tells : (notice : Notice) (s : State) → tells_folders (Some notice) ≡ true
@@ -260,11 +282,11 @@ happened-tells meaning (Deferred tasks) s tells = absurd (true≢false (sym tell
 happened-tells meaning (Timer ticket) s tells = absurd (true≢false (sym tells))
 
 event-tells : (meaning : Meaning) (event : Event) (s : State) → tells_settings (Next event) ≡ true
-    → IfOk (taken_in meaning event (begun s)) (λ v. EventTells (as_told (Next event) s.client) s v.state)
-unfolding taken_in
+    → IfOk (event_taken meaning event (begun s)) (λ v. EventTells (as_told (Next event) s.client) s v.state)
+unfolding event_taken
 event-tells meaning event s tells =
     let Goal : Working State → Type 0 = λ v. EventTells (as_told (Next event) s.client) s v.state in
-    IfOk-and_then (counted (begun s)) (happened meaning event) (λ v. v ≡ turn_begun s) Goal (counted-is s)
+    IfOk-and_then (turn_counted (begun s)) (happened meaning event) (λ v. v ≡ turn_begun s) Goal (counted-is s)
     (λ v is. subst (λ w. IfOk (happened meaning event w) Goal) (sym is) (happened-tells meaning event s tells))
 
 -- a turn whose input tells something of them: behind its event settings files and parents are filed as in any other
@@ -280,9 +302,11 @@ step-tells meaning Start s tells = absurd (true≢false (sym tells))
 step-tells meaning (Next event) s tells =
     let input : Input = Next event in
     let t : Working Turning = turning (begun s) in
-    IfOk-and_then (and_then (event_part meaning event t) (later_parts (Next event))) turned (λ v. TurnTells input s v.state.state) (λ v. TurnTells input s v.state)
-    (IfOk-and_then (event_part meaning event t) (later_parts (Next event)) (Turns (EventTells (as_told input s.client)) t) (λ v. TurnTells input s v.state.state)
-    (in-state (EventTells (as_told input s.client)) (taken_in meaning event) t (event-tells meaning event s tells))
+    IfOk-and_then (and_then (event_part meaning event t) (later_parts (Next event))) turned (λ v. TurnTells input s v.state.state)
+    (λ v. TurnTells input s v.state)
+    (IfOk-and_then (event_part meaning event t) (later_parts (Next event)) (Turns (EventTells (as_told input s.client)) t)
+    (λ v. TurnTells input s v.state.state)
+    (in-state (EventTells (as_told input s.client)) (event_taken meaning event) t (event-tells meaning event s tells))
     (λ v e. IfOk-weaker (later_parts (Next event) v) (Turns (Behind false) v) (λ u. TurnTells input s u.state.state) (later-behind false event v)
     (λ u b. record { behind_event = v.state.state; event = e; behind = b })))
     (λ v h. h)
@@ -320,7 +344,8 @@ told-change input s t a turn are =
       enters = subst (λ (h : HostData). Enters later.entries h t.files.host) (renews.host ∙ turn.event.host) later.enters;
       told = λ none before now.
           let has : HasParentsOf mid.client.settings mid.sources.roots =
-          ap (λ (c : ConfigData). c.settings.parents) renews.settings ∙ turn.event.parents ∙ now ∙ ap (λ (rs : List Root). parents_of (parent_map rs)) later.roots in
+          ap (λ (c : ConfigData). c.settings.parents) renews.settings ∙ turn.event.parents ∙ now
+          ∙ ap (λ (rs : List Root). parents_of (parent_map rs)) later.roots in
           let kept : KeepsSettings mid t = later.settings refl none ((others-wait mid others_mid).waits.1 has) in
           record { settings = kept.settings ∙ renews.settings ∙ turn.event.has.settings; errors = kept.errors ∙ renews.errors ∙ turn.event.has.errors };
       parents = turn-takes input s t a are;
@@ -340,4 +365,5 @@ settings-change meaning settings turns last turn new none runs steps = by (tells
 
     by : (tells : Bool) → tells_settings turn.input ≡ tells → ChangesAsTold turn.input last new
     by false silent = silent-change turn.input last new altered are silent
-    by true tells = told-change turn.input last new altered (IfOk-at_ok (λ (v : Working State). TurnTells turn.input last v.state) steps (step-tells meaning turn.input last tells)) are
+    by true tells = told-change turn.input last new altered
+        (IfOk-at_ok (λ (v : Working State). TurnTells turn.input last v.state) steps (step-tells meaning turn.input last tells)) are

@@ -19,7 +19,8 @@ use Rattle.session_port.specs.declared.command.Command.TheVariants.{Log}
 use Rattle.session_port.specs.declared.command.DeferredTask.{DeferredTask}
 use Rattle.session_port.specs.declared.command.Command.TheVariants.{Defer}
 use Rattle.session_port.specs.declared.command.LogCode.{LogCode}
-use Rattle.session_port.specs.declared.command.LogCode.TheVariants.{BadPath, DuplicateOpen, OrphanClose, SettingsError, SkippedChange, UnexpectedChange, UnknownResponse}
+use Rattle.session_port.specs.declared.command.LogCode.TheVariants.{BadPath, DuplicateOpen, OrphanClose, SettingsError, SkippedChange, UnexpectedChange}
+use Rattle.session_port.specs.declared.command.LogCode.TheVariants.{UnknownResponse}
 use Rattle.session_port.specs.declared.event.LoaderMsg.{LoaderMsg}
 use Rattle.session_port.specs.declared.event.TaskMsg.{TaskMsg}
 use Rattle.session_port.specs.declared.fault.Counter.{Counter}
@@ -39,7 +40,7 @@ use Rattle.notify.specs.declared.outgo.Outgo.TheVariants.{OpenLogs as OpenLogsMe
 use Rattle.desk.specs.Desk.{Desk}
 use Rattle.desk.specs.Meaning.{Meaning}
 use Rattle.desk.specs.Scene.{Scene}
-use Rattle.desk.specs.Steps.{cancelled, counted, handed_over, kept, requested, taken}
+use Rattle.desk.specs.Steps.{cancelled, counted, handed_over, jobs_kept, requested, taken}
 use Rattle.desk_laws.specs.Settled.{PassesOver}
 use Rattle.desk_laws.proofs.Appends.{passed-append}
 use Rattle.desk_laws.proofs.Results.{IfOk-next, IfOk-weaker}
@@ -84,7 +85,8 @@ pub requested-passes : (meaning : Meaning) (scene : Scene) (r : Request) (w : Wo
 requested-passes meaning scene r w = IfOk-weaker (requested meaning scene r w) _ (FromDesk w) (request-settles meaning scene r w) (λ v settled. settled.others)
 
 pub message-passes : (meaning : Meaning) (scene : Scene) (message : TaskMsg) (w : Working Desk) → IfOk (taken meaning scene message w) (FromDesk w)
-message-passes meaning scene message w = IfOk-weaker (taken meaning scene message w) _ (FromDesk w) (message-settles meaning scene message w) (λ v settled. settled.others)
+message-passes meaning scene message w = IfOk-weaker (taken meaning scene message w) _ (FromDesk w) (message-settles meaning scene message w)
+    (λ v settled. settled.others)
 
 pub cancelled-passes : (id : RequestId) (w : Working Desk) → FromDesk w (cancelled id w)
 cancelled-passes id w = (cancel-settles id w).others
@@ -98,8 +100,8 @@ pub counted-passes : (w : Working Desk) → IfOk (counted w) (FromDesk w)
 unfolding counted
 counted-passes w = IfOk-next w.state.turns Turns _ (FromDesk w) (passes-none w.out)
 
-pub kept-passes : (before : ℕ) (w : Working Desk) → FromDesk w (kept before w)
-unfolding kept
+pub kept-passes : (before : ℕ) (w : Working Desk) → FromDesk w (jobs_kept before w)
+unfolding jobs_kept
 kept-passes before w = passes-none w.out
 
 -- ---- what is agreed with the client
@@ -108,7 +110,8 @@ abbrev FromClient : Working Client → Working Client → Type 0
 FromClient w v = Passes w.out v.out
 
 asked-cases : (message : Outgo) (handler : ReqHandler) (w : Working Client) (b : Bool)
-    → IfOk (if b then Err Outgoing else Ok (written (request_at w.state.asked.given message) (record w { state = after_asking handler w.state }))) (FromClient w)
+    → IfOk (if b then Err Outgoing else Ok (written (request_at w.state.asked.given message) (record w { state = after_asking handler w.state })))
+    (FromClient w)
 unfolding written
 asked-cases message handler w true = tt
 asked-cases message handler w false = passes-none w.out
@@ -141,7 +144,8 @@ logs-pass number_of passes code (text ∷ texts) = rw (passes.logs code text) (l
 misses-pass : (number_of : Command → Option ℕ) (passes : PassesOver number_of) (commands : List Command) (urls : List (List ℕ))
     → filter_map number_of (commands ++ misses urls) ≡ filter_map number_of commands
 misses-pass number_of passes commands urls =
-    filter_map-append number_of commands (misses urls) ∙ ap (λ (ns : List ℕ). filter_map number_of commands ++ ns) (logs-pass number_of passes BadPath (filter names_none urls)) ∙ append-nil _
+    filter_map-append number_of commands (misses urls) ∙ ap (λ (ns : List ℕ). filter_map number_of commands ++ ns)
+    (logs-pass number_of passes BadPath (filter names_none urls)) ∙ append-nil _
 
 pub folders-pass : (added removed : List (List ℕ)) (w : Working Client) → FromClient w (folders_changed added removed w)
 unfolding folders_changed
@@ -160,13 +164,15 @@ become-passes (Err counter) w u passes = tt
 pub opened-passes : (excludes : List (List ℕ)) (path : List ℕ) (version : ℤ) (text : List ℕ) (w : Working SessionFiles)
     → IfOk (opened excludes path version text w) (FromFiles w)
 unfolding opened open_noted
-opened-passes excludes path version text w = become-passes (after_opening excludes path version text w.state) w _ (passes-if DuplicateOpen path (is_open path w.state) w)
+opened-passes excludes path version text w = become-passes (after_opening excludes path version text w.state) w _
+    (passes-if DuplicateOpen path (is_open path w.state) w)
 
 changed-cases : (columns : PositionEncoding) (path : List ℕ) (version : ℤ) (changes : List ContentChange) (w : Working SessionFiles) (b : Bool)
     → IfOk (if b then edited columns path version changes w else Ok (logged UnexpectedChange path w)) (FromFiles w)
 unfolding edited skip_noted
 changed-cases columns path version changes w true =
-    become-passes (after_editing columns path version changes w.state) w _ (passes-if SkippedChange path (has_skipped columns changes (finmap.get w.state.texts path)) w)
+    become-passes (after_editing columns path version changes w.state) w _
+    (passes-if SkippedChange path (has_skipped columns changes (finmap.get w.state.texts path)) w)
 changed-cases columns path version changes w false = passes-logged UnexpectedChange path w
 
 pub changed-passes : (columns : PositionEncoding) (path : List ℕ) (version : ℤ) (changes : List ContentChange) (w : Working SessionFiles)

@@ -44,28 +44,33 @@ as-turns Start version turns now gives le = omega (arith, gives, le)
 as-turns (Next event) version turns now gives le = omega (arith, gives, le)
 
 step-cases : (meaning : Meaning) (input : Input) (turns : ℕ) (s : State) (r : Result (Working State) Counter) → IfOk r (Closes meaning s input)
-    → Counts state_ahead (needs_of meaning input (place_of s)) (given s) r → IsInTurn turns s → IsInTurn (turns_after input turns) (result_unwrap_or r (begun s)).state
+    → Counts state_ahead (needs_of meaning input (place_of s)) (given s) r → IsInTurn turns s
+    → IsInTurn (turns_after input turns) (result_unwrap_or r (begun s)).state
 step-cases meaning input turns s (Ok v) closes counts h =
     let number : v.state.desk.turns ≡ turns_after input s.desk.turns = ap (λ (d : Desk). d.turns) closes.desk in
     record {
       counted = subst (λ n. n ≤ turns_after input turns) (sym number) (both-later input s.desk.turns turns h.counted);
-      versions = subst (λ n. v.state.workspaces.version ≤ n) (sym number) (as-turns input s.workspaces.version s.desk.turns v.state.workspaces.version counts.versions h.versions);
+      versions = subst (λ n. v.state.workspaces.version ≤ n) (sym number)
+          (as-turns input s.workspaces.version s.desk.turns v.state.workspaces.version counts.versions h.versions);
       waits = closes.waits h.waits;
     }
 step-cases meaning input turns s (Err counter) closes counts h =
     record { counted = at-most-on s.desk.turns turns (turns_after input turns) h.counted (later-turns input turns); versions = h.versions; waits = h.waits }
 
-all-in-turn : (meaning : Meaning) (turns : List Turn) (place : Place) → IsInTurn place.desk.turns place.rest → IsInTurn (place_after_all meaning turns place).desk.turns (place_after_all meaning turns place).rest
+all-in-turn : (meaning : Meaning) (turns : List Turn) (place : Place) → IsInTurn place.desk.turns place.rest
+    → IsInTurn (place_after_all meaning turns place).desk.turns (place_after_all meaning turns place).rest
 all-in-turn meaning [] place h = h
 all-in-turn meaning (turn ∷ turns) place h =
     all-in-turn meaning turns (place_after meaning turn place)
     (step-cases meaning turn.input place.desk.turns place.rest (step meaning turn.input (begun place.rest)) (step-closes meaning place.rest turn.input)
     (step-does meaning place.rest turn.input) h)
 
-placed-in-turn : (meaning : Meaning) (settings : ConfigData) (turns : List Turn) → IsInTurn (placed meaning settings turns).desk.turns (placed meaning settings turns).rest
+placed-in-turn : (meaning : Meaning) (settings : ConfigData) (turns : List Turn)
+    → IsInTurn (placed meaning settings turns).desk.turns (placed meaning settings turns).rest
 placed-in-turn meaning settings turns = all-in-turn meaning turns (beginning settings) (record { counted = omega arith; versions = omega arith; waits = tt })
 
-pub versions-in-turn : (meaning : Meaning) (settings : ConfigData) (turns : List Turn) → let place = placed meaning settings turns in place.rest.workspaces.version ≤ place.desk.turns
+pub versions-in-turn : (meaning : Meaning) (settings : ConfigData) (turns : List Turn) → let place =
+    placed meaning settings turns in place.rest.workspaces.version ≤ place.desk.turns
 versions-in-turn meaning settings turns =
     let place = placed meaning settings turns in
     let h = placed-in-turn meaning settings turns in
@@ -75,7 +80,8 @@ waits-later : (waiting : Option WaitingFetch) (turns more : ℕ) → turns ≤ m
 waits-later None turns more le h = tt
 waits-later (Some fetch) turns more le h = omega (arith, le, h)
 
-pub timers-in-turn : (meaning : Meaning) (settings : ConfigData) (turns : List Turn) → let place = placed meaning settings turns in IsOfTurns place.desk.turns place.rest.workspaces.fetches.waiting
+pub timers-in-turn : (meaning : Meaning) (settings : ConfigData) (turns : List Turn) → let place =
+    placed meaning settings turns in IsOfTurns place.desk.turns place.rest.workspaces.fetches.waiting
 timers-in-turn meaning settings turns =
     let place = placed meaning settings turns in
     let h = placed-in-turn meaning settings turns in

@@ -19,7 +19,8 @@ use Rattle.session_files.proofs.SoundLemmas.{processing_does, taken_none}
 use Rattle.workspaces.specs.Fetches.{is_served, waits_from}
 use Rattle.workspaces.specs.Workspaces.{Workspaces}
 use Rattle.workspaces.specs.declared.requests.FetchRequest.{FetchRequest}
-use Rattle.session_model.specs.Machine.{at_files, effects_done, fetch_waits, files_followed, files_in, files_processed, further_logged, settings_filed, sources_deferred}
+use Rattle.session_model.specs.Machine.{at_files, effects_done, fetch_waits, files_followed, files_in, files_processed, further_logged, settings_filed}
+use Rattle.session_model.specs.Machine.{sources_deferred}
 use Rattle.session_model.specs.Machine.{with_client, with_files, with_sources}
 use Rattle.session_model.specs.Sources.{change_for, client_with, further_files, parents_told}
 use Rattle.session_model.specs.State.{State}
@@ -48,7 +49,8 @@ unfolding further_logged logged ordered
 further-settles [] w = nothing-settles (at w)
 further-settles (path ∷ paths) w =
     let v : Working State = logged SecondSettingsFile path w in
-    settled-on (at w) (at v) (at (further_logged paths v)) silent silent w.state.desk.jobs w.state.desk.jobs (log-settles SecondSettingsFile path (at w)) (further-settles paths v)
+    settled-on (at w) (at v) (at (further_logged paths v)) silent silent w.state.desk.jobs w.state.desk.jobs (log-settles SecondSettingsFile path (at w))
+    (further-settles paths v)
 
 deferred-settles : (sources : Option (List FileId)) (w : Working State) → Settled None (at w) (at (sources_deferred sources w)) silent w.state.desk.jobs
 unfolding sources_deferred ordered
@@ -79,8 +81,10 @@ follows (change ∷ changes) w =
     let filed : Working State = further_logged (further_files settings) put in
     let same = deferred-same effects.macro_sources filed ∙ further-same (further_files settings) put in
     record {
-      desk = settled-on (at w) (at filed) (at (sources_deferred effects.macro_sources filed)) silent silent w.state.desk.jobs w.state.desk.jobs (further-settles (further_files settings) put)
-          (subst (λ (s : State). Settled None (at filed) (at (sources_deferred effects.macro_sources filed)) silent s.desk.jobs) (further-same (further_files settings) put)
+      desk = settled-on (at w) (at filed) (at (sources_deferred effects.macro_sources filed)) silent silent w.state.desk.jobs w.state.desk.jobs
+          (further-settles (further_files settings) put)
+          (subst (λ (s : State). Settled None (at filed) (at (sources_deferred effects.macro_sources filed)) silent s.desk.jobs)
+          (further-same (further_files settings) put)
           (deferred-settles effects.macro_sources filed));
       shows = subst (λ (s : State). ShowsSame w.state.workspaces (fetch_planned s.desk.turns effects.fetch s.workspaces)) (sym same)
           (planned-shows w.state.desk.turns effects.fetch w.state.workspaces);

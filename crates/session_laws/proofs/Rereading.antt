@@ -27,7 +27,8 @@ use Rattle.session_files.specs.Steps.{close_noted, closed as closed_document}
 use Rattle.workspaces.specs.Workspaces.{Workspaces}
 use Rattle.workspaces.specs.declared.follows.Follows.{Follows}
 use Rattle.session_model.specs.Hearing.{heard_of, told_by}
-use Rattle.session_model.specs.Machine.{at_workspaces, closed_at, counted, file_changed, files_changed, files_in, happened, loader_set, noticed, received, step, switch_done, switched_to, taken_in, told, with_files}
+use Rattle.session_model.specs.Machine.{at_workspaces, closed_at, turn_counted, file_changed, files_changed, files_in, happened, loader_set, noticed, received}
+use Rattle.session_model.specs.Machine.{step, switch_done, switch_taken, event_taken, told, with_files}
 use Rattle.session_model.specs.Run.{Steps, Turn, begun}
 use Rattle.session_model.specs.State.{State}
 use Rattle.session_model.specs.Switching.{switch_made}
@@ -79,7 +80,8 @@ file_number number command = option_map number (file_to_read command)
 
 numbers-are : (number : List ℕ → ℕ) (commands : List Command) → filter_map (file_number number) commands ≡ map number (filter_map file_to_read commands)
 numbers-are number [] = refl
-numbers-are number (command ∷ commands) = ap (cons_option (file_number number command)) (numbers-are number commands) ∙ by (file_to_read command) (filter_map file_to_read commands)
+numbers-are number (command ∷ commands) = ap (cons_option (file_number number command)) (numbers-are number commands)
+    ∙ by (file_to_read command) (filter_map file_to_read commands)
   where
     by : (file : Option (List ℕ)) (files : List (List ℕ)) → cons_option (option_map number file) (map number files) ≡ map number (cons_option file files)
     by None files = refl
@@ -88,7 +90,8 @@ numbers-are number (command ∷ commands) = ap (cons_option (file_number number 
 passes-files : (old new : Written) → Passes old new → filter_map file_to_read new.commands ≡ filter_map file_to_read old.commands
 passes-files old new passes =
     same-texts (filter_map file_to_read new.commands) (filter_map file_to_read old.commands)
-    (λ number. sym (numbers-are number new.commands) ∙ passes (file_number number) (record { jobs = λ job. refl; logs = λ code text. refl; defers = λ task. refl }) ∙ numbers-are number old.commands)
+    (λ number. sym (numbers-are number new.commands) ∙ passes (file_number number)
+    (record { jobs = λ job. refl; logs = λ code text. refl; defers = λ task. refl }) ∙ numbers-are number old.commands)
 
 -- the files that have been ordered to be read anew
 abbrev to_read : Working State → List (List ℕ)
@@ -189,8 +192,11 @@ told-reads (notices.DidOpen document) w none = plain-reads (notices.DidOpen docu
 told-reads (notices.DidChange change) w none = plain-reads (notices.DidChange change) w none (told-owes SameFiles same-files (notices.DidChange change) w refl)
 told-reads (notices.DidClose uri) w none = closed-reads (path_of uri) uri w none
 told-reads (notices.DidSave uri) w none = plain-reads (notices.DidSave uri) w none (told-owes SameFiles same-files (notices.DidSave uri) w refl)
-told-reads notices.DidChangeConfiguration w none = plain-reads notices.DidChangeConfiguration w none (told-owes SameFiles same-files notices.DidChangeConfiguration w refl)
-told-reads (notices.DidChangeWorkspaceFolders added removed) w none = plain-reads (notices.DidChangeWorkspaceFolders added removed) w none (told-owes SameFiles same-files (notices.DidChangeWorkspaceFolders added removed) w refl)
+told-reads notices.DidChangeConfiguration w none = plain-reads notices.DidChangeConfiguration w none
+    (told-owes SameFiles same-files notices.DidChangeConfiguration w refl)
+told-reads (notices.DidChangeWorkspaceFolders added removed) w none =
+    plain-reads (notices.DidChangeWorkspaceFolders added removed) w none
+    (told-owes SameFiles same-files (notices.DidChangeWorkspaceFolders added removed) w refl)
 told-reads (notices.DidChangeWatchedFiles urls) w none =
     watched-reads finmap.empty [] urls w seen-none ∙ ap (λ fs. fs ++ filter_map named (each_once [] urls)) none
 told-reads (notices.CancelProgress token) w none = none
@@ -211,7 +217,8 @@ heard-reads Silent method w none = none
 other-reads : (meaning : Meaning) (event : Event) (w : Working State) → notifies event ≡ false → files_told (Next event) ≡ [] → Reads [] w
     → IfOk (happened meaning event w) (Reads (files_told (Next event)))
 other-reads meaning event w silent nothing none =
-    IfOk-weaker (happened meaning event w) (SameFiles w) (Reads (files_told (Next event))) (happened-owes SameFiles same-files meaning event w silent) (λ v same. same ∙ none ∙ sym nothing)
+    IfOk-weaker (happened meaning event w) (SameFiles w) (Reads (files_told (Next event))) (happened-owes SameFiles same-files meaning event w silent)
+    (λ v same. same ∙ none ∙ sym nothing)
 
 notified-reads : (meaning : Meaning) (n : Notification) (w : Working State) → Reads [] w
     → IfOk (happened meaning (Lsp (NotificationMessage n)) w) (Reads (files_told (Next (Lsp (NotificationMessage n)))))
@@ -227,10 +234,11 @@ happened-reads meaning (Vfs messages) w none = other-reads meaning (Vfs messages
 happened-reads meaning (Deferred tasks) w none = other-reads meaning (Deferred tasks) w refl refl none
 happened-reads meaning (Timer ticket) w none = other-reads meaning (Timer ticket) w refl refl none
 
-taken_in-reads : (meaning : Meaning) (event : Event) (s : State) → IfOk (taken_in meaning event (begun s)) (Reads (files_told (Next event)))
-unfolding taken_in
+taken_in-reads : (meaning : Meaning) (event : Event) (s : State) → IfOk (event_taken meaning event (begun s)) (Reads (files_told (Next event)))
+unfolding event_taken
 taken_in-reads meaning event s =
-    IfOk-and_then (counted (begun s)) (happened meaning event) (SameFiles (begun s)) (Reads (files_told (Next event))) (counted-owes SameFiles same-files (begun s))
+    IfOk-and_then (turn_counted (begun s)) (happened meaning event) (SameFiles (begun s)) (Reads (files_told (Next event)))
+    (counted-owes SameFiles same-files (begun s))
     (λ v same. happened-reads meaning event v same)
 
 -- ---- whole turns
@@ -239,8 +247,8 @@ loader-reads : (version : ℕ) (w : Working State) → SameFiles w (loader_set v
 unfolding loader_set
 loader-reads version w = other-passes _ w refl
 
-switched-reads : (made : Result (Follows × Workspaces) Counter) (w : Working State) → IfOk (switched_to made w) (SameFiles w)
-unfolding switched_to
+switched-reads : (made : Result (Follows × Workspaces) Counter) (w : Working State) → IfOk (switch_taken made w) (SameFiles w)
+unfolding switch_taken
 switched-reads (Err counter) w = tt
 switched-reads (Ok made) w = switched-owes SameFiles same-files made (at_workspaces (λ before. made.1) w) (λ msrv version initial is v. loader-reads version v)
 
@@ -248,16 +256,19 @@ switch-reads : (files : List (List ℕ)) (w : Working State) → Reads files w �
 unfolding switch_done
 switch-reads files w reads =
     let made = switch_made w.state.client.settings w.state.files w.state.workspaces in
-    IfOk-weaker (switched_to made w) (SameFiles w) (Reads files) (switched-reads made w) (λ v same. same ∙ reads)
+    IfOk-weaker (switch_taken made w) (SameFiles w) (Reads files) (switched-reads made w) (λ v same. same ∙ reads)
 
 step-reads : (meaning : Meaning) (s : State) (input : Input) → IfOk (step meaning input (begun s)) (Reads (files_told input))
 step-reads meaning s Start =
     walk SameFiles same-files meaning s Start (Reads []) (Reads []) (λ w v reads same. same ∙ reads) (switch-reads []) refl
-    (λ w now facts reads. IfOk-weaker _ (SameFiles w) (Reads []) (closed-owes SameFiles same-files (λ revision v. other-passes _ v refl) now w) (λ v same. same ∙ reads))
+    (λ w now facts reads. IfOk-weaker _ (SameFiles w) (Reads []) (closed-owes SameFiles same-files (λ revision v. other-passes _ v refl) now w)
+    (λ v same. same ∙ reads))
 step-reads meaning s (Next event) =
     let files = files_told (Next event) in
-    walk SameFiles same-files meaning s (Next event) (Reads files) (Reads files) (λ w v reads same. same ∙ reads) (switch-reads files) (taken_in-reads meaning event s)
-    (λ w now facts reads. IfOk-weaker _ (SameFiles w) (Reads files) (closed-owes SameFiles same-files (λ revision v. other-passes _ v refl) now w) (λ v same. same ∙ reads))
+    walk SameFiles same-files meaning s (Next event) (Reads files) (Reads files) (λ w v reads same. same ∙ reads) (switch-reads files)
+    (taken_in-reads meaning event s)
+    (λ w now facts reads. IfOk-weaker _ (SameFiles w) (Reads files) (closed-owes SameFiles same-files (λ revision v. other-passes _ v refl) now w)
+    (λ v same. same ∙ reads))
 
 pub turns-read : (meaning : Meaning) (old : State) (turn : Turn) (new : State) → Steps meaning old turn new
     → filter_map file_to_read turn.commands ≡ files_told turn.input

@@ -16,7 +16,7 @@ use Rattle.desk_laws.proofs.Results.{IfOk-and_then, IfOk-weaker}
 use Rattle.workspaces.specs.Fetches.{fires}
 use Rattle.workspaces.specs.Workspaces.{Workspaces}
 use Rattle.workspaces.specs.declared.follows.Follows.{Follows}
-use Rattle.session_model.specs.Machine.{at_workspaces, closed, kept, loader_set, revised, step, switch_done, switched_to, timer_set}
+use Rattle.session_model.specs.Machine.{at_workspaces, turn_closed, desk_kept, loader_set, revised, step, switch_done, switch_taken, timer_set}
 use Rattle.session_model.specs.Run.{Runs, Steps, Turn, begun}
 use Rattle.session_model.specs.State.{State}
 use Rattle.session_model.specs.Switching.{switch_made}
@@ -42,7 +42,8 @@ passes-revisions old new passes = passes revision_of (record { jobs = λ job. re
 
 other-passes : (command : Command) (w : Working State) → revision_of command ≡ None → SameRevisions w (ordered command w)
 unfolding ordered
-other-passes command w none = filter_map-append revision_of w.out.commands (command ∷ []) ∙ ap (λ revision. revisions w ++ cons_option revision []) none ∙ append-nil _
+other-passes command w none = filter_map-append revision_of w.out.commands (command ∷ []) ∙ ap (λ revision. revisions w ++ cons_option revision []) none
+    ∙ append-nil _
 
 same-revisions : Owed SameRevisions
 same-revisions = record {
@@ -71,16 +72,17 @@ loader-tells : (version : ℕ) (w : Working State) → SameRevisions w (loader_s
 unfolding loader_set
 loader-tells version w = other-passes _ w refl
 
-switched-tells : (made : Result (Follows × Workspaces) Counter) (w : Working State) → IfOk (switched_to made w) (SameRevisions w)
-unfolding switched_to
+switched-tells : (made : Result (Follows × Workspaces) Counter) (w : Working State) → IfOk (switch_taken made w) (SameRevisions w)
+unfolding switch_taken
 switched-tells (Err counter) w = tt
-switched-tells (Ok made) w = switched-owes SameRevisions same-revisions made (at_workspaces (λ before. made.1) w) (λ msrv version initial is v. loader-tells version v)
+switched-tells (Ok made) w = switched-owes SameRevisions same-revisions made (at_workspaces (λ before. made.1) w)
+    (λ msrv version initial is v. loader-tells version v)
 
 switch-tells : (w : Working State) → TellsNone w → IfOk (switch_done w) TellsNone
 unfolding switch_done
 switch-tells w none =
     let made = switch_made w.state.client.settings w.state.files w.state.workspaces in
-    IfOk-weaker (switched_to made w) (SameRevisions w) TellsNone (switched-tells made w) (λ v same. same ∙ none)
+    IfOk-weaker (switch_taken made w) (SameRevisions w) TellsNone (switched-tells made w) (λ v same. same ∙ none)
 
 timer-tells : (before : ℕ) (w : Working State) (b : Bool) → Tells before w → Tells before (if b then ordered (SetTimer w.state.desk.turns) w else w)
 unfolding ordered
@@ -103,16 +105,16 @@ revised-told : (before : ℕ) (w : Working State) → TellsNone w → Tells befo
 unfolding revised
 revised-told before w none = revised-tells before w (w.state.files.host.revision == before) refl none
 
-closed-tells : (facts : Facts) (w : Working State) → TellsNone w → IfOk (closed facts w) (Tells facts.revision)
+closed-tells : (facts : Facts) (w : Working State) → TellsNone w → IfOk (turn_closed facts w) (Tells facts.revision)
 closed-tells facts w none =
-    IfOk-and_then (kept facts.ordered w) (λ v. Ok (timer_set (revised facts.revision v))) (SameRevisions w) (Tells facts.revision)
+    IfOk-and_then (desk_kept facts.ordered w) (λ v. Ok (timer_set (revised facts.revision v))) (SameRevisions w) (Tells facts.revision)
     (kept-owes SameRevisions same-revisions facts.ordered w)
     (λ v same. timer-told facts.revision (revised facts.revision v) (revised-told facts.revision v (same ∙ none)))
 
 step-tells : (meaning : Meaning) (s : State) (input : Input) → IfOk (step meaning input (begun s)) (Tells s.files.host.revision)
 step-tells meaning s input =
     walk SameRevisions same-revisions meaning s input TellsNone (Tells s.files.host.revision) (λ w v none same. same ∙ none) switch-tells (first input)
-    (λ w facts keeps none. subst (λ (f : Facts). IfOk (closed facts w) (Tells f.revision)) keeps (closed-tells facts w none))
+    (λ w facts keeps none. subst (λ (f : Facts). IfOk (turn_closed facts w) (Tells f.revision)) keeps (closed-tells facts w none))
   where
     first : (input : Input) → Begins meaning s input TellsNone
     first Start = refl
@@ -147,5 +149,6 @@ pub revisions-rise : (meaning : Meaning) (s : State) (turns : List Turn) (last :
 revisions-rise meaning s [] last runs = tt
 revisions-rise meaning s (turn ∷ turns) last (mid, steps, runs) =
     subst (λ (ns : List ℕ). AreAbove s.files.host.revision (ns ++ revisions_told turns)) (sym (turns-tell meaning s turn mid steps))
-    (told-above s.files.host.revision mid.files.host.revision (mid.files.host.revision == s.files.host.revision) (revisions_told turns) refl (revision-rises meaning s turn mid steps)
+    (told-above s.files.host.revision mid.files.host.revision (mid.files.host.revision == s.files.host.revision) (revisions_told turns) refl
+    (revision-rises meaning s turn mid steps)
     (revisions-rise meaning mid turns last runs))

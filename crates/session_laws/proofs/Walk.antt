@@ -39,13 +39,14 @@ use Rattle.notify.specs.declared.notice.Notice.TheVariants as notices
 use Rattle.notify.specs.declared.outgo.MessageKind.{MessageKind}
 use Rattle.notify.specs.declared.outgo.MessageKind.TheVariants.{Warning}
 use Rattle.notify.specs.declared.outgo.Outgo.{Outgo}
-use Rattle.notify.specs.declared.outgo.Outgo.TheVariants.{CodeLensRefresh, Configuration, DiagnosticRefresh, InlayHintRefresh, SemanticTokensRefresh, ShowMessage, ShowMessageRequest}
+use Rattle.notify.specs.declared.outgo.Outgo.TheVariants.{CodeLensRefresh, Configuration, DiagnosticRefresh, InlayHintRefresh, SemanticTokensRefresh}
+use Rattle.notify.specs.declared.outgo.Outgo.TheVariants.{ShowMessage, ShowMessageRequest}
 use Rattle.desk.specs.Desk.{Desk}
 use Rattle.desk.specs.WorkEnds.{BuildEnd, FetchEnd, LoadEnd, work_ended}
 use Rattle.desk.specs.declared.state.ends.WorkEnd.{WorkEnd}
 use Rattle.desk.specs.declared.state.ends.WorkEnd.TheVariants.{Fetched, Built, Checked, Loaded}
 use Rattle.desk.specs.Meaning.{Meaning}
-use Rattle.desk.specs.Steps.{cancelled, counted as counted_at_desk, handed_over, kept as kept_at_desk, requested, taken as taken_at_desk}
+use Rattle.desk.specs.Steps.{cancelled, counted as counted_at_desk, handed_over, jobs_kept as kept_at_desk, requested, taken as taken_at_desk}
 use Rattle.desk_laws.proofs.Results.{IfOk-and_then, IfOk-if, IfOk-weaker, IfOk-within}
 use Rattle.session_files.specs.Folds.{after_closing, changed_files}
 use Rattle.session_files.specs.SessionFiles.{SessionFiles}
@@ -63,14 +64,22 @@ use Rattle.session_model.specs.Crates.{builds_crates, crate_data, is_unknown}
 use Rattle.session_model.specs.Fetching.{fetch_kept, folders_told_if, settings_told, with_fetches}
 use Rattle.session_model.specs.Hearing.{heard_of}
 use Rattle.session_model.specs.Loading.{MacroPaths, crates_loaded, load_due, load_kept, load_kind, with_due_load}
-use Rattle.session_model.specs.Machine.{all_resumed, answer_taken, asked, asked_if, at_client, at_desk, at_files, at_workspaces, batched, begin_part, begun_fetches}
-use Rattle.session_model.specs.Machine.{brought, build_handed_over, build_part, build_started, build_taken, changed_at, client_in, closed, closed_at, closing_part, counted}
-use Rattle.session_model.specs.Machine.{crates_arrived, crates_built, desk_in, effects_done, end_taken, work_taken, event_part, facts_of, fetch_handed_over, fetch_part, fetch_started, fetch_taken, fetch_waits}
-use Rattle.session_model.specs.Machine.{file_changed, files_changed, files_done, files_followed, files_in, files_part, files_processed, files_processed_if, folders_taken, followed, further_logged}
-use Rattle.session_model.specs.Machine.{happened, in_state, kept, knowing, later_parts, load_handed_over, load_started, load_taken, loader_set, macros_taken, noticed, opened_at, quiet_done, quiet_part}
-use Rattle.session_model.specs.Machine.{received, refreshed, register_part, resumed, revised, roots_renewed, runs_started, save_noted, saved_at, saves_registered, settings_filed, some_processed, sources_deferred}
-use Rattle.session_model.specs.Machine.{start_parts, state_in, status_changed, status_done, status_kept, status_part, status_told, step, switch_done, switch_part, taken, taken_in, text_shown, timer_set, told}
-use Rattle.session_model.specs.Machine.{turned, Turning, turning, warned, watchers_registered, with_client, with_desk, with_files, with_sources, with_state, with_status, with_workspaces}
+use Rattle.session_model.specs.Machine.{all_resumed, answer_taken, request_taken, asked_if, at_client, at_desk, at_files, at_workspaces, batched, begin_part}
+use Rattle.session_model.specs.Machine.{begun_fetches}
+use Rattle.session_model.specs.Machine.{loader_taken, build_handed_over, build_part, build_started, build_taken, changed_at, client_in, turn_closed, closed_at}
+use Rattle.session_model.specs.Machine.{closing_part, turn_counted}
+use Rattle.session_model.specs.Machine.{crates_arrived, crates_built, desk_in, effects_done, end_taken, work_taken, event_part, facts_of, fetch_handed_over}
+use Rattle.session_model.specs.Machine.{fetch_part, fetch_started, fetch_taken, fetch_waits}
+use Rattle.session_model.specs.Machine.{file_changed, files_changed, files_done, files_followed, files_in, files_part, files_processed, files_processed_if}
+use Rattle.session_model.specs.Machine.{folders_taken, switch_followed, further_logged}
+use Rattle.session_model.specs.Machine.{happened, in_state, desk_kept, knowing, later_parts, load_handed_over, load_started, load_taken, loader_set}
+use Rattle.session_model.specs.Machine.{macros_taken, noticed, opened_at, quiet_done, quiet_part}
+use Rattle.session_model.specs.Machine.{received, refreshed, register_part, resumed, revised, roots_renewed, runs_started, save_noted, saved_at}
+use Rattle.session_model.specs.Machine.{saves_registered, settings_filed, some_processed, sources_deferred}
+use Rattle.session_model.specs.Machine.{start_parts, state_in, status_changed, status_done, status_kept, status_part, status_told, step, switch_done}
+use Rattle.session_model.specs.Machine.{switch_part, message_taken, event_taken, text_shown, timer_set, told}
+use Rattle.session_model.specs.Machine.{turned, Turning, turning, warned, watchers_registered, with_client, with_desk, with_files, with_sources, with_state}
+use Rattle.session_model.specs.Machine.{with_status, with_workspaces}
 use Rattle.session_model.specs.Run.{begun}
 use Rattle.session_model.specs.Saving.{path_saved}
 use Rattle.session_model.specs.Sources.{change_for, client_with, further_files, parents_told, sources_now}
@@ -84,8 +93,10 @@ use Rattle.session_model.specs.declared.input.Event.{Event}
 use Rattle.session_model.specs.declared.input.Event.TheVariants.{Lsp, Task, Vfs, Deferred, Timer}
 use Rattle.session_model.specs.declared.input.Input.{Input}
 use Rattle.session_model.specs.declared.input.Input.TheVariants.{Start, Next}
-use Rattle.session_laws.proofs.Passing.{Passes, answered-passes, asked-passes, cancelled-passes, changed-passes, close-noted-passes, counted-passes, crates-pass, folders-pass, handed-passes, kept-passes}
-use Rattle.session_laws.proofs.Passing.{loaded-passes, message-passes, opened-passes, passes-deferred, passes-logged, passes-none, processed-passes, requested-passes}
+use Rattle.session_laws.proofs.Passing.{Passes, answered-passes, asked-passes, cancelled-passes, changed-passes, close-noted-passes, counted-passes}
+use Rattle.session_laws.proofs.Passing.{crates-pass, folders-pass, handed-passes, kept-passes}
+use Rattle.session_laws.proofs.Passing.{loaded-passes, message-passes, opened-passes, passes-deferred, passes-logged, passes-none, processed-passes}
+use Rattle.session_laws.proofs.Passing.{requested-passes}
 use Rattle.session_laws.proofs.Running.{versions_of, begin-runs, fire-runs, folders-runs, planned-runs, renewed-runs, request-runs, save-runs, settings-runs}
 use Rattle.session_laws.proofs.WorkEnds.{build-leaves, fetch-leaves, load-leaves}
 
@@ -132,12 +143,12 @@ record Going (P : Working State → Type 0) (facts : Facts) (t : Working Turning
 
 -- the turn goes on to its end
 abbrev pub Closes : (Working State → Type 0) → (Working State → Type 0) → Facts → Type 0
-Closes P Goal facts = (w : Working State) (now : Facts) → KeepsFacts facts now → P w → IfOk (closed now w) Goal
+Closes P Goal facts = (w : Working State) (now : Facts) → KeepsFacts facts now → P w → IfOk (turn_closed now w) Goal
 
 -- what is so where a turn begins, or behind its event
 abbrev pub Begins : Meaning → State → Input → (Working State → Type 0) → Type 0
 Begins meaning s Start P = P (begun s)
-Begins meaning s (Next event) P = IfOk (taken_in meaning event (begun s)) P
+Begins meaning s (Next event) P = IfOk (event_taken meaning event (begun s)) P
 
 module _ (R : Working State → Working State → Type 0) (owed : Owed R) where
   pub none-owes : (w : Working State) → R w w
@@ -172,11 +183,13 @@ module _ (R : Working State → Working State → Type 0) (owed : Owed R) where
 
   pub client-owes : (work : Working Client → Result (Working Client) Counter) (w : Working State)
       → IfOk (work (record { state = w.state.client; out = w.out })) (λ v. Passes w.out v.out) → IfOk (at_client work w) (R w)
-  client-owes work w passes = IfOk-within client_in with_client work w (R w) (IfOk-weaker _ (λ v. Passes w.out v.out) _ passes (λ v p. owed.client w v.state v.out p))
+  client-owes work w passes = IfOk-within client_in with_client work w (R w)
+      (IfOk-weaker _ (λ v. Passes w.out v.out) _ passes (λ v p. owed.client w v.state v.out p))
 
   pub files-owe : (work : Working SessionFiles → Result (Working SessionFiles) Counter) (w : Working State)
       → IfOk (work (record { state = w.state.files; out = w.out })) (λ v. Passes w.out v.out) → IfOk (at_files work w) (R w)
-  files-owe work w passes = IfOk-within files_in with_files work w (R w) (IfOk-weaker _ (λ v. Passes w.out v.out) _ passes (λ v p. owed.files w v.state v.out p))
+  files-owe work w passes = IfOk-within files_in with_files work w (R w)
+      (IfOk-weaker _ (λ v. Passes w.out v.out) _ passes (λ v p. owed.files w v.state v.out p))
 
   asking-owes : (message : Outgo) (handler : ReqHandler) (w : Working State) → IfOk (at_client (asked_for message handler) w) (R w)
   asking-owes message handler w = client-owes (asked_for message handler) w (asked-passes message handler (record { state = w.state.client; out = w.out }))
@@ -204,7 +217,8 @@ module _ (R : Working State → Working State → Type 0) (owed : Owed R) where
       let change = change_for files w.state.files.host.world.roots w.state.sources w.state.workspaces.present in
       let v : Working State = record w { state = with_client (client_with change w.state.client) w.state } in
       let u : Working State = record v { state = with_sources (parents_told w.state.sources) v.state } in
-      owed.on w u _ (owed.on w v u (owed.client w (client_with change w.state.client) w.out (passes-none w.out)) (owed.sources v (parents_told w.state.sources)))
+      owed.on w u _ (owed.on w v u (owed.client w (client_with change w.state.client) w.out (passes-none w.out))
+      (owed.sources v (parents_told w.state.sources)))
       (further-owes (further_files change) u)
 
   deferred-owes : (sources : Option (List FileId)) (w : Working State) → R w (sources_deferred sources w)
@@ -220,12 +234,14 @@ module _ (R : Working State → Working State → Type 0) (owed : Owed R) where
       let filed : Working State = settings_filed effects.settings w in
       let deferred : Working State = sources_deferred effects.macro_sources filed in
       owed.on w deferred _ (owed.on w filed deferred (filed-owes effects.settings w) (deferred-owes effects.macro_sources filed))
-      (owed.workspaces deferred (fetch_planned deferred.state.desk.turns effects.fetch deferred.state.workspaces) (planned-runs deferred.state.desk.turns effects.fetch deferred.state.workspaces).versions)
+      (owed.workspaces deferred (fetch_planned deferred.state.desk.turns effects.fetch deferred.state.workspaces)
+      (planned-runs deferred.state.desk.turns effects.fetch deferred.state.workspaces).versions)
 
   processed-owes : (w : Working State) → IfOk (files_processed w) (R w)
   unfolding files_processed
   processed-owes w =
-      owes-then (at_files (processed w.state.sources.roots) w) _ w (files-owe _ w (processed-passes w.state.sources.roots (record { state = w.state.files; out = w.out })))
+      owes-then (at_files (processed w.state.sources.roots) w) _ w
+      (files-owe _ w (processed-passes w.state.sources.roots (record { state = w.state.files; out = w.out })))
       (λ v. files-followed-owe (changed_files w.state.files) v)
 
   processed_if-owes : (b : Bool) (w : Working State) → IfOk (files_processed_if b w) (R w)
@@ -252,7 +268,11 @@ module _ (R : Working State → Working State → Type 0) (owed : Owed R) where
 
   -- a document is closed, but for the file that is to be read anew
   pub closing-owes : (path : List ℕ) (w : Working State)
-      → R w (record { state = with_files (after_closing path w.state.files) w.state; out = (close_noted path (record { state = w.state.files; out = w.out })).out })
+      → R w (record {
+        state = with_files (after_closing path w.state.files) w.state;
+        out =
+            (close_noted path (record { state = w.state.files; out = w.out })).out;
+      })
   closing-owes path w = owed.files w (after_closing path w.state.files) _ (close-noted-passes path (record { state = w.state.files; out = w.out }))
 
   noted-owes : (unknown : Bool) (path : List ℕ) (w : Working State) → R w (save_noted unknown path w)
@@ -266,12 +286,15 @@ module _ (R : Working State → Working State → Type 0) (owed : Owed R) where
   saved-owes (Ok path) uri w =
       let noted : Working State = save_noted (is_unknown w.state.files.ids path) path w in
       owed.on w noted _ (noted-owes (is_unknown w.state.files.ids path) path w)
-      (owed.workspaces noted (path_saved w.state.client.settings w.state.files path noted.state.workspaces) (save-runs 0 w.state.client.settings w.state.files path noted.state.workspaces).versions)
+      (owed.workspaces noted (path_saved w.state.client.settings w.state.files path noted.state.workspaces)
+      (save-runs 0 w.state.client.settings w.state.files path noted.state.workspaces).versions)
 
   folders-owe : (added removed : List (List ℕ)) (w : Working State) → IfOk (folders_taken added removed w) (R w)
   folders-owe added removed w =
-      owes-then (at_client (λ c. Ok (folders_changed added removed c)) w) _ w (client-owes _ w (folders-pass added removed (record { state = w.state.client; out = w.out })))
-      (λ v. owed.workspaces v (folders_told_if (goes_by_folders w.state.client.settings) v.state.workspaces) (folders-runs 0 (goes_by_folders w.state.client.settings) v.state.workspaces).versions)
+      owes-then (at_client (λ c. Ok (folders_changed added removed c)) w) _ w
+      (client-owes _ w (folders-pass added removed (record { state = w.state.client; out = w.out })))
+      (λ v. owed.workspaces v (folders_told_if (goes_by_folders w.state.client.settings) v.state.workspaces)
+      (folders-runs 0 (goes_by_folders w.state.client.settings) v.state.workspaces).versions)
 
   -- what any other tells
   pub told-owes : (notice : Notice) (w : Working State) → rereads notice ≡ false → IfOk (told notice w) (R w)
@@ -292,20 +315,23 @@ module _ (R : Working State → Working State → Type 0) (owed : Owed R) where
 
   -- ---- other events
 
-  requested-owes : (meaning : Meaning) (r : Request) (w : Working State) → IfOk (asked meaning r w) (R w)
+  requested-owes : (meaning : Meaning) (r : Request) (w : Working State) → IfOk (request_taken meaning r w) (R w)
   requested-owes meaning r w =
-      owes-then (at_desk (requested meaning (scene_of w.state) r) w) _ w (desk-owes _ w (requested-passes meaning (scene_of w.state) r (record { state = w.state.desk; out = w.out })))
+      owes-then (at_desk (requested meaning (scene_of w.state) r) w) _ w
+      (desk-owes _ w (requested-passes meaning (scene_of w.state) r (record { state = w.state.desk; out = w.out })))
       (λ v. owed.workspaces v (request_told r w.state.desk v.state.workspaces) (request-runs 0 r w.state.desk v.state.workspaces).versions)
 
   answer-owes : (r : Response) (w : Working State) → IfOk (answer_taken r w) (R w)
   answer-owes r w =
       owes-then (at_client (λ c. Ok (answered r c)) w) _ w (client-owes _ w (answered-passes r (record { state = w.state.client; out = w.out })))
-      (λ v. owed.workspaces v (settings_told w.state.client.settings v.state.client.settings v.state.workspaces) (settings-runs 0 w.state.client.settings v.state.client.settings v.state.workspaces).versions)
+      (λ v. owed.workspaces v (settings_told w.state.client.settings v.state.client.settings v.state.workspaces)
+      (settings-runs 0 w.state.client.settings v.state.client.settings v.state.workspaces).versions)
 
-  brought-owes : (messages : List LoaderMsg) (w : Working State) → IfOk (brought messages w) (R w)
+  brought-owes : (messages : List LoaderMsg) (w : Working State) → IfOk (loader_taken messages w) (R w)
   brought-owes messages w =
       owes-then (at_files (loaded messages) w) _ w (files-owe _ w (loaded-passes messages (record { state = w.state.files; out = w.out })))
-      (λ v. owed.workspaces v (renewed_if (bring_files messages) v.state.desk.turns v.state.workspaces) (renewed-runs (bring_files messages) v.state.desk.turns v.state.workspaces).versions)
+      (λ v. owed.workspaces v (renewed_if (bring_files messages) v.state.desk.turns v.state.workspaces)
+      (renewed-runs (bring_files messages) v.state.desk.turns v.state.workspaces).versions)
 
   fetch-taken-owes : (found : FetchEnd) (w : Working State) → R w (fetch_taken found w)
   unfolding fetch_taken
@@ -349,16 +375,17 @@ module _ (R : Working State → Working State → Type 0) (owed : Owed R) where
   end-owes None w = none-owes w
   end-owes (Some end) w = work-owes end w
 
-  taken-owes : (meaning : Meaning) (message : TaskMsg) (w : Working State) → IfOk (taken meaning message w) (R w)
-  unfolding taken
+  taken-owes : (meaning : Meaning) (message : TaskMsg) (w : Working State) → IfOk (message_taken meaning message w) (R w)
+  unfolding message_taken
   taken-owes meaning message w =
       let jobs = w.state.desk.jobs in
-      owes-then (at_desk (taken_at_desk meaning (scene_of w.state) message) w) _ w (desk-owes _ w (message-passes meaning (scene_of w.state) message (record { state = w.state.desk; out = w.out })))
+      owes-then (at_desk (taken_at_desk meaning (scene_of w.state) message) w) _ w
+      (desk-owes _ w (message-passes meaning (scene_of w.state) message (record { state = w.state.desk; out = w.out })))
       (end-owes (work_ended message jobs))
 
   batch-owes : (meaning : Meaning) (batch : List TaskMsg) (w : Working State) → IfOk (batched meaning batch w) (R w)
   batch-owes meaning [] w = none-owes w
-  batch-owes meaning (m ∷ ms) w = owes-then (taken meaning m w) (batched meaning ms) w (taken-owes meaning m w) (batch-owes meaning ms)
+  batch-owes meaning (m ∷ ms) w = owes-then (message_taken meaning m w) (batched meaning ms) w (taken-owes meaning m w) (batch-owes meaning ms)
 
   resumed-owes : (task : DeferredTask) (w : Working State) → IfOk (resumed task w) (R w)
   unfolding resumed
@@ -378,10 +405,11 @@ module _ (R : Working State → Working State → Type 0) (owed : Owed R) where
   happened-owes meaning (Task batch) w none = batch-owes meaning batch w
   happened-owes meaning (Vfs messages) w none = brought-owes messages w
   happened-owes meaning (Deferred tasks) w none = all-resumed-owe tasks w
-  happened-owes meaning (Timer ticket) w none = owed.workspaces w (with_fetches (fire ticket) w.state.workspaces) (fire-runs 0 ticket w.state.workspaces).versions
+  happened-owes meaning (Timer ticket) w none = owed.workspaces w (with_fetches (fire ticket) w.state.workspaces)
+      (fire-runs 0 ticket w.state.workspaces).versions
 
-  pub counted-owes : (w : Working State) → IfOk (counted w) (R w)
-  unfolding counted
+  pub counted-owes : (w : Working State) → IfOk (turn_counted w) (R w)
+  unfolding turn_counted
   counted-owes w = desk-owes counted_at_desk w (counted-passes (record { state = w.state.desk; out = w.out }))
 
   -- ---- the event, where a file may be read anew
@@ -393,7 +421,11 @@ module _ (R : Working State → Working State → Type 0) (owed : Owed R) where
   unfolding closed_at closed_document ordered
   closed-at-owes may (Err fault) uri w = logged-owes _ uri w
   closed-at-owes may (Ok path) uri w =
-      let v : Working State = record { state = with_files (after_closing path w.state.files) w.state; out = (close_noted path (record { state = w.state.files; out = w.out })).out } in
+      let v : Working State = record {
+        state = with_files (after_closing path w.state.files) w.state;
+        out =
+            (close_noted path (record { state = w.state.files; out = w.out })).out;
+      } in
       IfOk-within files_in with_files (λ f. Ok (closed_document path f)) w (R w) (owed.on w v _ (closing-owes path w) (may path v))
 
   file-owes : MayReread → (url : List ℕ) (o : Result (List ℕ) UrlFault) (w : Working State) → R w (file_changed url o w)
@@ -441,11 +473,12 @@ module _ (R : Working State → Working State → Type 0) (owed : Owed R) where
   any-happened-owes may meaning (Task batch) w = batch-owes meaning batch w
   any-happened-owes may meaning (Vfs messages) w = brought-owes messages w
   any-happened-owes may meaning (Deferred tasks) w = all-resumed-owe tasks w
-  any-happened-owes may meaning (Timer ticket) w = owed.workspaces w (with_fetches (fire ticket) w.state.workspaces) (fire-runs 0 ticket w.state.workspaces).versions
+  any-happened-owes may meaning (Timer ticket) w = owed.workspaces w (with_fetches (fire ticket) w.state.workspaces)
+      (fire-runs 0 ticket w.state.workspaces).versions
 
-  pub event-owes : MayReread → (meaning : Meaning) (event : Event) (w : Working State) → IfOk (taken_in meaning event w) (R w)
-  unfolding taken_in
-  event-owes may meaning event w = owes-then (counted w) (happened meaning event) w (counted-owes w) (any-happened-owes may meaning event)
+  pub event-owes : MayReread → (meaning : Meaning) (event : Event) (w : Working State) → IfOk (event_taken meaning event w) (R w)
+  unfolding event_taken
+  event-owes may meaning event w = owes-then (turn_counted w) (happened meaning event) w (counted-owes w) (any-happened-owes may meaning event)
 
   -- ---- a switch, but for its workspaces and what the loader is told
 
@@ -464,8 +497,8 @@ module _ (R : Working State → Working State → Type 0) (owed : Owed R) where
   -- it goes on where the loader is told, and then the roots are renewed
   followed-owes : (follows : Follows) (w : Working State)
       → ((msrv : List (List ℕ)) (version : ℕ) (initial : Bool) → follows ≡ GoOn msrv version initial → (v : Working State) → R v (loader_set version v))
-      → IfOk (followed follows w) (R w)
-  unfolding followed roots_renewed watchers_registered
+      → IfOk (switch_followed follows w) (R w)
+  unfolding switch_followed roots_renewed watchers_registered
   followed-owes Nothing w sets = none-owes w
   followed-owes CratesAnew w sets = none-owes w
   followed-owes (Wait msrv) w sets = warned-owes msrv w
@@ -480,8 +513,9 @@ module _ (R : Working State → Working State → Type 0) (owed : Owed R) where
   -- what is told behind workspaces that are present from now on
   pub switched-owes : (made : Follows × Workspaces) (w : Working State)
       → ((msrv : List (List ℕ)) (version : ℕ) (initial : Bool) → made.0 ≡ GoOn msrv version initial → (v : Working State) → R v (loader_set version v))
-      → IfOk (and_then (followed made.0 w) (crates_built (builds_crates w.state.client.settings made.0))) (R w)
-  switched-owes made w sets = owes-then (followed made.0 w) _ w (followed-owes made.0 w sets) (λ v. built-owes (builds_crates w.state.client.settings made.0) v)
+      → IfOk (and_then (switch_followed made.0 w) (crates_built (builds_crates w.state.client.settings made.0))) (R w)
+  switched-owes made w sets = owes-then (switch_followed made.0 w) _ w (followed-owes made.0 w sets)
+      (λ v. built-owes (builds_crates w.state.client.settings made.0) v)
 
   -- ---- the parts behind it
 
@@ -559,59 +593,72 @@ module _ (R : Working State → Working State → Type 0) (owed : Owed R) where
       let status : Status = status_now w.state.client w.state.files w.state.workspaces in
       owes-then (status_changed status w) _ w
       (IfOk-if (is_same_status w.state.status status) (Ok w) (status_told status w) (R w) (none-owes w)
-      (IfOk-if (takes_status w.state.client.settings) _ _ (R w) (written-owes (notification_of (status_message status)) w) (shown-owes (opens_logs w.state.client.settings w.state.workspaces) (shown_of status) w)))
+      (IfOk-if (takes_status w.state.client.settings) _ _ (R w) (written-owes (notification_of (status_message status)) w)
+      (shown-owes (opens_logs w.state.client.settings w.state.workspaces) (shown_of status) w)))
       (λ v. owed.status v status)
 
   -- the jobs that were handed over are out, and a timer is ordered where a fetch waits for it
-  pub kept-owes : (before : ℕ) (w : Working State) → IfOk (kept before w) (R w)
-  unfolding kept
+  pub kept-owes : (before : ℕ) (w : Working State) → IfOk (desk_kept before w) (R w)
+  unfolding desk_kept
   kept-owes before w = desk-owes (λ d. Ok (kept_at_desk before d)) w (kept-passes before (record { state = w.state.desk; out = w.out }))
 
   pub timer-owes : (w : Working State) → R w (timer_set w)
   unfolding timer_set
-  timer-owes w = owes-if (fires w.state.desk.turns w.state.workspaces.fetches.waiting) w (ordered (SetTimer w.state.desk.turns) w) w (owed.times w.state.desk.turns w) (none-owes w)
+  timer-owes w = owes-if (fires w.state.desk.turns w.state.workspaces.fetches.waiting) w (ordered (SetTimer w.state.desk.turns) w) w
+      (owed.times w.state.desk.turns w) (none-owes w)
 
   -- with the revision, where it is told so
-  pub closed-owes : ((revision : ℕ) (w : Working State) → R w (ordered (Revise revision) w)) → (facts : Facts) (w : Working State) → IfOk (closed facts w) (R w)
+  pub closed-owes : ((revision : ℕ) (w : Working State) → R w (ordered (Revise revision) w)) → (facts : Facts) (w : Working State)
+      → IfOk (turn_closed facts w) (R w)
   unfolding revised
   closed-owes revises facts w =
-      owes-then (kept facts.ordered w) _ w (kept-owes facts.ordered w)
+      owes-then (desk_kept facts.ordered w) _ w (kept-owes facts.ordered w)
       (λ v. let revision : ℕ = v.state.files.host.revision in
-      owed.on v _ _ (owes-if (revision == facts.revision) v v (ordered (Revise revision) v) (none-owes v) (revises revision v)) (timer-owes (revised facts.revision v)))
+      owed.on v _ _ (owes-if (revision == facts.revision) v v (ordered (Revise revision) v) (none-owes v) (revises revision v))
+      (timer-owes (revised facts.revision v)))
 
   -- ---- whole turns
 
   -- what each step keeps holds behind a part
-  going-part : (P : Working State → Type 0) (keeps : (w v : Working State) → P w → R w v → P v) (facts : Facts) (part : Working State → Result (Working State) Counter) (t : Working Turning)
+  going-part : (P : Working State → Type 0) (keeps : (w v : Working State) → P w → R w v → P v) (facts : Facts)
+      (part : Working State → Result (Working State) Counter) (t : Working Turning)
       → Going P facts t → IfOk (part (session_in t)) (R (session_in t)) → IfOk (in_state part t) (Going P facts)
   going-part P keeps facts part t g h =
-      IfOk-within state_in with_state part t (Going P facts) (IfOk-weaker (part (session_in t)) (R (session_in t)) _ h (λ v p. record { here = keeps (session_in t) v g.here p; same = g.same }))
+      IfOk-within state_in with_state part t (Going P facts)
+      (IfOk-weaker (part (session_in t)) (R (session_in t)) _ h (λ v p. record { here = keeps (session_in t) v g.here p; same = g.same }))
 
   going-files : (P : Working State → Type 0) (keeps : (w v : Working State) → P w → R w v → P v) (facts : Facts) (t : Working Turning) → Going P facts t
       → IfOk (files_part t) (Going P facts)
   unfolding files_part
   going-files P keeps facts t g =
       let some : Bool = some_processed t.state.state.files in
-      IfOk-and_then (in_state files_done t) (λ v. Ok (knowing some v)) (Going P facts) (Going P facts) (going-part P keeps facts files_done t g (done-owes (session_in t)))
+      IfOk-and_then (in_state files_done t) (λ v. Ok (knowing some v)) (Going P facts) (Going P facts)
+      (going-part P keeps facts files_done t g (done-owes (session_in t)))
       (λ v h. record { here = h.here; same = ap (λ (f : Facts). record f { processed = some }) h.same })
 
   closing : (P Goal : Working State → Type 0) (facts : Facts) (t : Working Turning) → Closes P Goal facts → Going P facts t
       → IfOk (closing_part t) (λ v. Goal (session_in v))
   unfolding closing_part
-  closing P Goal facts t closes g = IfOk-within state_in with_state (closed t.state.facts) t (λ v. Goal (session_in v)) (closes (session_in t) t.state.facts g.same g.here)
+  closing P Goal facts t closes g = IfOk-within state_in with_state (turn_closed t.state.facts) t (λ v. Goal (session_in v))
+      (closes (session_in t) t.state.facts g.same g.here)
 
-  later : (P Goal : Working State → Type 0) (keeps : (w v : Working State) → P w → R w v → P v) (switches : (w : Working State) → P w → IfOk (switch_done w) P) (facts : Facts) (event : Event) (t : Working Turning)
+  later : (P Goal : Working State → Type 0) (keeps : (w v : Working State) → P w → R w v → P v) (switches : (w : Working State) → P w → IfOk (switch_done w) P)
+      (facts : Facts) (event : Event) (t : Working Turning)
       → Closes P Goal facts → Going P facts t → IfOk (later_parts (Next event) t) (λ v. Goal (session_in v))
   unfolding switch_part quiet_part fetch_part build_part status_part
   later P Goal keeps switches facts event t closes g =
       IfOk-and_then (switch_part t) _ (Going P facts) (λ v. Goal (session_in v))
-      (IfOk-within state_in with_state switch_done t (Going P facts) (IfOk-weaker (switch_done (session_in t)) P _ (switches (session_in t) g.here) (λ v p. record { here = p; same = g.same })))
+      (IfOk-within state_in with_state switch_done t (Going P facts)
+      (IfOk-weaker (switch_done (session_in t)) P _ (switches (session_in t) g.here) (λ v p. record { here = p; same = g.same })))
       (λ t g. IfOk-and_then (files_part t) _ (Going P facts) (λ v. Goal (session_in v)) (going-files P keeps facts t g)
-      (λ t g. IfOk-and_then (quiet_part t) _ (Going P facts) (λ v. Goal (session_in v)) (going-part P keeps facts (quiet_done t.state.facts) t g (quiet-owes t.state.facts (session_in t)))
+      (λ t g. IfOk-and_then (quiet_part t) _ (Going P facts) (λ v. Goal (session_in v))
+      (going-part P keeps facts (quiet_done t.state.facts) t g (quiet-owes t.state.facts (session_in t)))
       (λ t g. IfOk-and_then (fetch_part (Next event) t) _ (Going P facts) (λ v. Goal (session_in v))
-      (going-part P keeps facts (fetch_started (may_start (Next event) t.state.state.client.settings)) t g (fetch-owes (may_start (Next event) t.state.state.client.settings) (session_in t)))
+      (going-part P keeps facts (fetch_started (may_start (Next event) t.state.state.client.settings)) t g
+      (fetch-owes (may_start (Next event) t.state.state.client.settings) (session_in t)))
       (λ t g. IfOk-and_then (build_part t) _ (Going P facts) (λ v. Goal (session_in v)) (going-part P keeps facts runs_started t g (runs-owe (session_in t)))
-      (λ t g. IfOk-and_then (status_part t) closing_part (Going P facts) (λ v. Goal (session_in v)) (going-part P keeps facts status_done t g (status-owes (session_in t)))
+      (λ t g. IfOk-and_then (status_part t) closing_part (Going P facts) (λ v. Goal (session_in v))
+      (going-part P keeps facts status_done t g (status-owes (session_in t)))
       (λ t g. closing P Goal facts t closes g))))))
 
   starting : (P Goal : Working State → Type 0) (keeps : (w v : Working State) → P w → R w v → P v) (facts : Facts) (t : Working Turning) → Closes P Goal facts
@@ -620,12 +667,15 @@ module _ (R : Working State → Working State → Type 0) (owed : Owed R) where
   unfolding status_part register_part begin_part fetch_part saves_registered begun_fetches
   starting P Goal keeps facts t closes g =
       IfOk-and_then (status_part t) _ (Going P facts) (λ v. Goal (session_in v)) (going-part P keeps facts status_done t g (status-owes (session_in t)))
-      (λ t g. IfOk-and_then (register_part t) _ (Going P facts) (λ v. Goal (session_in v)) (going-part P keeps facts saves_registered t g (asked_if-owes _ _ (session_in t)))
+      (λ t g. IfOk-and_then (register_part t) _ (Going P facts) (λ v. Goal (session_in v))
+      (going-part P keeps facts saves_registered t g (asked_if-owes _ _ (session_in t)))
       (λ t g. IfOk-and_then (begin_part t) _ (Going P facts) (λ v. Goal (session_in v))
       (going-part P keeps facts begun_fetches t g
-      (owed.workspaces (session_in t) (with_fetches (start_up (discovers t.state.state.client.settings)) t.state.state.workspaces) (begin-runs 0 (discovers t.state.state.client.settings) t.state.state.workspaces).versions))
+      (owed.workspaces (session_in t) (with_fetches (start_up (discovers t.state.state.client.settings)) t.state.state.workspaces)
+      (begin-runs 0 (discovers t.state.state.client.settings) t.state.state.workspaces).versions))
       (λ t g. IfOk-and_then (fetch_part Start t) closing_part (Going P facts) (λ v. Goal (session_in v))
-      (going-part P keeps facts (fetch_started (may_start Start t.state.state.client.settings)) t g (fetch-owes (may_start Start t.state.state.client.settings) (session_in t)))
+      (going-part P keeps facts (fetch_started (may_start Start t.state.state.client.settings)) t g
+      (fetch-owes (may_start Start t.state.state.client.settings) (session_in t)))
       (λ t g. closing P Goal facts t closes g))))
 
   -- of a whole turn: what is so behind the event, and is kept by each step and by a switch, is so where the turn is closed
@@ -635,12 +685,14 @@ module _ (R : Working State → Working State → Type 0) (owed : Owed R) where
   unfolding step event_part
   walk meaning s Start P Goal keeps switches first closes =
       let t : Working Turning = turning (begun s) in
-      IfOk-and_then (start_parts t) turned (λ v. Goal (session_in v)) Goal (starting P Goal keeps (facts_of (begun s)) t closes (record { here = first; same = refl })) (λ v h. h)
+      IfOk-and_then (start_parts t) turned (λ v. Goal (session_in v)) Goal
+      (starting P Goal keeps (facts_of (begun s)) t closes (record { here = first; same = refl })) (λ v h. h)
   walk meaning s (Next event) P Goal keeps switches first closes =
       let t : Working Turning = turning (begun s) in
       let facts : Facts = facts_of (begun s) in
       IfOk-and_then (and_then (event_part meaning event t) (later_parts (Next event))) turned (λ v. Goal (session_in v)) Goal
       (IfOk-and_then (event_part meaning event t) (later_parts (Next event)) (Going P facts) (λ v. Goal (session_in v))
-      (IfOk-within state_in with_state (taken_in meaning event) t (Going P facts) (IfOk-weaker (taken_in meaning event (begun s)) P _ first (λ v p. record { here = p; same = refl })))
+      (IfOk-within state_in with_state (event_taken meaning event) t (Going P facts)
+      (IfOk-weaker (event_taken meaning event (begun s)) P _ first (λ v p. record { here = p; same = refl })))
       (λ v g. later P Goal keeps switches facts event v closes g))
       (λ v h. h)

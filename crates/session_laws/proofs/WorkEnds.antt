@@ -2,7 +2,8 @@
 use Rattle.std.proofs.Common.{◌≡◌, ℕ, List, Bool, true, false, refl, sym, ap, ◌∙◌, subst}
 use Rattle.std.specs.Prelude.{codes, Option, None, Some, option_and_then, Result, Ok, Err, if◌then◌else◌}
 use Rattle.std.specs.FinMap as map
-use Rattle.session_port.specs.Jobs.{Jobs, after_message, final_of, fits_final, fits_kind, fitting_job, has_build_data, has_macros, has_workspaces, if_value, without_fitting}
+use Rattle.session_port.specs.Jobs.{Jobs, after_message, final_of, fits_final, fits_kind, fitting_job, has_build_data, has_macros, has_workspaces, if_value}
+use Rattle.session_port.specs.Jobs.{without_fitting}
 use Rattle.session_port.specs.declared.event.TaskMsg.{TaskMsg}
 use Rattle.session_port.specs.declared.job.Job.{Job}
 use Rattle.session_port.specs.declared.job.JobKind.{JobKind}
@@ -39,7 +40,8 @@ abbrev pub end_kept : Option WorkEnd → Workspaces → Workspaces
 end_kept None workspaces = workspaces
 end_kept (Some end) workspaces = work_kept end workspaces
 
-if-leaves : {X : Type 0} (part : Workspaces → X) (b : Bool) (ended workspaces : Workspaces) → part ended ≡ part workspaces → part (if b then ended else workspaces) ≡ part workspaces
+if-leaves : {X : Type 0} (part : Workspaces → X) (b : Bool) (ended workspaces : Workspaces) → part ended ≡ part workspaces
+    → part (if b then ended else workspaces) ≡ part workspaces
 if-leaves part true ended workspaces same = same
 if-leaves part false ended workspaces same = refl
 
@@ -160,38 +162,50 @@ load-has-end NoMemory fit = (Err (codes "out of memory"), refl)
 -- an end of a fetch leaves what waits for a timer
 fetch-waits : (found : FetchEnd) (workspaces : Workspaces) → (fetch_kept found workspaces).fetches.waiting ≡ workspaces.fetches.waiting
 fetch-waits found workspaces =
-    if-leaves (λ (w : Workspaces). w.fetches.waiting) (fetching workspaces) (record workspaces { fetches = end_fetch found workspaces.fetches; switch_wanted = true }) workspaces refl
+    if-leaves (λ (w : Workspaces). w.fetches.waiting) (fetching workspaces)
+    (record workspaces { fetches = end_fetch found workspaces.fetches; switch_wanted = true }) workspaces refl
 
 found-runs : (turns : ℕ) (found : FetchEnd) (workspaces : Workspaces) (n : ℕ) (job : Job) (out : Jobs) → map.get out n ≡ Some job
-    → is_fetch job.kind ≡ true → is_build job.kind ≡ false → is_load job.kind ≡ false → RunsTo turns workspaces out (fetch_kept found workspaces) (map.remove out n)
+    → is_fetch job.kind ≡ true → is_build job.kind ≡ false → is_load job.kind ≡ false
+    → RunsTo turns workspaces out (fetch_kept found workspaces) (map.remove out n)
 found-runs turns found workspaces n job out there one no_build no_load =
     let same = fetch-leaves found workspaces in
     record {
-      fetches = kept-off is_fetch fetching (fetching workspaces) (record workspaces { fetches = end_fetch found workspaces.fetches; switch_wanted = true }) workspaces n job out refl there one;
-      builds = λ h. subst (λ (b : Builds). IsOutIf is_build b.queue.in_progress (map.remove out n)) (sym same.0) (off-other is_build (building workspaces) n job out there no_build h);
-      loads = λ h. subst (λ (l : Loads). IsOutIf is_load l.queue.in_progress (map.remove out n)) (sym same.1) (off-other is_load (loading workspaces) n job out there no_load h);
+      fetches = kept-off is_fetch fetching (fetching workspaces) (record workspaces { fetches = end_fetch found workspaces.fetches; switch_wanted = true })
+          workspaces n job out refl there one;
+      builds = λ h. subst (λ (b : Builds). IsOutIf is_build b.queue.in_progress (map.remove out n)) (sym same.0)
+          (off-other is_build (building workspaces) n job out there no_build h);
+      loads = λ h. subst (λ (l : Loads). IsOutIf is_load l.queue.in_progress (map.remove out n)) (sym same.1)
+          (off-other is_load (loading workspaces) n job out there no_load h);
       waits = subst (IsOfTurns turns) (sym (fetch-waits found workspaces));
     }
 
 made-runs : (turns : ℕ) (made : BuildEnd) (workspaces : Workspaces) (n : ℕ) (job : Job) (out : Jobs) → map.get out n ≡ Some job
-    → is_fetch job.kind ≡ false → is_build job.kind ≡ true → is_load job.kind ≡ false → RunsTo turns workspaces out (build_kept made workspaces) (map.remove out n)
+    → is_fetch job.kind ≡ false → is_build job.kind ≡ true → is_load job.kind ≡ false
+    → RunsTo turns workspaces out (build_kept made workspaces) (map.remove out n)
 made-runs turns made workspaces n job out there no_fetch one no_load =
     let same = build-leaves made workspaces in
     record {
-      fetches = λ h. subst (λ (f : Fetches). IsOutIf is_fetch f.queue.in_progress (map.remove out n)) (sym same.0) (off-other is_fetch (fetching workspaces) n job out there no_fetch h);
-      builds = kept-off is_build building (building workspaces) (record workspaces { builds = end_build made workspaces.present workspaces.builds; switch_wanted = true }) workspaces n job out
+      fetches = λ h. subst (λ (f : Fetches). IsOutIf is_fetch f.queue.in_progress (map.remove out n)) (sym same.0)
+          (off-other is_fetch (fetching workspaces) n job out there no_fetch h);
+      builds = kept-off is_build building (building workspaces)
+          (record workspaces { builds = end_build made workspaces.present workspaces.builds; switch_wanted = true }) workspaces n job out
           refl there one;
-      loads = λ h. subst (λ (l : Loads). IsOutIf is_load l.queue.in_progress (map.remove out n)) (sym same.1) (off-other is_load (loading workspaces) n job out there no_load h);
+      loads = λ h. subst (λ (l : Loads). IsOutIf is_load l.queue.in_progress (map.remove out n)) (sym same.1)
+          (off-other is_load (loading workspaces) n job out there no_load h);
       waits = subst (λ (f : Fetches). IsOfTurns turns f.waiting) (sym same.0);
     }
 
 told-runs : (turns : ℕ) (told : LoadEnd) (workspaces : Workspaces) (n : ℕ) (job : Job) (out : Jobs) → map.get out n ≡ Some job
-    → is_fetch job.kind ≡ false → is_build job.kind ≡ false → is_load job.kind ≡ true → RunsTo turns workspaces out (load_kept told workspaces) (map.remove out n)
+    → is_fetch job.kind ≡ false → is_build job.kind ≡ false → is_load job.kind ≡ true
+    → RunsTo turns workspaces out (load_kept told workspaces) (map.remove out n)
 told-runs turns told workspaces n job out there no_fetch no_build one =
     let same = load-leaves told workspaces in
     record {
-      fetches = λ h. subst (λ (f : Fetches). IsOutIf is_fetch f.queue.in_progress (map.remove out n)) (sym same.0) (off-other is_fetch (fetching workspaces) n job out there no_fetch h);
-      builds = λ h. subst (λ (b : Builds). IsOutIf is_build b.queue.in_progress (map.remove out n)) (sym same.1) (off-other is_build (building workspaces) n job out there no_build h);
+      fetches = λ h. subst (λ (f : Fetches). IsOutIf is_fetch f.queue.in_progress (map.remove out n)) (sym same.0)
+          (off-other is_fetch (fetching workspaces) n job out there no_fetch h);
+      builds = λ h. subst (λ (b : Builds). IsOutIf is_build b.queue.in_progress (map.remove out n)) (sym same.1)
+          (off-other is_build (building workspaces) n job out there no_build h);
       loads = kept-off is_load loading (loading workspaces) (record workspaces { loads = end_load told workspaces.loads }) workspaces n job out refl there one;
       waits = subst (λ (f : Fetches). IsOfTurns turns f.waiting) (sym same.0);
     }
@@ -209,7 +223,8 @@ check-runs turns (Err reason) workspaces = same-runs turns workspaces workspaces
 -- ---- a message
 
 -- a job that is out ends with a result of its kind
-result-runs : (turns : ℕ) (workspaces : Workspaces) (n : ℕ) (job : Job) (out : Jobs) (kind : JobKind) (result : JobResult) → job.kind ≡ kind → map.get out n ≡ Some job
+result-runs : (turns : ℕ) (workspaces : Workspaces) (n : ℕ) (job : Job) (out : Jobs) (kind : JobKind) (result : JobResult) → job.kind ≡ kind
+    → map.get out n ≡ Some job
     → fits_kind kind result ≡ true → RunsTo turns workspaces out (end_kept (work_end_of kind result) workspaces) (map.remove out n)
 result-runs turns workspaces n job out (RequestJob ticket row params) result its there fit =
     off-runs turns workspaces workspaces n job out (same-runs turns workspaces workspaces refl) there (ap is_fetch its) (ap is_build its) (ap is_load its)
@@ -238,7 +253,8 @@ fitting-runs : (turns : ℕ) (message : TaskMsg) (out : Jobs) (workspaces : Work
     → RunsTo turns workspaces out (end_kept (work_told message o) workspaces) (without_fitting o message out)
 fitting-runs turns message out workspaces None is = same-runs-to turns workspaces workspaces out (same-runs turns workspaces workspaces refl)
 fitting-runs turns message out workspaces (Some job) is =
-    final-runs turns workspaces message.job job out (final_of message.body) (after_message-some message out job is).1 (fit-true message.body (map.get out message.job) job is)
+    final-runs turns workspaces message.job job out (final_of message.body) (after_message-some message out job is).1
+    (fit-true message.body (map.get out message.job) job is)
 
 -- what is in progress behind a message is out behind it
 pub message-runs-to : (turns : ℕ) (message : TaskMsg) (out : Jobs) (workspaces : Workspaces)

@@ -1,5 +1,6 @@
 -- What enters the world of a session, one change after another, and what the settings are by then.
-use Rattle.std.specs.Prelude.{◌≡◌, ◌⊎◌, ◌+◌, ◌||◌, Bool, true, false, List, [], ◌∷◌, ◌++◌, length, map, Option, None, Some, is_some, unwrap_or, if◌then◌else◌}
+use Rattle.std.specs.Prelude.{◌≡◌, ◌⊎◌, ◌+◌, ◌||◌, Bool, true, false, List, [], ◌∷◌, ◌++◌, length, map, Option, None}
+use Rattle.std.specs.Prelude.{Some, is_some, unwrap_or, if◌then◌else◌}
 use Rattle.std.specs.List.{list_any}
 use Rattle.std.specs.FinMap as finmap
 use Rattle.analysis_host.specs.HostData.{HostData, with_files}
@@ -12,7 +13,9 @@ use Rattle.docs_vfs.specs.declared.file_kinds.ChangedFile.{ChangedFile}
 use Rattle.docs_vfs.specs.declared.source_roots.Root.{Root}
 use Rattle.notify.specs.declared.notice.Notice.{Notice}
 use Rattle.notify.specs.declared.notice.Notice.TheVariants.{DidChangeWorkspaceFolders}
-use Rattle.lsp_frame.specs.declared.message.Message.TheVariants.{Request as RequestMessage, Notification as NotificationMessage, Response as ResponseMessage}
+use Rattle.lsp_frame.specs.declared.message.Message.TheVariants.{Request as RequestMessage}
+use Rattle.lsp_frame.specs.declared.message.Message.TheVariants.{Notification as NotificationMessage}
+use Rattle.lsp_frame.specs.declared.message.Message.TheVariants.{Response as ResponseMessage}
 use Rattle.project_model.specs.declared.crates.CrateData.{CrateData}
 use Rattle.session_files.specs.Texts.{file_change}
 use Rattle.session_model.specs.Hearing.{heard_of, told_by}
@@ -44,7 +47,8 @@ pub record Entry : Type 0 where
 
 -- crate data alone, or files alone, and at least one
 abbrev pub IsEntry : Entry → Type 0
-IsEntry entry = ((is_some entry.crates ≡ true) × (entry.files ≡ [])) ⊎ ((entry.crates ≡ None) × (length entry.files ≡ 0 → ⊥))
+IsEntry entry = ((is_some entry.crates ≡ true) × (entry.files ≡ []))
+    ⊎ ((entry.crates ≡ None) × (length entry.files ≡ 0 → ⊥))
 
 abbrev pub AreEntries : List Entry → Type 0
 AreEntries [] = Unit {0}
@@ -121,7 +125,8 @@ pub record KeepsSettings (old new : State) : Type 0 where
 
 -- ---- a turn
 
--- what a turn lets into the world: in its event, where the roots are present that are so before it, and behind the event, where those are that a switch may
+-- what a turn lets into the world: in its event, where the roots are present that are so before it, and behind the
+-- event, where those are that a switch may
 -- have made
 pub record LetsIn (old new : State) : Type 0 where
   pub in_event : List Entry
@@ -140,8 +145,10 @@ pub record EndsWait (message : TaskMsg) (s : State) : Type 0 where
   pub in_progress : s.workspaces.loads.queue.in_progress ≡ true
   pub waits : is_some s.workspaces.loads.waiting ≡ true
 
--- crate data has entered with its macros, and behind it the files that had changed, loading or not: the roots are those that are present, the texts those of
--- the present contents, and nothing of the files is left to be processed. It is one revision more, and one more where files had changed
+-- crate data has entered with its macros, and behind it the files that had changed, loading or not: the roots are those
+-- that are present, the texts those of
+-- the present contents, and nothing of the files is left to be processed. It is one revision more, and one more where
+-- files had changed
 pub record BringsFiles (old new : State) : Type 0 where
   pub roots : new.files.host.world.roots ≡ old.sources.roots
   pub current : IsSound old.files → IsCurrent new.files
@@ -157,7 +164,8 @@ MayBringFiles old new = (new.files ≡ old.files) ⊎ BringsFiles old new
 -- settings files are those of the local roots in which they are
 abbrev pub AreOfRoots : List Root → List RootFile → Type 0
 AreOfRoots roots [] = Unit {0}
-AreOfRoots roots (file ∷ files) = ((file.root ≡ root_of roots file.path) × (is_local_at roots file.root ≡ true)) × AreOfRoots roots files
+AreOfRoots roots (file ∷ files) = ((file.root ≡ root_of roots file.path) × (is_local_at roots file.root ≡ true))
+    × AreOfRoots roots files
 
 abbrev pub IsOfRoots : List Root → Option ConfigChange → Type 0
 IsOfRoots roots None = Unit {0}

@@ -35,7 +35,8 @@ file_to_read other = None
 -- each URL where it stands for the first time, behind some that were seen
 abbrev pub each_once : List (List ℕ) → List (List ℕ) → List (List ℕ)
 each_once seen [] = []
-each_once seen (url ∷ urls) = if list_any (bytes_eq url) seen then each_once seen urls else url ∷ each_once (url ∷ seen) urls
+each_once seen (url ∷ urls) = if list_any (bytes_eq url) seen then each_once seen urls else url
+    ∷ each_once (url ∷ seen) urls
 
 -- the files that a notice says have changed on the disk: those that the client watches, or that of a document which is
 -- closed

@@ -18,7 +18,8 @@ use Rattle.session_model.specs.Building.{build_due}
 use Rattle.session_model.specs.Checking.{check_kind}
 use Rattle.session_model.specs.Fetching.{with_fetches}
 use Rattle.session_model.specs.Loading.{MacroPaths, load_due, load_kind, with_due_load}
-use Rattle.session_model.specs.Machine.{Turning, begin_part, event_part, files_part, publish_part, quiet_part, register_part, status_part}
+use Rattle.session_model.specs.Machine.{Turning, begin_part, event_part, files_part, publish_part, quiet_part}
+use Rattle.session_model.specs.Machine.{register_part, status_part}
 use Rattle.session_model.specs.Machine.{switch_part, turning, with_workspaces}
 use Rattle.session_model.specs.Run.{begun}
 use Rattle.session_model.specs.State.{State, fetch_kind, may_start, snapshot_of}
@@ -40,7 +41,8 @@ own_job s kind = record { class = Worker; kind = kind; snapshot = snapshot_of s 
 abbrev pub numbered_behind : ℕ → List OwnJob → List Job
 numbered_behind handed [] = []
 numbered_behind handed (own ∷ later) =
-    (record { number = handed + 1; class = own.class; kind = own.kind; snapshot = own.snapshot }) ∷ numbered_behind (handed + 1) later
+    (record { number = handed + 1; class = own.class; kind = own.kind; snapshot = own.snapshot })
+    ∷ numbered_behind (handed + 1) later
 
 -- ---- checks of sources that come back
 
@@ -48,7 +50,8 @@ numbered_behind handed (own ∷ later) =
 abbrev pub checks_among_tasks : State → List DeferredTask → List OwnJob
 checks_among_tasks s [] = []
 checks_among_tasks s (CheckIfIndexed path ∷ tasks) = checks_among_tasks s tasks
-checks_among_tasks s (CheckProcMacroSources files ∷ tasks) = own_job s (check_kind (snapshot_of s) files) ∷ checks_among_tasks s tasks
+checks_among_tasks s (CheckProcMacroSources files ∷ tasks) = own_job s (check_kind (snapshot_of s) files)
+    ∷ checks_among_tasks s tasks
 
 -- those that an input brings back
 abbrev pub checks_back : State → Input → List OwnJob
@@ -78,7 +81,8 @@ load_job s (Some paths) = own_job s (load_kind s.client.settings paths) ∷ []
 abbrev pub fetch_jobs : Input → State → List OwnJob
 fetch_jobs input s = fetch_job s (fetch_to_start (may_start input s.client.settings) s.workspaces.fetches)
 
--- and once that has started: the build data that is asked for, or else macros, where no fetch is in progress; a load is in
+-- and once that has started: the build data that is asked for, or else macros, where no fetch is in progress; a load is
+-- in
 -- progress where it is handed over
 abbrev pub run_jobs : State → List OwnJob
 run_jobs s =
@@ -92,7 +96,8 @@ run_jobs_behind (Next event) s = run_jobs s
 
 abbrev pub jobs_due : Input → State → List OwnJob
 jobs_due input s =
-    fetch_jobs input s ++ run_jobs_behind input (with_workspaces (with_fetches (start_fetch (may_start input s.client.settings)) s.workspaces) s)
+    fetch_jobs input s ++ run_jobs_behind input
+    (with_workspaces (with_fetches (start_fetch (may_start input s.client.settings)) s.workspaces) s)
 
 -- ---- of a turn
 
@@ -100,7 +105,8 @@ jobs_due input s =
 abbrev pub parts_before_fetch : Meaning → Input → Working Turning → Result (Working Turning) Counter
 parts_before_fetch meaning Start w = and_then (status_part w) (λ w. and_then (register_part w) begin_part)
 parts_before_fetch meaning (Next event) w =
-    and_then (event_part meaning event w) (λ w. and_then (switch_part w) (λ w. and_then (files_part w) (λ w. and_then (quiet_part w) publish_part)))
+    and_then (event_part meaning event w) (λ w.
+    and_then (switch_part w) (λ w. and_then (files_part w) (λ w. and_then (quiet_part w) publish_part)))
 
 -- where the session stands then; as before the turn, where a counter is at its end
 abbrev pub before_fetch : Meaning → Input → State → State

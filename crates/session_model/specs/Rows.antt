@@ -15,7 +15,7 @@ use Rattle.desk.specs.Reactions.{Reaction, responses_of, silent, joined, cancel_
 use Rattle.desk.specs.Scene.{Scene}
 use Rattle.session_model.specs.Hearing.{heard_of, told_by}
 use Rattle.session_model.specs.Inputs.{cancelled_by}
-use Rattle.session_model.specs.Machine.{taken}
+use Rattle.session_model.specs.Machine.{message_taken}
 use Rattle.session_model.specs.Places.{Place, next_turn}
 use Rattle.session_model.specs.Run.{Turn, begun}
 use Rattle.session_model.specs.State.{State, snapshot_of}
@@ -32,7 +32,7 @@ turn_begun s = begun (record s { desk = record s.desk { turns = s.desk.turns + 1
 
 -- the machine after a message of a batch; as before it, where the message needs one more of a counter than there are
 abbrev pub machine_after : Meaning → TaskMsg → Working State → Working State
-machine_after meaning message w = result_unwrap_or (taken meaning message w) w
+machine_after meaning message w = result_unwrap_or (message_taken meaning message w) w
 
 -- after messages, one after another
 abbrev pub machine_after_all : Meaning → List TaskMsg → Working State → Working State

@@ -4,7 +4,7 @@ ghost use Rattle.docs_vfs.specs.FileUrls.{path_of};
 ghost use Rattle.session_port.specs.Meets.{Meets, Gives};
 ghost use Rattle.session_model.specs.FilesFolds.{changed_files, has_changed};
 ghost use Rattle.session_model.specs.FilesSteps.{changed, closed as closed_document, loaded, opened, processed};
-ghost use Rattle.session_model.specs.Machine.{at_files, brought, changed_at, closed_at, files_done, files_followed, files_processed, opened_at, some_processed};
+ghost use Rattle.session_model.specs.Machine.{at_files, loader_taken, changed_at, closed_at, files_done, files_followed, files_processed, opened_at, some_processed};
 ghost use Rattle.session_model.specs.State.{columns_in, excludes_in};
 ghost use Rattle.session_model.specs.Timing.{bring_files, brings_files};
 
@@ -131,7 +131,7 @@ pub fn on_loader(
     messages: Items<LoaderMsg>,
     out: &mut TurnOut,
 ) -> Result<(), TurnError>
-    ensures { Meets result (brought messages (record { state = store.old; out = out.old })) store.new out.new }
+    ensures { Meets result (loader_taken messages (record { state = store.old; out = out.old })) store.new out.new }
 {
     let brings = bring_files(messages.as_slice());
     load(store, messages, out)?;

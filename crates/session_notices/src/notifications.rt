@@ -3,7 +3,7 @@ ghost use Rattle.std.specs.Prelude.{Ok};
 ghost use Rattle.session_port.specs.Meets.{Meets};
 ghost use Rattle.session_model.specs.DeskSteps.{cancelled};
 ghost use Rattle.notify.specs.Reading.{FitsWorld as NoticeFitsWorld};
-ghost use Rattle.session_model.specs.Hearing.{heard_of, FitsWorld};
+ghost use Rattle.session_model.specs.Hearing.{heard_of, HeardFitsWorld};
 ghost use Rattle.session_model.specs.Machine.{at_desk, noticed, told};
 
 use crate::asking::{ask_for_settings, on_folders};
@@ -59,7 +59,7 @@ fn on_heard(
     method: Text,
     out: &mut TurnOut,
 ) -> Result<(), TurnError>
-    requires { FitsWorld heard }
+    requires { HeardFitsWorld heard }
     ensures { Meets result (noticed heard method (record { state = store.old; out = out.old })) store.new out.new }
 {
     match heard {

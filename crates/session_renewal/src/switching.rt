@@ -3,7 +3,7 @@ ghost use Rattle.std.specs.Prelude.{◌≡◌, ◌⊎◌, None, Some, Ok, Err, I
 ghost use Rattle.session_port.specs.Meets.{Meets, Gives};
 ghost use Rattle.session_port.specs.declared.fault.Counter.TheVariants.{LoaderSettings};
 ghost use Rattle.session_port.specs.declared.fault.TurnError.TheVariants.{Exhausted, NoMemory as OutOfMemory};
-ghost use Rattle.session_model.specs.Machine.{followed, loader_set, roots_renewed, switch_done, warned};
+ghost use Rattle.session_model.specs.Machine.{switch_followed, loader_set, roots_renewed, switch_done, warned};
 ghost use Rattle.session_model.specs.Sources.{other_parents, sources_now};
 ghost use Rattle.session_model.specs.Switching.{switch_by, switch_made};
 
@@ -84,9 +84,9 @@ fn renew_roots(store: &mut Store, out: &mut TurnOut) -> Result<(), TurnError>
 }
 
 // What the user, the client and the host are told behind a switch, and the roots that it renews.
-#[tactic(auto, unfolding(session_model::specs::Machine::followed))]
+#[tactic(auto, unfolding(session_model::specs::Machine::switch_followed))]
 fn follow(store: &mut Store, follows: Follows, out: &mut TurnOut) -> Result<(), TurnError>
-    ensures { Meets result (followed follows (record { state = store.old; out = out.old })) store.new out.new }
+    ensures { Meets result (switch_followed follows (record { state = store.old; out = out.old })) store.new out.new }
 {
     match follows {
         Follows::Nothing | Follows::CrateData => Ok(()),
@@ -143,7 +143,7 @@ fn make_switch_if_due(store: &mut Store) -> Result<Follows, TurnError>
 }
 
 /// The switch that is wanted is made, unless files are loading, and what follows it is done.
-#[tactic(auto, unfolding(session_model::specs::Machine::switch_done, session_model::specs::Machine::switched_to))]
+#[tactic(auto, unfolding(session_model::specs::Machine::switch_done, session_model::specs::Machine::switch_taken))]
 pub fn switch_workspaces(store: &mut Store, out: &mut TurnOut) -> Result<(), TurnError>
     ensures { Meets result (switch_done (record { state = store.old; out = out.old })) store.new out.new }
 {

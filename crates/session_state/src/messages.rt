@@ -5,7 +5,7 @@ ghost use Rattle.session_port.specs.Meets.{Meets};
 ghost use Rattle.session_model.specs.Meaning.{meaning_of};
 ghost use Rattle.session_model.specs.Building.{is_rebuild, rebuilds};
 ghost use Rattle.session_model.specs.Fetching.{is_reload, reloads};
-ghost use Rattle.session_model.specs.Machine.{asked, batched, end_taken, files_processed_if, load_taken, received, taken, work_taken};
+ghost use Rattle.session_model.specs.Machine.{request_taken, batched, end_taken, files_processed_if, load_taken, received, message_taken, work_taken};
 
 use analysis_host::Analysis;
 use lsp_frame::{Message, Request};
@@ -65,7 +65,7 @@ fn on_request<A: Analysis>(
     out: &mut TurnOut,
 ) -> Result<(), TurnError>
     requires { IsAbove store.old.desk.turns store.old.desk.pending }
-    ensures { Meets result (asked (meaning_of A.decodes A.answer) request (record { state = store.old; out = out.old })) store.new out.new }
+    ensures { Meets result (request_taken (meaning_of A.decodes A.answer) request (record { state = store.old; out = out.old })) store.new out.new }
 {
     let reloads = reloads(store, &request);
     let rebuilds = rebuilds(store, &request);
@@ -138,14 +138,14 @@ fn take_end(store: &mut Store, end: Option<WorkEnd>, out: &mut TurnOut) -> Resul
 }
 
 // A message of a job. What it ends is told to the workspaces.
-#[tactic(auto, unfolding(session_model::specs::Machine::taken))]
+#[tactic(auto, unfolding(session_model::specs::Machine::message_taken))]
 fn on_task<A: Analysis>(
     store: &mut Store,
     message: TaskMsg,
     analysis: &A,
     out: &mut TurnOut,
 ) -> Result<(), TurnError>
-    ensures { Meets result (taken (meaning_of A.decodes A.answer) message (record { state = store.old; out = out.old })) store.new out.new }
+    ensures { Meets result (message_taken (meaning_of A.decodes A.answer) message (record { state = store.old; out = out.old })) store.new out.new }
 {
     let end = store.bring(message, analysis, out)?;
     take_end(store, end, out)

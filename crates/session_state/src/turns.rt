@@ -3,7 +3,7 @@ ghost use Rattle.std.specs.Prelude.{◌≡◌, OnOk};
 ghost use Rattle.lsp_frame.specs.Pending.{IsAbove};
 ghost use Rattle.session_port.specs.Meets.{Meets, Gives};
 ghost use Rattle.session_model.specs.Meaning.{Meaning, meaning_of};
-ghost use Rattle.session_model.specs.Machine.{closed, counted, facts_of, happened, kept, revised, step, taken_in};
+ghost use Rattle.session_model.specs.Machine.{turn_closed, turn_counted, facts_of, happened, desk_kept, revised, step, event_taken};
 ghost use Rattle.session_model.specs.declared.input.Input.TheVariants.{Start, Next};
 
 use crate::messages::{on_batch, on_message};
@@ -18,10 +18,10 @@ use session_status::{refresh, report_status};
 use session_store::Store;
 
 // The turn is counted.
-#[tactic(auto, unfolding(session_model::specs::Machine::counted))]
+#[tactic(auto, unfolding(session_model::specs::Machine::turn_counted))]
 fn count(store: &mut Store, out: &mut TurnOut) -> Result<(), TurnError>
     ensures above { OnOk result (IsAbove store.new.desk.turns store.new.desk.pending) }
-    ensures meets { Meets result (counted (record { state = store.old; out = out.old })) store.new out.new }
+    ensures meets { Meets result (turn_counted (record { state = store.old; out = out.old })) store.new out.new }
 {
     store.desk.count(out)
 }
@@ -46,23 +46,23 @@ fn on_event<A: Analysis>(
 }
 
 // The turn is counted, and its event is taken in.
-#[tactic(auto, unfolding(session_model::specs::Machine::taken_in))]
+#[tactic(auto, unfolding(session_model::specs::Machine::event_taken))]
 fn take_in<A: Analysis>(
     store: &mut Store,
     event: Event,
     analysis: &A,
     out: &mut TurnOut,
 ) -> Result<(), TurnError>
-    ensures { Meets result (taken_in (meaning_of A.decodes A.answer) event (record { state = store.old; out = out.old })) store.new out.new }
+    ensures { Meets result (event_taken (meaning_of A.decodes A.answer) event (record { state = store.old; out = out.old })) store.new out.new }
 {
     count(store, out)?;
     on_event(store, event, analysis, out)
 }
 
 // The jobs that this turn hands over are out.
-#[tactic(auto, unfolding(session_model::specs::Machine::kept))]
+#[tactic(auto, unfolding(session_model::specs::Machine::desk_kept))]
 fn keep_jobs(store: &mut Store, before: usize, out: &mut TurnOut) -> Result<(), TurnError>
-    ensures { Meets result (kept before (record { state = store.old; out = out.old })) store.new out.new }
+    ensures { Meets result (desk_kept before (record { state = store.old; out = out.old })) store.new out.new }
 {
     store.desk.keep_jobs(before, out)
 }
@@ -81,7 +81,7 @@ fn revise(store: &mut Store, before: u64, out: &mut TurnOut) -> Result<(), TurnE
 
 // What closes a turn.
 fn close_turn(store: &mut Store, facts: Facts, out: &mut TurnOut) -> Result<(), TurnError>
-    ensures { Meets result (closed facts (record { state = store.old; out = out.old })) store.new out.new }
+    ensures { Meets result (turn_closed facts (record { state = store.old; out = out.old })) store.new out.new }
 {
     keep_jobs(store, facts.ordered, out)?;
     revise(store, facts.revision, out)?;

@@ -65,7 +65,7 @@ fn answer_now<A: Analysis>(
 // What a request of a row is answered at once.
 impl Desk {
     // Refuses a request whose params can't be read.
-    #[tactic(auto, unfolding(crate::specs::Steps::responded, crate::specs::Steps::answered_if, crate::specs::Steps::answered))]
+    #[tactic(auto, unfolding(crate::specs::Steps::responded, crate::specs::Steps::answered_if, crate::specs::Steps::request_answered))]
     fn refuse_params(&mut self, ticket: u64, out: &mut TurnOut) -> Result<(), TurnError>
         ensures { Gives result (responded ticket invalid_params (record { state = self.old; out = out.old })) self.new out.new }
     {
@@ -77,7 +77,7 @@ impl Desk {
     }
 
     // Refuses a request after a shutdown.
-    #[tactic(auto, unfolding(crate::specs::Steps::responded, crate::specs::Steps::answered_if, crate::specs::Steps::answered))]
+    #[tactic(auto, unfolding(crate::specs::Steps::responded, crate::specs::Steps::answered_if, crate::specs::Steps::request_answered))]
     fn refuse_shut(&mut self, ticket: u64, out: &mut TurnOut) -> Result<(), TurnError>
         ensures { Gives result (responded ticket shut_already (record { state = self.old; out = out.old })) self.new out.new }
     {
@@ -89,7 +89,7 @@ impl Desk {
     }
 
     // Refuses a request of a row that the table doesn't have.
-    #[tactic(auto, unfolding(crate::specs::Steps::responded, crate::specs::Steps::answered_if, crate::specs::Steps::answered))]
+    #[tactic(auto, unfolding(crate::specs::Steps::responded, crate::specs::Steps::answered_if, crate::specs::Steps::request_answered))]
     fn refuse_unknown(&mut self, ticket: u64, out: &mut TurnOut) -> Result<(), TurnError>
         ensures { Gives result (responded ticket unknown_request (record { state = self.old; out = out.old })) self.new out.new }
     {
@@ -101,7 +101,7 @@ impl Desk {
     }
 
     // Answers a request by a value.
-    #[tactic(auto, unfolding(crate::specs::Steps::responded, crate::specs::Steps::answered_if, crate::specs::Steps::answered))]
+    #[tactic(auto, unfolding(crate::specs::Steps::responded, crate::specs::Steps::answered_if, crate::specs::Steps::request_answered))]
     fn answer_value(&mut self, ticket: u64, value: Json, out: &mut TurnOut) -> Result<(), TurnError>
         requires { is_plain value ≡ true }
         ensures { Gives result (responded ticket (λ id. response_with id value) (record { state = self.old; out = out.old })) self.new out.new }
@@ -126,7 +126,7 @@ impl Desk {
     }
 
     // Answers a request by a query on a snapshot.
-    #[tactic(auto, unfolding(crate::specs::Steps::responded, crate::specs::Steps::answered_if, crate::specs::Steps::answered))]
+    #[tactic(auto, unfolding(crate::specs::Steps::responded, crate::specs::Steps::answered_if, crate::specs::Steps::request_answered))]
     fn answer_on<A: Analysis>(
         &mut self,
         snapshot: &GlobalStateSnapshot,

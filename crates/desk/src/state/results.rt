@@ -37,7 +37,7 @@ fn ending_nothing(done: Result<(), TurnError>) -> Result<Option<WorkEnd>, TurnEr
 
 impl Desk {
     // The request of a job that stopped is refused, since the texts have changed.
-    #[tactic(auto, unfolding(crate::specs::Steps::responded, crate::specs::Steps::answered_if, crate::specs::Steps::answered))]
+    #[tactic(auto, unfolding(crate::specs::Steps::responded, crate::specs::Steps::answered_if, crate::specs::Steps::request_answered))]
     fn refuse_stopped(
         &mut self,
         ticket: u64,
@@ -87,7 +87,7 @@ impl Desk {
     }
 
     // The result of a request's job, where the request still waits.
-    #[tactic(auto, unfolding(crate::specs::Steps::delivered, crate::specs::Steps::settled, crate::specs::Steps::answered))]
+    #[tactic(auto, unfolding(crate::specs::Steps::delivered, crate::specs::Steps::settled, crate::specs::Steps::request_answered))]
     fn deliver<P: Present, A: Analysis>(
         &mut self,
         scene: &P,
