@@ -10,7 +10,7 @@ use notify::Outgo;
 use plain::{Items, Text};
 use session_model::{ReqHandler, TurnError};
 use session_port::TurnOut;
-use session_store::Store;
+use session_store::{Store, goes_by_folders};
 use std::sync::Arc;
 
 // The client is asked for its settings.
@@ -38,7 +38,13 @@ pub fn complete_request(
 {
     let before = Arc::try_clone(store.client.settings())?;
     take_answer(store, response, out)?;
-    tell_settings(store, &before, out)
+    tell_settings(
+        store.alloc,
+        &before,
+        store.client.settings(),
+        &mut store.workspaces,
+    )?;
+    Ok(())
 }
 
 // The folders of the client's workspaces change, in what is agreed with it.
@@ -62,7 +68,8 @@ pub(crate) fn on_folders(
 ) -> Result<(), TurnError>
     ensures { Meets result (folders_taken added removed (record { state = store.old; out = out.old })) store.new out.new }
 {
-    let counts = store.goes_by_folders();
+    let counts = goes_by_folders(store.client.settings());
     change_folders(store, added, removed, out)?;
-    tell_folders_if(store, counts, out)
+    tell_folders_if(store.alloc, counts, &mut store.workspaces)?;
+    Ok(())
 }

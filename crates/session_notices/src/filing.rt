@@ -14,7 +14,7 @@ use notify::{DidChange, DidOpen};
 use plain::{Items, Text};
 use session_model::TurnError;
 use session_port::{LoaderMsg, LogCode, TurnOut};
-use session_store::Store;
+use session_store::{Store, log};
 use text_core::ContentChange;
 
 // Whether a loader's message brings files.
@@ -62,7 +62,7 @@ pub(crate) fn on_open(
         Ok(path) => open_at(store, path, document.version, document.text, out),
         Err(UrlFault::NoMemory) => Err(TurnError::NoMemory),
         Err(UrlFault::NotFile | UrlFault::HasHost | UrlFault::NotText) => {
-            store.log(LogCode::BadPath, document.uri, out)
+            log(LogCode::BadPath, document.uri, out)
         }
     }
 }
@@ -93,7 +93,7 @@ pub(crate) fn on_change(
         Ok(path) => change_at(store, path, change.version, change.changes, out),
         Err(UrlFault::NoMemory) => Err(TurnError::NoMemory),
         Err(UrlFault::NotFile | UrlFault::HasHost | UrlFault::NotText) => {
-            store.log(LogCode::BadPath, change.uri, out)
+            log(LogCode::BadPath, change.uri, out)
         }
     }
 }
@@ -113,7 +113,7 @@ pub(crate) fn on_close(store: &mut Store, uri: Text, out: &mut TurnOut) -> Resul
         Ok(path) => close_at(store, path, out),
         Err(UrlFault::NoMemory) => Err(TurnError::NoMemory),
         Err(UrlFault::NotFile | UrlFault::HasHost | UrlFault::NotText) => {
-            store.log(LogCode::BadPath, uri, out)
+            log(LogCode::BadPath, uri, out)
         }
     }
 }
@@ -135,7 +135,8 @@ pub fn on_loader(
 {
     let brings = bring_files(messages.as_slice());
     load(store, messages, out)?;
-    renew_timer_if(store, brings, out)
+    renew_timer_if(&mut store.workspaces, brings, store.desk.turns());
+    Ok(())
 }
 
 // What has changed goes into the world, and with files that came or went the source roots. Answers the files that have
@@ -159,7 +160,12 @@ fn follow_files(
     if changed.is_empty() {
         return Ok(());
     }
-    let effects = effects_for(store, changed.as_slice())?;
+    let effects = effects_for(
+        store.alloc,
+        store.client.settings(),
+        changed.as_slice(),
+        &store.workspaces,
+    )?;
     do_effects(store, effects, out)
 }
 

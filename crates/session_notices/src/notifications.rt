@@ -16,7 +16,7 @@ use notify::Notice;
 use plain::Text;
 use session_model::{Heard, TurnError};
 use session_port::{LogCode, TurnOut};
-use session_store::Store;
+use session_store::{Store, log};
 
 // The request of an id is cancelled, where it is pending.
 fn on_cancel(store: &mut Store, id: RequestId, out: &mut TurnOut) -> Result<(), TurnError>
@@ -42,7 +42,7 @@ fn on_notice(store: &mut Store, notice: Notice, out: &mut TurnOut) -> Result<(),
         Notice::DidChangeWorkspaceFolders { added, removed } => {
             on_folders(store, added, removed, out)
         }
-        Notice::DidChangeWatchedFiles { changes } => change_files(store, changes, out),
+        Notice::DidChangeWatchedFiles { changes } => change_files(store.alloc, changes, out),
         Notice::CancelProgress(_)
         | Notice::CancelFlycheck
         | Notice::ClearFlycheck
@@ -64,8 +64,8 @@ fn on_heard(
 {
     match heard {
         Heard::Told(notice) => on_notice(store, notice, out),
-        Heard::Malformed => store.log(LogCode::MalformedNotification, method, out),
-        Heard::Unhandled => store.log(LogCode::UnhandledNotification, method, out),
+        Heard::Malformed => log(LogCode::MalformedNotification, method, out),
+        Heard::Unhandled => log(LogCode::UnhandledNotification, method, out),
         Heard::Silent => Ok(()),
     }
 }

@@ -1,22 +1,23 @@
 // Documents that the client saves.
-ghost use Rattle.std.specs.Prelude.{◌≡◌, ◌++◌, IfOk};
+ghost use Rattle.std.specs.Prelude.{◌≡◌, ◌++◌, IfOk, OnOk};
 ghost use Rattle.docs_vfs.specs.FileUrls.{path_of};
 ghost use Rattle.docs_vfs.specs.declared.file_kinds.ChangeKind.TheVariants.{Modify as Modified};
 ghost use Rattle.reload.specs.Refresh.{refreshes};
 ghost use Rattle.session_port.specs.Meets.{Gives};
-ghost use Rattle.session_model.specs.Machine.{at_workspaces, save_noted, saved_at, saved_file};
+ghost use Rattle.session_model.specs.Machine.{save_noted, saved_at, saved_file};
 ghost use Rattle.session_model.specs.Saving.{asked_by_save, builds_on_save, fetch_saved, is_detached, is_detached_at, is_detached_file, is_manifest, path_saved, rebuilt_on, save_cause, settings_root};
-ghost use Rattle.session_model.specs.State.{watched_names};
+ghost use Rattle.session_model.specs.State.{State, watched_names};
 
-use docs_vfs::{ChangeKind, UrlFault, VfsPath, path_of_url};
+use docs_vfs::{ChangeKind, SourceRoots, UrlFault, VfsPath, path_of_url};
 use plain::Text;
 use project_model::{ProjectWorkspace, WorkspaceKind};
+use ra_config::Config;
 use reload::should_refresh_for_change;
-use session_model::TurnError;
+use session_model::{SessionFiles, TurnError};
 use session_port::{LogCode, TurnOut};
-use session_store::Store;
+use session_store::{Store, is_loaded_file, is_unknown_file, log, watched_names};
 use std::alloc::{AllocError, Global};
-use workspaces::FetchRequest;
+use workspaces::{FetchRequest, Workspaces};
 
 fn is_detached(kind: WorkspaceKind) -> bool
     ensures { result ≡ is_detached kind }
@@ -62,10 +63,9 @@ fn cause_with(alloc: Global, cause: &str, path: &VfsPath) -> Result<Text, AllocE
 }
 
 // The root at which the settings of a file are read: its own, where that is local.
-fn settings_root(store: &Store, path: &VfsPath) -> Option<u32>
-    ensures { result ≡ settings_root store.now.files.host.world.roots path.now }
+fn settings_root(roots: &SourceRoots, path: &VfsPath) -> Option<u32>
+    ensures { result ≡ settings_root roots.now path.now }
 {
-    let roots = store.files.roots();
     let root = roots.root_of(path);
     if roots.is_local(root) {
         Some(root)
@@ -75,109 +75,122 @@ fn settings_root(store: &Store, path: &VfsPath) -> Option<u32>
 }
 
 // Whether saving a file may ask for build data.
-fn builds_on_save(store: &Store, path: &VfsPath) -> bool
-    ensures { result ≡ builds_on_save store.now.client.settings store.now.files.host.world.roots path.now }
+fn builds_on_save(settings: &Config, roots: &SourceRoots, path: &VfsPath) -> bool
+    ensures { result ≡ builds_on_save settings.now roots.now path.now }
 {
-    store
-        .client
-        .settings()
-        .cargo_build_scripts_rebuild_on_save(settings_root(store, path))
+    settings.cargo_build_scripts_rebuild_on_save(settings_root(roots, path))
 }
 
 // Whether a change of a file renews the workspaces.
-fn refreshes(store: &Store, path: &VfsPath) -> bool
-    ensures { result ≡ refreshes path.now Modified (watched_names store.now.client.settings) }
+fn refreshes(settings: &Config, path: &VfsPath) -> bool
+    ensures { result ≡ refreshes path.now Modified (watched_names settings.now) }
 {
-    should_refresh_for_change(path, ChangeKind::Modify, store.watched_names())
+    should_refresh_for_change(path, ChangeKind::Modify, watched_names(settings))
 }
 
 // Why a saved file asks for a fetch, if it does.
-fn save_cause(store: &Store, path: &VfsPath) -> Result<Option<Text>, AllocError>
-    ensures { IfOk result (λ cause. cause ≡ save_cause store.now.client.settings store.now.workspaces.present path.now) }
+fn save_cause(
+    alloc: Global,
+    settings: &Config,
+    present: &[ProjectWorkspace],
+    path: &VfsPath,
+) -> Result<Option<Text>, AllocError>
+    ensures { IfOk result (λ cause. cause ≡ save_cause settings.now present.now path.now) }
 {
-    if refreshes(store, path) {
-        let cause = cause_with(store.alloc, "workspace vfs file change saved ", path)?;
+    if refreshes(settings, path) {
+        let cause = cause_with(alloc, "workspace vfs file change saved ", path)?;
         return Ok(Some(cause));
     }
-    if is_detached_file(store.workspaces.present(), path) {
-        return Ok(Some(cause_with(store.alloc, "detached file saved ", path)?));
+    if is_detached_file(present, path) {
+        return Ok(Some(cause_with(alloc, "detached file saved ", path)?));
     }
     Ok(None)
 }
 
 // Asks for build data if what it depends on changed, where this flag is set.
-fn rebuild_on(store: &mut Store, saves: bool, out: &mut TurnOut) -> Result<(), TurnError>
-    ensures { Gives result (at_workspaces (rebuilt_on saves) (record { state = store.old; out = out.old })) store.new out.new }
+fn rebuild_on(workspaces: &mut Workspaces, saves: bool) -> Result<(), AllocError>
+    ensures { OnOk result (workspaces.new ≡ rebuilt_on saves workspaces.old) }
 {
     if saves {
-        store.workspaces.rebuild()?;
+        workspaces.rebuild()?;
     }
     Ok(())
 }
 
 // Asks for a fetch for this path, where there is a cause.
-fn fetch_saved(
-    store: &mut Store,
-    cause: Option<Text>,
-    path: VfsPath,
-    out: &mut TurnOut,
-) -> Result<(), TurnError>
-    ensures { Gives result (at_workspaces (fetch_saved cause path) (record { state = store.old; out = out.old })) store.new out.new }
+fn fetch_saved(workspaces: &mut Workspaces, cause: Option<Text>, path: VfsPath)
+    ensures { workspaces.new ≡ fetch_saved cause path workspaces.old }
 {
     if let Some(cause) = cause {
         let path = Some(path);
-        store
-            .workspaces
-            .ask_fetch(cause, FetchRequest { path, force: false });
+        workspaces.ask_fetch(cause, FetchRequest { path, force: false });
     }
-    Ok(())
 }
 
 // What a saved file asks for that is in the table and isn't excluded.
-fn ask_by_save(store: &mut Store, path: VfsPath, out: &mut TurnOut) -> Result<(), TurnError>
-    ensures { Gives result (at_workspaces (asked_by_save store.old.client.settings store.old.files.host.world.roots path) (record { state = store.old; out = out.old })) store.new out.new }
+fn ask_by_save(
+    alloc: Global,
+    settings: &Config,
+    roots: &SourceRoots,
+    path: VfsPath,
+    workspaces: &mut Workspaces,
+) -> Result<(), AllocError>
+    ensures { OnOk result (workspaces.new ≡ asked_by_save settings.now roots.now path workspaces.old) }
 {
-    let cause = save_cause(store, &path)?;
-    let saves = builds_on_save(store, &path);
-    rebuild_on(store, saves, out)?;
-    fetch_saved(store, cause, path, out)
+    let cause = save_cause(alloc, settings, workspaces.present(), &path)?;
+    let saves = builds_on_save(settings, roots, &path);
+    rebuild_on(workspaces, saves)?;
+    fetch_saved(workspaces, cause, path);
+    Ok(())
 }
 
 // A saved file that the table doesn't know is logged.
 #[tactic(auto, unfolding(session_model::specs::Machine::save_noted))]
 fn note_save(
-    store: &mut Store,
+    alloc: Global,
     unknown: bool,
     path: &VfsPath,
     out: &mut TurnOut,
 ) -> Result<(), TurnError>
-    ensures gives { Gives result (save_noted unknown path.now (record { state = store.old; out = out.old })) store.new out.new }
-    ensures same { store.new ≡ store.old }
+    ensures { (state : State) → Gives result (save_noted unknown path.now (record { state = state; out = out.old })) state out.new }
 {
     if !unknown {
         return Ok(());
     }
-    let text = Text::from_str(store.alloc, path.as_str())?;
-    store.log(LogCode::UnknownSave, text, out)
+    let text = Text::from_str(alloc, path.as_str())?;
+    log(LogCode::UnknownSave, text, out)
 }
 
 // A file that isn't in the table, or is excluded, asks for nothing.
-fn ask_if_loaded(store: &mut Store, path: VfsPath, out: &mut TurnOut) -> Result<(), TurnError>
-    ensures { Gives result (at_workspaces (path_saved store.old.client.settings store.old.files path) (record { state = store.old; out = out.old })) store.new out.new }
+fn ask_if_loaded(
+    alloc: Global,
+    settings: &Config,
+    files: &SessionFiles,
+    path: VfsPath,
+    workspaces: &mut Workspaces,
+) -> Result<(), AllocError>
+    ensures { OnOk result (workspaces.new ≡ path_saved settings.now files.now path workspaces.old) }
 {
-    if !store.is_loaded(&path)? {
+    if !is_loaded_file(files, &path)? {
         return Ok(());
     }
-    ask_by_save(store, path, out)
+    ask_by_save(alloc, settings, files.roots(), path, workspaces)
 }
 
 // A file was saved.
 fn save(store: &mut Store, path: VfsPath, out: &mut TurnOut) -> Result<(), TurnError>
     ensures { Gives result (saved_file path (record { state = store.old; out = out.old })) store.new out.new }
 {
-    let unknown = store.is_unknown(&path)?;
-    note_save(store, unknown, &path, out)?;
-    ask_if_loaded(store, path, out)
+    let unknown = is_unknown_file(&store.files, &path)?;
+    note_save(store.alloc, unknown, &path, out)?;
+    ask_if_loaded(
+        store.alloc,
+        store.client.settings(),
+        &store.files,
+        path,
+        &mut store.workspaces,
+    )?;
+    Ok(())
 }
 
 // A document is saved at the path of its URL. Checks are not run yet.
@@ -189,7 +202,7 @@ pub(crate) fn on_save(store: &mut Store, uri: Text, out: &mut TurnOut) -> Result
         Ok(path) => save(store, path, out),
         Err(UrlFault::NoMemory) => Err(TurnError::NoMemory),
         Err(UrlFault::NotFile | UrlFault::HasHost | UrlFault::NotText) => {
-            store.log(LogCode::BadPath, uri, out)
+            log(LogCode::BadPath, uri, out)
         }
     }
 }

@@ -1,9 +1,9 @@
 // Settings files that changed.
 ghost use Rattle.std.specs.Prelude.{◌≡◌, Some, IfOk, OnOk};
 ghost use Rattle.session_port.specs.Meets.{Gives};
-ghost use Rattle.layered_settings.specs.Change.{passed_over};
-ghost use Rattle.session_model.specs.Machine.{further_logged, settings_filed, with_client};
-ghost use Rattle.session_model.specs.Sources.{client_with, is_settled, parents_told};
+ghost use Rattle.session_model.specs.Machine.{further_logged, settings_filed};
+ghost use Rattle.session_model.specs.Sources.{is_settled, parents_told};
+ghost use Rattle.session_model.specs.State.{State};
 ghost use Rattle.change_effects.specs.Filing.{change_of};
 
 use change_effects::{SettingsFile, settings_change};
@@ -12,7 +12,8 @@ use plain::{Items, NoMemory, Text};
 use ra_config::ConfigChange;
 use session_model::TurnError;
 use session_port::{LogCode, TurnOut};
-use session_store::Store;
+use session_store::{Store, log};
+use std::alloc::Global;
 
 // Whether no parents wait, and no settings file has changed.
 fn is_settled(store: &Store, files: &Items<SettingsFile>) -> bool
@@ -38,22 +39,14 @@ fn take_change(store: &mut Store, files: &[SettingsFile]) -> Result<ConfigChange
     )
 }
 
-// The settings change. Answers the changed files that don't hold.
-fn change_settings(store: &mut Store, change: ConfigChange) -> Result<Items<VfsPath>, NoMemory>
-    ensures after { OnOk result (store.new ≡ with_client (client_with (Some change) store.old.client) store.old) }
-    ensures further { IfOk result (λ paths. paths ≡ passed_over change) }
-{
-    store.client.change_settings(change)
-}
-
 // Further settings files of a root and kind, of which another holds, are logged.
 #[tactic(auto, unfolding(session_model::specs::Machine::further_logged))]
-fn log_further(store: &mut Store, paths: Items<VfsPath>, out: &mut TurnOut) -> Result<(), TurnError>
-    ensures { Gives result (further_logged paths (record { state = store.old; out = out.old })) store.new out.new }
+fn log_further(alloc: Global, paths: Items<VfsPath>, out: &mut TurnOut) -> Result<(), TurnError>
+    ensures { (state : State) → Gives result (further_logged paths (record { state = state; out = out.old })) state out.new }
 {
     for path in paths.into_vec() {
-        let text = Text::from_str(store.alloc, path.as_str())?;
-        store.log(LogCode::SecondSettingsFile, text, out)?;
+        let text = Text::from_str(alloc, path.as_str())?;
+        log(LogCode::SecondSettingsFile, text, out)?;
     }
     Ok(())
 }
@@ -71,6 +64,6 @@ pub(crate) fn file_settings(
         return Ok(());
     }
     let change = take_change(store, files.as_slice())?;
-    let further = change_settings(store, change)?;
-    log_further(store, further, out)
+    let further = store.client.change_settings(change)?;
+    log_further(store.alloc, further, out)
 }

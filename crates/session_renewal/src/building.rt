@@ -4,45 +4,43 @@ ghost use Rattle.session_model.specs.ClientSteps.{logged_if};
 ghost use Rattle.session_port.specs.declared.command.LogCode.TheVariants.{BuildError};
 ghost use Rattle.session_port.specs.Meets.{Meets, Gives};
 ghost use Rattle.session_model.specs.Building.{build_due, build_kept, rebuilt_if};
-ghost use Rattle.session_model.specs.Machine.{at_workspaces, build_handed_over, build_started, build_taken, runs_started};
+ghost use Rattle.session_model.specs.Machine.{build_handed_over, build_started, build_taken, runs_started};
+ghost use Rattle.session_model.specs.State.{State};
 ghost use Rattle.session_model.specs.Status.{build_fault};
 
 use crate::loading::start_load;
 use plain::NoMemory;
 use session_model::{BuildEnd, TurnError};
 use session_port::{JobKind, LogCode, TurnOut};
-use session_store::Store;
+use session_store::{Store, log_if};
+use workspaces::Workspaces;
 
 /// Asks for the macros anew, where this flag is set.
-pub fn rebuild_macros_if(
-    store: &mut Store,
-    rebuilds: bool,
-    out: &mut TurnOut,
-) -> Result<(), TurnError>
-    ensures { Gives result (at_workspaces (rebuilt_if rebuilds) (record { state = store.old; out = out.old })) store.new out.new }
+pub fn rebuild_macros_if(workspaces: &mut Workspaces, rebuilds: bool) -> Result<(), NoMemory>
+    ensures { OnOk result (workspaces.new ≡ rebuilt_if rebuilds workspaces.old) }
 {
     if rebuilds {
-        store.workspaces.rebuild_macros()?;
+        workspaces.rebuild_macros()?;
     }
     Ok(())
 }
 
 // What a run of build data came to is kept, where one is in progress.
-fn end_build(store: &mut Store, made: BuildEnd) -> Result<(), NoMemory>
-    ensures { OnOk result (store.new ≡ record store.old { workspaces = build_kept made store.old.workspaces }) }
+fn end_build(workspaces: &mut Workspaces, made: BuildEnd) -> Result<(), NoMemory>
+    ensures { OnOk result (workspaces.new ≡ build_kept made workspaces.old) }
 {
-    if store.workspaces.is_building() {
-        store.workspaces.end_build(made)?;
+    if workspaces.is_building() {
+        workspaces.end_build(made)?;
     }
     Ok(())
 }
 
 // The errors of the last run are logged.
-fn log_build(store: &mut Store, out: &mut TurnOut) -> Result<(), TurnError>
-    ensures { Gives result (logged_if BuildError (build_fault store.old.workspaces) (record { state = store.old; out = out.old })) store.new out.new }
+fn log_build(workspaces: &Workspaces, out: &mut TurnOut) -> Result<(), TurnError>
+    ensures { (state : State) → Gives result (logged_if BuildError (build_fault workspaces.now) (record { state = state; out = out.old })) state out.new }
 {
-    let errors = store.workspaces.build_error()?;
-    store.log_if(LogCode::BuildError, errors, out)
+    let errors = workspaces.build_error()?;
+    log_if(LogCode::BuildError, errors, out)
 }
 
 /// What a run of build data came to is kept, where one is in progress, and its errors are logged.
@@ -50,8 +48,8 @@ fn log_build(store: &mut Store, out: &mut TurnOut) -> Result<(), TurnError>
 pub fn take_build(store: &mut Store, made: BuildEnd, out: &mut TurnOut) -> Result<(), TurnError>
     ensures { Gives result (build_taken made (record { state = store.old; out = out.old })) store.new out.new }
 {
-    end_build(store, made)?;
-    log_build(store, out)
+    end_build(&mut store.workspaces, made)?;
+    log_build(&store.workspaces, out)
 }
 
 // Hands over the job of a run of build data that is to start on workspaces of this version.

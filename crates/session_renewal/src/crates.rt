@@ -9,13 +9,14 @@ ghost use Rattle.session_model.specs.Machine.{at_files, crates_built};
 use docs_vfs::{ByPath, VfsPath};
 use file_ids::FileIds;
 use plain::{Items, NoMemory, Text};
-use project_model::{CrateData, MacroPath};
+use project_model::{CrateData, MacroPath, ProjectWorkspace};
+use ra_config::Config;
 use reload::{crate_roots, ws_to_crate_graph};
-use session_model::TurnError;
+use session_model::{SessionFiles, TurnError};
 use session_port::TurnOut;
-use session_store::{Store, file_of, is_unknown};
+use session_store::{Store, file_of, is_unknown, loads_macros};
 use std::alloc::Global;
-use workspaces::{Follows, without_macros};
+use workspaces::{Follows, Workspaces, without_macros};
 
 /// A crate graph, and for each workspace what was built of its proc macro crates.
 type Graph = (CrateData, Items<Items<(u32, MacroPath)>>);
@@ -39,92 +40,119 @@ fn paths_of(alloc: Global, list: Items<VfsPath>) -> Result<ByPath<()>, NoMemory>
 }
 
 // Crate data asks for the root file of each crate of the workspaces that are present.
-fn ask_for_crates(store: &mut Store) -> Result<(), NoMemory>
-    ensures { OnOk result (store.new ≡ record store.old { workspaces = crates_asked store.old.files.ids store.old.workspaces }) }
+fn ask_for_crates(
+    alloc: Global,
+    numbers: &FileIds,
+    workspaces: &mut Workspaces,
+) -> Result<(), NoMemory>
+    ensures { OnOk result (workspaces.new ≡ crates_asked numbers.now workspaces.old) }
 {
-    let roots = crate_roots(store.alloc, store.workspaces.present())?;
-    let numbers = store.files.file_ids()?;
-    let incomplete = are_unknown(&numbers, roots.as_slice());
-    let asked = paths_of(store.alloc, roots)?;
-    store.workspaces.keep_asked(asked, incomplete);
+    let roots = crate_roots(alloc, workspaces.present())?;
+    let incomplete = are_unknown(numbers, roots.as_slice());
+    let asked = paths_of(alloc, roots)?;
+    workspaces.keep_asked(asked, incomplete);
     Ok(())
 }
 
 // Whether crate data waits for its macros: where they are loaded, unless there were no workspaces before.
-fn waits(store: &Store, initial: bool) -> bool
-    ensures { result ≡ waits store.now.client.settings initial }
+fn waits(settings: &Config, initial: bool) -> bool
+    ensures { result ≡ waits settings.now initial }
 {
-    store.loads_macros() && !initial
+    loads_macros(settings) && !initial
 }
 
 // Whether crate data that is built behind a switch that this follows goes into the world at once.
-pub(crate) fn builds_crates(store: &Store, follows: &Follows) -> bool
-    ensures { result ≡ builds_crates store.now.client.settings follows.now }
+pub(crate) fn builds_crates(settings: &Config, follows: &Follows) -> bool
+    ensures { result ≡ builds_crates settings.now follows.now }
 {
     match follows {
         Follows::Nothing | Follows::Wait { .. } => false,
-        Follows::CrateData => !waits(store, false),
-        Follows::GoOn { initial, .. } => !waits(store, *initial),
+        Follows::CrateData => !waits(settings, false),
+        Follows::GoOn { initial, .. } => !waits(settings, *initial),
     }
 }
 
 // Crate data waits for its macros.
-fn wait_for_macros(store: &mut Store) -> Result<(), NoMemory>
-    ensures { OnOk result (store.new ≡ record store.old { workspaces = crates_wait store.old.client.settings store.old.files.ids store.old.workspaces }) }
+fn wait_for_macros(
+    alloc: Global,
+    settings: &Config,
+    numbers: &FileIds,
+    workspaces: &mut Workspaces,
+) -> Result<(), NoMemory>
+    ensures { OnOk result (workspaces.new ≡ crates_wait settings.now numbers.now workspaces.old) }
 {
-    let numbers = store.files.file_ids()?;
-    let cause = Text::from_str(store.alloc, "crate data")?;
-    let (crates, paths) = load_graph(store, &numbers)?;
-    store.workspaces.ask_load(cause, crates, paths)
+    let cause = Text::from_str(alloc, "crate data")?;
+    let (crates, paths) = load_graph(alloc, settings, numbers, workspaces.present())?;
+    workspaces.ask_load(cause, crates, paths)
 }
 
 // Crate data is built: it asks for its roots, and waits where this flag is set.
-fn seek_crates(store: &mut Store, waits: bool) -> Result<(), NoMemory>
-    ensures { OnOk result (store.new ≡ record store.old { workspaces = crates_sought waits store.old.client.settings store.old.files.ids store.old.workspaces }) }
+fn seek_crates(
+    alloc: Global,
+    settings: &Config,
+    files: &SessionFiles,
+    waits: bool,
+    workspaces: &mut Workspaces,
+) -> Result<(), NoMemory>
+    ensures { OnOk result (workspaces.new ≡ crates_sought waits settings.now files.now.ids workspaces.old) }
 {
-    ask_for_crates(store)?;
+    let numbers = files.file_ids()?;
+    ask_for_crates(alloc, &numbers, workspaces)?;
     if waits {
-        wait_for_macros(store)?;
+        wait_for_macros(alloc, settings, &numbers, workspaces)?;
     }
     Ok(())
 }
 
 // What follows a switch may be that crate data is built.
-pub(crate) fn follow_crates(store: &mut Store, follows: &Follows) -> Result<(), NoMemory>
-    ensures { OnOk result (store.new ≡ record store.old { workspaces = followed_by store.old.client.settings store.old.files.ids follows.now store.old.workspaces }) }
+pub(crate) fn follow_crates(
+    alloc: Global,
+    settings: &Config,
+    files: &SessionFiles,
+    follows: &Follows,
+    workspaces: &mut Workspaces,
+) -> Result<(), NoMemory>
+    ensures { OnOk result (workspaces.new ≡ followed_by settings.now files.now.ids follows.now workspaces.old) }
 {
     match follows {
         Follows::Nothing | Follows::Wait { .. } => Ok(()),
         Follows::CrateData => {
-            let waits = waits(store, false);
-            seek_crates(store, waits)
+            let waits = waits(settings, false);
+            seek_crates(alloc, settings, files, waits, workspaces)
         }
         Follows::GoOn { initial, .. } => {
-            let waits = waits(store, *initial);
-            seek_crates(store, waits)
+            let waits = waits(settings, *initial);
+            seek_crates(alloc, settings, files, waits, workspaces)
         }
     }
 }
 
-// The crate graph of the workspaces that are present, by the settings and the numbers of the files, and for each workspace what was built of its macros.
-fn load_graph(store: &Store, numbers: &FileIds) -> Result<Graph, NoMemory>
-    ensures { IfOk result (λ made. made ≡ crate_graph store.now.client.settings numbers.now store.now.workspaces.present) }
+// The crate graph of workspaces, by the settings and the numbers of the files, and for each workspace what was built of its macros.
+fn load_graph(
+    alloc: Global,
+    settings: &Config,
+    numbers: &FileIds,
+    workspaces: &[ProjectWorkspace],
+) -> Result<Graph, NoMemory>
+    ensures { IfOk result (λ made. made ≡ crate_graph settings.now numbers.now workspaces.now) }
 {
-    ws_to_crate_graph(
-        store.alloc,
-        store.workspaces.present(),
-        store.client.settings().cargo_extra_env(None),
-        |root| file_of(numbers.get(root)),
-    )
+    ws_to_crate_graph(alloc, workspaces, settings.cargo_extra_env(None), |root| {
+        file_of(numbers.get(root))
+    })
 }
 
 // The same without what was built, with the macros of each crate, which are not yet built, or disabled.
-fn crate_data(store: &Store) -> Result<CrateData, NoMemory>
-    ensures { IfOk result (λ made. made ≡ crate_data store.now.client.settings store.now.files.ids store.now.workspaces.present) }
+fn crate_data(
+    alloc: Global,
+    settings: &Config,
+    files: &SessionFiles,
+    workspaces: &[ProjectWorkspace],
+) -> Result<CrateData, NoMemory>
+    ensures { IfOk result (λ made. made ≡ crate_data settings.now files.now.ids workspaces.now) }
 {
-    let numbers = store.files.file_ids()?;
-    let (graph, _paths) = load_graph(store, &numbers)?;
-    without_macros(store.alloc, graph, store.loads_macros())
+    let numbers = files.file_ids()?;
+    let (graph, _paths) = load_graph(alloc, settings, &numbers, workspaces)?;
+    without_macros(alloc, graph, loads_macros(settings))
 }
 
 // This crate graph goes into the world.
@@ -150,6 +178,11 @@ pub(crate) fn build_crates(
     if !built {
         return Ok(());
     }
-    let crates = crate_data(store)?;
+    let crates = crate_data(
+        store.alloc,
+        store.client.settings(),
+        &store.files,
+        store.workspaces.present(),
+    )?;
     put_crates(store, crates, out)
 }

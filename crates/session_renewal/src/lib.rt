@@ -11,7 +11,7 @@ mod switching;
 
 pub use building::{rebuild_macros_if, start_runs, take_build};
 pub use checking::{resume_all, take_check};
-pub use fetching::{begin_fetches, dequeue_fetch, on_timer, reload_if, start_fetch, take_fetch};
+pub use fetching::{begin_fetches, reload_if, start_fetch, take_fetch};
 pub use loading::take_macros;
 pub use registering::register_saves;
 pub use switching::switch_workspaces;

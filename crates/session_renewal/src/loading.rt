@@ -7,10 +7,12 @@ ghost use Rattle.session_model.specs.Machine.{crates_arrived, load_handed_over, 
 use crate::crates::put_crates;
 use plain::{Items, NoMemory, Text};
 use project_model::{CrateData, MacroPath};
+use ra_config::Config;
 use session_model::{LoadEnd, TurnError};
 use session_port::{JobKind, TurnOut};
 use session_store::Store;
 use std::alloc::{AllocError, Global};
+use workspaces::Workspaces;
 
 // A copy of texts by their names.
 fn copied(
@@ -27,14 +29,14 @@ fn copied(
 }
 
 // A load of macros ends, where one is in progress. Answers the crate data that waited for it.
-fn end_load(store: &mut Store, told: LoadEnd) -> Result<Option<CrateData>, NoMemory>
-    ensures value { IfOk result (λ crates. crates ≡ crates_loaded told store.old.workspaces) }
-    ensures after { OnOk result (store.new ≡ record store.old { workspaces = load_kept told store.old.workspaces }) }
+fn end_load(workspaces: &mut Workspaces, told: LoadEnd) -> Result<Option<CrateData>, NoMemory>
+    ensures value { IfOk result (λ crates. crates ≡ crates_loaded told workspaces.old) }
+    ensures after { OnOk result (workspaces.new ≡ load_kept told workspaces.old) }
 {
-    if !store.workspaces.is_loading() {
+    if !workspaces.is_loading() {
         return Ok(None);
     }
-    store.workspaces.end_load(told)
+    workspaces.end_load(told)
 }
 
 // Crate data that comes goes into the world, with the roots that are present.
@@ -55,22 +57,23 @@ pub fn take_macros(store: &mut Store, told: LoadEnd, out: &mut TurnOut) -> Resul
     ensures meets { Meets result (macros_taken told (record { state = store.old; out = out.old })) store.new out.new }
     ensures came { IfOk result (λ came. came ≡ is_some (crates_loaded told store.old.workspaces)) }
 {
-    let crates = end_load(store, told)?;
+    let crates = end_load(&mut store.workspaces, told)?;
     let came = crates.is_some();
     let_in(store, crates, out)?;
     Ok(came)
 }
 
 // What the job of a load of these libraries is to find.
-fn load_kind(store: &Store, paths: Items<Items<(u32, MacroPath)>>) -> Result<JobKind, AllocError>
-    ensures { IfOk result (λ kind. kind ≡ load_kind store.now.client.settings paths) }
+fn load_kind(
+    alloc: Global,
+    settings: &Config,
+    paths: Items<Items<(u32, MacroPath)>>,
+) -> Result<JobKind, AllocError>
+    ensures { IfOk result (λ kind. kind ≡ load_kind settings.now paths) }
 {
     Ok(JobKind::LoadProcMacros {
         paths,
-        ignored: copied(
-            store.alloc,
-            store.client.settings().proc_macro_ignored(None),
-        )?,
+        ignored: copied(alloc, settings.proc_macro_ignored(None))?,
     })
 }
 
@@ -86,7 +89,7 @@ fn hand_over_load(
     match paths {
         None => Ok(()),
         Some(paths) => {
-            let kind = load_kind(store, paths)?;
+            let kind = load_kind(store.alloc, store.client.settings(), paths)?;
             store.hand_over(kind, out)
         }
     }

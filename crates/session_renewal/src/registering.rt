@@ -7,10 +7,12 @@ ghost use Rattle.session_model.specs.State.{watched_names};
 
 use notify::{Outgo, Watcher};
 use plain::{Items, NoMemory, Text};
+use project_model::ProjectWorkspace;
+use ra_config::Config;
 use reload::{Watcher as WatchedFiles, watchers};
 use session_model::{ReqHandler, TurnError};
 use session_port::TurnOut;
-use session_store::Store;
+use session_store::{Store, client_watches};
 use std::alloc::Global;
 
 fn watcher_asked(files: WatchedFiles) -> Watcher
@@ -34,11 +36,11 @@ fn each_asked(alloc: Global, files: Items<WatchedFiles>) -> Result<Items<Watcher
 }
 
 // The names of the files that the command which discovers the projects watches.
-fn names_to_watch(store: &Store) -> Result<Items<Text>, NoMemory>
-    ensures { IfOk result (λ names. names ≡ watched_names store.now.client.settings) }
+fn names_to_watch(alloc: Global, settings: &Config) -> Result<Items<Text>, NoMemory>
+    ensures { IfOk result (λ names. names ≡ watched_names settings.now) }
 {
-    match store.client.settings().workspace_discover_config() {
-        None => Ok(Items::new(store.alloc)),
+    match settings.workspace_discover_config() {
+        None => Ok(Items::new(alloc)),
         Some(command) => command.files_to_watch.clone(),
     }
 }
@@ -51,7 +53,7 @@ pub fn register_saves(store: &mut Store, out: &mut TurnOut) -> Result<(), TurnEr
     if !store.client.settings().did_save_registration() {
         return Ok(());
     }
-    let files_to_watch = names_to_watch(store)?;
+    let files_to_watch = names_to_watch(store.alloc, store.client.settings())?;
     store.send_request(
         Outgo::RegisterSave { files_to_watch },
         ReqHandler::Ignore,
@@ -59,23 +61,30 @@ pub fn register_saves(store: &mut Store, out: &mut TurnOut) -> Result<(), TurnEr
     )
 }
 
-// The files of the workspaces that are present, by patterns as the client takes them.
-fn files_to_watch(store: &Store) -> Result<Items<Watcher>, NoMemory>
-    ensures { IfOk result (λ asked. asked ≡ watchers_asked store.now.client.settings store.now.workspaces.present) }
+// The files of workspaces, by patterns as the client takes them.
+fn files_to_watch(
+    alloc: Global,
+    settings: &Config,
+    workspaces: &[ProjectWorkspace],
+) -> Result<Items<Watcher>, NoMemory>
+    ensures { IfOk result (λ asked. asked ≡ watchers_asked settings.now workspaces.now) }
 {
-    let relative = store.client.settings().relative_pattern();
-    let files = watchers(store.alloc, store.workspaces.present(), relative)?;
-    each_asked(store.alloc, files)
+    let files = watchers(alloc, workspaces, settings.relative_pattern())?;
+    each_asked(alloc, files)
 }
 
-// The client is asked to watch them, where it is the client that watches.
+// The client is asked to watch the files of the workspaces that are present, where it is the client that watches.
 #[tactic(auto, unfolding(session_model::specs::Machine::watchers_registered, session_model::specs::Machine::asked_if))]
 pub(crate) fn register_watchers(store: &mut Store, out: &mut TurnOut) -> Result<(), TurnError>
     ensures { Meets result (watchers_registered (record { state = store.old; out = out.old })) store.new out.new }
 {
-    if !store.client_watches() {
+    if !client_watches(store.client.settings()) {
         return Ok(());
     }
-    let watchers = files_to_watch(store)?;
+    let watchers = files_to_watch(
+        store.alloc,
+        store.client.settings(),
+        store.workspaces.present(),
+    )?;
     store.send_request(Outgo::RegisterWatch { watchers }, ReqHandler::Ignore, out)
 }

@@ -5,6 +5,7 @@ ghost use Rattle.session_port.specs.declared.fault.Counter.TheVariants.{LoaderSe
 ghost use Rattle.session_port.specs.declared.fault.TurnError.TheVariants.{Exhausted, NoMemory as OutOfMemory};
 ghost use Rattle.session_model.specs.Machine.{switch_followed, loader_set, roots_renewed, switch_done, warned};
 ghost use Rattle.session_model.specs.Sources.{other_parents, sources_now};
+ghost use Rattle.session_model.specs.State.{State};
 ghost use Rattle.session_model.specs.Switching.{switch_by, switch_made};
 
 use crate::crates::{build_crates, builds_crates, follow_crates};
@@ -12,32 +13,34 @@ use crate::registering::register_watchers;
 use docs_vfs::SourceRoots;
 use notify::{MessageKind, Outgo};
 use plain::{Items, Text};
-use session_model::{Counter, TurnError};
+use ra_config::Config;
+use session_model::{Client, Counter, SessionFiles, TurnError};
 use session_port::{Command, TurnOut};
-use session_store::Store;
-use std::alloc::AllocError;
-use workspaces::{Follows, SwitchFault};
+use session_store::{Store, builds_scripts, client_watches, discovers, excludes, order};
+use std::alloc::{AllocError, Global};
+use workspaces::{Follows, SwitchFault, Workspaces};
 
 // The user is told of a compiler that is too old.
-#[tactic(auto, unfolding(session_model::specs::Machine::warned))]
-fn warn(store: &mut Store, texts: Items<Text>, out: &mut TurnOut) -> Result<(), TurnError>
-    ensures { Gives result (warned texts (record { state = store.old; out = out.old })) store.new out.new }
+#[tactic(auto, unfolding(session_model::specs::Machine::warned, session_port::specs::Working::written))]
+fn warn(client: &Client, texts: Items<Text>, out: &mut TurnOut) -> Result<(), TurnError>
+    ensures { (state : State) → Gives result (warned texts (record { state = state; out = out.old })) state out.new }
 {
     for message in texts.into_vec() {
         let kind = MessageKind::Warning;
-        store.send_notification(Outgo::ShowMessage { message, kind }, out)?;
+        client.tell(Outgo::ShowMessage { message, kind }, out)?;
     }
     Ok(())
 }
 
 // The host is to load the files of the workspaces that are present.
 #[tactic(auto, unfolding(session_model::specs::Machine::loader_set))]
-fn set_loader(store: &mut Store, version: u32, out: &mut TurnOut) -> Result<(), TurnError>
-    ensures { Gives result (loader_set version (record { state = store.old; out = out.old })) store.new out.new }
+fn set_loader(store: &Store, version: u32, out: &mut TurnOut) -> Result<(), TurnError>
+    ensures { Gives result (loader_set version (record { state = store.now; out = out.old })) store.now out.new }
 {
-    let load = store.workspaces.loader_roots(store.excludes())?;
-    let watch = !store.client_watches();
-    store.order(
+    let settings = store.client.settings();
+    let load = store.workspaces.loader_roots(excludes(settings))?;
+    let watch = !client_watches(settings);
+    order(
         Command::SetLoader {
             load,
             watch,
@@ -51,7 +54,8 @@ fn set_loader(store: &mut Store, version: u32, out: &mut TurnOut) -> Result<(), 
 fn roots_now(store: &Store) -> Result<SourceRoots, AllocError>
     ensures { IfOk result (λ roots. roots ≡ (sources_now store.now.client.settings store.now.workspaces).roots) }
 {
-    SourceRoots::new(store.workspaces.loader_roots(store.excludes())?)
+    let excludes = excludes(store.client.settings());
+    SourceRoots::new(store.workspaces.loader_roots(excludes)?)
 }
 
 // The parents of the roots, where the settings have others.
@@ -90,13 +94,13 @@ fn follow(store: &mut Store, follows: Follows, out: &mut TurnOut) -> Result<(), 
 {
     match follows {
         Follows::Nothing | Follows::CrateData => Ok(()),
-        Follows::Wait { msrv } => warn(store, msrv, out),
+        Follows::Wait { msrv } => warn(&store.client, msrv, out),
         Follows::GoOn {
             msrv,
             loader_version,
             ..
         } => {
-            warn(store, msrv, out)?;
+            warn(&store.client, msrv, out)?;
             register_watchers(store, out)?;
             set_loader(store, loader_version, out)?;
             renew_roots(store, out)
@@ -105,19 +109,16 @@ fn follow(store: &mut Store, follows: Follows, out: &mut TurnOut) -> Result<(), 
 }
 
 // The switch by the settings, and what follows it.
-fn make_switch(store: &mut Store) -> Result<Follows, TurnError>
-    ensures made { IfOk result (λ follows. switch_by store.old.client.settings store.old.workspaces ≡ Some (follows, store.new.workspaces)) }
-    ensures rest { store.new ≡ record store.old { workspaces = store.new.workspaces } }
-    ensures err { IfErr result (λ e. (e ≡ OutOfMemory) ⊎ ((e ≡ Exhausted LoaderSettings) × (switch_by store.old.client.settings store.old.workspaces ≡ None))) }
+fn make_switch(settings: &Config, workspaces: &mut Workspaces) -> Result<Follows, TurnError>
+    ensures made { IfOk result (λ follows. switch_by settings.now workspaces.old ≡ Some (follows, workspaces.new)) }
+    ensures err { IfErr result (λ e. (e ≡ OutOfMemory) ⊎ ((e ≡ Exhausted LoaderSettings) × (switch_by settings.now workspaces.old ≡ None))) }
 {
-    if !store.workspaces.has_next_version() {
+    if !workspaces.has_next_version() {
         return Err(TurnError::Exhausted {
             counter: Counter::LoaderSettings,
         });
     }
-    let discovers = store.discovers();
-    let builds_scripts = store.builds_scripts();
-    match store.workspaces.switch(discovers, builds_scripts) {
+    match workspaces.switch(discovers(settings), builds_scripts(settings)) {
         Ok(follows) => Ok(follows),
         Err(SwitchFault::Exhausted) => Err(TurnError::Exhausted {
             counter: Counter::LoaderSettings,
@@ -127,15 +128,18 @@ fn make_switch(store: &mut Store) -> Result<Follows, TurnError>
 }
 
 // The same where a switch is wanted and no files are loading, with the crate data that is built behind it; else nothing follows.
-fn make_switch_if_due(store: &mut Store) -> Result<Follows, TurnError>
-    ensures made { IfOk result (λ follows. switch_made store.old.client.settings store.old.files store.old.workspaces ≡ Ok (follows, store.new.workspaces)) }
-    ensures rest { OnOk result (store.new ≡ record store.old { workspaces = store.new.workspaces }) }
-    ensures err { IfErr result (λ e. (e ≡ OutOfMemory)
-        ⊎ ((e ≡ Exhausted LoaderSettings) × (switch_made store.old.client.settings store.old.files store.old.workspaces ≡ Err LoaderSettings))) }
+fn make_switch_if_due(
+    alloc: Global,
+    settings: &Config,
+    files: &SessionFiles,
+    workspaces: &mut Workspaces,
+) -> Result<Follows, TurnError>
+    ensures made { IfOk result (λ follows. switch_made settings.now files.now workspaces.old ≡ Ok (follows, workspaces.new)) }
+    ensures err { IfErr result (λ e. (e ≡ OutOfMemory) ⊎ ((e ≡ Exhausted LoaderSettings) × (switch_made settings.now files.now workspaces.old ≡ Err LoaderSettings))) }
 {
-    if store.workspaces.is_switch_wanted() && !store.files.is_loading() {
-        let follows = make_switch(store)?;
-        follow_crates(store, &follows)?;
+    if workspaces.is_switch_wanted() && !files.is_loading() {
+        let follows = make_switch(settings, workspaces)?;
+        follow_crates(alloc, settings, files, &follows, workspaces)?;
         Ok(follows)
     } else {
         Ok(Follows::Nothing)
@@ -147,8 +151,13 @@ fn make_switch_if_due(store: &mut Store) -> Result<Follows, TurnError>
 pub fn switch_workspaces(store: &mut Store, out: &mut TurnOut) -> Result<(), TurnError>
     ensures { Meets result (switch_done (record { state = store.old; out = out.old })) store.new out.new }
 {
-    let follows = make_switch_if_due(store)?;
-    let built = builds_crates(store, &follows);
+    let follows = make_switch_if_due(
+        store.alloc,
+        store.client.settings(),
+        &store.files,
+        &mut store.workspaces,
+    )?;
+    let built = builds_crates(store.client.settings(), &follows);
     follow(store, follows, out)?;
     build_crates(store, built, out)
 }

@@ -26,7 +26,7 @@ use plain::{NoMemory, Text};
 use ra_config::Config;
 use session_model::{Counters, Event, ReqHandler, TurnError};
 use session_port::TurnOut;
-use session_store::Store;
+use session_store::{Store, is_quiescent};
 use std::alloc::{AllocError, Global};
 use std::marker::Model;
 use workspaces::FetchRequest;
@@ -84,7 +84,7 @@ impl GlobalState {
     pub fn is_quiescent(&self) -> bool
         ensures { result ≡ is_quiescent self.now.files self.now.workspaces }
     {
-        self.store.is_quiescent()
+        is_quiescent(&self.store.files, &self.store.workspaces)
     }
 }
 
@@ -102,7 +102,7 @@ impl GlobalState {
         ensures others { self.new ≡ record self.old { desk = self.new.desk } }
         ensures after { OnOk result (record { state = self.new.desk; out = out.new } ≡ responded ticket (λ id. record response { id = Some id }) (record { state = self.old.desk; out = out.old })) }
     {
-        self.store.respond(ticket, response, out)
+        self.store.desk.respond(ticket, response, out)
     }
 
     /// Answers the request of an id as one that the client cancelled, and closes it; false where it isn't pending. After an `Err` the
@@ -112,14 +112,14 @@ impl GlobalState {
         ensures others { self.new ≡ record self.old { desk = self.new.desk } }
         ensures after { OnOk result (record { state = self.new.desk; out = out.new } ≡ cancelled id (record { state = self.old.desk; out = out.old })) }
     {
-        self.store.cancel(id, out)
+        self.store.desk.cancel(id, out)
     }
 
     /// Whether no request waits under a ticket.
     pub fn is_completed(&self, ticket: u64) -> bool
         ensures { result ≡ not (is_some (id_of ticket self.now.desk.pending)) }
     {
-        self.store.is_completed(ticket)
+        self.store.desk.is_completed(ticket)
     }
 }
 
@@ -139,12 +139,13 @@ impl GlobalState {
     }
 
     /// Sends a notification.
+    #[tactic(auto, unfolding(session_port::specs::Working::written))]
     pub fn send_notification(&mut self, message: Outgo, out: &mut TurnOut) -> Result<(), NoMemory>
         requires { HoldsPlain message }
         ensures after { OnOk result (written (notification_of message) (record { state = self.old; out = out.old }) ≡ record { state = self.new; out = out.new }) }
         ensures same { self.new ≡ self.old }
     {
-        self.store.send_notification(message, out)
+        self.store.client.tell(message, out)
     }
 
     /// The client answers what it was asked. Other settings than before ask for a fetch. That no request has the answer's id
@@ -168,7 +169,7 @@ impl GlobalState {
         ensures value { result ≡ fetch_to_start may self.old.workspaces.fetches }
         ensures after { self.new ≡ with_workspaces (with_fetches (start_fetch may) self.old.workspaces) self.old }
     {
-        session_renewal::dequeue_fetch(&mut self.store, may)
+        self.store.workspaces.start_fetch(may)
     }
 
     /// What has changed goes into the world: one change, and so one revision. The settings files among it go into the

@@ -11,7 +11,7 @@ use analysis_host::Analysis;
 use lsp_frame::{Message, Request};
 use method_table::{REBUILD_PROC_MACROS, RELOAD_WORKSPACE, RowId, is_unit, row_of};
 use plain::Items;
-use session_model::{LoadEnd, TurnError, WorkEnd};
+use session_model::{Desk, LoadEnd, TurnError, WorkEnd};
 use session_notices::{complete_request, on_notification, process_changes};
 use session_port::{TaskMsg, TurnOut};
 use session_renewal::{
@@ -40,21 +40,21 @@ fn is_rebuild(row: Option<RowId>) -> bool
 }
 
 // Whether a request asks for the workspaces anew, and is taken.
-fn reloads(store: &Store, request: &Request) -> bool
-    ensures { result ≡ reloads request.now store.now.desk }
+fn reloads(desk: &Desk, request: &Request) -> bool
+    ensures { result ≡ reloads request.now desk.now }
 {
     is_unit(&request.params)
         && is_reload(row_of(request.method.as_str()))
-        && store.desk.takes(&request.id)
+        && desk.takes(&request.id)
 }
 
 // Whether a request asks for the macros anew, and is taken.
-fn rebuilds(store: &Store, request: &Request) -> bool
-    ensures { result ≡ rebuilds request.now store.now.desk }
+fn rebuilds(desk: &Desk, request: &Request) -> bool
+    ensures { result ≡ rebuilds request.now desk.now }
 {
     is_unit(&request.params)
         && is_rebuild(row_of(request.method.as_str()))
-        && store.desk.takes(&request.id)
+        && desk.takes(&request.id)
 }
 
 // A request. One to reload asks for a fetch, and one to rebuild macros for build data.
@@ -67,11 +67,12 @@ fn on_request<A: Analysis>(
     requires { IsAbove store.old.desk.turns store.old.desk.pending }
     ensures { Meets result (request_taken (meaning_of A.decodes A.answer) request (record { state = store.old; out = out.old })) store.new out.new }
 {
-    let reloads = reloads(store, &request);
-    let rebuilds = rebuilds(store, &request);
+    let reloads = reloads(&store.desk, &request);
+    let rebuilds = rebuilds(&store.desk, &request);
     store.ask(request, analysis, out)?;
-    reload_if(store, reloads, out)?;
-    rebuild_macros_if(store, rebuilds, out)
+    reload_if(&mut store.workspaces, reloads)?;
+    rebuild_macros_if(&mut store.workspaces, rebuilds)?;
+    Ok(())
 }
 
 #[tactic(auto, unfolding(session_model::specs::Machine::received))]

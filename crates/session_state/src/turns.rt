@@ -12,10 +12,10 @@ use session_model::{Event, Facts, TurnError};
 use session_notices::{on_loader, process, set_timer};
 use session_port::{Command, TurnOut};
 use session_renewal::{
-    begin_fetches, on_timer, register_saves, resume_all, start_fetch, start_runs, switch_workspaces,
+    begin_fetches, register_saves, resume_all, start_fetch, start_runs, switch_workspaces,
 };
 use session_status::{refresh, report_status};
-use session_store::Store;
+use session_store::{Store, is_quiescent, may_fetch, order};
 
 // The turn is counted.
 #[tactic(auto, unfolding(session_model::specs::Machine::turn_counted))]
@@ -41,7 +41,10 @@ fn on_event<A: Analysis>(
         Event::Task(batch) => on_batch(store, batch, analysis, out),
         Event::Vfs(messages) => on_loader(store, messages, out),
         Event::Deferred(tasks) => resume_all(store, tasks, out),
-        Event::Timer(ticket) => on_timer(store, ticket, out),
+        Event::Timer(ticket) => {
+            store.workspaces.fire(ticket)?;
+            Ok(())
+        }
     }
 }
 
@@ -69,14 +72,14 @@ fn keep_jobs(store: &mut Store, before: usize, out: &mut TurnOut) -> Result<(), 
 
 // The host is told of a revision that rose in this turn.
 #[tactic(auto, unfolding(session_model::specs::Machine::revised))]
-fn revise(store: &mut Store, before: u64, out: &mut TurnOut) -> Result<(), TurnError>
-    ensures { Gives result (revised before (record { state = store.old; out = out.old })) store.new out.new }
+fn revise(store: &Store, before: u64, out: &mut TurnOut) -> Result<(), TurnError>
+    ensures { Gives result (revised before (record { state = store.now; out = out.old })) store.now out.new }
 {
     let revision = store.files.revision();
     if revision == before {
         return Ok(());
     }
-    store.order(Command::Revise(revision), out)
+    order(Command::Revise(revision), out)
 }
 
 // What closes a turn.
@@ -95,7 +98,7 @@ fn facts(store: &Store, out: &TurnOut) -> Facts
     Facts {
         revision: store.files.revision(),
         ordered: out.commands().len(),
-        quiescent: store.is_quiescent(),
+        quiescent: is_quiescent(&store.files, &store.workspaces),
         processed: false,
     }
 }
@@ -113,14 +116,14 @@ fn knowing(before: Facts, processed: bool) -> Facts
 }
 
 // Turn 0. It uses no number of the turns. After an `Err` the state is spent.
-#[tactic(auto, unfolding(session_model::specs::Machine::step, session_model::specs::Machine::register_part, session_model::specs::Machine::begin_part, session_model::specs::Machine::fetch_part, session_model::specs::Machine::status_part, session_model::specs::Machine::closing_part, session_port::specs::Working::within))]
+#[tactic(auto, unfolding(session_model::specs::Machine::step, session_model::specs::Machine::register_part, session_model::specs::Machine::begin_part, session_model::specs::Machine::begun_fetches, session_model::specs::Machine::fetch_part, session_model::specs::Machine::status_part, session_model::specs::Machine::closing_part, session_port::specs::Working::within))]
 pub(crate) fn start(store: &mut Store, out: &mut TurnOut) -> Result<(), TurnError>
     ensures { (meaning : Meaning) → Meets result (step meaning Start (record { state = store.old; out = out.old })) store.new out.new }
 {
     let facts = facts(store, out);
     report_status(store, out)?;
     register_saves(store, out)?;
-    begin_fetches(store, out)?;
+    begin_fetches(store.client.settings(), &mut store.workspaces)?;
     start_fetch(store, true, out)?;
     close_turn(store, facts, out)
 }
@@ -141,7 +144,7 @@ pub(crate) fn handle_event<A: Analysis>(
     let processed = process(store, out)?;
     let facts = knowing(before, processed);
     refresh(store, facts, out)?;
-    let may = store.may_fetch();
+    let may = may_fetch(store.client.settings());
     start_fetch(store, may, out)?;
     start_runs(store, out)?;
     report_status(store, out)?;

@@ -1,6 +1,7 @@
 //! What a session tells of its status, and what it asks the client to ask for anew.
 #![tactic(auto)]
 
+mod failing;
 mod refreshing;
 mod telling;
 mod well;

@@ -7,9 +7,10 @@ ghost use Rattle.session_model.specs.Machine.{asked_if, quiet_done, refreshed};
 ghost use Rattle.session_model.specs.Status.{is_quiescent};
 
 use notify::Outgo;
-use session_model::{Facts, ReqHandler, TurnError};
+use session_model::{Facts, ReqHandler, SessionFiles, TurnError};
 use session_port::TurnOut;
-use session_store::Store;
+use session_store::{Store, is_quiescent};
+use workspaces::Workspaces;
 
 // The client is asked for this, where the flag is set. Nothing follows its answer.
 #[tactic(auto, unfolding(session_model::specs::Machine::asked_if))]
@@ -45,10 +46,10 @@ fn ask_refreshes(store: &mut Store, out: &mut TurnOut) -> Result<(), TurnError>
 }
 
 // Whether the session has come to be quiescent, or is and files were processed behind the event.
-fn is_refresh_due(store: &Store, facts: Facts) -> bool
-    ensures { result ≡ is_refresh_due facts.quiescent (is_quiescent store.now.files store.now.workspaces) facts.processed }
+fn is_refresh_due(files: &SessionFiles, workspaces: &Workspaces, facts: Facts) -> bool
+    ensures { result ≡ is_refresh_due facts.quiescent (is_quiescent files.now workspaces.now) facts.processed }
 {
-    store.is_quiescent() && (!facts.quiescent || facts.processed)
+    is_quiescent(files, workspaces) && (!facts.quiescent || facts.processed)
 }
 
 /// In a session that has come to be quiescent, and in one that is and whose files were processed behind the event.
@@ -56,7 +57,7 @@ fn is_refresh_due(store: &Store, facts: Facts) -> bool
 pub fn refresh(store: &mut Store, facts: Facts, out: &mut TurnOut) -> Result<(), TurnError>
     ensures { Meets result (quiet_done facts (record { state = store.old; out = out.old })) store.new out.new }
 {
-    if is_refresh_due(store, facts) {
+    if is_refresh_due(&store.files, &store.workspaces, facts) {
         return ask_refreshes(store, out);
     }
     Ok(())

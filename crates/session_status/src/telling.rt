@@ -4,18 +4,20 @@ ghost use Rattle.ra_config.specs.Config.{projects_of};
 ghost use Rattle.session_port.specs.Meets.{Meets};
 ghost use Rattle.session_model.specs.Machine.{status_changed, status_done, status_kept, status_told, text_shown};
 ghost use Rattle.session_model.specs.State.{linked_of};
-ghost use Rattle.session_model.specs.Status.{facts_known, has_build_error, has_fetch_error, health_text, lacks_projects, needs_reload, opens_logs, shown_as, shown_of, status_message, status_now};
+ghost use Rattle.session_model.specs.Status.{facts_known, health_text, lacks_projects, needs_reload, opens_logs, shown_as, shown_of, status_message, status_now};
 
+use crate::failing::{has_build_error, has_fetch_error};
 use crate::well::is_told;
 use notify::{MessageKind, Outgo};
 use plain::{Items, NoMemory, Text};
-use project_model::ProjectWorkspace;
+use ra_config::Config;
 use ra_settings::LinkedProject;
-use session_model::{ReqHandler, TurnError};
+use session_model::{Client, ReqHandler, SessionFiles, TurnError};
 use session_port::TurnOut;
-use session_store::Store;
+use session_store::{Store, is_quiescent, may_fetch};
 use status::{Health, Status, StatusInput, status_with};
 use std::alloc::{AllocError, Global};
+use workspaces::Workspaces;
 
 fn health_text(health: Health) -> &'static str
     ensures { result.now ≡ health_text health }
@@ -69,110 +71,88 @@ fn shown_of(status: &Status) -> Result<Option<(Text, MessageKind)>, AllocError>
 
 // Whether there are no projects. Their list is made only where there are no roots, whose manifests are projects where no others are.
 #[tactic(auto, using(crate::proofs::Projects::roots_have_projects))]
-fn has_no_projects(store: &Store) -> Result<bool, AllocError>
-    ensures { IfOk result (λ none. none ≡ (length (projects_of store.now.client.settings) == 0)) }
+fn has_no_projects(alloc: Global, settings: &Config) -> Result<bool, AllocError>
+    ensures { IfOk result (λ none. none ≡ (length (projects_of settings.now) == 0)) }
 {
-    let settings = store.client.settings();
     if !settings.workspace_roots().is_empty() {
         return Ok(false);
     }
-    let projects = settings.linked_or_discovered_projects(store.alloc)?;
+    let projects = settings.linked_or_discovered_projects(alloc)?;
     Ok(projects.len() == 0)
 }
 
 // Whether there is nothing to load: no projects, and no files that stand alone.
-pub(crate) fn lacks_projects(store: &Store) -> Result<bool, AllocError>
-    ensures { IfOk result (λ lacks. lacks ≡ lacks_projects store.now.client.settings) }
+pub(crate) fn lacks_projects(alloc: Global, settings: &Config) -> Result<bool, AllocError>
+    ensures { IfOk result (λ lacks. lacks ≡ lacks_projects settings.now) }
 {
-    let none = has_no_projects(store)?;
-    Ok(none && store.client.settings().detached_files().is_empty())
+    let none = has_no_projects(alloc, settings)?;
+    Ok(none && settings.detached_files().is_empty())
 }
 
 // Whether workspaces have changed, and wait until they are asked for.
-pub(crate) fn needs_reload(store: &Store) -> bool
-    ensures { result ≡ needs_reload store.now.client.settings store.now.files store.now.workspaces }
+pub(crate) fn needs_reload(settings: &Config, files: &SessionFiles, workspaces: &Workspaces) -> bool
+    ensures { result ≡ needs_reload settings.now files.now workspaces.now }
 {
-    store.workspaces.is_fetch_requested() && !store.may_fetch() && store.is_quiescent()
-}
-
-// Whether the last fetch failed.
-pub(crate) fn has_fetch_error(store: &Store) -> Result<bool, NoMemory>
-    ensures { IfOk result (λ has. has ≡ has_fetch_error store.now.client.settings store.now.workspaces) }
-{
-    Ok(store.workspaces.fetch_error(store.discovers())?.is_some())
-}
-
-// Whether some of the last builds failed.
-pub(crate) fn has_build_error(store: &Store) -> Result<bool, NoMemory>
-    ensures { IfOk result (λ has. has ≡ has_build_error store.now.workspaces) }
-{
-    Ok(store.workspaces.build_error()?.is_some())
+    workspaces.is_fetch_requested() && !may_fetch(settings) && is_quiescent(files, workspaces)
 }
 
 // The facts of a status but for its lists.
-fn facts_known(store: &Store) -> Result<StatusInput, NoMemory>
-    ensures { IfOk result (λ facts. record facts { linked = linked_of store.now.client.settings; workspaces = store.now.workspaces.present }
-        ≡ facts_known store.now.client store.now.files store.now.workspaces) }
+fn facts_known(
+    alloc: Global,
+    client: &Client,
+    files: &SessionFiles,
+    workspaces: &Workspaces,
+) -> Result<StatusInput, NoMemory>
+    ensures { IfOk result (λ facts. record facts { linked = linked_of client.now.settings; workspaces = workspaces.now.present }
+        ≡ facts_known client.now files.now workspaces.now) }
 {
-    let build_error = has_build_error(store)?;
-    let config_errors = store.client.errors_text()?;
-    let no_projects = lacks_projects(store)?;
-    let workspace_error = has_fetch_error(store)?;
+    let settings = client.settings();
+    let config_errors = client.errors_text()?;
+    let no_projects = lacks_projects(alloc, settings)?;
     Ok(StatusInput {
-        reload_needed: needs_reload(store),
-        build_deps_changed: store.workspaces.have_build_deps_changed(),
-        build_error,
+        reload_needed: needs_reload(settings, files, workspaces),
+        build_deps_changed: workspaces.have_build_deps_changed(),
+        build_error: has_build_error(workspaces),
         config_errors,
         check_error: None,
         no_projects,
-        workspace_error,
-        linked: Items::new(store.alloc),
-        workspaces: Items::new(store.alloc),
-        fully_ready: store.is_quiescent(),
+        workspace_error: has_fetch_error(settings, workspaces),
+        linked: Items::new(alloc),
+        workspaces: Items::new(alloc),
+        fully_ready: is_quiescent(files, workspaces),
     })
 }
 
 // The projects that are linked.
-fn linked_projects(store: &Store) -> &[LinkedProject]
-    ensures { result.now ≡ linked_of store.now.client.settings }
+fn linked_projects(client: &Client) -> &[LinkedProject]
+    ensures { result.now ≡ linked_of client.now.settings }
 {
-    store.client.settings().linked_projects()
-}
-
-// The workspaces that are present.
-pub(crate) fn present_workspaces(store: &Store) -> &[ProjectWorkspace]
-    ensures { result.now ≡ store.now.workspaces.present }
-{
-    store.workspaces.present()
+    client.settings().linked_projects()
 }
 
 // The status of the present.
-fn status_now(store: &Store) -> Result<Status, NoMemory>
-    ensures { IfOk result (λ status. status ≡ status_now store.now.client store.now.files store.now.workspaces) }
+fn status_now(
+    alloc: Global,
+    client: &Client,
+    files: &SessionFiles,
+    workspaces: &Workspaces,
+) -> Result<Status, NoMemory>
+    ensures { IfOk result (λ status. status ≡ status_now client.now files.now workspaces.now) }
 {
-    let facts = facts_known(store)?;
-    status_with(
-        store.alloc,
-        &facts,
-        linked_projects(store),
-        present_workspaces(store),
-    )
+    let facts = facts_known(alloc, client, files, workspaces)?;
+    status_with(alloc, &facts, linked_projects(client), workspaces.present())
 }
 
 // Whether a text is shown with the button that opens the logs.
-fn opens_logs(store: &Store) -> Result<bool, NoMemory>
-    ensures { IfOk result (λ opens. opens ≡ opens_logs store.now.client.settings store.now.workspaces) }
+fn opens_logs(settings: &Config, workspaces: &Workspaces) -> bool
+    ensures { result ≡ opens_logs settings.now workspaces.now }
 {
-    if !store.client.settings().open_server_logs() {
-        return Ok(false);
-    }
-    let builds = has_build_error(store)?;
-    let fetch = has_fetch_error(store)?;
-    Ok(builds || fetch)
+    settings.open_server_logs()
+        && (has_build_error(workspaces) || has_fetch_error(settings, workspaces))
 }
 
 // A text is shown; with the button that opens the logs it is a request.
-#[tactic(auto, unfolding(session_model::specs::Machine::text_shown))]
+#[tactic(auto, unfolding(session_model::specs::Machine::text_shown, session_port::specs::Working::written))]
 fn show_text(
     store: &mut Store,
     button: bool,
@@ -188,21 +168,23 @@ fn show_text(
         let asked = Outgo::ShowMessageRequest { message, kind };
         return store.send_request(asked, ReqHandler::OpenLogs, out);
     }
-    store.send_notification(Outgo::ShowMessage { message, kind }, out)?;
+    store
+        .client
+        .tell(Outgo::ShowMessage { message, kind }, out)?;
     Ok(())
 }
 
 // A client that takes statuses is told this one, and any other is shown its text.
-#[tactic(auto, unfolding(session_model::specs::Machine::status_told))]
+#[tactic(auto, unfolding(session_model::specs::Machine::status_told, session_port::specs::Working::written))]
 fn tell_status(store: &mut Store, status: &Status, out: &mut TurnOut) -> Result<(), TurnError>
     ensures { Meets result (status_told status.now (record { state = store.old; out = out.old })) store.new out.new }
 {
     if store.client.settings().server_status_notification() {
         let message = status_message(store.alloc, status)?;
-        store.send_notification(message, out)?;
+        store.client.tell(message, out)?;
         return Ok(());
     }
-    let button = opens_logs(store)?;
+    let button = opens_logs(store.client.settings(), &store.workspaces);
     let text = shown_of(status)?;
     show_text(store, button, text, out)
 }
@@ -233,9 +215,15 @@ fn keep_status(store: &mut Store, status: Status, out: &mut TurnOut) -> Result<(
 pub fn report_status(store: &mut Store, out: &mut TurnOut) -> Result<(), TurnError>
     ensures { Meets result (status_done (record { state = store.old; out = out.old })) store.new out.new }
 {
-    if is_told(store)? {
+    if is_told(
+        store.alloc,
+        &store.client,
+        &store.files,
+        &store.workspaces,
+        &store.status,
+    )? {
         return Ok(());
     }
-    let status = status_now(store)?;
+    let status = status_now(store.alloc, &store.client, &store.files, &store.workspaces)?;
     keep_status(store, status, out)
 }

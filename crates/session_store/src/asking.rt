@@ -1,14 +1,11 @@
-// What the client is asked and told.
-ghost use Rattle.std.specs.Prelude.{◌≡◌, OnOk};
+// What the client is asked.
 ghost use Rattle.notify.specs.Writing.{HoldsPlain};
 ghost use Rattle.session_port.specs.Meets.{Meets};
-ghost use Rattle.session_port.specs.Working.{written};
-ghost use Rattle.session_model.specs.ClientSteps.{asked_for, notification_of};
+ghost use Rattle.session_model.specs.ClientSteps.{asked_for};
 ghost use Rattle.session_model.specs.Machine.{at_client};
 
 use crate::state::Store;
 use notify::Outgo;
-use plain::NoMemory;
 use session_model::{ReqHandler, TurnError};
 use session_port::TurnOut;
 
@@ -24,15 +21,5 @@ impl Store {
         ensures { Meets result (at_client (asked_for message then) (record { state = self.old; out = out.old })) self.new out.new }
     {
         self.client.ask(message, then, out)
-    }
-
-    /// Sends a notification.
-    #[tactic(auto, unfolding(session_port::specs::Working::written))]
-    pub fn send_notification(&mut self, message: Outgo, out: &mut TurnOut) -> Result<(), NoMemory>
-        requires { HoldsPlain message }
-        ensures after { OnOk result (written (notification_of message) (record { state = self.old; out = out.old }) ≡ record { state = self.new; out = out.new }) }
-        ensures same { self.new ≡ self.old }
-    {
-        self.client.tell(message, out)
     }
 }

@@ -2,9 +2,9 @@
 ghost use Rattle.std.specs.Prelude.{◌≡◌, IfOk, is_some};
 ghost use Rattle.session_model.specs.Crates.{file_of, is_unknown, loaded_as};
 
-use crate::state::Store;
 use docs_vfs::{FileExcluded, FileId, VfsPath};
 use file_ids::FileIds;
+use session_model::SessionFiles;
 use std::alloc::AllocError;
 
 /// Whether a path has neither contents nor a mark.
@@ -25,20 +25,18 @@ pub fn file_of(entry: Option<(FileId, FileExcluded)>) -> Option<FileId>
     }
 }
 
-impl Store {
-    /// Whether the table doesn't know a file.
-    pub fn is_unknown(&self, path: &VfsPath) -> Result<bool, AllocError>
-        ensures { IfOk result (λ unknown. unknown ≡ is_unknown self.now.files.ids path.now) }
-    {
-        let numbers = self.files.file_ids()?;
-        Ok(is_unknown(&numbers, path))
-    }
+/// Whether the table doesn't know a file.
+pub fn is_unknown_file(files: &SessionFiles, path: &VfsPath) -> Result<bool, AllocError>
+    ensures { IfOk result (λ unknown. unknown ≡ is_unknown files.now.ids path.now) }
+{
+    let numbers = files.file_ids()?;
+    Ok(is_unknown(&numbers, path))
+}
 
-    /// Whether it knows the file, and it isn't excluded.
-    pub fn is_loaded(&self, path: &VfsPath) -> Result<bool, AllocError>
-        ensures { IfOk result (λ loaded. loaded ≡ is_some (loaded_as self.now.files.ids path.now)) }
-    {
-        let numbers = self.files.file_ids()?;
-        Ok(file_of(numbers.get(path)).is_some())
-    }
+/// Whether it knows the file, and it isn't excluded.
+pub fn is_loaded_file(files: &SessionFiles, path: &VfsPath) -> Result<bool, AllocError>
+    ensures { IfOk result (λ loaded. loaded ≡ is_some (loaded_as files.now.ids path.now)) }
+{
+    let numbers = files.file_ids()?;
+    Ok(file_of(numbers.get(path)).is_some())
 }

@@ -17,7 +17,7 @@ pub(crate) struct Now<'a> {
 }
 
 /// Whether all macros are there that are wanted: none are, or the last load succeeded.
-pub(crate) fn are_macros_loaded(client: &Client, workspaces: &Workspaces) -> bool
+fn are_macros_loaded(client: &Client, workspaces: &Workspaces) -> bool
     ensures { result ≡ macros_loaded_in client.now.settings workspaces.now }
 {
     !client.settings().proc_macro_enable() || workspaces.are_macros_loaded()

@@ -1,28 +1,24 @@
 // The state of a session, and what its subjects share.
-ghost use Rattle.std.specs.Prelude.{◌≡◌, ◌≤◌, [], IfOk, Ok, OnOk, Some, is_some, not};
-ghost use Rattle.lsp_frame.specs.Pending.{IsAbove, id_of, is_pending};
-ghost use Rattle.lsp_frame.specs.Written.{AreWritable};
-ghost use Rattle.lsp_frame.specs.declared.message.Message.TheVariants.{Response as ResponseMessage};
+ghost use Rattle.std.specs.Prelude.{◌≡◌, ◌≤◌, [], IfOk, Ok};
+ghost use Rattle.lsp_frame.specs.Pending.{IsAbove};
 ghost use Rattle.lsp_frame.specs.Outgoing.{number_limit};
-ghost use Rattle.session_port.specs.Meets.{Meets, Gives};
-ghost use Rattle.session_port.specs.Working.{ordered, logged};
-ghost use Rattle.session_model.specs.ClientSteps.{logged_if};
-ghost use Rattle.session_model.specs.DeskSteps.{responded, cancelled, handed_over, requested, taken};
+ghost use Rattle.session_port.specs.Meets.{Meets};
+ghost use Rattle.session_model.specs.DeskSteps.{handed_over, requested, taken};
 ghost use Rattle.session_model.specs.Machine.{at_desk};
 ghost use Rattle.session_model.specs.Meaning.{meaning_of};
-ghost use Rattle.session_model.specs.State.{macros_loaded_in, scene_of, snapshot_of, first_status, fresh, fresh_at};
+ghost use Rattle.session_model.specs.State.{scene_of, snapshot_of, first_status, fresh, fresh_at};
 ghost use Rattle.session_model.specs.WorkEnds.{work_ended};
 ghost use Rattle.method_table.specs.declared.class.PoolClass.TheVariants.{Worker};
 
-use crate::now::{Now, are_macros_loaded};
+use crate::now::Now;
 use analysis_host::{Analysis, GlobalStateSnapshot};
 use docs_vfs::SourceRoots;
-use lsp_frame::{Request, RequestId, Response};
+use lsp_frame::Request;
 use method_table::PoolClass;
-use plain::{Items, NoMemory, Text};
+use plain::{Items, NoMemory};
 use ra_config::Config;
 use session_model::{Client, Counters, Desk, Present, SessionFiles, TurnError, WorkEnd};
-use session_port::{Command, JobKind, LogCode, TaskMsg, TurnOut};
+use session_port::{JobKind, TaskMsg, TurnOut};
 use status::{Health, Status};
 use std::alloc::{AllocError, Global};
 use std::marker::Model;
@@ -144,13 +140,6 @@ impl Store {
         })
     }
 
-    /// Whether all macros are there that are wanted: none are, or the last load succeeded.
-    pub fn macros_loaded(&self) -> bool
-        ensures { result ≡ macros_loaded_in self.now.client.settings self.now.workspaces }
-    {
-        are_macros_loaded(&self.client, &self.workspaces)
-    }
-
     /// The snapshot of the present.
     pub fn snapshot(&self) -> Result<GlobalStateSnapshot, AllocError>
         ensures { IfOk result (λ snapshot. snapshot ≡ snapshot_of self.now) }
@@ -203,79 +192,9 @@ impl Store {
     }
 }
 
-// Requests by their tickets and ids.
+// Jobs of the session's own.
 impl Store {
-    /// Answers the request of a ticket under its id, and closes it; false where it isn't pending. After an `Err` the state is spent.
-    pub fn respond(
-        &mut self,
-        ticket: u64,
-        response: Response,
-        out: &mut TurnOut,
-    ) -> Result<bool, NoMemory>
-        requires { AreWritable (ResponseMessage response) }
-        ensures pending { IfOk result (λ done. done ≡ is_some (id_of ticket self.old.desk.pending)) }
-        ensures others { self.new ≡ record self.old { desk = self.new.desk } }
-        ensures after { OnOk result (record { state = self.new.desk; out = out.new } ≡ responded ticket (λ id. record response { id = Some id }) (record { state = self.old.desk; out = out.old })) }
-    {
-        self.desk.respond(ticket, response, out)
-    }
-
-    /// Answers the request of an id as one that the client cancelled, and closes it; false where it isn't pending. After an `Err` the
-    /// state is spent.
-    pub fn cancel(&mut self, id: RequestId, out: &mut TurnOut) -> Result<bool, NoMemory>
-        ensures pending { IfOk result (λ done. done ≡ is_pending id self.old.desk.pending) }
-        ensures others { self.new ≡ record self.old { desk = self.new.desk } }
-        ensures after { OnOk result (record { state = self.new.desk; out = out.new } ≡ cancelled id (record { state = self.old.desk; out = out.old })) }
-    {
-        self.desk.cancel(id, out)
-    }
-
-    /// Whether no request waits under a ticket.
-    pub fn is_completed(&self, ticket: u64) -> bool
-        ensures { result ≡ not (is_some (id_of ticket self.now.desk.pending)) }
-    {
-        self.desk.is_completed(ticket)
-    }
-}
-
-// What is ordered.
-impl Store {
-    /// Orders a command.
-    #[tactic(auto, unfolding(session_port::specs::Working::ordered))]
-    pub fn order(&mut self, command: Command, out: &mut TurnOut) -> Result<(), TurnError>
-        ensures gives { Gives result (ordered command (record { state = self.old; out = out.old })) self.new out.new }
-        ensures same { self.new ≡ self.old }
-    {
-        out.order(command)?;
-        Ok(())
-    }
-
-    /// Writes a log line.
-    #[tactic(auto, unfolding(session_port::specs::Working::logged))]
-    pub fn log(&mut self, code: LogCode, text: Text, out: &mut TurnOut) -> Result<(), TurnError>
-        ensures gives { Gives result (logged code text (record { state = self.old; out = out.old })) self.new out.new }
-        ensures same { self.new ≡ self.old }
-    {
-        self.order(Command::Log(code, text), out)
-    }
-
-    /// A log line, if there is a text.
-    pub fn log_if(
-        &mut self,
-        code: LogCode,
-        text: Option<Text>,
-        out: &mut TurnOut,
-    ) -> Result<(), TurnError>
-        ensures gives { Gives result (logged_if code text (record { state = self.old; out = out.old })) self.new out.new }
-        ensures same { self.new ≡ self.old }
-    {
-        match text {
-            None => Ok(()),
-            Some(text) => self.log(code, text, out),
-        }
-    }
-
-    /// Hands over a job of the session's own on a snapshot.
+    /// Hands over a job on a snapshot.
     pub fn hand_over_on(
         &mut self,
         kind: JobKind,

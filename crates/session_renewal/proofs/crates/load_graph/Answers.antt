@@ -9,8 +9,7 @@ use Rattle.session_renewal.proofs.crates.load_graph.Goals as goal
 
 pub returns : goal.returns
 returns c =
-    let present : c.present.result.now ≡ c.args.store.now.workspaces.present = search rules in
-    let env : c.cargo_extra_env.result.now ≡ extra_env c.args.store.now.client.settings = search rules in
+    let env : c.cargo_extra_env.result.now ≡ extra_env c.args.settings.now = search rules in
     subst (λ (graph : CrateData × List (List (ℕ × MacroPath))). IfOk c.ws_to_crate_graph.result (λ made. made ≡ graph))
-    (λ i. graph_of (present i) (env i) (map (loaded_as c.args.numbers.now) (crate_roots (present i))))
+    (λ i. graph_of c.args.workspaces.now (env i) (map (loaded_as c.args.numbers.now) (crate_roots c.args.workspaces.now)))
     (asked_answers _ _ _ _ c.ws_to_crate_graph.result c.ws_to_crate_graph.ensures (loaded_as c.args.numbers.now) (λ x r next called. search rules))

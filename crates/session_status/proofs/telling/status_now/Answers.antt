@@ -10,4 +10,4 @@ pub returns : goal.returns
 unfolding status_now
 returns c =
     subst (λ (input : StatusInput). IfOk c.status_with.result (λ (status : Status). status ≡ status_of input))
-    ((λ i. record c.in_ok-facts.facts { linked = c.linked_projects.ensures i; workspaces = c.present_workspaces.ensures i }) ∙ c.in_ok-facts.ensures) c.status_with.ensures
+    ((λ i. record c.in_ok-facts.facts { linked = c.linked_projects.ensures i; workspaces = c.present.ensures i }) ∙ c.in_ok-facts.ensures) c.status_with.ensures

@@ -8,5 +8,5 @@ use Rattle.session_status.proofs.well.is_told.Goals as goal
 pub returns : goal.returns
 unfolding status_now
 returns c =
-    let same : is_same_status c.args.store.now.status (well_status (is_quiescent c.args.store.now.files c.args.store.now.workspaces)) ≡ true = search rules in
-    carried c.is_well.result _ _ (same_where c.args.store.now.status (facts_known c.args.store.now.client c.args.store.now.files c.args.store.now.workspaces) same) c.is_well.ensures
+    let same : is_same_status c.args.last.now (well_status (is_quiescent c.args.files.now c.args.workspaces.now)) ≡ true = search rules in
+    carried c.is_well.result _ _ (same_where c.args.last.now (facts_known c.args.client.now c.args.files.now c.args.workspaces.now) same) c.is_well.ensures
