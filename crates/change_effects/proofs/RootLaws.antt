@@ -9,7 +9,7 @@ use Rattle.ra_settings.specs.declared.row.Row.{Row}
 use Rattle.layered_settings.specs.Change.{after}
 use Rattle.layered_settings.specs.Search.{SettingsData, Parents, chain, first_in, layers_of, setting}
 use Rattle.change_effects.specs.declared.effects.SettingsFile.{SettingsFile}
-use Rattle.change_effects.specs.Filing.{change_of}
+use Rattle.change_effects.specs.Filing.{filed_change}
 
 no_chain : (n : ℕ) (parents : Parents) → chain n parents [] None ≡ []
 unfolding chain
@@ -20,10 +20,11 @@ no_chain (suc n) parents = refl
 at_no_root : (row : Row) (s : SettingsData) → setting row None s ≡ unwrap_or (first_in row (s.client ∷ s.user ∷ [])) (facts_of row).default
 unfolding setting
 at_no_root row s =
-    ap (λ (roots : List ℕ). unwrap_or (first_in row (layers_of s roots ++ s.client ∷ s.user ∷ [])) (facts_of row).default) (no_chain (map.len s.parents + 1) s.parents)
+    ap (λ (roots : List ℕ). unwrap_or (first_in row (layers_of s roots ++ s.client ∷ s.user ∷ [])) (facts_of row).default)
+    (no_chain (map.len s.parents + 1) s.parents)
 
 pub stays_at_no_root : (path : List ℕ) (roots : List Root) (parents : Option (List (ℕ × ℕ))) (workspaces : List ProjectWorkspace) (files : List SettingsFile)
-    (settings : SettingsData) (row : Row) → setting row None (after path (change_of roots parents workspaces files) settings) ≡ setting row None settings
+    (settings : SettingsData) (row : Row) → setting row None (after path (filed_change roots parents workspaces files) settings) ≡ setting row None settings
 unfolding after
 stays_at_no_root path roots parents workspaces files settings row =
-    at_no_root row (after path (change_of roots parents workspaces files) settings) ∙ sym (at_no_root row settings)
+    at_no_root row (after path (filed_change roots parents workspaces files) settings) ∙ sym (at_no_root row settings)

@@ -6,7 +6,8 @@ use Rattle.plain.specs.Tests.{list_by}
 use Rattle.ra_settings.specs.declared.row.Row.{Row}
 use Rattle.ra_config.specs.Config.{ConfigData, projects_of}
 use Rattle.layered_settings.specs.Search.{setting}
-use Rattle.change_effects.specs.Update.{Asks, HaveSameProjects, IsSameAt, are_same_at, cargo_rows, check_rows, has_same_projects, is_same_at, project, setting_value, update_of}
+use Rattle.change_effects.specs.Update.{Asks, HaveSameProjects, IsSameAt, are_same_at, cargo_rows, check_rows, has_same_projects, is_same_at, project}
+use Rattle.change_effects.specs.Update.{setting_value, update_of}
 
 pub row_told : (old new : ConfigData) (row : Row) → Decides (is_same_at old new row) (IsSameAt old new row)
 row_told old new row = setting_value.tells (setting row None old.settings) (setting row None new.settings)

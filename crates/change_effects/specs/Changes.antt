@@ -1,5 +1,6 @@
 -- What one change of a file is.
-use Rattle.std.specs.Prelude.{ℕ, Bool, false, not, ◌&&◌, ◌||◌, List, codes, bytes_eq, Option, Some, None, is_some, option_and_then, if◌then◌else◌}
+use Rattle.std.specs.Prelude.{ℕ, Bool, false, not, ◌&&◌, ◌||◌, List, codes, bytes_eq, Option, Some, None, is_some}
+use Rattle.std.specs.Prelude.{option_and_then, if◌then◌else◌}
 use Rattle.std.specs.FinMap as map
 use Rattle.docs_vfs.specs.Paths.{name_of, extension_of}
 use Rattle.docs_vfs.specs.declared.file_kinds.ChangedFile.{ChangedFile}
@@ -26,7 +27,8 @@ is_settings_file path = is_settings_name (name_of path)
 
 -- a settings file with what it contains now
 abbrev pub settings_of : ChangedFile → Option SettingsFile
-settings_of change = if is_settings_file change.path then Some (record { path = change.path; contents = change.contents }) else None
+settings_of change = if is_settings_file change.path
+    then Some (record { path = change.path; contents = change.contents }) else None
 
 -- the path of a file of Rust
 abbrev pub is_rust : List ℕ → Bool

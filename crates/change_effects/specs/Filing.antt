@@ -58,8 +58,8 @@ crate_files roots workspaces files = filter_map (crate_file roots workspaces) fi
 -- ---- the change
 
 -- these files have changed, and the roots have these parents where some are given; all else stays
-abbrev pub change_of : List Root → Option (List (ℕ × ℕ)) → List ProjectWorkspace → List SettingsFile → ConfigChange
-change_of roots parents workspaces files = record {
+abbrev pub filed_change : List Root → Option (List (ℕ × ℕ)) → List ProjectWorkspace → List SettingsFile → ConfigChange
+filed_change roots parents workspaces files = record {
   client = None;
   user = None;
   workspace_toml = workspace_files roots workspaces files;

@@ -1,5 +1,6 @@
 -- What a change of settings asks for.
-use Rattle.std.specs.Prelude.{◌≡◌, ◌↔◌, ℕ, Bool, true, not, ◌&&◌, IsTrue, List, [], ◌∷◌, All, codes, Option, Some, None, if◌then◌else◌}
+use Rattle.std.specs.Prelude.{◌≡◌, ◌↔◌, ℕ, Bool, true, not, ◌&&◌, IsTrue, List, [], ◌∷◌, All, codes, Option, Some, None}
+use Rattle.std.specs.Prelude.{if◌then◌else◌}
 use Rattle.plain.specs.Same.{is_same_by, is_same_by-decides}
 use Rattle.plain.specs.Tests.{Test, list_by}
 use Rattle.ra_settings.specs.contracts.value.LinkedProject as project_row
@@ -17,10 +18,16 @@ use Rattle.change_effects.specs.declared.update.ConfigUpdate.{ConfigUpdate}
 
 -- by the codes under which values are stored
 abbrev pub setting_value : Test SettingValue
-setting_value = record { is_same = is_same_by value_row.the_row.coded; tells = is_same_by-decides value_row.the_row.coded }
+setting_value = record {
+  is_same = is_same_by value_row.the_row.coded;
+  tells = is_same_by-decides value_row.the_row.coded;
+}
 
 abbrev pub project : Test LinkedProject
-project = record { is_same = is_same_by project_row.the_row.coded; tells = is_same_by-decides project_row.the_row.coded }
+project = record {
+  is_same = is_same_by project_row.the_row.coded;
+  tells = is_same_by-decides project_row.the_row.coded;
+}
 
 -- the row's value, at no root
 abbrev pub is_same_at : ConfigData → ConfigData → Row → Bool
@@ -41,12 +48,14 @@ check_rows = Row.CheckCommand ∷ Row.CheckWorkspace ∷ Row.CheckInvocationStra
 -- the rows whose names begin with `cargo.`, but for `cargo.autoreload`
 abbrev pub cargo_rows : List Row
 cargo_rows =
-    Row.CargoBuildScriptsEnable ∷ Row.CargoBuildScriptsRebuildOnSave ∷ Row.CargoExtraEnv ∷ Row.CargoFeatures ∷ Row.CargoAllTargets
+    Row.CargoBuildScriptsEnable ∷ Row.CargoBuildScriptsRebuildOnSave ∷ Row.CargoExtraEnv ∷ Row.CargoFeatures
+    ∷ Row.CargoAllTargets
     ∷ Row.CargoTarget ∷ []
 
 -- ---- what is asked for
 
--- other projects ask for a fetch, and else other checks for the checks to be set anew; so do another configuration of cargo, and another `cfg.setTest`
+-- other projects ask for a fetch, and else other checks for the checks to be set anew; so do another configuration of
+-- cargo, and another `cfg.setTest`
 unfoldable pub update_of : ConfigData → ConfigData → ConfigUpdate
 update_of old new = record {
   projects = not (has_same_projects old new);

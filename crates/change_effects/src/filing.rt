@@ -1,7 +1,7 @@
 //! Settings files as a change of settings.
 ghost use Rattle.std.specs.Prelude.{◌≡◌, ◌++◌, Some, option_to_list, IfOk, OnOk};
 ghost use Rattle.text_core.specs.LineEnds.{normalized};
-ghost use Rattle.change_effects.specs.Filing.{change_of, crate_file, crate_files, file_in, is_at_workspace, is_folder, text_in, workspace_file, workspace_files};
+ghost use Rattle.change_effects.specs.Filing.{filed_change, crate_file, crate_files, file_in, is_at_workspace, is_folder, text_in, workspace_file, workspace_files};
 
 use crate::effects::SettingsFile;
 use docs_vfs::{SharedBytes, SourceRoots, VfsPath};
@@ -167,7 +167,7 @@ pub fn settings_change(
     workspaces: &[ProjectWorkspace],
     files: &[SettingsFile],
 ) -> Result<ConfigChange, NoMemory>
-    ensures { IfOk result (λ change. change ≡ change_of roots.now parents workspaces.now files.now) }
+    ensures { IfOk result (λ change. change ≡ filed_change roots.now parents workspaces.now files.now) }
 {
     Ok(ConfigChange {
         client: None,

@@ -13,15 +13,15 @@ first_of no_items = None
 first_of (item d ds) = Some d
 
 -- the first value of a list
-abbrev pub first_in : Data → Option Data
-first_in result = option_and_then first_of (as_array result)
+abbrev pub first_value : Data → Option Data
+first_value result = option_and_then first_of (as_array result)
 
 abbrev pub plain_part : Data → Option Data
 plain_part value = if is_plain value then Some value else None
 
 abbrev pub settings_by : Option ResponseError → Option Data → Option Data
 settings_by (Some error) result = None
-settings_by None result = option_and_then plain_part (option_and_then first_in result)
+settings_by None result = option_and_then plain_part (option_and_then first_value result)
 
 -- the settings that an answer says: the first value of its list, where there is no error and the value is plain
 abbrev pub settings_in : Response → Option Data
@@ -30,14 +30,14 @@ settings_in response = settings_by response.error response.result
 abbrev pub value_fault : Data → Option (List ℕ)
 value_fault value = if is_plain value then None else Some (codes "not plain")
 
-abbrev pub fault_by : Option ResponseError → Option Data → Option (List ℕ)
-fault_by (Some error) result = Some error.message
-fault_by None None = Some (codes "empty")
-fault_by None (Some result) = option_and_then value_fault (first_in result)
+abbrev pub answer_fault : Option ResponseError → Option Data → Option (List ℕ)
+answer_fault (Some error) result = Some error.message
+answer_fault None None = Some (codes "empty")
+answer_fault None (Some result) = option_and_then value_fault (first_value result)
 
 -- why an answer says none, where that is a fault: a result that is no list, or has no first value, is none
 abbrev pub fault_in : Response → Option (List ℕ)
-fault_in response = fault_by response.error response.result
+fault_in response = answer_fault response.error response.result
 
 -- ---- the action that was chosen
 

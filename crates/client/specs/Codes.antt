@@ -12,5 +12,6 @@ use Rattle.client.specs.declared.handler.ReqHandler.{ReqHandler}
 -- given how it is stored what follows an answer
 abbrev pub client_code : Coded ReqHandler → Coded Client
 client_code handler =
-    code_by (ConfigData × (Outgoing ReqHandler × List ConfigError)) (coded× config_code (coded× (outgoing_code handler) errors_row.the_row.coded))
+    code_by (ConfigData × (Outgoing ReqHandler × List ConfigError))
+    (coded× config_code (coded× (outgoing_code handler) errors_row.the_row.coded))
     (λ c. (c.settings, (c.asked, c.errors))) (λ p. record { settings = p.0; asked = p.1.0; errors = p.1.1 }) (λ _. refl)

@@ -39,12 +39,12 @@ abbrev pub client_change : Data → ConfigChange
 client_change value = record { client = Some value; user = None; workspace_toml = []; crate_toml = []; parents = None }
 
 -- the settings behind a change
-abbrev pub with_change : ConfigChange → ConfigData → ConfigData
-with_change change settings = record settings { settings = after settings.root_path change settings.settings }
+abbrev pub settings_with : ConfigChange → ConfigData → ConfigData
+settings_with change settings = record settings { settings = after settings.root_path change settings.settings }
 
-abbrev pub with_client : Option Data → ConfigData → ConfigData
-with_client None settings = settings
-with_client (Some value) settings = with_change (client_change value) settings
+abbrev pub with_client_settings : Option Data → ConfigData → ConfigData
+with_client_settings None settings = settings
+with_client_settings (Some value) settings = settings_with (client_change value) settings
 
 -- the errors of the last change, where the client sets this
 abbrev pub errors_with : Option Data → Client → List ConfigError
@@ -56,7 +56,7 @@ abbrev pub settings_after : Option ReqHandler → Response → ConfigData → Co
 settings_after None response settings = settings
 settings_after (Some Ignore) response settings = settings
 settings_after (Some OpenLogs) response settings = settings
-settings_after (Some Settings) response settings = with_client (settings_in response) settings
+settings_after (Some Settings) response settings = with_client_settings (settings_in response) settings
 
 -- and the errors of those values
 abbrev pub errors_behind : Option ReqHandler → Response → Client → List ConfigError
@@ -65,7 +65,8 @@ errors_behind (Some Ignore) response client = client.errors
 errors_behind (Some OpenLogs) response client = client.errors
 errors_behind (Some Settings) response client = errors_with (settings_in response) client
 
--- the request of the answer's id waits no more; where it asked for the settings, they are from now on what the answer says
+-- the request of the answer's id waits no more; where it asked for the settings, they are from now on what the answer
+-- says
 abbrev pub after_answer : Response → Client → Client
 after_answer response client = record {
   settings = settings_after (follows response.id client.asked) response client.settings;
@@ -78,15 +79,15 @@ after_answer response client = record {
 -- the settings change, and the errors of the values that the change brings take the place of those before
 abbrev pub after_change : ConfigChange → Client → Client
 after_change change client = record client {
-  settings = with_change change client.settings;
+  settings = settings_with change client.settings;
   errors = errors_after client.settings.root_path change;
 }
 
 -- ---- the workspaces
 
 -- the paths that URLs name; a URL that names none is left out
-abbrev pub paths_of : List (List ℕ) → List (List ℕ)
-paths_of urls = filter_map (λ url. result_ok (path_of url)) urls
+abbrev pub paths_named : List (List ℕ) → List (List ℕ)
+paths_named urls = filter_map (λ url. result_ok (path_of url)) urls
 
 -- without each of these, in their order: of equal roots the first leaves
 abbrev pub without_each : List (List ℕ) → List (List ℕ) → List (List ℕ)
@@ -96,5 +97,8 @@ without_each (path ∷ paths) roots = without_each paths (without path roots)
 -- the removed folders leave, and then the added ones come last
 abbrev pub after_folders : List (List ℕ) → List (List ℕ) → Client → Client
 after_folders added removed client = record client {
-  settings = record client.settings { workspace_roots = without_each (paths_of removed) client.settings.workspace_roots ++ paths_of added };
+  settings = record client.settings {
+    workspace_roots = without_each (paths_named removed)
+        client.settings.workspace_roots ++ paths_named added;
+  };
 }

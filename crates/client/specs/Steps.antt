@@ -1,9 +1,12 @@
--- What is done with a request of the session's own, with an answer to one, and with folders that the client adds and removes.
-use Rattle.std.specs.Prelude.{ℕ, ◌==◌, pos, Bool, List, ◌++◌, map, filter, if◌then◌else◌, Option, None, Some, Result, Ok, Err, is_err}
+-- What is done with a request of the session's own, with an answer to one, and with folders that the client adds and
+-- removes.
+use Rattle.std.specs.Prelude.{ℕ, ◌==◌, pos, Bool, List, ◌++◌, map, filter, if◌then◌else◌, Option, None, Some, Result}
+use Rattle.std.specs.Prelude.{Ok, Err, is_err}
 use Rattle.docs_vfs.specs.FileUrls.{path_of}
 use Rattle.lsp_frame.specs.declared.message.RequestId.TheVariants.{Number}
 use Rattle.lsp_frame.specs.declared.message.Message.{Message}
-use Rattle.lsp_frame.specs.declared.message.Message.TheVariants.{Request as RequestMessage, Notification as NotificationMessage}
+use Rattle.lsp_frame.specs.declared.message.Message.TheVariants.{Request as RequestMessage}
+use Rattle.lsp_frame.specs.declared.message.Message.TheVariants.{Notification as NotificationMessage}
 use Rattle.lsp_frame.specs.declared.message.Response.{Response}
 use Rattle.session_port.specs.declared.command.Command.{Command}
 use Rattle.session_port.specs.declared.command.Command.TheVariants.{Log}
@@ -27,11 +30,13 @@ use Rattle.client.specs.declared.handler.ReqHandler.TheVariants.{Ignore, Setting
 
 -- a message as a request with this number
 abbrev pub request_at : ℕ → Outgo → Message
-request_at number message = RequestMessage (record { id = Number (pos number); method = (outgo_body message).0; params = (outgo_body message).1 })
+request_at number message = RequestMessage
+    (record { id = Number (pos number); method = (outgo_body message).0; params = (outgo_body message).1 })
 
 -- a message as a notification
 abbrev pub notification_of : Outgo → Message
-notification_of message = NotificationMessage (record { method = (outgo_body message).0; params = (outgo_body message).1 })
+notification_of message = NotificationMessage
+    (record { method = (outgo_body message).0; params = (outgo_body message).1 })
 
 -- a request is written with the next number, and waits, unless all numbers were given
 unfoldable pub asked_for : Outgo → ReqHandler → Working Client → Result (Working Client) Counter
@@ -53,7 +58,8 @@ followed (Some Settings) response w = logged_if SettingsError (fault_in response
 followed (Some OpenLogs) response w = if chooses response then written (notification_of OpenLogsMessage) w else w
 
 unfoldable pub answered : Response → Working Client → Working Client
-answered response w = record (followed (follows response.id w.state.asked) response w) { state = after_answer response w.state }
+answered response w = record (followed (follows response.id w.state.asked) response w)
+    { state = after_answer response w.state }
 
 -- ---- folders
 

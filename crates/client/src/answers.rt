@@ -1,6 +1,6 @@
 // What the client's answers say.
 ghost use Rattle.std.specs.Prelude.{◌≡◌, IfOk};
-ghost use Rattle.client.specs.Answers.{first_in, settings_in, fault_in, is_action, chooses};
+ghost use Rattle.client.specs.Answers.{first_value, settings_in, fault_in, is_action, chooses};
 
 use lsp_frame::Response;
 use plain::{Json, Text};
@@ -16,8 +16,8 @@ pub(crate) struct SettingsAnswer {
 }
 
 // The first value of a list.
-fn first_in(answer: Json) -> Option<Json>
-    ensures { result ≡ first_in answer }
+fn first_value(answer: Json) -> Option<Json>
+    ensures { result ≡ first_value answer }
 {
     match answer.into_value() {
         Value::Array(values) => values.into_iter().next().map(Json::new),
@@ -33,7 +33,7 @@ pub(crate) fn read_settings(alloc: Global, response: Response) -> Result<Setting
     let (settings, fault) = match (response.error, response.result) {
         (Some(error), _) => (None, Some(error.message)),
         (None, None) => (None, Some(Text::from_str(alloc, "empty")?)),
-        (None, Some(values)) => match first_in(values) {
+        (None, Some(values)) => match first_value(values) {
             Some(value) if value.is_plain() => (Some(value), None),
             Some(_) => (None, Some(Text::from_str(alloc, "not plain")?)),
             None => (None, None),

@@ -15,7 +15,7 @@ use Rattle.session_port.specs.Written.{Written}
 use Rattle.desk.specs.Desk.{Desk}
 use Rattle.desk.specs.Meaning.{Meaning}
 use Rattle.desk.specs.Replies.{already_pending}
-use Rattle.desk.specs.Steps.{requested, admitted, noted}
+use Rattle.desk.specs.Steps.{requested, request_admitted, noted}
 use Rattle.desk.specs.Scene.{Scene}
 
 -- a request whose id waits
@@ -43,7 +43,7 @@ refused_again meaning scene r state mid new out out_now ticket result registers 
 -- and one whose id is new
 pub requested_new : (meaning : Meaning) (scene : Scene) (r : Request) (state new : Desk) (out : Written)
     → Registers state.turns r.id state.pending new.pending New → new ≡ record state { pending = new.pending }
-    → requested meaning scene r (record { state = state; out = out }) ≡ admitted meaning scene r.method r.params (record { state = new; out = out })
+    → requested meaning scene r (record { state = state; out = out }) ≡ request_admitted meaning scene r.method r.params (record { state = new; out = out })
 unfolding requested noted
 requested_new meaning scene r state new out registers others =
     let after : new ≡ record state { pending = registered state.turns r.id state.pending } = others ∙ ap (λ p. record state { pending = p }) registers.1 in

@@ -3,7 +3,7 @@ use Rattle.std.specs.Prelude.{ℕ, Bool, false, option_and_then, Option}
 use Rattle.std.specs.FinMap as map
 use Rattle.lsp_frame.specs.Pending.{Pending, none_pending, id_of}
 use Rattle.lsp_frame.specs.declared.message.RequestId.{RequestId}
-use Rattle.session_port.specs.Jobs.{Jobs, ticket_of}
+use Rattle.session_port.specs.Jobs.{Jobs, ticket_of_job}
 use Rattle.session_port.specs.declared.job.Job.{Job}
 
 pub record Desk : Type 0 where
@@ -25,8 +25,7 @@ new_desk_at turns handed = record {
   pending = none_pending;
   jobs = map.empty;
   handed = handed;
-  shutdown =
-      false;
+  shutdown = false;
 }
 
 abbrev pub new_desk : Desk
@@ -34,4 +33,4 @@ new_desk = new_desk_at 0 0
 
 -- the request that a job is for, where it still waits
 abbrev pub waiting_for : Job → Desk → Option RequestId
-waiting_for job desk = option_and_then (λ ticket. id_of ticket desk.pending) (ticket_of job.kind)
+waiting_for job desk = option_and_then (λ ticket. id_of ticket desk.pending) (ticket_of_job job.kind)

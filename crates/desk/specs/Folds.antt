@@ -14,7 +14,7 @@ use Rattle.lsp_frame.specs.declared.message.Request.{Request}
 use Rattle.lsp_frame.specs.declared.message.Response.{Response}
 use Rattle.method_table.specs.Plans.{is_shutdown}
 use Rattle.method_table.specs.Rows.{row_of}
-use Rattle.session_port.specs.Jobs.{Jobs, ticket_of, after_message}
+use Rattle.session_port.specs.Jobs.{Jobs, ticket_of_job, jobs_after}
 use Rattle.session_port.specs.declared.event.TaskMsg.{TaskMsg}
 use Rattle.session_port.specs.declared.job.Job.{Job}
 use Rattle.desk.specs.Desk.{Desk}
@@ -23,11 +23,11 @@ use Rattle.desk.specs.Replies.{already_pending}
 use Rattle.desk.specs.Slots.{Slot, slot_at, slot_of, unreported}
 
 -- the jobs that are for a request
-abbrev pub is_asked : Job → Bool
-is_asked job = is_some (ticket_of job.kind)
+abbrev pub is_for_request : Job → Bool
+is_for_request job = is_some (ticket_of_job job.kind)
 
 abbrev pub asked_among : List Job → List Job
-asked_among jobs = filter is_asked jobs
+asked_among jobs = filter is_for_request jobs
 
 -- ---- what is left
 
@@ -70,7 +70,7 @@ shutdown_after (Some r) responses shutdown = if is_shutdown (row_of r.method) &&
 abbrev pub desk_past : TaskMsg → Reaction → Desk → Desk
 desk_past message done desk = record desk {
   pending = closed_by (responses_of done) desk.pending;
-  jobs = after_message message desk.jobs;
+  jobs = jobs_after message desk.jobs;
   handed = desk.handed + length done.jobs;
 }
 

@@ -48,8 +48,8 @@ silent = record { messages = []; jobs = [] }
 abbrev pub says : Response → Reaction
 says response = record { messages = ResponseMessage response ∷ []; jobs = [] }
 
-abbrev pub joined : Reaction → Reaction → Reaction
-joined a b = record { messages = a.messages ++ b.messages; jobs = a.jobs ++ b.jobs }
+abbrev pub reactions_joined : Reaction → Reaction → Reaction
+reactions_joined a b = record { messages = a.messages ++ b.messages; jobs = a.jobs ++ b.jobs }
 
 -- one job for the request with this ticket, behind so many that were handed over
 abbrev pub hands_over : ℕ → SnapshotData → PoolClass → ℕ → RowId → Data → Reaction

@@ -8,7 +8,7 @@ use Rattle.dispatch.specs.Responses.{response_with, refusal, fault_code}
 use Rattle.method_table.specs.declared.class.Class.{Class}
 use Rattle.method_table.specs.declared.class.Class.TheVariants.{State, OnLoop, Formatting, Latency, DocumentDiagnostic}
 use Rattle.method_table.specs.declared.class.Class.TheVariants.{Worker, Identity}
-use Rattle.session_port.specs.Jobs.{value_of}
+use Rattle.session_port.specs.Jobs.{value_answering}
 use Rattle.session_port.specs.declared.job.JobResult.{JobResult}
 use Rattle.session_port.specs.declared.job.JobResult.TheVariants.{Value, Fault, Cancelled, NoMemory}
 use Rattle.session_port.specs.declared.job.JobValue.{JobValue}
@@ -82,7 +82,7 @@ value_reply id (ProcMacros macros) = no_answer id
 
 -- what a question comes to
 abbrev pub finding_reply : RequestId → Finding → Response
-finding_reply id (answer value) = value_reply id (value_of value)
+finding_reply id (answer value) = value_reply id (value_answering value)
 finding_reply id (fault code message) = fault_reply id code message
 
 -- what the request of a finished job is answered; a job that stopped has not finished

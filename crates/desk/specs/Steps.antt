@@ -130,14 +130,14 @@ shut_down params w =
     else responded w.state.turns invalid_params w
 
 -- a request that waits now, under the turn's number
-unfoldable pub admitted : Meaning → Scene → List ℕ → Data → Working Desk → Result (Working Desk) Counter
-admitted meaning scene method params w =
+unfoldable pub request_admitted : Meaning → Scene → List ℕ → Data → Working Desk → Result (Working Desk) Counter
+request_admitted meaning scene method params w =
     if is_shutdown (row_of method) then Ok (shut_down params w) else asked meaning scene (row_of method) method params w
 
 unfoldable pub requested : Meaning → Scene → Request → Working Desk → Result (Working Desk) Counter
 requested meaning scene r w =
     if is_pending r.id w.state.pending then Ok (replied (already_pending r.id) w)
-    else admitted meaning scene r.method r.params (noted r.id w)
+    else request_admitted meaning scene r.method r.params (noted r.id w)
 
 -- the request of an id is cancelled, where it is pending; its job stays out
 unfoldable pub cancelled : RequestId → Working Desk → Working Desk
@@ -175,14 +175,14 @@ brought meaning scene None job w = Ok w
 brought meaning scene (Some result) job w = delivered meaning scene (waiting_for job w.state) job result w
 
 -- a job that a message fits is off the list; a message that fits none is logged
-unfoldable pub ended : Meaning → Scene → Option Job → TaskMsg → Working Desk → Result (Working Desk) Counter
-ended meaning scene None message w = Ok (logged StrangeResult (decimal message.job) w)
-ended meaning scene (Some job) message w =
+unfoldable pub job_ended : Meaning → Scene → Option Job → TaskMsg → Working Desk → Result (Working Desk) Counter
+job_ended meaning scene None message w = Ok (logged StrangeResult (decimal message.job) w)
+job_ended meaning scene (Some job) message w =
     brought meaning scene (final_of message.body) job
     (record w { state = record w.state { jobs = map.remove w.state.jobs message.job } })
 
-abbrev pub taken : Meaning → Scene → TaskMsg → Working Desk → Result (Working Desk) Counter
-taken meaning scene message w = ended meaning scene (fitting_job message w.state.jobs) message w
+abbrev pub result_taken : Meaning → Scene → TaskMsg → Working Desk → Result (Working Desk) Counter
+result_taken meaning scene message w = job_ended meaning scene (fitting_job message w.state.jobs) message w
 
 -- ---- the end of a turn
 

@@ -11,15 +11,15 @@ use Rattle.session_port.specs.Jobs.{Jobs}
 use Rattle.session_port.specs.Record.{spawned, with_jobs}
 use Rattle.session_port.specs.declared.command.Command.{Command}
 use Rattle.session_port.specs.declared.job.Job.{Job}
-use Rattle.session_port.specs.Written.{response_of, responses_in}
-use Rattle.desk.specs.Folds.{asked_among, closed_by, closed_with, is_asked}
+use Rattle.session_port.specs.Written.{response_in, responses_in}
+use Rattle.desk.specs.Folds.{asked_among, closed_by, closed_with, is_for_request}
 
 pub closed_by-append : (xs ys : List Response) (pending : Pending) → closed_by (xs ++ ys) pending ≡ closed_by ys (closed_by xs pending)
 closed_by-append [] ys pending = refl
 closed_by-append (response ∷ xs) ys pending = closed_by-append xs ys (closed_with response.id pending)
 
 pub responses-append : (xs ys : List Message) → responses_in (xs ++ ys) ≡ responses_in xs ++ responses_in ys
-responses-append xs ys = filter_map-append response_of xs ys
+responses-append xs ys = filter_map-append response_in xs ys
 
 pub spawned-append : (xs ys : List Command) → spawned (xs ++ ys) ≡ spawned xs ++ spawned ys
 spawned-append xs ys = filter_map-append job_of xs ys
@@ -33,7 +33,7 @@ pub passed-append : (number_of : Command → Option ℕ) (commands : List Comman
 passed-append number_of commands command none = filter_map-append number_of commands (command ∷ []) ∙ rw none (append-nil _)
 
 pub asked-append : (xs ys : List Job) → asked_among (xs ++ ys) ≡ asked_among xs ++ asked_among ys
-asked-append xs ys = filter-append is_asked xs ys
+asked-append xs ys = filter-append is_for_request xs ys
 
 pub with_jobs-append : (xs ys : List Job) (out : Jobs) → with_jobs (xs ++ ys) out ≡ with_jobs ys (with_jobs xs out)
 with_jobs-append [] ys out = refl

@@ -12,7 +12,7 @@ use Rattle.lsp_frame.proofs.InStep.{none-distinct, registered-distinct, complete
 use Rattle.lsp_frame.proofs.InStep.{id_of-registered}
 use Rattle.method_table.specs.declared.class.PoolClass.{PoolClass}
 use Rattle.method_table.specs.declared.row_id.RowId.{RowId}
-use Rattle.session_port.specs.Jobs.{Jobs, ticket_of, final_of, fits_final, if_fits, fitting_job, after_message}
+use Rattle.session_port.specs.Jobs.{Jobs, ticket_of_job, final_of, fits_final, if_fits_job, fitting_job, jobs_after}
 use Rattle.session_port.specs.Record.{with_jobs}
 use Rattle.session_port.specs.declared.event.TaskMsg.{TaskMsg}
 use Rattle.session_port.specs.declared.job.Job.{Job}
@@ -113,7 +113,7 @@ same-held ticket other parts js same h = subst (λ t. IsHeld t parts js) (sym sa
 
 -- the request of this ticket waits nowhere, or the job is for none
 abbrev pub WaitsNowhere : Pending → Job → Type 0
-WaitsNowhere p job = (ticket : ℕ) → ticket_of job.kind ≡ Some ticket → id_of ticket p ≡ None
+WaitsNowhere p job = (ticket : ℕ) → ticket_of_job job.kind ≡ Some ticket → id_of ticket p ≡ None
 
 -- a job came back whose request does not wait
 sound-off : (turns : ℕ) (p : Pending) (js : Jobs) (handed revision n : ℕ) (found : Job) → map.get js n ≡ Some found → WaitsNowhere p found
@@ -129,7 +129,7 @@ sound-off turns p js handed revision n found is none s = record {
 
 -- a job came back, and its request is closed
 sound-without : (turns : ℕ) (p : Pending) (js : Jobs) (handed revision n t : ℕ) (found : Job) (id : RequestId) → map.get js n ≡ Some found
-    → ticket_of found.kind ≡ Some t → id_of t p ≡ Some id
+    → ticket_of_job found.kind ≡ Some t → id_of t p ≡ Some id
     → SoundOf turns p js handed revision → SoundOf turns (completed t p) (map.remove js n) handed revision
 unfolding completed
 sound-without turns p js handed revision n t found id is its waits s = record {
@@ -150,7 +150,7 @@ sound-without turns p js handed revision n t found id is its waits s = record {
 
 -- a request was read, and its job handed over
 sound-request : (turns : ℕ) (p : Pending) (js : Jobs) (handed revision : ℕ) (id : RequestId) (job : Job) → is_pending id p ≡ false
-    → ticket_of job.kind ≡ Some (turns + 1) → job.snapshot.revision ≤ revision
+    → ticket_of_job job.kind ≡ Some (turns + 1) → job.snapshot.revision ≤ revision
     → SoundOf turns p js handed revision → SoundOf (turns + 1) (registered (turns + 1) id p) (map.insert js (handed + 1) job) (handed + 1) revision
 unfolding registered
 sound-request turns p js handed revision id job new its no_later s = record {
@@ -191,8 +191,8 @@ sound-request turns p js handed revision id job new its no_later s = record {
     it_is : (n : ℕ) (j : Job) → n ≡ handed + 1 → map.get now n ≡ Some j → job ≡ j
     it_is n j same there = new-out handed job js n j same there
 
-    its_ticket : (n : ℕ) (j : Job) (t : ℕ) → n ≡ handed + 1 → map.get now n ≡ Some j → ticket_of j.kind ≡ Some t → t ≡ turns + 1
-    its_ticket n j t same there is_for = some-same t (turns + 1) (sym is_for ∙ ap (λ (k : Job). ticket_of k.kind) (sym (it_is n j same there)) ∙ its)
+    its_ticket : (n : ℕ) (j : Job) (t : ℕ) → n ≡ handed + 1 → map.get now n ≡ Some j → ticket_of_job j.kind ≡ Some t → t ≡ turns + 1
+    its_ticket n j t same there is_for = some-same t (turns + 1) (sym is_for ∙ ap (λ (k : Job). ticket_of_job k.kind) (sym (it_is n j same there)) ∙ its)
 
 -- a request is closed, and its job stays out
 sound-shut : (turns : ℕ) (p : Pending) (js : Jobs) (handed revision t : ℕ) (id : RequestId) → id_of t p ≡ Some id → SoundOf turns p js handed revision
@@ -225,7 +225,7 @@ sound-closed turns p js handed revision id s = closed-cases turns p js handed re
 
 -- a job came back, and another one is handed over for its request
 sound-again : (turns : ℕ) (p : Pending) (js : Jobs) (handed revision n ticket : ℕ) (found job : Job) → map.get js n ≡ Some found
-    → ticket_of found.kind ≡ Some ticket → ticket_of job.kind ≡ Some ticket → job.snapshot.revision ≤ revision
+    → ticket_of_job found.kind ≡ Some ticket → ticket_of_job job.kind ≡ Some ticket → job.snapshot.revision ≤ revision
     → SoundOf turns p js handed revision → SoundOf turns p (map.insert (map.remove js n) (handed + 1) job) (handed + 1) revision
 sound-again turns p js handed revision n ticket found job is was_for its no_later s = record {
   distinct = s.distinct;
@@ -257,11 +257,11 @@ sound-again turns p js handed revision n ticket found job is was_for its no_late
     it_is : (m : ℕ) (j : Job) → m ≡ handed + 1 → map.get now m ≡ Some j → job ≡ j
     it_is m j same there = new-out handed job (map.remove js n) m j same there
 
-    its_ticket : (m : ℕ) (j : Job) (t : ℕ) → m ≡ handed + 1 → map.get now m ≡ Some j → ticket_of j.kind ≡ Some t → t ≡ ticket
-    its_ticket m j t same there is_for = some-same t ticket (sym is_for ∙ ap (λ (k : Job). ticket_of k.kind) (sym (it_is m j same there)) ∙ its)
+    its_ticket : (m : ℕ) (j : Job) (t : ℕ) → m ≡ handed + 1 → map.get now m ≡ Some j → ticket_of_job j.kind ≡ Some t → t ≡ ticket
+    its_ticket m j t same there is_for = some-same t ticket (sym is_for ∙ ap (λ (k : Job). ticket_of_job k.kind) (sym (it_is m j same there)) ∙ its)
 
 -- a job that is for no request is handed over
-pub sound-beside : (turns : ℕ) (p : Pending) (js : Jobs) (handed revision : ℕ) (job : Job) → ticket_of job.kind ≡ None → SoundOf turns p js handed revision
+pub sound-beside : (turns : ℕ) (p : Pending) (js : Jobs) (handed revision : ℕ) (job : Job) → ticket_of_job job.kind ≡ None → SoundOf turns p js handed revision
     → SoundOf turns p (map.insert js (handed + 1) job) (handed + 1) revision
 sound-beside turns p js handed revision job none s = record {
   distinct = s.distinct;
@@ -279,8 +279,8 @@ sound-beside turns p js handed revision job none s = record {
     was : (n : ℕ) (j : Job) → n ≢ handed + 1 → map.get (map.insert js (handed + 1) job) n ≡ Some j → map.get js n ≡ Some j
     was n j other there = was-out handed job js n j other there
 
-    not_its : {P : Type 0} (n : ℕ) (j : Job) (t : ℕ) → n ≡ handed + 1 → map.get (map.insert js (handed + 1) job) n ≡ Some j → ticket_of j.kind ≡ Some t → P
-    not_its n j t same there is_for = none-some t (sym none ∙ ap (λ (k : Job). ticket_of k.kind) (new-out handed job js n j same there) ∙ is_for)
+    not_its : {P : Type 0} (n : ℕ) (j : Job) (t : ℕ) → n ≡ handed + 1 → map.get (map.insert js (handed + 1) job) n ≡ Some j → ticket_of_job j.kind ≡ Some t → P
+    not_its n j t same there is_for = none-some t (sym none ∙ ap (λ (k : Job). ticket_of_job k.kind) (new-out handed job js n j same there) ∙ is_for)
 
 -- at the beginning nothing waits and no job is out
 pub sound-new : (revision : ℕ) → Sound new_desk revision
@@ -427,7 +427,7 @@ going-none : (first : ℕ) (desk : Desk) (js : List Job) (revision : ℕ) (messa
     → Batching first desk js revision → Going first desk js revision message silent
 going-none first desk js revision message none b = (
   record {
-    sound = subst (λ xs. SoundOf desk.turns desk.pending (with_jobs xs (after_message message desk.jobs)) (desk.handed + 0) revision) (sym (append-nil js))
+    sound = subst (λ xs. SoundOf desk.turns desk.pending (with_jobs xs (jobs_after message desk.jobs)) (desk.handed + 0) revision) (sym (append-nil js))
         (subst (λ out. SoundOf desk.turns desk.pending (with_jobs js out) (desk.handed + 0) revision) (sym same) (sound-stays _ _ _ _ _ b.sound));
     early = λ n job there. b.early n job (ap (λ out. map.get out n) (sym same) ∙ there);
     late = subst (AreAbove first) (sym (append-nil js)) b.late;
@@ -436,16 +436,16 @@ going-none first desk js revision message none b = (
   tt,
 )
   where
-    same : after_message message desk.jobs ≡ desk.jobs
+    same : jobs_after message desk.jobs ≡ desk.jobs
     same = after_message-none message desk.jobs none
 
 -- the parts of a message that fits a job
 record Took (first : ℕ) (desk : Desk) (js : List Job) (revision : ℕ) (message : TaskMsg) (found : Job) : Type 0 where
   before : Batching first desk js revision
-  gone : after_message message desk.jobs ≡ map.remove desk.jobs message.job
+  gone : jobs_after message desk.jobs ≡ map.remove desk.jobs message.job
   is_out : map.get desk.jobs message.job ≡ Some found
   is_there : map.get (with_jobs js desk.jobs) message.job ≡ Some found
-  left : with_jobs js (after_message message desk.jobs) ≡ map.remove (with_jobs js desk.jobs) message.job
+  left : with_jobs js (jobs_after message desk.jobs) ≡ map.remove (with_jobs js desk.jobs) message.job
 
 took : (first : ℕ) (desk : Desk) (js : List Job) (revision : ℕ) (message : TaskMsg) (found : Job) → fitting_job message desk.jobs ≡ Some found
     → Batching first desk js revision → Took first desk js revision message found
@@ -462,7 +462,7 @@ took first desk js revision message found is b =
 
 -- what is out after a message was out before it
 early-on : (first : ℕ) (desk : Desk) (js : List Job) (revision : ℕ) (message : TaskMsg) (found : Job) → Took first desk js revision message found
-    → (n : ℕ) (job : Job) → map.get (after_message message desk.jobs) n ≡ Some job → n ≤ first
+    → (n : ℕ) (job : Job) → map.get (jobs_after message desk.jobs) n ≡ Some job → n ≤ first
 early-on first desk js revision message found t n job there =
     t.before.early n job (still-out message.job n desk.jobs job (ap (λ out. map.get out n) (sym t.gone) ∙ there))
 
@@ -471,7 +471,7 @@ going-off : (first : ℕ) (desk : Desk) (js : List Job) (revision : ℕ) (messag
     → Took first desk js revision message found → Going first desk js revision message silent
 going-off first desk js revision message found none t = (
   record {
-    sound = subst (λ xs. SoundOf desk.turns desk.pending (with_jobs xs (after_message message desk.jobs)) (desk.handed + 0) revision) (sym (append-nil js))
+    sound = subst (λ xs. SoundOf desk.turns desk.pending (with_jobs xs (jobs_after message desk.jobs)) (desk.handed + 0) revision) (sym (append-nil js))
         (subst (λ out. SoundOf desk.turns desk.pending out (desk.handed + 0) revision) (sym t.left)
         (sound-stays _ _ _ _ _ (sound-off desk.turns desk.pending (with_jobs js desk.jobs) desk.handed revision message.job found t.is_there none
         t.before.sound)));
@@ -484,13 +484,13 @@ going-off first desk js revision message found none t = (
 
 -- its request is answered
 going-said : (first : ℕ) (desk : Desk) (js : List Job) (revision : ℕ) (message : TaskMsg) (found : Job) (ticket : ℕ) (id : RequestId) (response : Response)
-    → ticket_of found.kind ≡ Some ticket → id_of ticket desk.pending ≡ Some id
+    → ticket_of_job found.kind ≡ Some ticket → id_of ticket desk.pending ≡ Some id
     → response.id ≡ Some id → Took first desk js revision message found → Going first desk js revision message (says response)
 going-said first desk js revision message found ticket id response its waits is t = (
   record {
-    sound = subst (λ xs. SoundOf desk.turns (closed_with response.id desk.pending) (with_jobs xs (after_message message desk.jobs)) (desk.handed + 0) revision)
+    sound = subst (λ xs. SoundOf desk.turns (closed_with response.id desk.pending) (with_jobs xs (jobs_after message desk.jobs)) (desk.handed + 0) revision)
         (sym (append-nil js))
-        (subst (λ q. SoundOf desk.turns q (with_jobs js (after_message message desk.jobs)) (desk.handed + 0) revision)
+        (subst (λ q. SoundOf desk.turns q (with_jobs js (jobs_after message desk.jobs)) (desk.handed + 0) revision)
         (sym (ap (λ o. closed_with o desk.pending) is ∙ sym (completed-closed ticket id desk.pending t.before.sound.distinct waits)))
         (subst (λ out. SoundOf desk.turns (completed ticket desk.pending) out (desk.handed + 0) revision) (sym t.left)
         (sound-stays _ _ _ _ _ (sound-without desk.turns desk.pending (with_jobs js desk.jobs) desk.handed revision message.job ticket found id t.is_there its
@@ -504,13 +504,13 @@ going-said first desk js revision message found ticket id response its waits is 
 
 -- a job is handed over for it
 going-again : (first : ℕ) (scene : Scene) (desk : Desk) (js : List Job) (message : TaskMsg) (found : Job) (ticket : ℕ) (class : PoolClass) (row_id : RowId)
-    (params : Data) → ticket_of found.kind ≡ Some ticket
+    (params : Data) → ticket_of_job found.kind ≡ Some ticket
     → Took first desk js scene.snapshot.revision message found
     → Going first desk js scene.snapshot.revision message (hands_over desk.handed scene.snapshot class ticket row_id params)
 going-again first scene desk js message found ticket class row_id params its t = (
   record {
     sound = subst (λ out. SoundOf desk.turns desk.pending out (desk.handed + 1) scene.snapshot.revision)
-        (sym (with_jobs-append js (job ∷ []) (after_message message desk.jobs) ∙ ap (λ out. map.insert out (desk.handed + 1) job) t.left))
+        (sym (with_jobs-append js (job ∷ []) (jobs_after message desk.jobs) ∙ ap (λ out. map.insert out (desk.handed + 1) job) t.left))
         (sound-again desk.turns desk.pending (with_jobs js desk.jobs) desk.handed scene.snapshot.revision message.job ticket found job t.is_there its refl
         (omega arith) t.before.sound);
     early = early-on first desk js scene.snapshot.revision message found t;
@@ -524,7 +524,7 @@ going-again first scene desk js message found ticket class row_id params its t =
     job = job_for scene desk.handed class ticket row_id params
 
 going-reacts : (first : ℕ) (scene : Scene) (desk : Desk) (js : List Job) (message : TaskMsg) (found : Job) (ticket : ℕ) (id : RequestId) (done : Reaction)
-    → ticket_of found.kind ≡ Some ticket → id_of ticket desk.pending ≡ Some id
+    → ticket_of_job found.kind ≡ Some ticket → id_of ticket desk.pending ≡ Some id
     → Reacts scene desk.handed ticket id done → Took first desk js scene.snapshot.revision message found
     → Going first desk js scene.snapshot.revision message done
 going-reacts first scene desk js message found ticket id done its waits (inl (response, is, says_it)) t =
@@ -534,7 +534,7 @@ going-reacts first scene desk js message found ticket id done its waits (inr (cl
     subst (Going first desk js scene.snapshot.revision message) (sym hands) (going-again first scene desk js message found ticket class row_id params its t)
 
 -- what a job is for, by the ticket of its kind
-for-none : (job : Job) (desk : Desk) (o : Option ℕ) → ticket_of job.kind ≡ o → waiting_for job desk ≡ None → WaitsNowhere desk.pending job
+for-none : (job : Job) (desk : Desk) (o : Option ℕ) → ticket_of_job job.kind ≡ o → waiting_for job desk ≡ None → WaitsNowhere desk.pending job
 for-none job desk None is none = λ ticket its. none-some ticket (sym is ∙ its)
 for-none job desk (Some t) is none = λ ticket its. ap (λ u. id_of u desk.pending) (some-same ticket t (sym its ∙ is))
     ∙ sym (ap (λ k. option_and_then (λ u. id_of u desk.pending) k) is) ∙ none
@@ -542,29 +542,29 @@ for-none job desk (Some t) is none = λ ticket its. ap (λ u. id_of u desk.pendi
 -- the ticket of a job whose request waits, and its id
 pub record HasTicket (job : Job) (desk : Desk) (id : RequestId) : Type 0 where
   pub ticket : ℕ
-  pub its : ticket_of job.kind ≡ Some ticket
+  pub its : ticket_of_job job.kind ≡ Some ticket
   pub waits : id_of ticket desk.pending ≡ Some id
 
-for-some : (job : Job) (desk : Desk) (id : RequestId) (o : Option ℕ) → ticket_of job.kind ≡ o → waiting_for job desk ≡ Some id → HasTicket job desk id
+for-some : (job : Job) (desk : Desk) (id : RequestId) (o : Option ℕ) → ticket_of_job job.kind ≡ o → waiting_for job desk ≡ Some id → HasTicket job desk id
 for-some job desk id None is waits = none-some id (sym (ap (λ k. option_and_then (λ u. id_of u desk.pending) k) is) ∙ waits)
 for-some job desk id (Some t) is waits = record { ticket = t; its = is; waits = sym (ap (λ k. option_and_then (λ u. id_of u desk.pending) k) is) ∙ waits }
 
 pub has-ticket : (job : Job) (desk : Desk) (id : RequestId) → waiting_for job desk ≡ Some id → HasTicket job desk id
-has-ticket job desk id waits = for-some job desk id (ticket_of job.kind) refl waits
+has-ticket job desk id waits = for-some job desk id (ticket_of_job job.kind) refl waits
 
 going-ticket : (meaning : Meaning) (first : ℕ) (scene : Scene) (desk : Desk) (js : List Job) (message : TaskMsg) (found : Job) (o : Option RequestId)
     (result : JobResult) → waiting_for found desk ≡ o
     → Took first desk js scene.snapshot.revision message found
     → Going first desk js scene.snapshot.revision message (ticket_row meaning scene desk o found result)
 going-ticket meaning first scene desk js message found None result none t =
-    going-off first desk js scene.snapshot.revision message found (for-none found desk (ticket_of found.kind) refl none) t
+    going-off first desk js scene.snapshot.revision message found (for-none found desk (ticket_of_job found.kind) refl none) t
 going-ticket meaning first scene desk js message found (Some id) result waits t =
     let k = has-ticket found desk id waits in
     going-reacts first scene desk js message found k.ticket id _ k.its k.waits
     (result-reacts meaning scene desk k.ticket id found result (finished_reply id result) refl k.its) t
 
 -- what fits a job tells how it has ended
-fit-final : (message : TaskMsg) (o : Option Job) (found : Job) (final : Option JobResult) → option_and_then (if_fits message.body) o ≡ Some found
+fit-final : (message : TaskMsg) (o : Option Job) (found : Job) (final : Option JobResult) → option_and_then (if_fits_job message.body) o ≡ Some found
     → final_of message.body ≡ final → (result : JobResult) × (final ≡ Some result)
 fit-final message None found final fits is = none-some found fits
 fit-final message (Some job) found (Some result) fits is = (result, refl)
@@ -606,12 +606,12 @@ pub cancel-sound : (desk : Desk) (revision : ℕ) (id : RequestId) → Sound des
 cancel-sound desk revision id s = keeps-whole (desk.turns + 1) None _ desk.jobs desk revision (cancel-kept id desk revision s)
 
 pub message-sound : (meaning : Meaning) (scene : Scene) (desk : Desk) (message : TaskMsg) → Sound desk scene.snapshot.revision
-    → KeepsSound (desk.turns + 1) None (message_row meaning scene desk message) (after_message message desk.jobs) desk scene.snapshot.revision
+    → KeepsSound (desk.turns + 1) None (message_row meaning scene desk message) (jobs_after message desk.jobs) desk scene.snapshot.revision
 message-sound meaning scene desk message s =
     let done = message_row meaning scene desk message in
     let going : Going desk.handed desk [] scene.snapshot.revision message done =
     message-going meaning desk.handed scene desk [] message (batching-begins desk scene.snapshot.revision s) in
-    keeps-whole (desk.turns + 1) None done (after_message message desk.jobs) desk scene.snapshot.revision
+    keeps-whole (desk.turns + 1) None done (jobs_after message desk.jobs) desk scene.snapshot.revision
     (record { sound = sound-later desk.turns (desk.turns + 1) _ _ _ _ _ _ (omega arith) (omega arith) (omega arith) going.0.sound; once = going.1 })
 
 -- ---- one request
@@ -626,7 +626,7 @@ pub request-reacts : (meaning : Meaning) (scene : Scene) (desk : Desk) (ticket :
 request-reacts meaning scene desk ticket r new = new-cases meaning scene desk ticket r (is_pending r.id desk.pending) new
 
 pub message-reacts : (meaning : Meaning) (scene : Scene) (desk : Desk) (message : TaskMsg) (job : Job) (ticket : ℕ) (id : RequestId)
-    → fitting_job message desk.jobs ≡ Some job → ticket_of job.kind ≡ Some ticket → id_of ticket desk.pending ≡ Some id
+    → fitting_job message desk.jobs ≡ Some job → ticket_of_job job.kind ≡ Some ticket → id_of ticket desk.pending ≡ Some id
     → Reacts scene desk.handed ticket id (message_row meaning scene desk message)
 message-reacts meaning scene desk message job ticket id is its waits =
     let k = fit-final message (map.get desk.jobs message.job) job (final_of message.body) is refl in

@@ -15,7 +15,7 @@ use Rattle.method_table.specs.StateRequests.{request_of}
 use Rattle.method_table.specs.Unit.{is_unit}
 use Rattle.method_table.specs.declared.request.StateRequest.{StateRequest}
 use Rattle.dispatch.specs.Responses.{response_with}
-use Rattle.session_port.specs.Jobs.{ticket_of}
+use Rattle.session_port.specs.Jobs.{ticket_of_job}
 use Rattle.session_port.specs.declared.job.Job.{Job}
 use Rattle.session_port.specs.declared.job.JobKind.{JobKind}
 use Rattle.session_port.specs.declared.job.JobKind.TheVariants.{Request as RequestJob, ProcMacroSources, FetchWorkspaces, FetchBuildData, LoadProcMacros}
@@ -81,7 +81,7 @@ new-reacts meaning scene desk ticket r =
     (says-reacts scene desk.handed ticket r.id (response_with r.id null) refl) (says-reacts scene desk.handed ticket r.id (invalid_params r.id) refl))
     (method-reacts meaning scene desk ticket (row_of r.method) r)
 
-stop-reacts : (meaning : Meaning) (scene : Scene) (desk : Desk) (ticket : ℕ) (id : RequestId) (revision : ℕ) (kind : JobKind) → ticket_of kind ≡ Some ticket
+stop-reacts : (meaning : Meaning) (scene : Scene) (desk : Desk) (ticket : ℕ) (id : RequestId) (revision : ℕ) (kind : JobKind) → ticket_of_job kind ≡ Some ticket
     → Reacts scene desk.handed ticket id (stopped_row meaning scene desk id revision kind)
 stop-reacts meaning scene desk ticket id revision (RequestJob t row params) is =
     let same : t ≡ ticket = cc in
@@ -95,7 +95,7 @@ stop-reacts meaning scene desk ticket id revision (LoadProcMacros paths ignored)
 
 -- a result of a job whose request waits
 pub result-reacts : (meaning : Meaning) (scene : Scene) (desk : Desk) (ticket : ℕ) (id : RequestId) (job : Job) (result : JobResult) (o : Option Response)
-    → finished_reply id result ≡ o → ticket_of job.kind ≡ Some ticket
+    → finished_reply id result ≡ o → ticket_of_job job.kind ≡ Some ticket
     → Reacts scene desk.handed ticket id (result_row meaning scene desk o id job)
 result-reacts meaning scene desk ticket id job result (Some response) is its =
     says-reacts scene desk.handed ticket id response (finished-id id result response is)

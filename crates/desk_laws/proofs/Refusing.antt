@@ -28,8 +28,9 @@ use Rattle.desk.specs.Meaning.{Meaning, can_read}
 use Rattle.desk.specs.Reactions.{Reaction, says, hands_over, if_read, planned_row, class_row, method_row, shutdown_row, new_row, request_row, stopped_row}
 use Rattle.desk.specs.Reactions.{result_row, ticket_row, final_row, fitting_row, message_row}
 use Rattle.desk.specs.Replies.{already_pending, stopped_reply, finished_reply}
-use Rattle.desk.specs.Steps.{dispatched, submitted, planned, classed, asked, noted, shut_down, admitted, requested, counted, responded, stopped, settled}
-use Rattle.desk.specs.Steps.{delivered, brought, ended, taken}
+use Rattle.desk.specs.Steps.{dispatched, submitted, planned, classed, asked, noted, shut_down, request_admitted, requested, counted, responded, stopped}
+use Rattle.desk.specs.Steps.{settled}
+use Rattle.desk.specs.Steps.{delivered, brought, job_ended, result_taken}
 use Rattle.desk.specs.Scene.{Scene}
 use Rattle.desk_laws.proofs.Settling.{row-without, without}
 
@@ -118,9 +119,9 @@ admit-errs meaning scene r w true = tt
 admit-errs meaning scene r w false = method-errs meaning scene r (row_of r.method) w
 
 request-cases : (meaning : Meaning) (scene : Scene) (r : Request) (w refused : Working Desk) (b : Bool)
-    → IfErr (if b then Ok refused else admitted meaning scene r.method r.params (noted r.id w))
+    → IfErr (if b then Ok refused else request_admitted meaning scene r.method r.params (noted r.id w))
     (TooMany w.state.handed (if b then says (already_pending r.id) else new_row meaning scene w.state w.state.turns r))
-unfolding admitted
+unfolding request_admitted
 request-cases meaning scene r w refused true = tt
 request-cases meaning scene r w refused false = admit-errs meaning scene r w (is_shutdown (row_of r.method))
 
@@ -166,8 +167,8 @@ final-errs meaning scene None job w = tt
 final-errs meaning scene (Some result) job w = ticket-errs meaning scene (waiting_for job w.state) job result w
 
 job-errs : (meaning : Meaning) (scene : Scene) (job : Option Job) (message : TaskMsg) (w : Working Desk)
-    → IfErr (ended meaning scene job message w) (TooMany w.state.handed (fitting_row meaning scene w.state job message))
-unfolding ended
+    → IfErr (job_ended meaning scene job message w) (TooMany w.state.handed (fitting_row meaning scene w.state job message))
+unfolding job_ended
 job-errs meaning scene None message w = tt
 job-errs meaning scene (Some job) message w =
     subst (λ d. IfErr (brought meaning scene (final_of message.body) job (without message.job w)) (TooMany w.state.handed d))
@@ -175,5 +176,5 @@ job-errs meaning scene (Some job) message w =
     (final-errs meaning scene (final_of message.body) job (without message.job w))
 
 pub message-errs : (meaning : Meaning) (scene : Scene) (message : TaskMsg) (w : Working Desk)
-    → IfErr (taken meaning scene message w) (TooMany w.state.handed (message_row meaning scene w.state message))
+    → IfErr (result_taken meaning scene message w) (TooMany w.state.handed (message_row meaning scene w.state message))
 message-errs meaning scene message w = job-errs meaning scene (fitting_job message w.state.jobs) message w

@@ -24,7 +24,7 @@ use Rattle.method_table.specs.StateRequests.{request_of}
 use Rattle.method_table.specs.Unit.{is_unit}
 use Rattle.method_table.specs.declared.request.StateRequest.{StateRequest}
 use Rattle.dispatch.specs.Responses.{response_with}
-use Rattle.session_port.specs.Jobs.{Jobs, ticket_of, final_of, fitting_job, after_message}
+use Rattle.session_port.specs.Jobs.{Jobs, ticket_of_job, final_of, fitting_job, jobs_after}
 use Rattle.session_port.specs.Record.{spawned}
 use Rattle.session_port.specs.declared.command.Command.TheVariants.{Defer}
 use Rattle.session_port.specs.declared.command.DeferredTask.{DeferredTask}
@@ -43,11 +43,12 @@ use Rattle.session_port.specs.declared.fault.Counter.{Counter}
 use Rattle.desk.specs.Desk.{Desk, waiting_for}
 use Rattle.desk.specs.Folds.{closed_by, closed_with, shutdown_after}
 use Rattle.desk.specs.Meaning.{Meaning, can_read}
-use Rattle.desk.specs.Reactions.{Reaction, responses_of, silent, says, joined, hands_over, if_read, state_row, planned_row, class_row, method_row, shutdown_row}
+use Rattle.desk.specs.Reactions.{Reaction, responses_of, silent, says, reactions_joined, hands_over, if_read, state_row, planned_row, class_row, method_row}
+use Rattle.desk.specs.Reactions.{shutdown_row}
 use Rattle.desk.specs.Reactions.{new_row, request_row, cancel_row, stopped_row, result_row, ticket_row, final_row, fitting_row, message_row}
 use Rattle.desk.specs.Replies.{already_pending, invalid_params, unknown_request, shut_already, canceled_by_client, stopped_reply, finding_reply, finished_reply}
 use Rattle.desk.specs.Steps.{request_answered, answered_if, responded, noted, dispatched, echoed, queried, submitted, stated, planned, classed, unknown, asked}
-use Rattle.desk.specs.Steps.{shut_down, admitted, requested, cancelled, stopped, settled, delivered, brought, ended, taken}
+use Rattle.desk.specs.Steps.{shut_down, request_admitted, requested, cancelled, stopped, settled, delivered, brought, job_ended, result_taken}
 use Rattle.desk.specs.Scene.{Scene}
 use Rattle.desk_laws.specs.Settled.{Settled}
 use Rattle.desk_laws.proofs.Appends.{closed_by-append, responses-append, passed-append, spawned-append, asked-append}
@@ -73,7 +74,8 @@ pub settled-responses : (request : Option Request) (w v : Working Desk) (done : 
 settled-responses request w v done jobs a = ap responses_in a.written ∙ responses-append w.out.messages done.messages
 
 -- one thing was done, and then another
-pub settled-on : (w v u : Working Desk) (a b : Reaction) (js ks : Jobs) → Settled None w v a js → Settled None v u b ks → Settled None w u (joined a b) ks
+pub settled-on : (w v u : Working Desk) (a b : Reaction) (js ks : Jobs) → Settled None w v a js → Settled None v u b ks
+    → Settled None w u (reactions_joined a b) ks
 settled-on w v u a b js ks p q = record {
   written = q.written ∙ ap (λ (ms : List Message). ms ++ b.messages) p.written ∙ append_assoc w.out.messages a.messages b.messages;
   spawns = q.spawns ∙ ap (λ (xs : List Job). xs ++ b.jobs) p.spawns ∙ append_assoc (spawned w.out.commands) a.jobs b.jobs;
@@ -345,9 +347,9 @@ refused-reads r w is = record {
     no-null false = refl
 
 request-cases : (meaning : Meaning) (scene : Scene) (r : Request) (w : Working Desk) (b : Bool) → is_pending r.id w.state.pending ≡ b
-    → IfOk (if b then Ok (replied (already_pending r.id) w) else admitted meaning scene r.method r.params (noted r.id w))
+    → IfOk (if b then Ok (replied (already_pending r.id) w) else request_admitted meaning scene r.method r.params (noted r.id w))
     (λ v. Reads r w (if b then says (already_pending r.id) else new_row meaning scene w.state w.state.turns r) v)
-unfolding admitted
+unfolding request_admitted
 request-cases meaning scene r w true is = refused-reads r w is
 request-cases meaning scene r w false is = admit-cases meaning scene r w (is_shutdown (row_of r.method)) is refl
 
@@ -386,7 +388,7 @@ stop-cases meaning scene ticket id row params w true waits = respond-settles tic
 stop-cases meaning scene ticket id row params w false waits = class-settles meaning scene ticket id row params w waits
 
 abbrev IsFor : JobKind → Pending → Option RequestId → Type 0
-IsFor kind pending request = option_and_then (λ ticket. id_of ticket pending) (ticket_of kind) ≡ request
+IsFor kind pending request = option_and_then (λ ticket. id_of ticket pending) (ticket_of_job kind) ≡ request
 
 stop-settles : (meaning : Meaning) (scene : Scene) (id : RequestId) (revision : ℕ) (kind : JobKind) (w : Working Desk) → IsFor kind w.state.pending (Some id)
     → IfOk (stopped meaning scene revision kind w) (λ v. Settled None w v (stopped_row meaning scene w.state id revision kind) w.state.jobs)
@@ -458,22 +460,22 @@ settled-from w v number done jobs a = record {
 }
 
 job-settles : (meaning : Meaning) (scene : Scene) (job : Option Job) (message : TaskMsg) (w : Working Desk) → fitting_job message w.state.jobs ≡ job
-    → IfOk (ended meaning scene job message w) (λ v. Settled None w v (fitting_row meaning scene w.state job message) (after_message message w.state.jobs))
-unfolding ended
+    → IfOk (job_ended meaning scene job message w) (λ v. Settled None w v (fitting_row meaning scene w.state job message) (jobs_after message w.state.jobs))
+unfolding job_ended
 job-settles meaning scene None message w is =
     subst (Settled None w (logged _ _ w) silent) (sym (after_message-none message w.state.jobs is)) (log-settles _ _ w)
 job-settles meaning scene (Some job) message w is =
     let done = final_row meaning scene w.state (final_of message.body) job in
     let fewer = map.remove w.state.jobs message.job in
     IfOk-weaker _ (λ v. Settled None (without message.job w) v (final_row meaning scene (without message.job w).state (final_of message.body) job) fewer)
-    (λ v. Settled None w v done (after_message message w.state.jobs))
+    (λ v. Settled None w v done (jobs_after message w.state.jobs))
     (final-settles meaning scene (final_of message.body) job (without message.job w))
     (λ v a. subst (Settled None w v done) (sym (after_message-some message w.state.jobs job is).0)
     (subst (λ d. Settled None w v d fewer) (row-without meaning scene w.state fewer (final_of message.body) job) (settled-from w v message.job _ fewer a)))
 
 -- a message of a job
 pub message-settles : (meaning : Meaning) (scene : Scene) (message : TaskMsg) (w : Working Desk)
-    → IfOk (taken meaning scene message w) (λ v. Settled None w v (message_row meaning scene w.state message) (after_message message w.state.jobs))
+    → IfOk (result_taken meaning scene message w) (λ v. Settled None w v (message_row meaning scene w.state message) (jobs_after message w.state.jobs))
 message-settles meaning scene message w = job-settles meaning scene (fitting_job message w.state.jobs) message w refl
 
 -- ---- no row asks how many turns were counted

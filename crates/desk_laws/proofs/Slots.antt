@@ -3,7 +3,7 @@ use Rattle.std.proofs.Common.{◌≡◌, ◌≢◌, ℕ, ◌+◌, ◌≤◌, Lis
 use Rattle.std.proofs.lemmas.List.Elements.{All-cons, All-contains, All-nil, Contains-push}
 use Rattle.std.specs.Prelude.{Contains, None, Some}
 use Rattle.std.specs.FinMap as map
-use Rattle.session_port.specs.Jobs.{Jobs, ticket_of}
+use Rattle.session_port.specs.Jobs.{Jobs, ticket_of_job}
 use Rattle.session_port.specs.declared.job.Job.{Job}
 use Rattle.session_port.specs.declared.job.JobKind.{JobKind}
 use Rattle.session_port.specs.declared.job.JobKind.TheVariants.{Request, ProcMacroSources, FetchWorkspaces, FetchBuildData, LoadProcMacros}
@@ -22,7 +22,7 @@ none-some x e = absurd cc
 -- ---- slots and tickets
 
 -- a job for a part of a request is for the request
-pub slot-ticket : (kind : JobKind) (ticket part : ℕ) → slot_of kind ≡ Some (slot_at ticket part) → ticket_of kind ≡ Some ticket
+pub slot-ticket : (kind : JobKind) (ticket part : ℕ) → slot_of kind ≡ Some (slot_at ticket part) → ticket_of_job kind ≡ Some ticket
 slot-ticket (Request t row params) ticket part is = ap (λ (s : Slot). Some s.ticket) (some-same (slot_at t 0) (slot_at ticket part) is)
 slot-ticket (ProcMacroSources files) ticket part is = none-some (slot_at ticket part) is
 slot-ticket (FetchWorkspaces projects detached path force) ticket part is = none-some (slot_at ticket part) is
@@ -30,7 +30,7 @@ slot-ticket (FetchBuildData version) ticket part is = none-some (slot_at ticket 
 slot-ticket (LoadProcMacros paths ignored) ticket part is = none-some (slot_at ticket part) is
 
 -- and a job for a request is for its part 0
-pub first-slot : (kind : JobKind) (ticket : ℕ) → ticket_of kind ≡ Some ticket → slot_of kind ≡ Some (slot_at ticket 0)
+pub first-slot : (kind : JobKind) (ticket : ℕ) → ticket_of_job kind ≡ Some ticket → slot_of kind ≡ Some (slot_at ticket 0)
 first-slot (Request t row params) ticket is = ap (λ u. Some (slot_at u 0)) (some-same t ticket is)
 first-slot (ProcMacroSources files) ticket is = none-some ticket is
 first-slot (FetchWorkspaces projects detached path force) ticket is = none-some ticket is
@@ -114,7 +114,7 @@ one-new slot handed job js its none = record {
 -- ---- the jobs of a request
 
 -- a job of another request came back
-pub held-without : (ticket n : ℕ) (parts : List ℕ) (found : Job) (js : Jobs) → map.get js n ≡ Some found → ticket_of found.kind ≢ Some ticket
+pub held-without : (ticket n : ℕ) (parts : List ℕ) (found : Job) (js : Jobs) → map.get js n ≡ Some found → ticket_of_job found.kind ≢ Some ticket
     → IsHeld ticket parts js → IsHeld ticket parts (map.remove js n)
 held-without ticket n parts found js is apart h = record {
   part = h.part;
@@ -124,7 +124,7 @@ held-without ticket n parts found js is apart h = record {
 }
 
 -- a job of another request, or of none, was handed over
-pub held-beside : (ticket : ℕ) (parts : List ℕ) (handed : ℕ) (job : Job) (js : Jobs) → AreLow handed js → ticket_of job.kind ≢ Some ticket
+pub held-beside : (ticket : ℕ) (parts : List ℕ) (handed : ℕ) (job : Job) (js : Jobs) → AreLow handed js → ticket_of_job job.kind ≢ Some ticket
     → IsHeld ticket parts js → IsHeld ticket parts (map.insert js (handed + 1) job)
 held-beside ticket parts handed job js low apart h = record {
   part = h.part;
@@ -137,7 +137,7 @@ held-beside ticket parts handed job js low apart h = record {
 
 -- a job was handed over for the one part of a request of which none was out
 pub held-first : (ticket handed : ℕ) (job : Job) (js : Jobs) → slot_of job.kind ≡ Some (slot_at ticket 0)
-    → ((n : ℕ) (found : Job) → map.get js n ≡ Some found → ticket_of found.kind ≢ Some ticket)
+    → ((n : ℕ) (found : Job) → map.get js n ≡ Some found → ticket_of_job found.kind ≢ Some ticket)
     → IsHeld ticket (0 ∷ []) (map.insert js (handed + 1) job)
 held-first ticket handed job js its none = record {
   part = 0;

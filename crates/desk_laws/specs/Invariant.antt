@@ -4,7 +4,7 @@ use Rattle.std.specs.FinMap as map
 use Rattle.lsp_frame.specs.Pending.{AreDistinct, id_of}
 use Rattle.lsp_frame.specs.declared.message.RequestId.{RequestId}
 use Rattle.lsp_frame.specs.declared.message.Request.{Request}
-use Rattle.session_port.specs.Jobs.{Jobs, ticket_of}
+use Rattle.session_port.specs.Jobs.{Jobs, ticket_of_job}
 use Rattle.session_port.specs.Record.{with_jobs}
 use Rattle.session_port.specs.declared.job.Job.{Job}
 use Rattle.desk.specs.Desk.{Desk}
@@ -18,9 +18,10 @@ pub record Sound (desk : Desk) (revision : ℕ) : Type 0 where
   pub distinct : AreDistinct desk.pending
   pub tickets : (ticket : ℕ) (id : RequestId) → id_of ticket desk.pending ≡ Some id → ticket ≤ desk.turns
   pub numbers : (n : ℕ) (job : Job) → map.get desk.jobs n ≡ Some job → n ≤ desk.handed
-  pub below : (n : ℕ) (job : Job) (ticket : ℕ) → map.get desk.jobs n ≡ Some job → ticket_of job.kind ≡ Some ticket
+  pub below : (n : ℕ) (job : Job) (ticket : ℕ) → map.get desk.jobs n ≡ Some job → ticket_of_job job.kind ≡ Some ticket
       → ticket ≤ desk.turns
-  pub revisions : (n : ℕ) (job : Job) (ticket : ℕ) → map.get desk.jobs n ≡ Some job → ticket_of job.kind ≡ Some ticket
+  pub revisions : (n : ℕ) (job : Job) (ticket : ℕ) → map.get desk.jobs n ≡ Some job
+      → ticket_of_job job.kind ≡ Some ticket
       → job.snapshot.revision ≤ revision
   pub held : AreHeld desk
 
@@ -46,6 +47,6 @@ pub record IsHeldByOne (ticket : ℕ) (jobs : Jobs) : Type 0 where
   pub number : ℕ
   pub job : Job
   pub is_out : map.get jobs number ≡ Some job
-  pub holds : ticket_of job.kind ≡ Some ticket
-  pub only : (other : ℕ) (holder : Job) → map.get jobs other ≡ Some holder → ticket_of holder.kind ≡ Some ticket
+  pub holds : ticket_of_job job.kind ≡ Some ticket
+  pub only : (other : ℕ) (holder : Job) → map.get jobs other ≡ Some holder → ticket_of_job holder.kind ≡ Some ticket
       → other ≡ number

@@ -3,7 +3,7 @@ ghost use Rattle.std.specs.Prelude.{◌≡◌, ◌+◌, ◌∷◌, ℕ, [], fals
 ghost use Rattle.lsp_frame.specs.Pending.{id_of, is_pending};
 ghost use Rattle.lsp_frame.specs.declared.message.Request.{Request};
 ghost use Rattle.lsp_frame.specs.declared.message.RequestId.{RequestId};
-ghost use Rattle.session_port.specs.Jobs.{after_message, fitting_job, ticket_of};
+ghost use Rattle.session_port.specs.Jobs.{jobs_after, fitting_job, ticket_of_job};
 ghost use Rattle.session_port.specs.declared.event.TaskMsg.{TaskMsg};
 ghost use Rattle.session_port.specs.declared.job.Job.{Job};
 ghost use Rattle.session_port.specs.Working.{Working};
@@ -11,7 +11,7 @@ ghost use Rattle.desk.specs.Desk.{Desk, new_desk};
 ghost use Rattle.desk.specs.Folds.{AreHeld};
 ghost use Rattle.desk.specs.Meaning.{Meaning};
 ghost use Rattle.desk.specs.Reactions.{cancel_row, message_row, request_row};
-ghost use Rattle.desk.specs.Steps.{cancelled, requested, taken};
+ghost use Rattle.desk.specs.Steps.{cancelled, requested, result_taken};
 ghost use Rattle.desk.specs.Scene.{Scene};
 ghost use Rattle.desk.specs.Slots.{unreported};
 ghost use Rattle.desk_laws.specs.Invariant.{IsHeldByOne, KeepsSound, Sound};
@@ -24,7 +24,7 @@ pub fn steps_are_rows()
         → IfOk (requested meaning scene r w) (λ v. Settled (Some r) w v (request_row meaning scene w.state w.state.turns r) w.state.jobs) }
     ensures cancels { (id : RequestId) (w : Working Desk) → Settled None w (cancelled id w) (cancel_row id w.state) w.state.jobs }
     ensures messages { (meaning : Meaning) (scene : Scene) (message : TaskMsg) (w : Working Desk)
-        → IfOk (taken meaning scene message w) (λ v. Settled None w v (message_row meaning scene w.state message) (after_message message w.state.jobs)) }
+        → IfOk (result_taken meaning scene message w) (λ v. Settled None w v (message_row meaning scene w.state message) (jobs_after message w.state.jobs)) }
 {}
 
 /// A new request, and the message of a job whose request waits, get one response, or one job is handed over for them.
@@ -32,7 +32,7 @@ pub fn rows_answer_or_hand_over()
     ensures requests { (meaning : Meaning) (scene : Scene) (desk : Desk) (ticket : ℕ) (r : Request) → is_pending r.id desk.pending ≡ false
         → Reacts scene desk.handed ticket r.id (request_row meaning scene desk ticket r) }
     ensures messages { (meaning : Meaning) (scene : Scene) (desk : Desk) (message : TaskMsg) (job : Job) (ticket : ℕ) (id : RequestId)
-        → fitting_job message desk.jobs ≡ Some job → ticket_of job.kind ≡ Some ticket → id_of ticket desk.pending ≡ Some id
+        → fitting_job message desk.jobs ≡ Some job → ticket_of_job job.kind ≡ Some ticket → id_of ticket desk.pending ≡ Some id
         → Reacts scene desk.handed ticket id (message_row meaning scene desk message) }
 {}
 
@@ -45,7 +45,7 @@ pub fn rows_keep_requests_held()
     ensures cancels { (desk : Desk) (revision : ℕ) (id : RequestId) → Sound desk revision
         → KeepsSound (desk.turns + 1) None (cancel_row id desk) desk.jobs desk revision }
     ensures messages { (meaning : Meaning) (scene : Scene) (desk : Desk) (message : TaskMsg) → Sound desk scene.snapshot.revision
-        → KeepsSound (desk.turns + 1) None (message_row meaning scene desk message) (after_message message desk.jobs) desk scene.snapshot.revision }
+        → KeepsSound (desk.turns + 1) None (message_row meaning scene desk message) (jobs_after message desk.jobs) desk scene.snapshot.revision }
 {}
 
 /// A request that waits for the report of one part is held by one job out, whatever the part.

@@ -7,7 +7,8 @@ use Rattle.project_model.specs.declared.build.BuildScripts.{BuildScripts}
 use Rattle.project_model.specs.declared.build.MacroPath.{MacroPath}
 use Rattle.reload.specs.Graph.{built_of, first_built}
 
-pub found_by_index : (rows : by_key.FinMap nat_cmp MacroPath) (build : Option BuildScripts) (built : List (ℕ × MacroPath)) → rows ≡ by_key.from_entries built → built ≡ built_of build
+pub found_by_index : (rows : by_key.FinMap nat_cmp MacroPath) (build : Option BuildScripts) (built : List (ℕ × MacroPath)) → rows ≡ by_key.from_entries built
+    → built ≡ built_of build
     → by_key.get rows ≡ first_built build
 found_by_index rows build built is are =
     ap by_key.get (is ∙ ap (λ (es : List (ℕ × MacroPath)). by_key.from_entries {R = nat_cmp} es) are)

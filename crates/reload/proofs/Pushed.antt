@@ -1,5 +1,6 @@
 -- A loop that adds what it makes of each item behind what it has made.
-use Rattle.std.proofs.Common.{◌≡◌, ℕ, ◌+◌, ◌<◌, List, [], ◌∷◌, ◌++◌, length, get_or, take, drop, take-append-drop, take_at, drop_at, Option, Some, None, option_to_list, refl, sym, ap, ◌∙◌, append_assoc}
+use Rattle.std.proofs.Common.{◌≡◌, ℕ, ◌+◌, ◌<◌, List, [], ◌∷◌, ◌++◌, length, get_or, take, drop, take-append-drop, take_at, drop_at, Option, Some, None}
+use Rattle.std.proofs.Common.{option_to_list, refl, sym, ap, ◌∙◌, append_assoc}
 use Rattle.std.specs.List.{enumerate_from, filter_map, cons_option}
 use Rattle.std.proofs.lemmas.List.{at_drop_more}
 
@@ -7,7 +8,8 @@ put_before : {X : Type 0} (o : Option X) (xs : List X) → option_to_list o ++ x
 put_before None xs = refl
 put_before (Some x) xs = refl
 
-pub one_more : {X Y : Type 0} (f : ℕ × X → Option Y) (xs : List X) (at : ℕ) (list new : List Y) (x : X) → at < length xs → x ≡ get_or xs at x → new ≡ list ++ option_to_list (f (at, x))
+pub one_more : {X Y : Type 0} (f : ℕ × X → Option Y) (xs : List X) (at : ℕ) (list new : List Y) (x : X) → at < length xs → x ≡ get_or xs at x → new ≡ list
+    ++ option_to_list (f (at, x))
     → new ++ filter_map f (enumerate_from (at + 1) (drop (at + 1) xs)) ≡ list ++ filter_map f (enumerate_from at (drop at xs))
 one_more f xs at list new x some is grows =
     let later = filter_map f (enumerate_from (at + 1) (drop (at + 1) xs)) in
@@ -17,7 +19,8 @@ one_more f xs at list new x some is grows =
     ∙ sym (at_drop_more (λ l. list ++ filter_map f (enumerate_from at l)) xs at x some)
 
 -- the same, where a list is made of each item
-pub behind : {X Y : Type 0} (g : X → List Y) (f : List X → List Y) → ((x : X) (xs : List X) → f (x ∷ xs) ≡ g x ++ f xs) → (xs : List X) (at : ℕ) (list new : List Y) (x : X)
+pub behind : {X Y : Type 0} (g : X → List Y) (f : List X → List Y) → ((x : X) (xs : List X) → f (x ∷ xs) ≡ g x ++ f xs)
+    → (xs : List X) (at : ℕ) (list new : List Y) (x : X)
     → at < length xs → x ≡ get_or xs at x → new ≡ list ++ g x → new ++ f (drop (at + 1) xs) ≡ list ++ f (drop at xs)
 behind g f step xs at list new x some is grows =
     let later = f (drop (at + 1) xs) in

@@ -10,8 +10,8 @@ abbrev pub numbers_in : List (Option Standing) → List ℕ
 numbers_in places = filter_map (option_map (λ (place : Standing). place.1)) places
 
 -- the files of the crates that are kept, in order
-abbrev pub files_in : List (Option Standing) → List FileId
-files_in places = filter_map (option_map (λ (place : Standing). place.0)) places
+abbrev pub graph_files : List (Option Standing) → List FileId
+graph_files places = filter_map (option_map (λ (place : Standing). place.0)) places
 
 -- the files that were answered, in order
 abbrev pub files_found : List (Option FileId) → List FileId

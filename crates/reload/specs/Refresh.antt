@@ -1,5 +1,6 @@
 -- Which changes of files ask for the workspaces to be fetched anew.
-use Rattle.std.specs.Prelude.{ℕ, Bool, true, false, not, ◌&&◌, ◌||◌, List, codes, bytes_eq, nat_eq, Option, Some, None, option_and_then, if◌then◌else◌}
+use Rattle.std.specs.Prelude.{ℕ, Bool, true, false, not, ◌&&◌, ◌||◌, List, codes, bytes_eq, nat_eq, Option, Some, None}
+use Rattle.std.specs.Prelude.{option_and_then, if◌then◌else◌}
 use Rattle.std.specs.List.{ends_with, list_any}
 use Rattle.docs_vfs.specs.Paths.{name_of, extension_of, parent_of}
 use Rattle.docs_vfs.specs.declared.file_kinds.ChangeKind.{ChangeKind}
@@ -27,7 +28,8 @@ is_target_file path = ends path (codes "build.rs") || ends path (codes "src/main
 -- a folder whose files are targets of a package
 abbrev pub is_target_folder : List ℕ → Bool
 is_target_folder folder =
-    ends folder (codes "src/bin") || ends folder (codes "examples") || ends folder (codes "tests") || ends folder (codes "benches")
+    ends folder (codes "src/bin") || ends folder (codes "examples") || ends folder (codes "tests")
+    || ends folder (codes "benches")
 
 abbrev pub is_modify : ChangeKind → Bool
 is_modify Create = false
@@ -48,7 +50,8 @@ is_target path name =
 abbrev pub is_cargo_config : List ℕ → List ℕ → Bool
 is_cargo_config path name = is_config_name name && folder_is (λ folder. ends folder (codes ".cargo")) (parent_of path)
 
--- a manifest or a listed name, whatever the change; else a file that came or went and is a target, or cargo's configuration
+-- a manifest or a listed name, whatever the change; else a file that came or went and is a target, or cargo's
+-- configuration
 abbrev pub refreshes_by_name : List ℕ → ChangeKind → List (List ℕ) → List ℕ → Bool
 refreshes_by_name path kind additional name =
     if is_manifest_name name || list_any (λ listed. bytes_eq listed name) additional then true

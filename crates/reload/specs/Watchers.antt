@@ -68,4 +68,5 @@ all_manifests (workspace ∷ rest) = of_manifest workspace.manifest ++ all_manif
 
 -- the files below local roots, then the build files, then the manifests
 abbrev pub watchers_of : Bool → List ProjectWorkspace → List Watcher
-watchers_of relative workspaces = below_workspaces relative workspaces ++ all_build_files workspaces ++ all_manifests workspaces
+watchers_of relative workspaces = below_workspaces relative workspaces ++ all_build_files workspaces
+    ++ all_manifests workspaces

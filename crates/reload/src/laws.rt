@@ -7,9 +7,9 @@ ghost use Rattle.project_model.specs.declared.crates.CrateEntry.{CrateEntry};
 ghost use Rattle.project_model.specs.declared.workspace.ProjectWorkspace.{ProjectWorkspace};
 ghost use Rattle.project_model.specs.Workspaces.{without_build};
 ghost use Rattle.reload.specs.Graph.{Standing, crate_roots, most_crates, places_from, number_of, crate_of, all_crates};
-ghost use Rattle.reload.specs.GraphLaws.{numbers_in, files_in, files_found, roots_in};
+ghost use Rattle.reload.specs.GraphLaws.{numbers_in, graph_files, files_found, roots_in};
 ghost use Rattle.reload.specs.Names.{is_alike};
-ghost use Rattle.reload.specs.Switch.{Fetched, Runs, are_same, joined, runs_on, switch_of};
+ghost use Rattle.reload.specs.Switch.{Fetched, BuildRuns, are_same, with_builds, runs_on, switch_of};
 ghost use Rattle.reload.specs.declared.switch.Switch.TheVariants.{Join};
 
 /// That `-` and `_` are alike is an equivalence of texts.
@@ -25,9 +25,9 @@ pub fn same_workspaces_are_equal_but_for_builds()
 /// Where a switch joins build data, it was run on the version of the workspaces that are present.
 pub fn build_data_is_joined_to_its_version()
     ensures { (fetched : Option Fetched) (forced discover : Bool) (present made : List ProjectWorkspace)
-        (version build_version : ℕ) (build : Option Runs) (build_scripts : Bool)
+        (version build_version : ℕ) (build : Option BuildRuns) (build_scripts : Bool)
         → switch_of fetched forced discover present (runs_on version build_version build) build_scripts ≡ Join made
-        → (build_version ≡ version) × ((runs : Runs) × (build ≡ Some runs) × (made ≡ joined runs present)) }
+        → (build_version ≡ version) × ((runs : BuildRuns) × (build ≡ Some runs) × (made ≡ with_builds runs present)) }
 {}
 
 /// The crates that are kept are the first of those whose roots have files, as many as there are numbers. Their numbers
@@ -35,9 +35,9 @@ pub fn build_data_is_joined_to_its_version()
 pub fn kept_crates_are_numbered_in_order()
     ensures numbers { (files : List (Option FileId)) → numbers_in (places_from 0 files)
         ≡ range_with_len 0 (length (numbers_in (places_from 0 files))) }
-    ensures kept { (files : List (Option FileId)) → files_in (places_from 0 files) ≡ take most_crates (files_found files) }
+    ensures kept { (files : List (Option FileId)) → graph_files (places_from 0 files) ≡ take most_crates (files_found files) }
     ensures places { (workspaces : List ProjectWorkspace) (files : List (Option FileId)) → length files ≡ length (crate_roots workspaces)
-        → roots_in (all_crates workspaces (places_from 0 files)) ≡ files_in (places_from 0 files) }
+        → roots_in (all_crates workspaces (places_from 0 files)) ≡ graph_files (places_from 0 files) }
 {}
 
 /// Of the dependencies of a crate exactly those are renumbered that are kept, in order, and the others are left out. A

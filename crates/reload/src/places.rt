@@ -1,6 +1,6 @@
 //! Where crates stand in the graph.
 ghost use Rattle.std.specs.Prelude.{◌≡◌, ◌<◌, take, drop, IfOk, IfSome};
-ghost use Rattle.reload.specs.Graph.{most_crates, place_at, next_after, places_from, place_of, number_of};
+ghost use Rattle.reload.specs.Graph.{most_crates, place_at, next_after, places_from, standing_at, number_of};
 
 use docs_vfs::FileId;
 use plain::{Items, NoMemory};
@@ -55,7 +55,7 @@ pub(crate) fn places_of(
 }
 
 pub(crate) fn place_of(places: &[Option<Place>], index: usize) -> Option<Place>
-    ensures { result ≡ place_of places.now index }
+    ensures { result ≡ standing_at places.now index }
 {
     match places.get(index) {
         None => None,

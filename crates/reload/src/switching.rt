@@ -1,7 +1,7 @@
 //! The cases of a switch.
 ghost use Rattle.std.specs.Prelude.{◌≡◌, IfOk};
 ghost use Rattle.std.specs.Option.{option_copied};
-ghost use Rattle.reload.specs.Switch.{taken, are_same, scripts_of, with_build, joined, runs_on, anew_if, kept, replaced, switch_of, HasOneEach};
+ghost use Rattle.reload.specs.Switch.{workspaces_fetched, are_same, scripts_of, with_build, with_builds, runs_on, anew_if, kept, replacing, switch_of, HasOneEach};
 
 use crate::errors::fetch_workspace_error;
 use crate::switch::Switch;
@@ -17,7 +17,7 @@ type Run = Result<BuildScripts, Text>;
 
 /// Whether the workspaces that were fetched are these, but for their build data.
 fn are_same(fetched: &[Fetched], present: &[ProjectWorkspace]) -> bool
-    ensures { result ≡ are_same (taken fetched.now) present.now }
+    ensures { result ≡ are_same (workspaces_fetched fetched.now) present.now }
 {
     let mut rest = present;
     for one in fetched {
@@ -37,8 +37,11 @@ fn are_same(fetched: &[Fetched], present: &[ProjectWorkspace]) -> bool
 }
 
 /// The workspaces that were fetched.
-fn taken(alloc: Global, fetched: &[Fetched]) -> Result<Items<ProjectWorkspace>, NoMemory>
-    ensures { IfOk result (λ list. list ≡ taken fetched.now) }
+fn workspaces_fetched(
+    alloc: Global,
+    fetched: &[Fetched],
+) -> Result<Items<ProjectWorkspace>, NoMemory>
+    ensures { IfOk result (λ list. list ≡ workspaces_fetched fetched.now) }
 {
     let mut list = Items::new(alloc);
     for one in fetched {
@@ -74,12 +77,12 @@ fn with_build(
 }
 
 /// Each workspace with what its build made.
-fn joined(
+fn with_builds(
     alloc: Global,
     runs: &[Run],
     workspaces: &[ProjectWorkspace],
 ) -> Result<Items<ProjectWorkspace>, NoMemory>
-    ensures { IfOk result (λ list. list ≡ joined runs.now workspaces.now) }
+    ensures { IfOk result (λ list. list ≡ with_builds runs.now workspaces.now) }
 {
     let mut list = Items::new(alloc);
     let mut rest = workspaces;
@@ -130,19 +133,19 @@ fn kept(
     match runs {
         None => Ok(anew_if(forced)),
         Some(runs) => Ok(Switch::Join {
-            workspaces: joined(alloc, runs, present)?,
+            workspaces: with_builds(alloc, runs, present)?,
         }),
     }
 }
 
 /// The fetched workspaces aren't the present ones.
-fn replaced(
+fn replacing(
     alloc: Global,
     new: Items<ProjectWorkspace>,
     present: &[ProjectWorkspace],
     build_scripts: bool,
 ) -> Result<Switch, NoMemory>
-    ensures { IfOk result (λ switch. switch ≡ replaced new present.now build_scripts) }
+    ensures { IfOk result (λ switch. switch ≡ replacing new present.now build_scripts) }
 {
     let msrv = check_workspaces_msrv(alloc, new.as_slice())?;
     Ok(Switch::Replace {
@@ -185,5 +188,10 @@ pub fn switch_workspaces(
             forced,
         );
     }
-    replaced(alloc, taken(alloc, list)?, present, build_scripts)
+    replacing(
+        alloc,
+        workspaces_fetched(alloc, list)?,
+        present,
+        build_scripts,
+    )
 }

@@ -11,7 +11,7 @@ use Rattle.analysis_host.specs.Answers.{Finding}
 use Rattle.analysis_host.specs.SnapshotData.{SnapshotData}
 use Rattle.analysis_host.specs.declared.ask.Ask.{Ask}
 use Rattle.session_port.specs.Honest.{AreHonest, IsHonest, IsResultOf}
-use Rattle.session_port.specs.Jobs.{Jobs, after_message, fits_kind, asks_analysis}
+use Rattle.session_port.specs.Jobs.{Jobs, jobs_after, fits_kind, asks_analysis}
 use Rattle.session_peers.proofs.Fitting.{after_fitting}
 use Rattle.script_hosts.specs.Script.{Gift, event, results, named, left_out, can_see, can_end, sees_later, ended, asked_at, if_asked, without_found, gift_of, next_gift, FinishesAt, IsGift}
 use Rattle.session_port.specs.declared.event.HostEvent.{HostEvent}
@@ -116,7 +116,7 @@ module _ (answer : SnapshotData → Ask → Finding) where
       by_job (Some job) some others [] zip = absurd zip
       by_job (Some job) some others (message ∷ batch) zip =
           let there : map.get out message.job ≡ Some job = ap (map.get out) zip.0.number ∙ asked_is number out job some in
-          let off : after_message message out ≡ map.remove out number = after_fitting message out job there zip.0.fits ∙ ap (map.remove out) zip.0.number in (
+          let off : jobs_after message out ≡ map.remove out number = after_fitting message out job there zip.0.fits ∙ ap (map.remove out) zip.0.number in (
             record { job = job; is_out = there; is_result = zip.0.result },
             subst (λ o. AreHonest answer o batch) (sym off) (others batch zip.1),
           )

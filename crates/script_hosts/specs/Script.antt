@@ -8,7 +8,7 @@ use Rattle.analysis_host.specs.Answers.{Finding}
 use Rattle.analysis_host.specs.SnapshotData.{SnapshotData}
 use Rattle.analysis_host.specs.declared.ask.Ask.{Ask}
 use Rattle.session_port.specs.Honest.{IsFinalOf}
-use Rattle.session_port.specs.Jobs.{Jobs, final_of, fits, fits_kind, asks_analysis}
+use Rattle.session_port.specs.Jobs.{Jobs, final_of, fits_job, fits_kind, asks_analysis}
 use Rattle.session_peers.specs.Memory.{PlanData, no_calls}
 use Rattle.session_port.specs.Record.{HostCall}
 use Rattle.session_port.specs.Runs.{IsFinal, IsUncancelled}
@@ -97,7 +97,7 @@ next_event (first ∷ events) = (first, events)
 pub record FinishesAt (answer : SnapshotData → Ask → Finding) (entry : ℕ × Job) (message : TaskMsg) : Type 0 where
   pub number : message.job ≡ entry.0
   pub result : IsFinalOf answer entry.1 (final_of message.body)
-  pub fits : fits entry.1 message.body ≡ true
+  pub fits : fits_job entry.1 message.body ≡ true
   pub uncancelled : IsFinal (final_of message.body) IsUncancelled
 
 abbrev pub IsGift : (SnapshotData → Ask → Finding) → Gift → HostEvent → Type 0

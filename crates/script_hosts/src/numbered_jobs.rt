@@ -1,7 +1,7 @@
 // Jobs out, found by their numbers.
 ghost use Rattle.std.specs.Prelude.{◌≡◌, OnOk};
 ghost use Rattle.std.specs.FinMap as map;
-ghost use Rattle.session_port.specs.Jobs.{after_batch, after_message};
+ghost use Rattle.session_port.specs.Jobs.{after_batch, jobs_after};
 ghost use Rattle.session_port.specs.Record.{after_event, after_order, last_number, spawned};
 
 use plain::ByNumber;
@@ -22,7 +22,7 @@ impl Drop for NumberedJobs {
 
 /// Takes off the job that a message ends, where it fits one.
 fn end_job(out: &mut ByNumber<Job>, message: &TaskMsg)
-    ensures { out.new ≡ after_message message.now out.old }
+    ensures { out.new ≡ jobs_after message.now out.old }
 {
     let Some(job) = out.get(message.job) else {
         return;

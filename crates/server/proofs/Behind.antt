@@ -21,7 +21,8 @@ pub rose-later : (before middle now : ℕ) → before ≤ middle → Rose middle
 rose-later before middle now le rose = omega (arith, le, rose)
 
 -- what fails later has failed
-complete-later : (meaning : Meaning) (config : ConfigData) (reader : Reader) (old new : Option (List HostCall)) (HostFailed SinkFailed HostFails SinkFails : Type 0)
+complete-later : (meaning : Meaning) (config : ConfigData) (reader : Reader) (old new : Option (List HostCall))
+    (HostFailed SinkFailed HostFails SinkFails : Type 0)
     (outcome : Result ⊤ SessionError) → (HostFails → HostFailed) → (SinkFails → SinkFailed)
     → IsComplete meaning config reader old new HostFails SinkFails outcome → IsComplete meaning config reader old new HostFailed SinkFailed outcome
 complete-later meaning config reader old new HostFailed SinkFailed HostFails SinkFails outcome host sink complete =
@@ -35,7 +36,8 @@ module _ (info : ServerInfo) (meaning : Meaning) (old middle new : Told) (honest
       → (HostFails → HostFailed) → (SinkFails → SinkFailed) → (outcome ≡ Err HostFault → HostFails) → (outcome ≡ Err WriteFault → SinkFails)
       → Welcomed info meaning old new honest HostFailed SinkFailed outcome
   welcomed-begun honest_now HostFails SinkFails config reader outcome opens same run end complete headline host sink host_fault write_fault =
-      let answered : IsAnswered meaning config reader middle new honest outcome = subst (λ (h : Bool). IsAnswered meaning config reader middle new h outcome) same headline in
+      let answered : IsAnswered meaning config reader middle new honest outcome =
+      subst (λ (h : Bool). IsAnswered meaning config reader middle new h outcome) same headline in
       let whole = whole-begun (setup_of info) old middle new meaning config reader honest outcome opens answered end in
       record {
         opening = Ok (Begun config reader);
@@ -64,7 +66,8 @@ module _ (info : ServerInfo) (meaning : Meaning) (old new : Told) (honest : Bool
         complete = completes old.calls new.calls HostFailed SinkFailed (Ok x) whole (λ e. absurd cc) (λ e. absurd cc);
       }
 
-  pub welcomed-broken : (error : SessionError) → Opens (setup_of info) old new (Err error) → (error ≡ HostFault → HostFailed) → (error ≡ WriteFault → SinkFailed)
+  pub welcomed-broken : (error : SessionError) → Opens (setup_of info) old new (Err error) → (error ≡ HostFault → HostFailed)
+      → (error ≡ WriteFault → SinkFailed)
       → Welcomed info meaning old new honest HostFailed SinkFailed (Err error)
   welcomed-broken error opens host sink =
       let whole = whole-opened (setup_of info) old new new (Err error) (Err error) opens refl (left-ends _ _ _ _ opens.left _ _ error opens.ends.1) in

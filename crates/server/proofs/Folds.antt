@@ -5,15 +5,15 @@ use Rattle.lsp_frame.specs.declared.message.Response.{Response}
 use Rattle.session_port.specs.Record.{HostCall, took, given_in, grown}
 use Rattle.session_port.specs.declared.command.Command.{Command}
 use Rattle.session_port.specs.declared.event.HostEvent.{HostEvent}
-use Rattle.session_laws.specs.Course.{Course, takes, bytes_in}
+use Rattle.session_laws.specs.Course.{Course, takes, bytes_brought}
 use Rattle.session_laws.specs.Run.{Told, giving}
 use Rattle.session_laws.specs.Input.{Input}
 use Rattle.session_laws.proofs.Asking.{given-append}
 use Rattle.session_laws.proofs.Stretches.{bytes-append}
-use Rattle.server.specs.Opening.{bytes_of, handed_on, taking, telling}
+use Rattle.server.specs.Opening.{reply_bytes, handed_on, inputs_taken, replies_told}
 use Rattle.server.specs.Stages.{Setup, Stage, by_input, stage_after, replies_to}
 
-pub taking-append : (xs ys : List Input) (later : Course) → taking (xs ++ ys) later ≡ taking xs (taking ys later)
+pub taking-append : (xs ys : List Input) (later : Course) → inputs_taken (xs ++ ys) later ≡ inputs_taken xs (inputs_taken ys later)
 taking-append [] ys later = refl
 taking-append (x ∷ xs) ys later = ap (takes x) (taking-append xs ys later)
 
@@ -46,36 +46,40 @@ grown-grown : {X : Type 0} (r : Option (List X)) (xs ys : List X) → grown (gro
 grown-grown None xs ys = refl
 grown-grown (Some entries) xs ys = ap Some (append_assoc entries xs ys)
 
-pub telling-append : (cs ds : List HostCall) (rs qs : List Response) (old : Told) → telling ds qs (telling cs rs old) ≡ telling (cs ++ ds) (rs ++ qs) old
+pub telling-append : (cs ds : List HostCall) (rs qs : List Response) (old : Told)
+    → replies_told ds qs (replies_told cs rs old) ≡ replies_told (cs ++ ds) (rs ++ qs) old
 telling-append cs ds rs qs old =
     let c : grown (grown old.calls cs) ds ≡ grown old.calls (cs ++ ds) = grown-grown old.calls cs ds in
-    let t : grown (grown old.turns (map bytes_of rs)) (map bytes_of qs) ≡ grown old.turns (map bytes_of (rs ++ qs)) =
-    grown-grown old.turns (map bytes_of rs) (map bytes_of qs) ∙ ap (grown old.turns) (sym (mapped-append bytes_of rs qs)) in
+    let t : grown (grown old.turns (map reply_bytes rs)) (map reply_bytes qs) ≡ grown old.turns (map reply_bytes (rs ++ qs)) =
+    grown-grown old.turns (map reply_bytes rs) (map reply_bytes qs) ∙ ap (grown old.turns) (sym (mapped-append reply_bytes rs qs)) in
     λ i. record { calls = c i; turns = t i }
 
-pub telling-none : (old : Told) → telling [] [] old ≡ old
+pub telling-none : (old : Told) → replies_told [] [] old ≡ old
 telling-none old = let c = grown-nil old.calls in let t = grown-nil old.turns in λ i. record { calls = c i; turns = t i }
 
 -- events alone were told more, or a reply alone, or both a reply and the order behind it
-pub telling-events : (events : List HostEvent) (old new : Told) → new.calls ≡ grown old.calls (giving events) → new.turns ≡ old.turns → new ≡ telling (giving events) [] old
+pub telling-events : (events : List HostEvent) (old new : Told) → new.calls ≡ grown old.calls (giving events) → new.turns ≡ old.turns
+    → new ≡ replies_told (giving events) [] old
 telling-events events old new c t = let turns : new.turns ≡ grown old.turns [] = t ∙ sym (grown-nil old.turns) in λ i. record { calls = c i; turns = turns i }
 
-pub telling-reply : (response : Response) (old new : Told) → new.calls ≡ old.calls → new.turns ≡ grown old.turns (bytes_of response ∷ []) → new ≡ telling [] (response ∷ []) old
+pub telling-reply : (response : Response) (old new : Told) → new.calls ≡ old.calls → new.turns ≡ grown old.turns (reply_bytes response ∷ [])
+    → new ≡ replies_told [] (response ∷ []) old
 telling-reply response old new c t = let calls : new.calls ≡ grown old.calls [] = c ∙ sym (grown-nil old.calls) in λ i. record { calls = calls i; turns = t i }
 
-pub telling-handed : (response : Response) (old new : Told) → new.calls ≡ grown old.calls (took [] ∷ []) → new.turns ≡ grown old.turns (bytes_of response ∷ [])
-    → new ≡ telling (took [] ∷ []) (response ∷ []) old
+pub telling-handed : (response : Response) (old new : Told) → new.calls ≡ grown old.calls (took [] ∷ [])
+    → new.turns ≡ grown old.turns (reply_bytes response ∷ [])
+    → new ≡ replies_told (took [] ∷ []) (response ∷ []) old
 telling-handed response old new c t = λ i. record { calls = c i; turns = t i }
 
 -- the bytes and the number of the events that calls gave
-pub calls-bytes : (cs ds : List HostCall) → bytes_in (given_in (cs ++ ds)) ≡ bytes_in (given_in cs) + bytes_in (given_in ds)
-calls-bytes cs ds = ap bytes_in (given-append cs ds) ∙ bytes-append (given_in cs) (given_in ds)
+pub calls-bytes : (cs ds : List HostCall) → bytes_brought (given_in (cs ++ ds)) ≡ bytes_brought (given_in cs) + bytes_brought (given_in ds)
+calls-bytes cs ds = ap bytes_brought (given-append cs ds) ∙ bytes-append (given_in cs) (given_in ds)
 
 pub calls-events : (cs ds : List HostCall) → length (given_in (cs ++ ds)) ≡ length (given_in cs) + length (given_in ds)
 calls-events cs ds = ap length (given-append cs ds) ∙ length-append (given_in cs) (given_in ds)
 
 -- nothing was told
-pub telling-same : (old new : Told) → new.calls ≡ old.calls → new.turns ≡ old.turns → new ≡ telling [] [] old
+pub telling-same : (old new : Told) → new.calls ≡ old.calls → new.turns ≡ old.turns → new ≡ replies_told [] [] old
 telling-same old new c t =
     let calls : new.calls ≡ grown old.calls [] = c ∙ sym (grown-nil old.calls) in
     let turns : new.turns ≡ grown old.turns [] = t ∙ sym (grown-nil old.turns) in

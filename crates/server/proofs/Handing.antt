@@ -7,40 +7,43 @@ use Rattle.session_laws.specs.Course.{Course, waits}
 use Rattle.session_laws.specs.Input.{Input}
 use Rattle.session_laws.specs.Run.{MayAsk, giving}
 use Rattle.session_laws.proofs.Asking.{InFirst, InSecond, given-append, no-entry, parted, same-tail, taken-append}
-use Rattle.server.specs.Opening.{AsksLast, HadReplies, handed_on, taking}
+use Rattle.server.specs.Opening.{RepliesComeFirst, HadReplies, handed_on, inputs_taken}
 use Rattle.server.specs.Stages.{Setup, Stage, stage_after, replies_to}
 use Rattle.server.proofs.Folds.{handed-append, taking-append}
 
 module _ (setup : Setup) (stage : Stage) (from : List HostEvent → Course) where
-  pub asks-none : AsksLast setup stage from []
+  pub asks-none : RepliesComeFirst setup stage from []
   asks-none = λ before event after is. no-entry before (gave event) after is
 
   -- an order alone
-  pub asks-order : AsksLast setup stage from (took [] ∷ [])
+  pub asks-order : RepliesComeFirst setup stage from (took [] ∷ [])
   asks-order = λ before event after is. none before event after is
     where
-      none : (before : List HostCall) (event : HostEvent) (after : List HostCall) → took [] ∷ [] ≡ before ++ gave event ∷ after → HadReplies setup stage from before
+      none : (before : List HostCall) (event : HostEvent) (after : List HostCall) → took [] ∷ [] ≡ before ++ gave event ∷ after
+          → HadReplies setup stage from before
       none [] event after e = absurd cc
       none (b ∷ before) event after e = no-entry before (gave event) after (same-tail (took []) b [] (before ++ gave event ∷ after) e)
 
-  one-event : (given : HostEvent) (before : List HostCall) (event : HostEvent) (after : List HostCall) → from [] ≡ waits → gave given ∷ [] ≡ before ++ gave event ∷ after
+  one-event : (given : HostEvent) (before : List HostCall) (event : HostEvent) (after : List HostCall) → from [] ≡ waits → gave given ∷ [] ≡ before
+      ++ gave event ∷ after
       → HadReplies setup stage from before
   one-event given [] event after asked e = record { inputs = []; waiting = asked; handed = refl }
   one-event given (b ∷ before) event after asked e = no-entry before (gave event) after (same-tail (gave given) b [] (before ++ gave event ∷ after) e)
 
   -- at most one event
-  pub asks-events : (events : List HostEvent) → MayAsk from events → AsksLast setup stage from (giving events)
+  pub asks-events : (events : List HostEvent) → MayAsk from events → RepliesComeFirst setup stage from (giving events)
   asks-events [] asked = λ before event after is. no-entry before (gave event) after is
   asks-events (given ∷ []) asked = λ before event after is. one-event given before event after asked is
   asks-events (given ∷ other ∷ events) asked = absurd asked
 
-  module _ (mid : List HostEvent → Course) (cs ds : List HostCall) (xs : List Input) (first : AsksLast setup stage from cs)
-      (handed : taken_in cs ≡ handed_on (replies_to setup stage xs)) (course : (more : List HostEvent) → from (given_in cs ++ more) ≡ taking xs (mid more))
-      (second : AsksLast setup (stage_after setup stage xs) mid ds) where
+  module _ (mid : List HostEvent → Course) (cs ds : List HostCall) (xs : List Input) (first : RepliesComeFirst setup stage from cs)
+      (handed : taken_in cs ≡ handed_on (replies_to setup stage xs))
+      (course : (more : List HostEvent) → from (given_in cs ++ more) ≡ inputs_taken xs (mid more))
+      (second : RepliesComeFirst setup (stage_after setup stage xs) mid ds) where
     had-later : (rest : List HostCall) → HadReplies setup (stage_after setup stage xs) mid rest → HadReplies setup stage from (cs ++ rest)
     had-later rest h = record {
       inputs = xs ++ h.inputs;
-      waiting = ap from (given-append cs rest) ∙ course (given_in rest) ∙ ap (taking xs) h.waiting ∙ sym (taking-append xs h.inputs waits);
+      waiting = ap from (given-append cs rest) ∙ course (given_in rest) ∙ ap (inputs_taken xs) h.waiting ∙ sym (taking-append xs h.inputs waits);
       handed = taken-append cs rest ∙ (λ i. handed i ++ h.handed i) ∙ sym (handed-append setup stage xs h.inputs);
     }
 
@@ -50,5 +53,5 @@ module _ (setup : Setup) (stage : Stage) (from : List HostEvent → Course) wher
     on-side before event after (inr h) = subst (HadReplies setup stage from) (sym h.before_is) (had-later h.rest (second h.rest event after h.is))
 
     -- calls, and then others
-    pub asks-on : AsksLast setup stage from (cs ++ ds)
+    pub asks-on : RepliesComeFirst setup stage from (cs ++ ds)
     asks-on = λ before event after is. on-side before event after (parted cs ds before (gave event) after is)

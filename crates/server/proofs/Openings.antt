@@ -6,15 +6,15 @@ use Rattle.ra_config.specs.Config.{ConfigData}
 use Rattle.session_port.specs.Record.{HostCall, given_in, taken_in}
 use Rattle.session_port.specs.declared.command.Command.{Command}
 use Rattle.session_port.specs.declared.event.HostEvent.{HostEvent}
-use Rattle.session_laws.specs.Course.{stops, exit, course_of, bytes_in}
+use Rattle.session_laws.specs.Course.{stops, exit, course_of, bytes_brought}
 use Rattle.session_laws.specs.Run.{Told, fed_bytes, giving}
 use Rattle.session_laws.specs.SessionError.{SessionError}
 use Rattle.session_laws.specs.Input.{Input}
 use Rattle.session_laws.proofs.Asking.{given-append, given-giving, taken-append, taken-giving}
 use Rattle.session.specs.Reading.{course_from}
-use Rattle.server.specs.Opening.{Opens, IsWaiting, handed_on, taking, telling}
+use Rattle.server.specs.Opening.{Opens, IsWaiting, handed_on, inputs_taken, replies_told}
 use Rattle.server.specs.Stages.{Setup, Outcome, Stage, awaits_initialize, by_input, stage_after, replies_to}
-use Rattle.server.specs.Talking.{Stretch, Starts, Breaks, first_talk, stage_of}
+use Rattle.server.specs.Talking.{TalkStretch, Starts, Breaks, first_talk, stage_of}
 use Rattle.server.specs.declared.handshake.opening.Opening.TheVariants.{Begun, Left}
 use Rattle.server.specs.declared.handshake.opening.Talk.{Talk}
 use Rattle.server.proofs.Folds.{taking-append, stage-append, replies-append, telling-append, calls-bytes, calls-events}
@@ -25,7 +25,7 @@ waiting None = tt
 waiting (Some config) = tt
 
 -- the loop came to this place
-module _ (setup : Setup) (talk : Talk) (old mid new : Told) (s : Stretch setup first_talk talk old mid) where
+module _ (setup : Setup) (talk : Talk) (old mid new : Told) (s : TalkStretch setup first_talk talk old mid) where
   abbrev stage : Stage
   stage = stage_after setup awaits_initialize s.inputs
 
@@ -39,8 +39,8 @@ module _ (setup : Setup) (talk : Talk) (old mid new : Told) (s : Stretch setup f
     abbrev inputs : List Input
     inputs = s.inputs ++ t.input ∷ []
 
-    course : (more : List HostEvent) → course_of 0 [] (given_in s.calls ++ more) ≡ taking inputs (course_from now.reader more)
-    course more = s.course more ∙ ap (taking s.inputs) (t.course more) ∙ sym (taking-append s.inputs (t.input ∷ []) (course_from now.reader more))
+    course : (more : List HostEvent) → course_of 0 [] (given_in s.calls ++ more) ≡ inputs_taken inputs (course_from now.reader more)
+    course more = s.course more ∙ ap (inputs_taken s.inputs) (t.course more) ∙ sym (taking-append s.inputs (t.input ∷ []) (course_from now.reader more))
 
     silent : replies_to setup stage (t.input ∷ []) ≡ []
     silent = ap (λ st. replies_to setup st (t.input ∷ [])) (sym s.stage) ∙ ap (λ (o : Outcome). option_to_list o.reply ++ []) t.begins
@@ -52,7 +52,7 @@ module _ (setup : Setup) (talk : Talk) (old mid new : Told) (s : Stretch setup f
     opens-begun = record {
       calls = s.calls;
       inputs = inputs;
-      told = t.told ∙ s.told ∙ ap (λ (rs : List Response). telling s.calls rs old) (sym no_more);
+      told = t.told ∙ s.told ∙ ap (λ (rs : List Response). replies_told s.calls rs old) (sym no_more);
       asks = s.asks;
       left = course_from now.reader [];
       course = ap (course_of 0 []) (sym (append-nil (given_in s.calls))) ∙ course [];
@@ -78,7 +78,7 @@ module _ (setup : Setup) (talk : Talk) (old mid new : Told) (s : Stretch setup f
     told = same ∙ s.told;
     asks = s.asks;
     left = stops exit;
-    course = ap (course_of 0 []) (sym (append-nil (given_in s.calls))) ∙ s.course [] ∙ ap (taking s.inputs) is;
+    course = ap (course_of 0 []) (sym (append-nil (given_in s.calls))) ∙ s.course [] ∙ ap (inputs_taken s.inputs) is;
     ends = (s.handed, still, refl);
   }
 
@@ -87,16 +87,17 @@ module _ (setup : Setup) (talk : Talk) (old mid new : Told) (s : Stretch setup f
       let given : given_in (s.calls ++ giving b.events) ≡ given_in s.calls ++ b.events =
       given-append s.calls (giving b.events) ∙ ap (λ (es : List HostEvent). given_in s.calls ++ es) (given-giving b.events) in
       let taken : taken_in (s.calls ++ giving b.events) ≡ taken_in s.calls =
-      taken-append s.calls (giving b.events) ∙ ap (λ (xs : List (List Command)). taken_in s.calls ++ xs) (taken-giving b.events) ∙ append-nil (taken_in s.calls) in
+      taken-append s.calls (giving b.events) ∙ ap (λ (xs : List (List Command)). taken_in s.calls ++ xs) (taken-giving b.events)
+      ∙ append-nil (taken_in s.calls) in
       let events : length (given_in (s.calls ++ giving b.events)) ≡ talk.events + length b.events =
       (let one = s.counted in let two = ap length (given-giving b.events) in omega (arith, one, two, calls-events s.calls (giving b.events))) in
-      let bytes : bytes_in (given_in (s.calls ++ giving b.events)) ≡ fed_bytes talk.reader + bytes_in b.events =
-      (let one = s.fed in let two = ap bytes_in (given-giving b.events) in omega (arith, one, two, calls-bytes s.calls (giving b.events))) in
+      let bytes : bytes_brought (given_in (s.calls ++ giving b.events)) ≡ fed_bytes talk.reader + bytes_brought b.events =
+      (let one = s.fed in let two = ap bytes_brought (given-giving b.events) in omega (arith, one, two, calls-bytes s.calls (giving b.events))) in
       record {
         calls = s.calls ++ giving b.events;
         inputs = s.inputs;
-        told = b.told ∙ ap (telling (giving b.events) []) s.told ∙ telling-append s.calls (giving b.events) replies [] old
-            ∙ ap (λ (rs : List Response). telling (s.calls ++ giving b.events) rs old) (append-nil replies);
+        told = b.told ∙ ap (replies_told (giving b.events) []) s.told ∙ telling-append s.calls (giving b.events) replies [] old
+            ∙ ap (λ (rs : List Response). replies_told (s.calls ++ giving b.events) rs old) (append-nil replies);
         asks = asks-on setup awaits_initialize (course_of 0 []) (course_from talk.reader) s.calls (giving b.events) s.inputs s.asks s.handed s.course
             (asks-events setup stage (course_from talk.reader) b.events b.asked);
         left = course_from talk.reader b.events;
@@ -114,12 +115,12 @@ module _ (setup : Setup) (talk : Talk) (old mid new : Told) (s : Stretch setup f
       record {
         calls = s.calls;
         inputs = s.inputs ++ n.input ∷ [];
-        told = n.told ∙ ap (telling [] (n.response ∷ [])) s.told ∙ telling-append s.calls [] replies (n.response ∷ []) old
-            ∙ ap (λ (cs : List HostCall). telling cs (replies ++ n.response ∷ []) old) (append-nil s.calls)
-            ∙ ap (λ (rs : List Response). telling s.calls rs old) (sym all);
+        told = n.told ∙ ap (replies_told [] (n.response ∷ [])) s.told ∙ telling-append s.calls [] replies (n.response ∷ []) old
+            ∙ ap (λ (cs : List HostCall). replies_told cs (replies ++ n.response ∷ []) old) (append-nil s.calls)
+            ∙ ap (λ (rs : List Response). replies_told s.calls rs old) (sym all);
         asks = s.asks;
         left = n.later;
-        course = ap (course_of 0 []) (sym (append-nil (given_in s.calls))) ∙ s.course [] ∙ ap (taking s.inputs) n.is
+        course = ap (course_of 0 []) (sym (append-nil (given_in s.calls))) ∙ s.course [] ∙ ap (inputs_taken s.inputs) n.is
             ∙ sym (taking-append s.inputs (n.input ∷ []) n.later);
         ends = (
           subst IsWaiting (sym goes_on) (waiting n.next),

@@ -14,7 +14,7 @@ use Rattle.session.specs.SessionError.TheVariants.{ClientExited, BadFrame, BadMe
 use Rattle.session.specs.Input.{Input}
 use Rattle.session.specs.Meaning.{Meaning}
 use Rattle.session.proofs.Asking.{given-append}
-use Rattle.server.specs.Opening.{Opens, IsHostError, LeftBy, taking}
+use Rattle.server.specs.Opening.{Opens, IsHostError, LeftBy, inputs_taken}
 use Rattle.server.specs.Stages.{Setup, Stage}
 use Rattle.server.specs.declared.handshake.opening.Opening.{Opening}
 use Rattle.server.specs.declared.handshake.opening.Opening.TheVariants.{Begun, Left}
@@ -30,13 +30,14 @@ same-rest (x ∷ xs) ys zs e = same-rest xs ys zs (same-tail x x (xs ++ ys) (xs 
 some-same : (xs ys : List HostCall) → Some xs ≡ Some ys → xs ≡ ys
 some-same xs ys e = cc
 
-end-taking : (inputs : List Input) (later : Course) → end_of (taking inputs later) ≡ end_of later
+end-taking : (inputs : List Input) (later : Course) → end_of (inputs_taken inputs later) ≡ end_of later
 end-taking [] later = refl
 end-taking (input ∷ inputs) later = end-taking inputs later
 
 module _ (setup : Setup) (old middle new : Told) where
   -- nothing followed the handshake
-  pub whole-opened : (result : Result Opening SessionError) (outcome : Result ⊤ SessionError) (o : Opens setup old middle result) → new ≡ middle → IsEnd outcome (end_of o.left)
+  pub whole-opened : (result : Result Opening SessionError) (outcome : Result ⊤ SessionError) (o : Opens setup old middle result) → new ≡ middle
+      → IsEnd outcome (end_of o.left)
       → EndsByCause empty_reader old.calls new.calls outcome
   whole-opened result outcome o same ends = λ before calls was is.
       let grew : new.calls ≡ Some (before ++ o.calls) =
@@ -47,8 +48,10 @@ module _ (setup : Setup) (old middle new : Told) where
       subst (IsEnd outcome) (sym end) ends
 
   -- a session followed it
-  pub whole-begun : (meaning : Meaning) (config : ConfigData) (reader : Reader) (honest : Bool) (outcome : Result ⊤ SessionError) → Opens setup old middle (Ok (Begun config reader))
-      → IsAnswered meaning config reader middle new honest outcome → EndsByCause reader middle.calls new.calls outcome → EndsByCause empty_reader old.calls new.calls outcome
+  pub whole-begun : (meaning : Meaning) (config : ConfigData) (reader : Reader) (honest : Bool) (outcome : Result ⊤ SessionError)
+      → Opens setup old middle (Ok (Begun config reader))
+      → IsAnswered meaning config reader middle new honest outcome → EndsByCause reader middle.calls new.calls outcome
+      → EndsByCause empty_reader old.calls new.calls outcome
   whole-begun meaning config reader honest outcome o a ends = λ before calls was is.
       let first : middle.calls ≡ Some (before ++ o.calls) =
       ap (λ (t : Told). t.calls) o.told ∙ ap (λ (cs : Option (List HostCall)). grown cs o.calls) was in
@@ -58,7 +61,8 @@ module _ (setup : Setup) (old middle new : Told) where
       (some-same (before ++ calls) (before ++ (o.calls ++ a.calls)) (sym is ∙ both ∙ ap Some (append_assoc before o.calls a.calls))) in
       let given : given_in calls ≡ given_in o.calls ++ given_in a.calls = ap given_in mine ∙ given-append o.calls a.calls in
       let end : end_of (session_course 0 [] (given_in calls)) ≡ end_of (session_course reader.place reader.held (given_in a.calls)) =
-      ap (λ (es : List HostEvent). end_of (course_of 0 [] es)) given ∙ ap end_of (o.ends.1.course (given_in a.calls)) ∙ end-taking o.inputs (course_of reader.place reader.held (given_in a.calls)) in
+      ap (λ (es : List HostEvent). end_of (course_of 0 [] es)) given ∙ ap end_of (o.ends.1.course (given_in a.calls))
+      ∙ end-taking o.inputs (course_of reader.place reader.held (given_in a.calls)) in
       subst (IsEnd outcome) (sym end) (ends (before ++ o.calls) a.calls first both)
 
 -- what is left after a handshake that broke off is what ended it
@@ -81,7 +85,8 @@ pub completes : (old new : Option (List HostCall)) (HostFailed SinkFailed : Type
 completes old new HostFailed SinkFailed (Ok x) ends host sink = λ before calls was is good calm dry. tt
 completes old new HostFailed SinkFailed (Err ClientExited) ends host sink = λ before calls was is good calm dry. let e = ends before calls was is in absurd cc
 completes old new HostFailed SinkFailed (Err (BadFrame at)) ends host sink = λ before calls was is good calm dry. let e = ends before calls was is in absurd cc
-completes old new HostFailed SinkFailed (Err (BadMessage at)) ends host sink = λ before calls was is good calm dry. let e = ends before calls was is in absurd cc
+completes old new HostFailed SinkFailed (Err (BadMessage at)) ends host sink = λ before calls was is good calm dry. let e =
+    ends before calls was is in absurd cc
 completes old new HostFailed SinkFailed (Err HostFault) ends host sink = λ before calls was is good calm dry. calm (host refl)
 completes old new HostFailed SinkFailed (Err WriteFault) ends host sink = λ before calls was is good calm dry. dry (sink refl)
 completes old new HostFailed SinkFailed (Err (Exhausted counter)) ends host sink = λ before calls was is good calm dry. tt

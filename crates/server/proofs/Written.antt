@@ -16,7 +16,8 @@ unfolding most_levels
 capabilities_within info encoding plain =
     let encoded : Members = put (codes "positionEncoding") (string (encoding_name encoding)) info.capabilities in
     let one : members_within 119 (put (codes "positionEncoding") (string (encoding_name encoding)) info.capabilities) ≡ true =
-    members_within-put 119 (codes "positionEncoding") (string (encoding_name encoding)) info.capabilities refl (members_within-object 119 info.capabilities plain) in
+    members_within-put 119 (codes "positionEncoding") (string (encoding_name encoding)) info.capabilities
+    refl (members_within-object 119 info.capabilities plain) in
     is_within-object 119 (put (codes "textDocumentSync") synchronization encoded)
     (members_within-put 119 (codes "textDocumentSync") synchronization encoded refl one)
 
@@ -27,13 +28,15 @@ info_within info =
     (members_within-put 119 (codes "version") (string info.version) named refl
     (members_within-put 119 (codes "name") (string info.name) no_members refl refl))
 
-pub result_writable : (info : ServerInfo) (encoding : PositionEncoding) → is_plain (object info.capabilities) ≡ true → IsWritable (initialize_result info encoding)
+pub result_writable : (info : ServerInfo) (encoding : PositionEncoding) → is_plain (object info.capabilities) ≡ true
+    → IsWritable (initialize_result info encoding)
 unfolding value_depth
 result_writable info encoding plain =
     let able : Members = put (codes "capabilities") (server_capabilities info.capabilities encoding) no_members in
     let within : is_within 121 (initialize_result info encoding) ≡ true =
     is_within-object 120 (put (codes "serverInfo") (info_value info) able)
     (members_within-put 120 (codes "serverInfo") (info_value info) able (info_within info)
-    (members_within-put 120 (codes "capabilities") (server_capabilities info.capabilities encoding) no_members (capabilities_within info encoding plain) refl)) in
+    (members_within-put 120 (codes "capabilities") (server_capabilities info.capabilities encoding) no_members (capabilities_within info encoding plain) refl))
+    in
     let parts = is_within-parts 121 (initialize_result info encoding) within in
     record { no_float = parts.0; nests = omega (arith, parts.1) }

@@ -13,7 +13,8 @@ texts_of NotText = []
 -- `--help` alone, `--version` alone, else what the words are to the top call
 abbrev pub purpose_of_texts : List (List ℕ) → Purpose
 purpose_of_texts [] = Serve
-purpose_of_texts (word ∷ []) = if bytes_eq word (codes "--help") then Help else if bytes_eq word (codes "--version") then Version else Serve
+purpose_of_texts (word ∷ []) = if bytes_eq word (codes "--help") then Help else if bytes_eq word (codes "--version")
+    then Version else Serve
 purpose_of_texts (first ∷ second ∷ rest) = Serve
 
 abbrev pub purpose_of : Words → Purpose

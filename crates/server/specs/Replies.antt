@@ -19,20 +19,25 @@ encoding_name (Wide Utf32) = codes "utf-32"
 -- documents are told whole when they are opened, and by their changes then: `{"change":2,"openClose":true,"save":{}}`
 abbrev pub synchronization : Data
 synchronization =
-    object (put (codes "save") (object no_members) (put (codes "openClose") (boolean true) (put (codes "change") (number (unsigned 2)) no_members)))
+    object (put (codes "save") (object no_members)
+    (put (codes "openClose") (boolean true) (put (codes "change") (number (unsigned 2)) no_members)))
 
 -- what the server can do: what it says itself, and what the session does, which stands where both are named
 abbrev pub server_capabilities : Members → PositionEncoding → Data
-server_capabilities own encoding = object (put (codes "textDocumentSync") synchronization (put (codes "positionEncoding") (string (encoding_name encoding)) own))
+server_capabilities own encoding = object
+    (put (codes "textDocumentSync") synchronization
+    (put (codes "positionEncoding") (string (encoding_name encoding)) own))
 
 -- `{"name":..,"version":..}`
 abbrev pub info_value : ServerInfo → Data
-info_value info = object (put (codes "version") (string info.version) (put (codes "name") (string info.name) no_members))
+info_value info = object (put (codes "version") (string info.version)
+    (put (codes "name") (string info.name) no_members))
 
 -- `{"capabilities":..,"serverInfo":..}`
 abbrev pub initialize_result : ServerInfo → PositionEncoding → Data
 initialize_result info encoding =
-    object (put (codes "serverInfo") (info_value info) (put (codes "capabilities") (server_capabilities info.capabilities encoding) no_members))
+    object (put (codes "serverInfo") (info_value info)
+    (put (codes "capabilities") (server_capabilities info.capabilities encoding) no_members))
 
 -- the answer to an `initialize` that these settings come of
 abbrev pub welcome : ServerInfo → RequestId → ConfigData → Response

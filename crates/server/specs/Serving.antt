@@ -9,7 +9,8 @@ use Rattle.session.specs.Meaning.{Meaning}
 use Rattle.session.specs.Run.{Told, IsRun, empty_reader}
 use Rattle.session.specs.Texts.{same_text}
 use Rattle.session.specs.SessionError.{SessionError}
-use Rattle.session.specs.SessionError.TheVariants.{ClientExited, BadFrame, BadMessage, HostFault, WriteFault, Exhausted, NoMemory}
+use Rattle.session.specs.SessionError.TheVariants.{ClientExited, BadFrame, BadMessage, HostFault, WriteFault, Exhausted}
+use Rattle.session.specs.SessionError.TheVariants.{NoMemory}
 use Rattle.analysis_host.specs.declared.server_info.ServerInfo.{ServerInfo}
 use Rattle.server.specs.Opening.{Opens}
 use Rattle.server.specs.Stages.{Setup}
@@ -21,7 +22,8 @@ use Rattle.server.specs.declared.words.Asked.TheVariants.{Session, Lsp, Unknown}
 
 -- what one word asks for
 abbrev pub asked_by_word : List ℕ → Asked
-asked_by_word word = if same_text word (codes "session") then Session else if same_text word (codes "lsp") then Lsp else Unknown
+asked_by_word word = if same_text word (codes "session") then Session else if same_text word (codes "lsp") then Lsp
+    else Unknown
 
 -- what words ask for: a word alone is known or not
 abbrev pub asked_by : List (List ℕ) → Asked
@@ -41,9 +43,11 @@ setup_of info = record { threads = thread_count; info = info }
 abbrev pub session_config : ConfigData
 session_config = config_at (codes "/w") thread_count
 
--- a session was run behind what a reader holds: its turns are the machine's; its end has its cause in the events; over a good input it is a good one,
+-- a session was run behind what a reader holds: its turns are the machine's; its end has its cause in the events; over
+-- a good input it is a good one,
 -- where neither the host nor the sink has failed; and the record is as it should be
-pub record RanSession (meaning : Meaning) (config : ConfigData) (reader : Reader) (old new : Told) (honest : Bool) (HostFailed SinkFailed : Type 0)
+pub record RanSession (meaning : Meaning) (config : ConfigData) (reader : Reader) (old new : Told) (honest : Bool)
+    (HostFailed SinkFailed : Type 0)
     (outcome : Result ⊤ SessionError) : Type 0 where
   pub run : IsRun meaning config reader old new honest outcome
   pub end : EndsByCause reader old.calls new.calls outcome
@@ -51,34 +55,39 @@ pub record RanSession (meaning : Meaning) (config : ConfigData) (reader : Reader
   pub headline : IsAnswered meaning config reader old new honest outcome
 
 -- what follows a handshake: the session that it began, or nothing
-abbrev pub Follows : Meaning → Told → Told → Bool → Type 0 → Type 0 → Result Opening SessionError → Result ⊤ SessionError → Type 0
+abbrev pub Follows : Meaning → Told → Told → Bool → Type 0 → Type 0 → Result Opening SessionError
+    → Result ⊤ SessionError → Type 0
 Follows meaning old new honest HostFailed SinkFailed (Ok (Begun config reader)) outcome =
     RanSession meaning config reader old new honest HostFailed SinkFailed outcome
 Follows meaning old new honest HostFailed SinkFailed (Ok Left) outcome = (new ≡ old) × (status_of outcome ≡ 0)
 Follows meaning old new honest HostFailed SinkFailed (Err error) outcome = (new ≡ old) × (outcome ≡ Err error)
 
 -- an end that a good input allows: `exit`, or that memory or the numbers of a counter ran out
-abbrev pub IsGoodEnd : Result ⊤ SessionError → Type 0
-IsGoodEnd (Ok x) = Unit {0}
-IsGoodEnd (Err ClientExited) = ⊥
-IsGoodEnd (Err (BadFrame at)) = ⊥
-IsGoodEnd (Err (BadMessage at)) = ⊥
-IsGoodEnd (Err HostFault) = ⊥
-IsGoodEnd (Err WriteFault) = ⊥
-IsGoodEnd (Err (Exhausted counter)) = Unit {0}
-IsGoodEnd (Err NoMemory) = Unit {0}
+abbrev pub IsGoodServe : Result ⊤ SessionError → Type 0
+IsGoodServe (Ok x) = Unit {0}
+IsGoodServe (Err ClientExited) = ⊥
+IsGoodServe (Err (BadFrame at)) = ⊥
+IsGoodServe (Err (BadMessage at)) = ⊥
+IsGoodServe (Err HostFault) = ⊥
+IsGoodServe (Err WriteFault) = ⊥
+IsGoodServe (Err (Exhausted counter)) = Unit {0}
+IsGoodServe (Err NoMemory) = Unit {0}
 
--- for a host that tells its calls: where the events hold an `exit` before all else that stops a session, and neither the host nor the sink has
+-- for a host that tells its calls: where the events hold an `exit` before all else that stops a session, and neither
+-- the host nor the sink has
 -- failed, it ends well
-abbrev pub Completes : Option (List HostCall) → Option (List HostCall) → Type 0 → Type 0 → Result ⊤ SessionError → Type 0
+abbrev pub Completes : Option (List HostCall) → Option (List HostCall) → Type 0 → Type 0 → Result ⊤ SessionError
+    → Type 0
 Completes old new HostFailed SinkFailed outcome =
     (before calls : List HostCall) → old ≡ Some before → new ≡ Some (before ++ calls)
     → end_of (course_of 0 [] (given_in calls)) ≡ Some exit
-    → (HostFailed → ⊥) → (SinkFailed → ⊥) → IsGoodEnd outcome
+    → (HostFailed → ⊥) → (SinkFailed → ⊥) → IsGoodServe outcome
 
--- a handshake was made, and then a session was run with its settings, behind what it has read; what ended it is what ends the course of all its events, of
+-- a handshake was made, and then a session was run with its settings, behind what it has read; what ended it is what
+-- ends the course of all its events, of
 -- the handshake and of the session
-pub record Welcomed (info : ServerInfo) (meaning : Meaning) (old new : Told) (honest : Bool) (HostFailed SinkFailed : Type 0) (outcome : Result ⊤ SessionError) : Type 0 where
+pub record Welcomed (info : ServerInfo) (meaning : Meaning) (old new : Told) (honest : Bool)
+    (HostFailed SinkFailed : Type 0) (outcome : Result ⊤ SessionError) : Type 0 where
   pub opening : Result Opening SessionError
   pub middle : Told
   pub opens : Opens (setup_of info) old middle opening
@@ -101,5 +110,6 @@ pub record KnewNoWord (old new : Told) (status : ℕ) : Type 0 where
 abbrev pub Serves : Asked → ServerInfo → Meaning → Told → Told → Bool → Type 0 → Type 0 → ℕ → Type 0
 Serves Session info meaning old new honest HostFailed SinkFailed status =
     EndsWith (RanSession meaning session_config empty_reader old new honest HostFailed SinkFailed) status
-Serves Lsp info meaning old new honest HostFailed SinkFailed status = EndsWith (Welcomed info meaning old new honest HostFailed SinkFailed) status
+Serves Lsp info meaning old new honest HostFailed SinkFailed status =
+    EndsWith (Welcomed info meaning old new honest HostFailed SinkFailed) status
 Serves Unknown info meaning old new honest HostFailed SinkFailed status = KnewNoWord old new status

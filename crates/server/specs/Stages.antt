@@ -21,7 +21,8 @@ pub record Setup : Type 0 where
   pub threads : ℕ
   pub info : ServerInfo
 
--- what a handshake waits for: an `initialize`, or `initialized` with the settings of the `initialize` that was accepted; or it is over
+-- what a handshake waits for: an `initialize`, or `initialized` with the settings of the `initialize` that was
+-- accepted; or it is over
 pub data Stage : Type 0 where
   awaits_initialize : Stage
   awaits_initialized : ConfigData → Stage
@@ -36,13 +37,13 @@ pub record Outcome : Type 0 where
 abbrev pub quiet : Stage → Outcome
 quiet stage = record { reply = None; stage = stage }
 
-abbrev pub replied : Response → Stage → Outcome
-replied response stage = record { reply = Some response; stage = stage }
+abbrev pub with_reply : Response → Stage → Outcome
+with_reply response stage = record { reply = Some response; stage = stage }
 
 -- an `initialize` is accepted where settings come of its params; else it is refused, and the handshake begins anew
 abbrev pub by_settings : ServerInfo → RequestId → Result ConfigData ConfigFault → Outcome
-by_settings info id (Ok config) = replied (welcome info id config) (awaits_initialized config)
-by_settings info id (Err NoRoot) = replied (no_workspace id) awaits_initialize
+by_settings info id (Ok config) = with_reply (welcome info id config) (awaits_initialized config)
+by_settings info id (Err NoRoot) = with_reply (no_workspace id) awaits_initialize
 
 -- `initialized` begins the session
 abbrev pub begin : Stage → Stage
@@ -53,7 +54,7 @@ begin (begun config) = begun config
 -- what a step comes to; `exit` is no input
 abbrev pub by_step : Setup → Stage → Step → Outcome
 by_step setup stage (Initialize id params) = by_settings setup.info id (initial_config params setup.threads)
-by_step setup stage (Refuse response) = replied response stage
+by_step setup stage (Refuse response) = with_reply response stage
 by_step setup stage Ignore = quiet stage
 by_step setup stage Initialized = quiet (begin stage)
 by_step setup stage Exit = quiet stage

@@ -1,7 +1,8 @@
 -- The status that a session ends with, and what is said of it.
 use Rattle.std.specs.Prelude.{ℕ, List, [], codes, ⊤, Result, Ok, Err, ◌==◌, if◌then◌else◌}
 use Rattle.session.specs.SessionError.{SessionError}
-use Rattle.session.specs.SessionError.TheVariants.{ClientExited, BadFrame, BadMessage, HostFault, WriteFault, Exhausted, NoMemory}
+use Rattle.session.specs.SessionError.TheVariants.{ClientExited, BadFrame, BadMessage, HostFault, WriteFault, Exhausted}
+use Rattle.session.specs.SessionError.TheVariants.{NoMemory}
 
 -- the words are none that the program knows
 abbrev pub bad_words : ℕ

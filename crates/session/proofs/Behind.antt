@@ -5,7 +5,7 @@ use Rattle.session_port.specs.declared.event.HostEvent.{HostEvent}
 use Rattle.session_port.specs.declared.event.HostEvent.TheVariants.{Bytes, Tasks, Vfs, DeferredTask, Timer, Ended as HostEnded}
 use Rattle.lsp_frame.specs.Frames.{cut_of}
 use Rattle.lsp_frame.specs.declared.frame.Cut.TheVariants.{NeedMore}
-use Rattle.session_laws.specs.Course.{takes, course_of, bytes_in}
+use Rattle.session_laws.specs.Course.{takes, course_of, bytes_brought}
 use Rattle.session_laws.specs.Inputs.{batch_of}
 use Rattle.session_laws.specs.Input.{Input}
 use Rattle.session_laws.proofs.Counted.{IsLater}
@@ -16,8 +16,9 @@ use Rattle.session.specs.declared.bringing.Brought.TheVariants as brought
 
 -- an event that brings an input
 pub record BringsInput (event : HostEvent) (input : Input) : Type 0 where
-  pub course : (at : ℕ) (held : List ℕ) → cut_of held ≡ NeedMore → (more : List HostEvent) → course_of at held (event ∷ more) ≡ takes input (course_of at held more)
-  pub none : bytes_in (event ∷ []) ≡ 0
+  pub course : (at : ℕ) (held : List ℕ) → cut_of held ≡ NeedMore → (more : List HostEvent)
+      → course_of at held (event ∷ more) ≡ takes input (course_of at held more)
+  pub none : bytes_brought (event ∷ []) ≡ 0
   pub batch : batch_in event ≡ batch_of input
   pub later : IsLater input
 
@@ -36,6 +37,11 @@ is-brought (Bytes []) = record { course = λ at held waits more. course-event at
 is-brought (Bytes (byte ∷ bytes)) = record { event_is = refl; some = omega arith }
 is-brought (Tasks batch) = record { course = λ at held waits more. course-event at held (Tasks batch) more waits; none = refl; batch = refl; later = tt }
 is-brought (Vfs messages) = record { course = λ at held waits more. course-event at held (Vfs messages) more waits; none = refl; batch = refl; later = tt }
-is-brought (DeferredTask tasks) = record { course = λ at held waits more. course-event at held (DeferredTask tasks) more waits; none = refl; batch = refl; later = tt }
+is-brought (DeferredTask tasks) = record {
+  course = λ at held waits more. course-event at held (DeferredTask tasks) more waits;
+  none = refl;
+  batch = refl;
+  later = tt;
+}
 is-brought (Timer ticket) = record { course = λ at held waits more. course-event at held (Timer ticket) more waits; none = refl; batch = refl; later = tt }
 is-brought HostEnded = refl

@@ -7,7 +7,7 @@ use Rattle.session_port.specs.declared.event.HostEvent.{HostEvent}
 use Rattle.session_port.specs.declared.event.HostEvent.TheVariants.{Bytes}
 use Rattle.session_laws.specs.Course.{Course, takes, waits}
 use Rattle.session_laws.specs.Meaning.{Meaning}
-use Rattle.session_laws.specs.Run.{Told, Turn, Brings, BreaksOffUnwritten, BreaksOffWritten, EndsBy, IsHonestInput, MayAsk, giving, telling}
+use Rattle.session_laws.specs.Run.{Told, Turn, Brings, BreaksOffUnwritten, BreaksOffWritten, EndsBy, IsHonestInput, MayAsk, giving, telling_more}
 use Rattle.session_laws.specs.State.{State}
 use Rattle.session_laws.specs.SessionError.{SessionError}
 use Rattle.session_laws.specs.SessionError.TheVariants.{ClientExited, BadFrame, BadMessage, HostFault, WriteFault, Exhausted, NoMemory}
@@ -21,8 +21,9 @@ pub breaks_at_once : (to : List HostEvent → Course) (old new : Told) → new �
 breaks_at_once to old new same = record { events = []; asked = tt; told = same ∙ sym (telling-none old) }
 
 -- the turn of an input that was given was written, and its commands were not taken
-breaks-written : (meaning : Meaning) (input : Input) (events : List HostEvent) (a b : State) (to : List HostEvent → Course) (old mid new : Told) (honest : Bool) (out : Jobs)
-    → Brings to events input → mid ≡ telling (giving events) [] old → (IsTrue honest → IsHonestInput meaning out input) → Untaken meaning input a b mid new
+breaks-written : (meaning : Meaning) (input : Input) (events : List HostEvent) (a b : State) (to : List HostEvent → Course) (old mid new : Told) (honest : Bool)
+    (out : Jobs)
+    → Brings to events input → mid ≡ telling_more (giving events) [] old → (IsTrue honest → IsHonestInput meaning out input) → Untaken meaning input a b mid new
     → BreaksOffWritten meaning a to old new honest out
 breaks-written meaning input events a b to old mid new honest out brings given fair u = record {
   events = events;
@@ -32,12 +33,14 @@ breaks-written meaning input events a b to old mid new honest out brings given f
   steps = u.steps;
   read = u.read;
   honest_turn = λ h. subst (IsHonestInput meaning out) (sym u.input_is) (fair h);
-  told = u.told ∙ ap (telling [] (u.turn ∷ [])) given ∙ telling-append (giving events) [] [] (u.turn ∷ []) old ∙ ap (λ (cs : List HostCall). telling cs (u.turn ∷ []) old) (append-nil (giving events));
+  told = u.told ∙ ap (telling_more [] (u.turn ∷ [])) given ∙ telling-append (giving events) [] [] (u.turn ∷ []) old
+      ∙ ap (λ (cs : List HostCall). telling_more cs (u.turn ∷ []) old) (append-nil (giving events));
 }
 
 -- the turn of an input that was given ended in an error
-pub ends-turn : (meaning : Meaning) (input : Input) (events : List HostEvent) (a b : State) (to : List HostEvent → Course) (used : ℕ) (old mid new : Told) (honest : Bool) (out out_mid out_now : Jobs) (r : SessionError)
-    → Brings to events input → mid ≡ telling (giving events) [] old → (IsTrue honest → IsHonestInput meaning out input)
+pub ends-turn : (meaning : Meaning) (input : Input) (events : List HostEvent) (a b : State) (to : List HostEvent → Course) (used : ℕ) (old mid new : Told)
+    (honest : Bool) (out out_mid out_now : Jobs) (r : SessionError)
+    → Brings to events input → mid ≡ telling_more (giving events) [] old → (IsTrue honest → IsHonestInput meaning out input)
     → TurnDone {T = ⊤} meaning input a b mid new out_mid out_now (Err r) → EndsBy meaning a to used old new honest out r
 ends-turn meaning input events a b to used old mid new honest out out_mid out_now ClientExited brings given fair h = absurd h
 ends-turn meaning input events a b to used old mid new honest out out_mid out_now (BadFrame at) brings given fair h = absurd h
@@ -59,12 +62,14 @@ ends-turn meaning input events a b to used old mid new honest out out_mid out_no
 })
 
 -- bytes could not be fed
-pub ends-feed : (meaning : Meaning) (bytes : List ℕ) (a : State) (to : List HostEvent → Course) (used : ℕ) (old new : Told) (honest : Bool) (out : Jobs) (r : SessionError)
-    → to [] ≡ waits → new ≡ telling (gave (Bytes bytes) ∷ []) [] old → IsFeedError used (length bytes) r → EndsBy meaning a to used old new honest out r
+pub ends-feed : (meaning : Meaning) (bytes : List ℕ) (a : State) (to : List HostEvent → Course) (used : ℕ) (old new : Told) (honest : Bool) (out : Jobs)
+    (r : SessionError)
+    → to [] ≡ waits → new ≡ telling_more (gave (Bytes bytes) ∷ []) [] old → IsFeedError used (length bytes) r → EndsBy meaning a to used old new honest out r
 ends-feed meaning bytes a to used old new honest out ClientExited asked given h = absurd h
 ends-feed meaning bytes a to used old new honest out (BadFrame at) asked given h = absurd h
 ends-feed meaning bytes a to used old new honest out (BadMessage at) asked given h = absurd h
 ends-feed meaning bytes a to used old new honest out HostFault asked given h = absurd h
 ends-feed meaning bytes a to used old new honest out WriteFault asked given h = absurd h
 ends-feed meaning bytes a to used old new honest out NoMemory asked given h = inl (record { events = Bytes bytes ∷ []; asked = asked; told = given })
-ends-feed meaning bytes a to used old new honest out (Exhausted counter) asked given h = inr (record { counter_is = h.0; bytes = bytes; asked = asked; needed = h.1; told = given })
+ends-feed meaning bytes a to used old new honest out (Exhausted counter) asked given h =
+    inr (record { counter_is = h.0; bytes = bytes; asked = asked; needed = h.1; told = given })

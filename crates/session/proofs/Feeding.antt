@@ -7,7 +7,8 @@ use Rattle.session_laws.specs.Course.{is_exit}
 use Rattle.session_laws.proofs.Courses.{course-next, message-takes}
 use Rattle.session.specs.Reading.{TakesOut}
 
-pub taken-out : (old new : Reader) (message : Message) → GivesMessage old new message → length new.held < length old.held → is_exit message ≡ false → TakesOut old new message
+pub taken-out : (old new : Reader) (message : Message) → GivesMessage old new message → length new.held < length old.held → is_exit message ≡ false
+    → TakesOut old new message
 taken-out old new message given shorter other =
     let b = cut_bounds old.held given.start given.end given.whole in
     let within = b.within in

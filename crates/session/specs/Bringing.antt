@@ -1,7 +1,8 @@
 -- What an event of the host brings to a session.
 use Rattle.std.specs.Prelude.{[], ◌∷◌}
 use Rattle.session_port.specs.declared.event.HostEvent.{HostEvent}
-use Rattle.session_port.specs.declared.event.HostEvent.TheVariants.{Bytes, Tasks, Vfs, DeferredTask, Timer, Ended as HostEnded}
+use Rattle.session_port.specs.declared.event.HostEvent.TheVariants.{Bytes, Tasks, Vfs, DeferredTask, Timer}
+use Rattle.session_port.specs.declared.event.HostEvent.TheVariants.{Ended as HostEnded}
 use Rattle.session_laws.specs.Event.TheVariants.{Task, Vfs as VfsEvent, Deferred, Timer as TimerEvent}
 use Rattle.session_laws.specs.Input.TheVariants.{Next}
 use Rattle.session.specs.declared.bringing.Brought.{Brought}

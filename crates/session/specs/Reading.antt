@@ -9,11 +9,14 @@ use Rattle.session_laws.specs.Course.{Course, takes, stops, exit, bad_frame, bad
 use Rattle.session_laws.specs.Run.{fed_bytes}
 use Rattle.session_port.specs.declared.fault.Counter.TheVariants.{Bytes as BytesCounter}
 use Rattle.session_laws.specs.SessionError.{SessionError}
-use Rattle.session_laws.specs.SessionError.TheVariants.{ClientExited, BadFrame, BadMessage, HostFault, WriteFault, Exhausted, NoMemory}
+use Rattle.session_laws.specs.SessionError.TheVariants.{ClientExited, BadFrame, BadMessage, HostFault, WriteFault}
+use Rattle.session_laws.specs.SessionError.TheVariants.{Exhausted, NoMemory}
 use Rattle.session_laws.specs.Event.TheVariants.{Lsp}
 use Rattle.session_laws.specs.Input.TheVariants.{Next as NextInput}
 use Rattle.session.specs.declared.reading.Coming.{Coming}
-use Rattle.session.specs.declared.reading.Coming.TheVariants.{Message as ComingMessage, Exit, BadFrame as ComingBadFrame, BadMessage as ComingBadMessage, Waits}
+use Rattle.session.specs.declared.reading.Coming.TheVariants.{Message as ComingMessage, Exit}
+use Rattle.session.specs.declared.reading.Coming.TheVariants.{BadFrame as ComingBadFrame}
+use Rattle.session.specs.declared.reading.Coming.TheVariants.{BadMessage as ComingBadMessage, Waits}
 
 -- the course of the bytes that a reader holds, and of these events
 abbrev pub course_from : Reader → List HostEvent → Course
@@ -21,7 +24,8 @@ course_from reader events = course_of reader.place reader.held events
 
 -- a message is taken out, and the course goes on behind it
 pub record TakesOut (old new : Reader) (message : Message) : Type 0 where
-  pub course : (events : List HostEvent) → course_from old events ≡ takes (NextInput (Lsp message)) (course_from new events)
+  pub course : (events : List HostEvent) → course_from old events ≡
+      takes (NextInput (Lsp message)) (course_from new events)
   pub fed : fed_bytes new ≡ fed_bytes old
   pub later : old.place < new.place
   pub sound : new.failed ≡ false

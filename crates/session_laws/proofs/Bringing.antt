@@ -9,7 +9,7 @@ use Rattle.docs_vfs.specs.declared.source_roots.Root.{Root}
 use Rattle.layered_settings.specs.declared.change.SettingsFile.{SettingsFile as RootFile}
 use Rattle.project_model.specs.declared.crates.CrateData.{CrateData}
 use Rattle.project_model.specs.declared.workspace.ProjectWorkspace.{ProjectWorkspace}
-use Rattle.change_effects.specs.Filing.{change_of, crate_file, crate_files, file_in, is_at_workspace, text_in, workspace_file, workspace_files}
+use Rattle.change_effects.specs.Filing.{filed_change, crate_file, crate_files, file_in, is_at_workspace, text_in, workspace_file, workspace_files}
 use Rattle.change_effects.specs.declared.effects.SettingsFile.{SettingsFile}
 use Rattle.session_port.specs.Jobs.{final_of, fits_final}
 use Rattle.session_port.specs.Working.{Working, and_then}
@@ -22,7 +22,7 @@ use Rattle.desk.specs.WorkEnds.{LoadEnd, work_end_of, work_ended, work_told}
 use Rattle.desk.specs.declared.state.ends.WorkEnd.{WorkEnd}
 use Rattle.desk.specs.declared.state.ends.WorkEnd.TheVariants.{Fetched, Built, Checked, Loaded}
 use Rattle.desk.specs.Meaning.{Meaning}
-use Rattle.desk.specs.Steps.{taken as taken_at_desk}
+use Rattle.desk.specs.Steps.{result_taken as taken_at_desk}
 use Rattle.desk_laws.proofs.Results.{IfOk-and_then, IfOk-weaker, IfOk-within}
 use Rattle.session_files.specs.Current.{IsSound}
 use Rattle.session_files.specs.Folds.{after_crates, after_processing, changed_files, have_come_or_gone, has_changed}
@@ -37,7 +37,8 @@ use Rattle.session_model.specs.Fetching.{fetch_kept}
 use Rattle.session_model.specs.Loading.{crates_loaded, load_kept}
 use Rattle.session_model.specs.Machine.{Turning, at_desk, at_files, at_workspaces, build_taken, files_done, knowing, crates_arrived, desk_in, end_taken}
 use Rattle.session_model.specs.Machine.{work_taken, fetch_taken, files_followed, files_in, files_part, files_processed}
-use Rattle.session_model.specs.Machine.{files_processed_if, in_state, load_taken, macros_taken, quiet_done, refreshed, settings_filed, some_processed, state_in}
+use Rattle.session_model.specs.Machine.{files_processed_if, in_state, load_taken, macros_taken, quiet_done, client_refreshed, settings_filed, some_processed}
+use Rattle.session_model.specs.Machine.{state_in}
 use Rattle.session_model.specs.Machine.{message_taken, with_client, with_desk, with_files, with_sources, with_state}
 use Rattle.session_model.specs.Asking.{is_refresh_due}
 use Rattle.session_model.specs.Sources.{change_for, client_with, further_files, is_settled, parents_told}
@@ -277,7 +278,7 @@ crate-roots roots workspaces (file ∷ files) =
     (crate-roots roots workspaces files)
 
 change-roots : (b : Bool) (roots : List Root) (parents : Option (List (ℕ × ℕ))) (workspaces : List ProjectWorkspace) (files : List SettingsFile)
-    → IsOfRoots roots (if b then None else Some (change_of roots parents workspaces files))
+    → IsOfRoots roots (if b then None else Some (filed_change roots parents workspaces files))
 change-roots true roots parents workspaces files = tt
 change-roots false roots parents workspaces files = (workspace-roots roots workspaces files, crate-roots roots workspaces files)
 
@@ -320,7 +321,7 @@ due-by was now done quiet (inr some) = (λ i. quiet i && (not was || some i)) �
 
 -- what is asked for where this flag is set
 abbrev if_due : Bool → Working State → Result (Working State) Counter
-if_due due w = if due then refreshed w.state.client.settings.capabilities w else Ok w
+if_due due w = if due then client_refreshed w.state.client.settings.capabilities w else Ok w
 
 quiet-is : (facts : Facts) (w : Working State) (due : Bool) → is_refresh_due facts.quiescent (is_quiescent w.state.files w.state.workspaces) facts.processed ≡
     due → quiet_done facts w ≡ if_due due w
@@ -331,7 +332,7 @@ session_in : Working Turning → Working State
 session_in t = record { state = t.state.state; out = t.out }
 
 pub shown-anew : (t : Turning) (out : Written) → IsShownAnew t
-    → quiet_done t.facts (record { state = t.state; out = out }) ≡ refreshed t.state.client.settings.capabilities (record { state = t.state; out = out })
+    → quiet_done t.facts (record { state = t.state; out = out }) ≡ client_refreshed t.state.client.settings.capabilities (record { state = t.state; out = out })
 shown-anew t out anew =
     quiet-is t.facts (record { state = t.state; out = out }) true
     (due-by t.facts.quiescent (is_quiescent t.state.files t.state.workspaces) t.facts.processed anew.quiescent anew.since)

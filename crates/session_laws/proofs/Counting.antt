@@ -36,9 +36,9 @@ use Rattle.desk.specs.Desk.{Desk}
 use Rattle.desk.specs.Steps.{handed_over}
 use Rattle.session_files.specs.Changing.{text_after}
 use Rattle.session_files.proofs.SoundLemmas.{taken_none}
-use Rattle.session_files.specs.Folds.{after_changed, after_crates, after_each_changed, after_each_loaded, after_editing, after_loaded, after_message}
+use Rattle.session_files.specs.Folds.{after_changed, after_crates, after_each_changed, after_each_loaded, after_editing, after_loaded, after_loader_message}
 use Rattle.session_files.specs.Folds.{after_messages, after_opening, after_processing}
-use Rattle.session_files.specs.Folds.{are_some, changed_files, contents_put, has_changed, is_excluded, is_open, made_of, mark_put, table_put, taken_up}
+use Rattle.session_files.specs.Folds.{are_some, changed_files, contents_put, has_changed, is_excluded_path, is_open, made_of, mark_put, table_put, taken_up}
 use Rattle.session_files.specs.Folds.{text_edited, text_put, version_put, with_changes, with_table, world_put}
 use Rattle.session_files.specs.SessionFiles.{SessionFiles}
 use Rattle.session_files.specs.Steps.{become}
@@ -48,7 +48,7 @@ use Rattle.session_model.specs.Inputs.{files_among, files_brought}
 use Rattle.session_model.specs.Machine.{at_client, at_desk, client_in, desk_in, with_client, with_desk, with_files, with_workspaces}
 use Rattle.session_model.specs.RunEnds.{AreTooMany, Numbers, given_at}
 use Rattle.session_model.specs.State.{State}
-use Rattle.session_laws.specs.Invariant.{place_of}
+use Rattle.session_laws.specs.Invariant.{place_of_state}
 use Rattle.session_laws.proofs.Running.{versions_of}
 use Rattle.text_core.specs.declared.change.ContentChange.{ContentChange}
 use Rattle.text_core.specs.declared.position.PositionEncoding.{PositionEncoding}
@@ -86,7 +86,7 @@ at-most a b turns jobs requests revisions files versions settings =
 
 -- those that the session gave
 abbrev pub given : State → Numbers
-given s = given_at (place_of s)
+given s = given_at (place_of_state s)
 
 abbrev pub files_given : Files → ℕ
 files_given table = table.first + length table.paths
@@ -353,7 +353,7 @@ pub opening-counts : (excludes : List (List ℕ)) (path : List ℕ) (version : �
 unfolding after_opening
 opening-counts excludes path version text s =
     let opened : State = with_files (text_put path text (version_put path version s.files)) s in
-    files-if 1 s (is_excluded excludes path) (mark_put path opened.files) (contents_put path (Some text) opened.files) (mark-counts path opened)
+    files-if 1 s (is_excluded_path excludes path) (mark_put path opened.files) (contents_put path (Some text) opened.files) (mark-counts path opened)
     (contents-count path (Some text) opened)
 
 text-counts : (path text : List ℕ) (s : State) → CountsFiles 1 s (text_edited path text s.files)
@@ -405,8 +405,8 @@ each-loaded (file ∷ later) s =
     files-then 1 (length later) (length (file ∷ later)) s (after_loaded file s.files) (after_each_loaded later) (omega arith) (loaded-counts file s)
     (λ now. each-loaded later (with_files now s))
 
-message-counts : (message : LoaderMsg) (s : State) → CountsFiles (files_brought message) s (after_message message s.files)
-unfolding after_message
+message-counts : (message : LoaderMsg) (s : State) → CountsFiles (files_brought message) s (after_loader_message message s.files)
+unfolding after_loader_message
 message-counts (Changed list) s = each-changed list s
 message-counts (Loaded list) s = each-loaded list s
 message-counts (Progress total done dir version) s = gives-same (files 0) (given s) (given s) refl
@@ -415,7 +415,7 @@ pub messages-count : (messages : List LoaderMsg) (s : State) → CountsFiles (fi
 unfolding after_messages
 messages-count [] s = same-files 0 s
 messages-count (message ∷ later) s =
-    files-then (files_brought message) (files_among later) (files_among (message ∷ later)) s (after_message message s.files) (after_messages later) refl
+    files-then (files_brought message) (files_among later) (files_among (message ∷ later)) s (after_loader_message message s.files) (after_messages later) refl
     (message-counts message s)
     (λ now. messages-count later (with_files now s))
 

@@ -11,7 +11,7 @@ use Rattle.analysis_host.specs.declared.host.WorldFault.TheVariants.{Exhausted}
 use Rattle.analysis_host.specs.declared.text_entry.TextEntry.{TextEntry}
 use Rattle.change_effects.specs.Changes.{is_settings_file}
 use Rattle.change_effects.specs.Effects.{settings_among}
-use Rattle.change_effects.specs.Filing.{change_of}
+use Rattle.change_effects.specs.Filing.{filed_change}
 use Rattle.change_effects.specs.declared.effects.SettingsFile.{SettingsFile}
 use Rattle.client.specs.Client.{Client}
 use Rattle.client.specs.Folds.{after_change}
@@ -282,18 +282,18 @@ settled-none None b is = refl
 settled-none (Some pairs) b is = absurd (true≢false (sym is))
 
 by-settled : (b : Bool) (files : List SettingsFile) (s : State) → is_settled files s.sources ≡ b
-    → (client_with (if b then None else Some (change_of s.files.host.world.roots s.sources.parents s.workspaces.present files))
+    → (client_with (if b then None else Some (filed_change s.files.host.world.roots s.sources.parents s.workspaces.present files))
     s.client).settings.settings.parents
     ≡ parents_after s.sources.parents (parents_in s)
 by-settled true files s is = sym (ap (λ o. parents_after o (parents_in s)) (settled-none s.sources.parents (length files == 0) is))
-by-settled false files s is = changed-parents (change_of s.files.host.world.roots s.sources.parents s.workspaces.present files) s.client
+by-settled false files s is = changed-parents (filed_change s.files.host.world.roots s.sources.parents s.workspaces.present files) s.client
 
 pub filed-parents : (files : List SettingsFile) (s : State) → (filed_client files s).settings.settings.parents ≡ parents_after s.sources.parents (parents_in s)
 filed-parents files s = by-settled (is_settled files s.sources) files s refl
 
 pub filed-same : (files : List SettingsFile) (s : State) → files ≡ [] → s.sources.parents ≡ None → filed_client files s ≡ s.client
 filed-same files s none waits = λ i. client_with (if is_none (waits i) && length (none i) == 0 then None
-    else Some (change_of s.files.host.world.roots s.sources.parents s.workspaces.present files)) s.client
+    else Some (filed_change s.files.host.world.roots s.sources.parents s.workspaces.present files)) s.client
 
 -- no settings file is among files that entered
 pub none-filed : (roots : List Root) (list : List ChangedFile) → hold_settings (files_entries roots list) ≡ false → settings_among list ≡ []

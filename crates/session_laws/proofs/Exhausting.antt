@@ -21,7 +21,7 @@ use Rattle.project_model.specs.declared.workspace.ProjectWorkspace.{ProjectWorks
 use Rattle.layered_settings.specs.declared.change.ConfigChange.{ConfigChange}
 use Rattle.ra_config.specs.Config.{ConfigData}
 use Rattle.ra_config.specs.declared.capabilities.Capabilities.{Capabilities}
-use Rattle.session_port.specs.Jobs.{Jobs, after_message}
+use Rattle.session_port.specs.Jobs.{Jobs, jobs_after}
 use Rattle.session_port.specs.Working.{Working, and_then, logged, ordered, within, written}
 use Rattle.session_port.specs.declared.command.DeferredTask.{DeferredTask}
 use Rattle.session_port.specs.declared.command.DeferredTask.TheVariants.{CheckIfIndexed, CheckProcMacroSources}
@@ -57,12 +57,12 @@ use Rattle.session_model.specs.OwnJobs.{own_job, parts_before_fetch, run_jobs, r
 use Rattle.session_laws.proofs.Rows.{session_in}
 use Rattle.desk.specs.Meaning.{Meaning}
 use Rattle.desk.specs.Reactions.{Reaction, cancel_row, message_row, request_row}
-use Rattle.desk.specs.Steps.{cancelled, counted as counted_at_desk, handed_over, jobs_kept as kept_at_desk, requested, taken as taken_at_desk}
+use Rattle.desk.specs.Steps.{cancelled, counted as counted_at_desk, handed_over, jobs_kept as kept_at_desk, requested, result_taken as taken_at_desk}
 use Rattle.desk_laws.specs.Settled.{Settled}
 use Rattle.desk_laws.proofs.Refusing.{TooMany, message-errs, request-errs}
 use Rattle.desk_laws.proofs.Settling.{cancel-settles, message-settles, message-turns, request-settles, request-turns}
 use Rattle.session_files.specs.SessionFiles.{SessionFiles}
-use Rattle.session_files.specs.Steps.{changed, closed as closed_document, crates_put, edited, loaded, opened, processed}
+use Rattle.session_files.specs.Steps.{changed_document, closed_document, crates_put, edited_document, loaded, opened_document, processed}
 use Rattle.workspaces.specs.Fetches.{fetch_to_start, fire, fires, start_fetch, start_up}
 use Rattle.workspaces.specs.Switching.{decided, last_loader_version, next_version, renewed_by, switch_to, switched}
 use Rattle.workspaces.specs.Workspaces.{Workspaces}
@@ -80,20 +80,22 @@ use Rattle.session_model.specs.Inputs.{batch_of, cancelled_by, file_count, files
 use Rattle.session_model.specs.Loading.{MacroPaths, crates_loaded, load_due, load_kept, with_due_load}
 use Rattle.session_model.specs.Machine.{all_resumed, answer_taken, request_taken, asked_for_settings, asked_if, at_client, at_desk, at_files, at_workspaces}
 use Rattle.session_model.specs.Machine.{batched, begin_part, begun_fetches, build_handed_over, build_part}
-use Rattle.session_model.specs.Machine.{build_started, build_taken, changed_at, client_in, turn_closed, closed_at, closing_part, turn_counted, crates_arrived}
+use Rattle.session_model.specs.Machine.{build_started, build_taken, document_changed_at, client_in, turn_closed, document_closed_at, closing_part, turn_counted}
+use Rattle.session_model.specs.Machine.{crates_arrived}
 use Rattle.session_model.specs.Machine.{crates_built, desk_in, effects_done, end_taken, work_taken, fetch_waits, settings_filed, sources_deferred, event_part}
 use Rattle.session_model.specs.Machine.{fetch_handed_over}
 use Rattle.session_model.specs.Machine.{fetch_part, fetch_started, fetch_taken, files_changed, files_done, files_followed, files_in, files_part}
 use Rattle.session_model.specs.Machine.{files_processed, files_processed_if, folders_taken, switch_followed, happened, in_state, desk_kept, knowing}
-use Rattle.session_model.specs.Machine.{load_handed_over, load_started, load_taken, loader_set, macros_taken, noticed, opened_at, quiet_done, quiet_part}
-use Rattle.session_model.specs.Machine.{received, refreshed, register_part, resumed, revised, roots_renewed, runs_started, save_noted}
+use Rattle.session_model.specs.Machine.{load_handed_over, load_started, load_taken, loader_set, macros_taken, noticed, document_opened_at, quiet_done}
+use Rattle.session_model.specs.Machine.{quiet_part}
+use Rattle.session_model.specs.Machine.{received, client_refreshed, register_part, resumed, revised, roots_renewed, runs_started, save_noted}
 use Rattle.session_model.specs.Machine.{saved_at, saved_file, saves_registered, some_processed, state_in, status_changed, status_done, status_kept, status_part}
 use Rattle.session_model.specs.Machine.{status_told, step, switch_done, switch_part, switch_taken, message_taken, event_taken}
 use Rattle.session_model.specs.Machine.{publish_part, text_shown, timed, timer_set, told, turned, Turning, turning, warned, watchers_registered, with_client}
 use Rattle.session_model.specs.Machine.{with_desk, with_files, with_sources, with_state, with_status, with_workspaces}
 use Rattle.session_model.specs.RunEnds.{AreTooMany, NeedsMore, Numbers, needs_of}
-use Rattle.session_model.specs.Rows.{batch_row, machine_after, notice_row, place_after_message, row, scene_within, turn_begun}
-use Rattle.session_model.specs.Run.{begun}
+use Rattle.session_model.specs.Rows.{batch_row, machine_after, notice_row, place_after_message, turn_row, scene_within, turn_begun}
+use Rattle.session_model.specs.Run.{turn_start}
 use Rattle.session_model.specs.Saving.{path_saved}
 use Rattle.session_model.specs.Sources.{change_for, client_with, further_files, parents_told}
 use Rattle.session_model.specs.State.{State, builds_scripts, columns_in, discovers, excludes_in, goes_by_folders, may_start, scene_of, snapshot_of}
@@ -107,7 +109,7 @@ use Rattle.session_model.specs.declared.input.Event.{Event}
 use Rattle.session_model.specs.declared.input.Event.TheVariants.{Lsp, Task, Vfs, Deferred, Timer}
 use Rattle.session_model.specs.declared.input.Input.{Input}
 use Rattle.session_model.specs.declared.input.Input.TheVariants.{Start, Next}
-use Rattle.session_laws.specs.Invariant.{place_of}
+use Rattle.session_laws.specs.Invariant.{place_of_state}
 use Rattle.session_laws.proofs.Batches.{DoesAtDesk, Stays, logged_if-same, or-is, place_now, rest-is, scene-is, settles-within, stays-on, stays-same}
 use Rattle.session_laws.proofs.Counting.{AtMost, Counts, ahead, at-most, become-ahead, become-counts, both, counts-behind, counts-if, counts-more, counts-then}
 use Rattle.session_laws.proofs.Counting.{counts-within, crates-count, editing-counts, files, files_ahead, given, given-workspaces}
@@ -156,8 +158,8 @@ unfolding asked_if
 asked_if-does true message w = request-counts message Ignore w
 asked_if-does false message w = does-same (requests 1) w w refl
 
-refreshed-does : (can : Capabilities) (w : Working State) → Does (requests 4) w (refreshed can w)
-unfolding refreshed
+refreshed-does : (can : Capabilities) (w : Working State) → Does (requests 4) w (client_refreshed can w)
+unfolding client_refreshed
 refreshed-does can w =
     does-then (requests 1) (requests 3) w (asked_if can.semantic_tokens_refresh SemanticTokensRefresh w) _
     (asked_if-does can.semantic_tokens_refresh SemanticTokensRefresh w)
@@ -168,7 +170,7 @@ refreshed-does can w =
 quiet-does : (facts : Facts) (w : Working State) → Does (requests 4) w (quiet_done facts w)
 unfolding quiet_done
 quiet-does facts w =
-    counts-if state_ahead (requests 4) (held w.state) _ (refreshed w.state.client.settings.capabilities w) (Ok w)
+    counts-if state_ahead (requests 4) (held w.state) _ (client_refreshed w.state.client.settings.capabilities w) (Ok w)
     (refreshed-does w.state.client.settings.capabilities w) (does-same (requests 4) w w refl)
 
 registered-does : (w : Working State) → Does (requests 1) w (saves_registered w)
@@ -428,7 +430,7 @@ desk-counts needs s request w done out (Err counter) turns handed few settles er
     subst (AreTooMany (given s) needs) (sym errs.0) (many-jobs s.desk.handed w.state.handed (length done.jobs) needs.jobs handed few errs.1)
 
 request-does : (meaning : Meaning) (s : State) (r : Request) (needs : Numbers)
-    → length (row meaning (Next (Lsp (lsp.Request r))) (place_of s)).jobs ≤ needs.jobs
+    → length (turn_row meaning (Next (Lsp (lsp.Request r))) (place_of_state s)).jobs ≤ needs.jobs
     → Does needs (turn_begun s) (request_taken meaning r (turn_begun s))
 request-does meaning s r needs few =
     let w : Working State = turn_begun s in
@@ -489,7 +491,7 @@ taken-does meaning turns message w =
     subst (λ n. Does (for_messages n 1) w (message_taken meaning message w)) (plus-none (length done.jobs))
     (does-then (jobs (length done.jobs)) (revisions 1) w (at_desk (taken_at_desk meaning scene message) w) _
     (counts-within state_ahead (jobs (length done.jobs)) (held w.state) desk_in with_desk (taken_at_desk meaning scene message) w
-    (desk-counts (jobs (length done.jobs)) (ahead w.state) None (at w) plain (after_message message out) (taken_at_desk meaning scene message (at w)) refl refl
+    (desk-counts (jobs (length done.jobs)) (ahead w.state) None (at w) plain (jobs_after message out) (taken_at_desk meaning scene message (at w)) refl refl
     (omega (arith, same))
     (message-settles meaning scene message (at w)) (message-errs meaning scene message (at w))))
     (end-does (work_ended message out)))
@@ -508,8 +510,8 @@ batch-does meaning turns s (m ∷ ms) w h =
     (counts-then state_ahead state_ahead first others (held w.state) (message_taken meaning m w) (batched meaning ms)
     (subst (λ scene. Does (for_messages (length (message_row meaning scene place.desk m).jobs) 1) w (message_taken meaning m w)) (sym (scene-is s turns w h))
     (taken-does meaning turns m w))
-    (λ v is. let a : DoesAtDesk w v done (after_message m w.state.desk.jobs) =
-    IfOk-at_ok (λ v. DoesAtDesk w v done (after_message m w.state.desk.jobs)) is (settles-within meaning s turns m w h) in
+    (λ v is. let a : DoesAtDesk w v done (jobs_after m w.state.desk.jobs) =
+    IfOk-at_ok (λ v. DoesAtDesk w v done (jobs_after m w.state.desk.jobs)) is (settles-within meaning s turns m w h) in
     let next : machine_after meaning m w ≡ v = IfOk-at_ok (λ v. machine_after meaning m w ≡ v) is (or-is w (message_taken meaning m w)) in
     subst (λ (r : Reaction). Does (for_messages (length r.jobs) (length ms)) v (batched meaning ms v)) (rest-is meaning s turns m ms w v done next a)
     (batch-does meaning turns s ms v (stays-on s w.state v.state h a.stays))))
@@ -519,7 +521,7 @@ batch-does meaning turns s (m ∷ ms) w h =
 -- what an event gives
 abbrev pub for_event : Meaning → State → Input → Numbers
 for_event meaning s input = record none {
-  jobs = length (row meaning input (place_of s)).jobs + length (checks_back s input);
+  jobs = length (turn_row meaning input (place_of_state s)).jobs + length (checks_back s input);
   requests = 1;
   revisions = length (batch_of input);
   files = file_count input;
@@ -540,13 +542,13 @@ event-files meaning s input n work count h =
     (files-do (files n) (turn_begun s) work h)
 
 opened-does : (meaning : Meaning) (s : State) (n : Notification) (document : DidOpen) (o : Result (List ℕ) UrlFault) → file_count (notification_input n) ≡ 1
-    → Gives (for_event meaning s (notification_input n)) (turn_begun s) (opened_at o document (turn_begun s))
-unfolding opened_at opened logged ordered
+    → Gives (for_event meaning s (notification_input n)) (turn_begun s) (document_opened_at o document (turn_begun s))
+unfolding document_opened_at opened_document logged ordered
 opened-does meaning s n document (Err fault) one = gives-none (for_event meaning s (notification_input n)) (turn_begun s)
     (logged BadPath document.uri (turn_begun s)) refl
 opened-does meaning s n document (Ok path) one =
     let excludes = excludes_in s.client.settings in
-    event-files meaning s (notification_input n) 1 (opened excludes path document.version document.text) one
+    event-files meaning s (notification_input n) 1 (opened_document excludes path document.version document.text) one
     (become-counts (files 1) (given (turn_begun s).state) (turn_begun s).state _ _
     (opening-counts excludes path document.version document.text (turn_begun s).state))
 
@@ -557,19 +559,19 @@ edited-cases : (needs before : Numbers) (s : State) (b : Bool) (r : Result (Work
 edited-cases needs before s b r w p q = counts-if (λ (v : Working SessionFiles). with_files v.state s) needs before b r (Ok w) p q
 
 changed-does : (meaning : Meaning) (s : State) (n : Notification) (change : DidChange) (o : Result (List ℕ) UrlFault) → file_count (notification_input n) ≡ 1
-    → Gives (for_event meaning s (notification_input n)) (turn_begun s) (changed_at o change (turn_begun s))
-unfolding changed_at changed edited logged ordered
+    → Gives (for_event meaning s (notification_input n)) (turn_begun s) (document_changed_at o change (turn_begun s))
+unfolding document_changed_at changed_document edited_document logged ordered
 changed-does meaning s n change (Err fault) one = gives-none (for_event meaning s (notification_input n)) (turn_begun s)
     (logged BadPath change.uri (turn_begun s)) refl
 changed-does meaning s n change (Ok path) one =
     let columns = columns_in s.client.settings in
     let t : State = (turn_begun s).state in
-    event-files meaning s (notification_input n) 1 (changed columns path change.version change.changes) one
+    event-files meaning s (notification_input n) 1 (changed_document columns path change.version change.changes) one
     (edited-cases (files 1) (given t) t _ _ _ (become-counts (files 1) (given t) t _ _ (editing-counts columns path change.version change.changes t))
     (gives-same (files 1) (given t) (given t) refl))
 
-closed-does : (needs : Numbers) (s : State) (uri : List ℕ) (o : Result (List ℕ) UrlFault) → Gives needs (turn_begun s) (closed_at o uri (turn_begun s))
-unfolding closed_at closed_document logged ordered
+closed-does : (needs : Numbers) (s : State) (uri : List ℕ) (o : Result (List ℕ) UrlFault) → Gives needs (turn_begun s) (document_closed_at o uri (turn_begun s))
+unfolding document_closed_at closed_document logged ordered
 closed-does needs s uri (Err fault) = gives-none needs (turn_begun s) (logged BadPath uri (turn_begun s)) refl
 closed-does needs s uri (Ok path) = files-do needs (turn_begun s) (λ f. Ok (closed_document path f))
     (gives-same needs (given (turn_begun s).state) (given (turn_begun s).state) refl)
@@ -650,7 +652,7 @@ cancel-does meaning s n id heard =
     let needs = for_event meaning s (notification_input n) in
     let w : Working State = turn_begun s in
     let settles = cancel-settles id (at w) in
-    let jobs : length (row meaning (notification_input n) (place_of s)).jobs ≡ length (cancel_row id s.desk).jobs =
+    let jobs : length (turn_row meaning (notification_input n) (place_of_state s)).jobs ≡ length (cancel_row id s.desk).jobs =
     ap (λ o. length (notice_row (cancelled_by o) s.desk).jobs) heard in
     counts-within state_ahead needs (held w.state) desk_in with_desk (λ d. Ok (cancelled id d)) w
     (gives-desk needs (ahead w.state) (cancelled id (at w)).state
@@ -740,7 +742,7 @@ event-does meaning s (Task batch) =
     let w : Working State = turn_begun s in
     let input : Input = Next (Task batch) in
     event-holds (for_event meaning s (Next (Task batch))) (turn_begun s) (happened meaning (Task batch) (turn_begun s))
-    (counts-more state_ahead (for_messages (length (row meaning input (place_of s)).jobs) (length batch)) (for_event meaning s input) (held w.state)
+    (counts-more state_ahead (for_messages (length (turn_row meaning input (place_of_state s)).jobs) (length batch)) (for_event meaning s input) (held w.state)
     (batched meaning batch w)
     (at-most _ _ (omega arith) (omega arith) (omega arith) (omega arith) (omega arith) (omega arith) (omega arith))
     (batch-does meaning s.desk.turns s batch w (stays-same s (turn_begun s).state refl refl (record { present = refl; version = refl }))))
@@ -765,19 +767,19 @@ event-does meaning s (Timer ticket) =
     (does-same (for_event meaning s (Next (Timer ticket))) (turn_begun s) (timed ticket (turn_begun s))
     (held-workspaces (turn_begun s).state (with_fetches (fire ticket) s.workspaces) (fire-runs 0 ticket s.workspaces).versions))
 
-counted-does : (s : State) → Gives (turns 1) (begun s) (turn_counted (begun s))
+counted-does : (s : State) → Gives (turns 1) (turn_start s) (turn_counted (turn_start s))
 unfolding turn_counted counted_at_desk
 counted-does s =
-    counts-within state_at (turns 1) (given s) desk_in with_desk counted_at_desk (begun s)
+    counts-within state_at (turns 1) (given s) desk_in with_desk counted_at_desk (turn_start s)
     (next-counts (λ (v : Working Desk). with_desk v.state s) (turns 1) (given s) s.desk.turns counters.Turns _ (ltb s.desk.turns (2 ^ 64 - 1)) refl
     (gives-desk (turns 1) s (record s.desk { turns = s.desk.turns + 1 }) (omega arith) (omega arith)) (λ last. omega (arith, last)))
 
 taken_in-does : (meaning : Meaning) (s : State) (event : Event)
-    → Counts state_ahead (both (turns 1) (both (for_event meaning s (Next event)) (revisions 1))) (given s) (event_taken meaning event (begun s))
+    → Counts state_ahead (both (turns 1) (both (for_event meaning s (Next event)) (revisions 1))) (given s) (event_taken meaning event (turn_start s))
 unfolding event_taken
 taken_in-does meaning s event =
     let needs = for_event meaning s (Next event) in
-    counts-then state_at state_ahead (turns 1) (both needs (revisions 1)) (given s) (turn_counted (begun s)) (happened meaning event) (counted-does s)
+    counts-then state_at state_ahead (turns 1) (both needs (revisions 1)) (given s) (turn_counted (turn_start s)) (happened meaning event) (counted-does s)
     (λ v is. let same : v ≡ turn_begun s = IfOk-at_ok (λ v. v ≡ turn_begun s) is (counted-is s) in
     subst (λ w. EventDoes needs w (happened meaning event w)) (sym same) (event-does meaning s event))
 
@@ -856,10 +858,10 @@ abbrev pub for_event_part : Meaning → State → Event → Numbers
 for_event_part meaning s event = both (turns 1) (both (for_event meaning s (Next event)) (revisions 1))
 
 pub event_part-does : (meaning : Meaning) (s : State) (event : Event)
-    → Counts turning_ahead (for_event_part meaning s event) (given s) (event_part meaning event (turning (begun s)))
+    → Counts turning_ahead (for_event_part meaning s event) (given s) (event_part meaning event (turning (turn_start s)))
 unfolding event_part
 event_part-does meaning s event =
-    counts-within turning_ahead (for_event_part meaning s event) (given s) state_in with_state (event_taken meaning event) (turning (begun s))
+    counts-within turning_ahead (for_event_part meaning s event) (given s) state_in with_state (event_taken meaning event) (turning (turn_start s))
     (taken_in-does meaning s event)
 
 -- what comes before the session's own work: behind an event a switch, the files, and what the client shows
@@ -868,15 +870,15 @@ for_parts_before meaning Start s = both (revisions 1) (requests 2)
 for_parts_before meaning (Next event) s = both (for_event_part meaning s event) (both for_switch (requests 4))
 
 parts-before-do : (meaning : Meaning) (s : State) (input : Input)
-    → Counts turning_ahead (for_parts_before meaning input s) (given s) (parts_before_fetch meaning input (turning (begun s)))
+    → Counts turning_ahead (for_parts_before meaning input s) (given s) (parts_before_fetch meaning input (turning (turn_start s)))
 parts-before-do meaning s Start =
-    let t : Working Turning = turning (begun s) in
+    let t : Working Turning = turning (turn_start s) in
     counts-behind turning_ahead (revisions 1) (requests 2) (given s) (held s) (parts_before_fetch meaning Start t) (more-held s)
     (parts-then (requests 1) (requests 1) t (status_part t) _ (status_part-does t)
     (λ t. parts-then (requests 1) none t (register_part t) begin_part (register_part-does t) begin_part-does))
 parts-before-do meaning s (Next event) =
     counts-then turning_ahead turning_ahead (for_event_part meaning s event) (both for_switch (requests 4)) (given s)
-    (event_part meaning event (turning (begun s))) _ (event_part-does meaning s event)
+    (event_part meaning event (turning (turn_start s))) _ (event_part-does meaning s event)
     (λ t is. parts-then for_switch (requests 4) t (switch_part t) _ (switch_part-does t)
     (λ t. parts-then none (requests 4) t (files_part t) _ (files_part-does t)
     (λ t. parts-then (requests 4) none t (quiet_part t) publish_part (quiet_part-does t)
@@ -926,7 +928,8 @@ forgets needs n (Ok t) h = h
 forgets needs n (Err counter) h = h
 
 few-own : (meaning : Meaning) (s : State) (input : Input)
-    → AtMost (both (for_parts_before meaning input s) (for_work (length (jobs_due input (before_fetch meaning input s))))) (needs_of meaning input (place_of s))
+    → AtMost (both (for_parts_before meaning input s) (for_work (length (jobs_due input (before_fetch meaning input s)))))
+    (needs_of meaning input (place_of_state s))
 few-own meaning s Start = at-most _ _ (omega arith) (omega arith) (omega arith) (omega arith) (omega arith) (omega arith) (omega arith)
 few-own meaning s (Next event) =
     at-most _ _ (omega arith) (omega (arith, length-append (checks_back s (Next event)) (jobs_due (Next event) (before_fetch meaning (Next event) s))))
@@ -934,13 +937,13 @@ few-own meaning s (Next event) =
     (omega arith) (omega arith)
 
 pub step-does : (meaning : Meaning) (s : State) (input : Input)
-    → Counts state_ahead (needs_of meaning input (place_of s)) (given s) (step meaning input (begun s))
+    → Counts state_ahead (needs_of meaning input (place_of_state s)) (given s) (step meaning input (turn_start s))
 step-does meaning s input =
-    let before = parts_before_fetch meaning input (turning (begun s)) in
+    let before = parts_before_fetch meaning input (turning (turn_start s)) in
     let due = jobs_due input (before_fetch meaning input s) in
-    subst (Counts state_ahead (needs_of meaning input (place_of s)) (given s)) (sym (step-split meaning input s))
-    (forgets (needs_of meaning input (place_of s)) (given s) (and_then before (parts_from_fetch input))
-    (counts-more turning_ahead (both (for_parts_before meaning input s) (for_work (length due))) (needs_of meaning input (place_of s)) (given s)
+    subst (Counts state_ahead (needs_of meaning input (place_of_state s)) (given s)) (sym (step-split meaning input s))
+    (forgets (needs_of meaning input (place_of_state s)) (given s) (and_then before (parts_from_fetch input))
+    (counts-more turning_ahead (both (for_parts_before meaning input s) (for_work (length due))) (needs_of meaning input (place_of_state s)) (given s)
     (and_then before (parts_from_fetch input))
     (few-own meaning s input)
     (counts-then turning_ahead turning_ahead (for_parts_before meaning input s) (for_work (length due)) (given s) before (parts_from_fetch input)
@@ -957,9 +960,9 @@ too-many needs n (Ok v) counter is h = absurd cc
 too-many needs n (Err c) counter is h = subst (AreTooMany n needs) (same-err c counter is) h
 
 -- where the machine can't take a turn, one more of the counter that it names is needed than there are
-pub step-needs : (meaning : Meaning) (s : State) (input : Input) (counter : Counter) → step meaning input (begun s) ≡ Err counter
-    → NeedsMore meaning (place_of s) input counter
+pub step-needs : (meaning : Meaning) (s : State) (input : Input) (counter : Counter) → step meaning input (turn_start s) ≡ Err counter
+    → NeedsMore meaning (place_of_state s) input counter
 step-needs meaning s input counter refused = record {
   refused = refused;
-  too_many = too-many (needs_of meaning input (place_of s)) (given s) (step meaning input (begun s)) counter refused (step-does meaning s input);
+  too_many = too-many (needs_of meaning input (place_of_state s)) (given s) (step meaning input (turn_start s)) counter refused (step-does meaning s input);
 }

@@ -11,7 +11,7 @@ use Rattle.session_port.specs.declared.command.DeferredTask.{DeferredTask}
 use Rattle.session_port.specs.declared.fault.Counter.{Counter}
 use Rattle.session_port.specs.declared.job.Job.{Job}
 use Rattle.desk.specs.Desk.{Desk}
-use Rattle.desk.specs.Folds.{asked_among, is_asked}
+use Rattle.desk.specs.Folds.{asked_among, is_for_request}
 use Rattle.desk.specs.Meaning.{Meaning}
 use Rattle.desk.specs.Steps.{jobs_kept as kept_at_desk}
 use Rattle.desk_laws.proofs.Appends.{spawned-append}
@@ -23,8 +23,8 @@ use Rattle.session_model.specs.Machine.{happened, in_state, desk_kept, knowing, 
 use Rattle.session_model.specs.Machine.{status_part, step}
 use Rattle.session_model.specs.Machine.{switch_part, event_taken, timer_set, turned, turning, with_desk, with_state}
 use Rattle.session_model.specs.OwnJobs.{OwnJob, checks_among_tasks, checks_back, fetch_jobs, jobs_due, numbered_behind, own_jobs, parts_before_fetch, run_jobs}
-use Rattle.session_model.specs.Rows.{row, turn_begun}
-use Rattle.session_model.specs.Run.{Steps, Turn, begun}
+use Rattle.session_model.specs.Rows.{turn_row, turn_begun}
+use Rattle.session_model.specs.Run.{Steps, Turn, turn_start}
 use Rattle.session_model.specs.RunEnds.{Numbers}
 use Rattle.session_model.specs.State.{State, may_start}
 use Rattle.session_model.specs.declared.facts.Facts.{Facts}
@@ -33,7 +33,7 @@ use Rattle.session_model.specs.declared.input.Event.TheVariants.{Lsp, Task, Vfs,
 use Rattle.session_model.specs.declared.input.Input.{Input}
 use Rattle.session_model.specs.declared.input.Input.TheVariants.{Start, Next}
 use Rattle.session_laws.specs.Beside.{Beside}
-use Rattle.session_laws.specs.Invariant.{place_of}
+use Rattle.session_laws.specs.Invariant.{place_of_state}
 use Rattle.session_laws.proofs.Beside.{beside-spawned}
 use Rattle.session_laws.proofs.Counting.{Counts, given, none, requests}
 use Rattle.session_laws.proofs.Exhausting.{PartDoes, begin_part-does, event_part-does, files_part-does, for_event_part, for_switch, quiet_part-does}
@@ -102,7 +102,7 @@ one-few false job asked jobs le = omega (arith, le)
 
 asked-few : (jobs : List Job) → length (asked_among jobs) ≤ length jobs
 asked-few [] = omega arith
-asked-few (job ∷ jobs) = one-few (is_asked job) job (asked_among jobs) jobs (asked-few jobs)
+asked-few (job ∷ jobs) = one-few (is_for_request job) job (asked_among jobs) jobs (asked-few jobs)
 
 one-all : (b : Bool) (job : Job) (asked jobs : List Job) → length asked ≤ length jobs → (length jobs ≤ length asked → asked ≡ jobs)
     → length (job ∷ jobs) ≤ length (if b then job ∷ asked else asked)
@@ -113,13 +113,13 @@ one-all false job asked jobs few all le = absurd (omega (arith, few, le))
 -- where as many are for requests as there are, all of them are
 all-asked : (jobs : List Job) → length jobs ≤ length (asked_among jobs) → asked_among jobs ≡ jobs
 all-asked [] le = refl
-all-asked (job ∷ jobs) le = one-all (is_asked job) job (asked_among jobs) jobs (asked-few jobs) (all-asked jobs) le
+all-asked (job ∷ jobs) le = one-all (is_for_request job) job (asked_among jobs) jobs (asked-few jobs) (all-asked jobs) le
 
 asked-only : (meaning : Meaning) (s : State) (input : Input) (v : Working Turning) → Going meaning s input v
-    → v.state.state.desk.handed ≤ s.desk.handed + length (row meaning input (place_of s)).jobs
-    → HandedOver (row meaning input (place_of s)).jobs (s.desk.handed + length (row meaning input (place_of s)).jobs) [] (session_in v)
+    → v.state.state.desk.handed ≤ s.desk.handed + length (turn_row meaning input (place_of_state s)).jobs
+    → HandedOver (turn_row meaning input (place_of_state s)).jobs (s.desk.handed + length (turn_row meaning input (place_of_state s)).jobs) [] (session_in v)
 asked-only meaning s input v g le =
-    let jobs : List Job = (row meaning input (place_of s)).jobs in
+    let jobs : List Job = (turn_row meaning input (place_of_state s)).jobs in
     let does : asked_among (spawned v.out.commands) ≡ jobs = g.serves.does.jobs in
     let handed : v.state.state.desk.handed ≡ s.desk.handed + length (spawned v.out.commands) = ap (λ (d : Desk). d.handed) g.serves.desk in
     let many : length (asked_among (spawned v.out.commands)) ≡ length jobs = ap (λ (js : List Job). length js) does in
@@ -130,10 +130,11 @@ asked-only meaning s input v g le =
 no-checks : (meaning : Meaning) (s : State) (event : Event) (r : Result (Working Turning) Counter) → checks_back s (Next event) ≡ []
     → IfOk r (Going meaning s (Next event))
     → Counts turning_ahead (for_event_part meaning s event) (given s) r
-    → IfOk r (λ v. HandedOver (row meaning (Next event) (place_of s)).jobs (s.desk.handed + length (row meaning (Next event) (place_of s)).jobs) []
+    → IfOk r (λ v. HandedOver (turn_row meaning (Next event) (place_of_state s)).jobs
+    (s.desk.handed + length (turn_row meaning (Next event) (place_of_state s)).jobs) []
     (session_in v))
 no-checks meaning s event (Ok v) nothing g c =
-    let jobs : List Job = (row meaning (Next event) (place_of s)).jobs in
+    let jobs : List Job = (turn_row meaning (Next event) (place_of_state s)).jobs in
     let no : length (checks_back s (Next event)) ≡ 0 = ap (λ (own : List OwnJob). length own) nothing in
     let le : v.state.state.desk.handed ≤ s.desk.handed + (0 + ((length jobs + length (checks_back s (Next event))) + 0)) = c.jobs in
     asked-only meaning s (Next event) v g (omega (arith, le, no))
@@ -141,29 +142,29 @@ no-checks meaning s event (Err counter) nothing g c = tt
 
 -- checks that come back, where the row is silent
 deferred-over : (meaning : Meaning) (s : State) (tasks : List DeferredTask)
-    → IfOk (event_part meaning (Deferred tasks) (turning (begun s))) (λ v. HandedOver [] (s.desk.handed + 0) (checks_among_tasks s tasks) (session_in v))
+    → IfOk (event_part meaning (Deferred tasks) (turning (turn_start s))) (λ v. HandedOver [] (s.desk.handed + 0) (checks_among_tasks s tasks) (session_in v))
 unfolding event_part event_taken happened
 deferred-over meaning s tasks =
     let Goal : Working State → Type 0 = λ v. HandedOver [] (s.desk.handed + 0) (checks_among_tasks s tasks) v in
-    IfOk-within state_in with_state (event_taken meaning (Deferred tasks)) (turning (begun s)) (λ v. Goal (session_in v))
-    (IfOk-and_then (turn_counted (begun s)) (happened meaning (Deferred tasks)) (λ v. v ≡ turn_begun s) Goal (counted-is s)
+    IfOk-within state_in with_state (event_taken meaning (Deferred tasks)) (turning (turn_start s)) (λ v. Goal (session_in v))
+    (IfOk-and_then (turn_counted (turn_start s)) (happened meaning (Deferred tasks)) (λ v. v ≡ turn_begun s) Goal (counted-is s)
     (λ v is. subst (λ w. IfOk (happened meaning (Deferred tasks) w) Goal) (sym is)
     (IfOk-weaker (all_resumed tasks (turn_begun s)) (HandsOver (turn_begun s) (checks_among_tasks (turn_begun s).state tasks)) Goal
     (checks-over tasks (turn_begun s))
     (λ v h. subst (λ n. HandedOver [] n (checks_among_tasks s tasks) v) (plus-none s.desk.handed)
     (subst (λ (own : List OwnJob). HandedOver [] s.desk.handed own v) (checks-same (turn_begun s).state.desk s tasks) h)))))
 
-event-over : (meaning : Meaning) (s : State) (event : Event) → IfOk (event_part meaning event (turning (begun s)))
-    (λ v. HandedOver (row meaning (Next event) (place_of s)).jobs (s.desk.handed + length (row meaning (Next event) (place_of s)).jobs)
+event-over : (meaning : Meaning) (s : State) (event : Event) → IfOk (event_part meaning event (turning (turn_start s)))
+    (λ v. HandedOver (turn_row meaning (Next event) (place_of_state s)).jobs (s.desk.handed + length (turn_row meaning (Next event) (place_of_state s)).jobs)
     (checks_back s (Next event)) (session_in v))
-event-over meaning s (Lsp message) = no-checks meaning s (Lsp message) (event_part meaning (Lsp message) (turning (begun s))) refl
+event-over meaning s (Lsp message) = no-checks meaning s (Lsp message) (event_part meaning (Lsp message) (turning (turn_start s))) refl
     (event-going meaning s (Lsp message)) (event_part-does meaning s (Lsp message))
-event-over meaning s (Task batch) = no-checks meaning s (Task batch) (event_part meaning (Task batch) (turning (begun s))) refl
+event-over meaning s (Task batch) = no-checks meaning s (Task batch) (event_part meaning (Task batch) (turning (turn_start s))) refl
     (event-going meaning s (Task batch)) (event_part-does meaning s (Task batch))
-event-over meaning s (Vfs messages) = no-checks meaning s (Vfs messages) (event_part meaning (Vfs messages) (turning (begun s))) refl
+event-over meaning s (Vfs messages) = no-checks meaning s (Vfs messages) (event_part meaning (Vfs messages) (turning (turn_start s))) refl
     (event-going meaning s (Vfs messages)) (event_part-does meaning s (Vfs messages))
 event-over meaning s (Deferred tasks) = deferred-over meaning s tasks
-event-over meaning s (Timer ticket) = no-checks meaning s (Timer ticket) (event_part meaning (Timer ticket) (turning (begun s))) refl
+event-over meaning s (Timer ticket) = no-checks meaning s (Timer ticket) (event_part meaning (Timer ticket) (turning (turn_start s))) refl
     (event-going meaning s (Timer ticket)) (event_part-does meaning s (Timer ticket))
 
 -- ---- the parts behind it
@@ -187,20 +188,21 @@ begin-over : (t : Working Turning) → IfOk (begin_part t) (λ v. HandsOver (ses
 begin-over t = aside-none-over none t (begin_part t) refl (begin-is t) (begin_part-does t)
 
 -- before its fetch a turn has handed over the jobs of its row and the checks that come back
-before-over : (meaning : Meaning) (s : State) (input : Input) → IfOk (parts_before_fetch meaning input (turning (begun s)))
-    (λ v. HandedOver (row meaning input (place_of s)).jobs (s.desk.handed + length (row meaning input (place_of s)).jobs) (checks_back s input) (session_in v))
+before-over : (meaning : Meaning) (s : State) (input : Input) → IfOk (parts_before_fetch meaning input (turning (turn_start s)))
+    (λ v. HandedOver (turn_row meaning input (place_of_state s)).jobs (s.desk.handed + length (turn_row meaning input (place_of_state s)).jobs)
+    (checks_back s input) (session_in v))
 before-over meaning s Start =
     let n : ℕ = s.desk.handed + 0 in
-    let t : Working Turning = turning (begun s) in
+    let t : Working Turning = turning (turn_start s) in
     let Goal : Working Turning → Type 0 = λ v. HandedOver [] n [] (session_in v) in
     none-on [] n [] t (status_part t) _ Goal (record { spawns = refl; handed = plus-none s.desk.handed ∙ plus-none n }) (status-over t)
     (λ t h. none-on [] n [] t (register_part t) begin_part Goal h (register-over t) (λ t h. none-is [] n [] t (begin_part t) h (begin-over t)))
 before-over meaning s (Next event) =
-    let jobs : List Job = (row meaning (Next event) (place_of s)).jobs in
+    let jobs : List Job = (turn_row meaning (Next event) (place_of_state s)).jobs in
     let n : ℕ = s.desk.handed + length jobs in
     let own : List OwnJob = checks_back s (Next event) in
     let Goal : Working Turning → Type 0 = λ v. HandedOver jobs n own (session_in v) in
-    IfOk-and_then (event_part meaning event (turning (begun s))) _ Goal Goal (event-over meaning s event)
+    IfOk-and_then (event_part meaning event (turning (turn_start s))) _ Goal Goal (event-over meaning s event)
     (λ t h. none-on jobs n own t (switch_part t) _ Goal h (switch-over t)
     (λ t h. none-on jobs n own t (files_part t) _ Goal h (files-over t)
     (λ t h. none-on jobs n own t (quiet_part t) _ Goal h (quiet-over t) (λ t h. h))))
@@ -280,13 +282,13 @@ is-then : (r : Result (Working Turning) Counter) (f : Working Turning → Result
 is-then (Ok t) f P Q p next = next t refl p
 is-then (Err counter) f P Q p next = tt
 
-step-over : (meaning : Meaning) (s : State) (input : Input) → let asked = (row meaning input (place_of s)).jobs in
-    IfOk (step meaning input (begun s)) (λ w. spawned w.out.commands ≡ asked ++ numbered_behind (s.desk.handed + length asked) (own_jobs meaning input s))
+step-over : (meaning : Meaning) (s : State) (input : Input) → let asked = (turn_row meaning input (place_of_state s)).jobs in
+    IfOk (step meaning input (turn_start s)) (λ w. spawned w.out.commands ≡ asked ++ numbered_behind (s.desk.handed + length asked) (own_jobs meaning input s))
 step-over meaning s input =
-    let jobs : List Job = (row meaning input (place_of s)).jobs in
+    let jobs : List Job = (turn_row meaning input (place_of_state s)).jobs in
     let n : ℕ = s.desk.handed + length jobs in
     let own : List OwnJob = checks_back s input in
-    let before = parts_before_fetch meaning input (turning (begun s)) in
+    let before = parts_before_fetch meaning input (turning (turn_start s)) in
     let Goal : Working State → Type 0 = λ w. spawned w.out.commands ≡ jobs ++ numbered_behind n (own_jobs meaning input s) in
     subst (λ r. IfOk r Goal) (sym (step-split meaning input s))
     (IfOk-and_then (and_then before (parts_from_fetch input)) turned (λ u. Goal (session_in u)) Goal
@@ -296,9 +298,9 @@ step-over meaning s input =
     (from-over jobs n own input t h))) (λ u g. g))
 
 pub turns-over : (meaning : Meaning) (old : State) (turn : Turn) (new : State) → Steps meaning old turn new → let asked =
-    (row meaning turn.input (place_of old)).jobs in
+    (turn_row meaning turn.input (place_of_state old)).jobs in
     spawned turn.commands ≡ asked ++ numbered_behind (old.desk.handed + length asked) (own_jobs meaning turn.input old)
 turns-over meaning old turn new steps =
-    let asked : List Job = (row meaning turn.input (place_of old)).jobs in
+    let asked : List Job = (turn_row meaning turn.input (place_of_state old)).jobs in
     IfOk-at_ok (λ w. spawned w.out.commands ≡ asked ++ numbered_behind (old.desk.handed + length asked) (own_jobs meaning turn.input old)) steps
     (step-over meaning old turn.input)

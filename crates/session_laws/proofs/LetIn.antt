@@ -32,7 +32,7 @@ use Rattle.change_effects.specs.Effects.{settings_among}
 use Rattle.change_effects.specs.declared.effects.ChangeEffects.{ChangeEffects}
 use Rattle.client.specs.Answers.{settings_in}
 use Rattle.client.specs.Client.{Client}
-use Rattle.client.specs.Folds.{after_asking, follows, settings_after, with_client as settings_with}
+use Rattle.client.specs.Folds.{after_asking, follows, settings_after, with_client_settings as settings_with}
 use Rattle.client.specs.Steps.{answered, asked_for, folders_changed, logged_if, notification_of}
 use Rattle.client.specs.declared.handler.ReqHandler.{ReqHandler}
 use Rattle.client.specs.declared.handler.ReqHandler.TheVariants.{Ignore, OpenLogs, Settings}
@@ -50,11 +50,11 @@ use Rattle.desk.specs.WorkEnds.{BuildEnd, FetchEnd, LoadEnd, work_ended}
 use Rattle.desk.specs.declared.state.ends.WorkEnd.{WorkEnd}
 use Rattle.desk.specs.declared.state.ends.WorkEnd.TheVariants.{Fetched, Built, Checked, Loaded}
 use Rattle.desk.specs.Meaning.{Meaning}
-use Rattle.desk.specs.Steps.{cancelled, counted as counted_at_desk, handed_over, jobs_kept as kept_at_desk, requested, taken as taken_at_desk}
+use Rattle.desk.specs.Steps.{cancelled, counted as counted_at_desk, handed_over, jobs_kept as kept_at_desk, requested, result_taken as taken_at_desk}
 use Rattle.desk_laws.proofs.Results.{IfOk-and_then, IfOk-if, IfOk-weaker, IfOk-within}
 use Rattle.session_files.specs.Folds.{after_closing, changed_files, is_open}
 use Rattle.session_files.specs.SessionFiles.{SessionFiles}
-use Rattle.session_files.specs.Steps.{changed, closed as closed_document, crates_put, loaded, opened, processed}
+use Rattle.session_files.specs.Steps.{changed_document, closed_document, crates_put, loaded, opened_document, processed}
 use Rattle.session_files.proofs.SoundLemmas.{closing_keeps, messages_keep, opening_keeps}
 use Rattle.status.specs.declared.status.Status.{Status}
 use Rattle.status.specs.Same.{is_same_status}
@@ -77,21 +77,22 @@ use Rattle.session_model.specs.Hearing.{heard_of, told_by}
 use Rattle.session_model.specs.Loading.{MacroPaths, crates_loaded, load_due, load_kept, load_kind, with_due_load}
 use Rattle.session_model.specs.Machine.{all_resumed, answer_taken, request_taken, asked_for_settings, asked_if, at_client, at_desk, at_files, at_workspaces}
 use Rattle.session_model.specs.Machine.{batched, begin_part, begun_fetches}
-use Rattle.session_model.specs.Machine.{loader_taken, build_handed_over, build_part, build_started, build_taken, changed_at, client_in, turn_closed, closed_at}
+use Rattle.session_model.specs.Machine.{loader_taken, build_handed_over, build_part, build_started, build_taken, document_changed_at, client_in, turn_closed}
+use Rattle.session_model.specs.Machine.{document_closed_at}
 use Rattle.session_model.specs.Machine.{closing_part, turn_counted}
 use Rattle.session_model.specs.Machine.{crates_arrived, crates_built, desk_in, effects_done, end_taken, work_taken, event_part, fetch_handed_over, fetch_part}
 use Rattle.session_model.specs.Machine.{fetch_started, fetch_taken, fetch_waits}
 use Rattle.session_model.specs.Machine.{file_changed, files_changed, files_done, files_followed, files_in, files_part, files_processed, files_processed_if}
 use Rattle.session_model.specs.Machine.{folders_taken, switch_followed, further_logged}
 use Rattle.session_model.specs.Machine.{happened, in_state, desk_kept, knowing, later_parts, load_handed_over, prime_part, publish_part, load_started}
-use Rattle.session_model.specs.Machine.{load_taken, loader_set, macros_taken, noticed, opened_at, quiet_done, quiet_part}
-use Rattle.session_model.specs.Machine.{received, refreshed, register_part, resumed, revised, roots_renewed, runs_started, save_noted, saved_at}
+use Rattle.session_model.specs.Machine.{load_taken, loader_set, macros_taken, noticed, document_opened_at, quiet_done, quiet_part}
+use Rattle.session_model.specs.Machine.{received, client_refreshed, register_part, resumed, revised, roots_renewed, runs_started, save_noted, saved_at}
 use Rattle.session_model.specs.Machine.{saves_registered, settings_filed, some_processed, sources_deferred}
 use Rattle.session_model.specs.Machine.{start_parts, state_in, status_changed, status_done, status_kept, status_part, status_told, step, switch_done}
 use Rattle.session_model.specs.Machine.{switch_part, switch_taken, message_taken, event_taken, text_shown, timer_set, told}
 use Rattle.session_model.specs.Machine.{turned, Turning, turning, warned, watchers_registered, with_client, with_desk, with_files, with_sources, with_state}
 use Rattle.session_model.specs.Machine.{with_status}
-use Rattle.session_model.specs.Run.{Turn, Steps, begun}
+use Rattle.session_model.specs.Run.{Turn, Steps, turn_start}
 use Rattle.session_model.specs.Sources.{change_for, further_files, parents_told, sources_now}
 use Rattle.session_model.specs.State.{Sources, State, columns_in, discovers, excludes_in, fetch_kind, goes_by_folders, may_start, scene_of, snapshot_of}
 use Rattle.session_model.specs.Switching.{switch_made}
@@ -183,28 +184,28 @@ files-still work r w does keeps =
     (IfOk-weaker _ (λ v. DoesForFiles (record { state = w.state.files; out = w.out }) v r) _ does
     (λ v d. record { host = IfOk-at_ok (λ (now : SessionFiles). now.host ≡ w.state.files.host) d.is keeps; sources = refl; settings = refl; errors = refl }))
 
-opened-still : (o : Result (List ℕ) UrlFault) (document : DidOpen) (w : Working State) → IfOk (opened_at o document w) (StillTo w)
-unfolding opened_at
+opened-still : (o : Result (List ℕ) UrlFault) (document : DidOpen) (w : Working State) → IfOk (document_opened_at o document w) (StillTo w)
+unfolding document_opened_at
 opened-still (Err fault) document w = logged-still _ document.uri w
 opened-still (Ok path) document w =
     let excludes = excludes_in w.state.client.settings in
-    files-still (opened excludes path document.version document.text) _ w
+    files-still (opened_document excludes path document.version document.text) _ w
     (opened-does excludes path document.version document.text (record { state = w.state.files; out = w.out }))
     (ok-from _ (λ (now : SessionFiles). now.host ≡ w.state.files.host)
     (λ now is. (opening_keeps excludes path document.version document.text w.state.files now is).host))
 
-changed-still : (o : Result (List ℕ) UrlFault) (change : DidChange) (w : Working State) → IfOk (changed_at o change w) (StillTo w)
-unfolding changed_at
+changed-still : (o : Result (List ℕ) UrlFault) (change : DidChange) (w : Working State) → IfOk (document_changed_at o change w) (StillTo w)
+unfolding document_changed_at
 changed-still (Err fault) change w = logged-still _ change.uri w
 changed-still (Ok path) change w =
     let columns = columns_in w.state.client.settings in
-    files-still (changed columns path change.version change.changes) _ w
+    files-still (changed_document columns path change.version change.changes) _ w
     (changed-does columns path change.version change.changes (record { state = w.state.files; out = w.out }))
     (ok-from _ (λ (now : SessionFiles). now.host ≡ w.state.files.host)
     (λ now is. (edits-keep (is_open path w.state.files) columns path change.version change.changes w.state.files now is).host))
 
-closed-still : (o : Result (List ℕ) UrlFault) (uri : List ℕ) (w : Working State) → IfOk (closed_at o uri w) (StillTo w)
-unfolding closed_at
+closed-still : (o : Result (List ℕ) UrlFault) (uri : List ℕ) (w : Working State) → IfOk (document_closed_at o uri w) (StillTo w)
+unfolding document_closed_at
 closed-still (Err fault) uri w = logged-still _ uri w
 closed-still (Ok path) uri w =
     files-still (λ f. Ok (closed_document path f)) (Ok (after_closing path w.state.files)) w (closed-does path (record { state = w.state.files; out = w.out }))
@@ -298,9 +299,10 @@ requested-still meaning r w = still-then (at_desk (requested meaning (scene_of w
 told-alter : (notice : Notice) (w : Working State) → IfOk (told notice w) (AltersTo (tells_folders (Some notice)) w)
 unfolding told
 told-alter (notices.CancelRequest id) w = still-alters false (at_desk (λ d. Ok (cancelled id d)) w) w (desk-still (λ d. Ok (cancelled id d)) w)
-told-alter (notices.DidOpen document) w = still-alters false (opened_at (path_of document.uri) document w) w (opened-still (path_of document.uri) document w)
-told-alter (notices.DidChange change) w = still-alters false (changed_at (path_of change.uri) change w) w (changed-still (path_of change.uri) change w)
-told-alter (notices.DidClose uri) w = still-alters false (closed_at (path_of uri) uri w) w (closed-still (path_of uri) uri w)
+told-alter (notices.DidOpen document) w = still-alters false (document_opened_at (path_of document.uri) document w)
+    w (opened-still (path_of document.uri) document w)
+told-alter (notices.DidChange change) w = still-alters false (document_changed_at (path_of change.uri) change w) w (changed-still (path_of change.uri) change w)
+told-alter (notices.DidClose uri) w = still-alters false (document_closed_at (path_of uri) uri w) w (closed-still (path_of uri) uri w)
 told-alter (notices.DidSave uri) w = alters-still false w.state _ (saved-still (path_of uri) uri w)
 told-alter notices.DidChangeConfiguration w = still-alters false (at_client asked_for_settings w) w (asking-still Configuration Settings w)
 told-alter (notices.DidChangeWorkspaceFolders added removed) w = folders-alter added removed w
@@ -565,8 +567,8 @@ unfolding files_done
 done-alter tells w = IfOk-if w.state.files.loading (Ok w) (files_processed w) (AltersTo tells w) (alters-still tells w.state w.state (still-none w.state))
     (files-alter tells w)
 
-refreshed-still : (can : Capabilities) (w : Working State) → IfOk (refreshed can w) (StillTo w)
-unfolding refreshed
+refreshed-still : (can : Capabilities) (w : Working State) → IfOk (client_refreshed can w) (StillTo w)
+unfolding client_refreshed
 refreshed-still can w =
     still-then (asked_if can.semantic_tokens_refresh SemanticTokensRefresh w) _ w (asked_if-still can.semantic_tokens_refresh SemanticTokensRefresh w)
     (λ v. still-then (asked_if can.code_lens_refresh CodeLensRefresh v) _ v (asked_if-still can.code_lens_refresh CodeLensRefresh v)
@@ -732,10 +734,11 @@ pub record Altered (input : Input) (s t : State) : Type 0 where
   pub event : Alters (tells_settings input) s behind_event
   pub behind : Behind (tells_settings input) behind_event t
 
-step-alters : (meaning : Meaning) (input : Input) (s : State) → IfOk (step meaning input (begun s)) (λ v. Altered input s v.state)
+step-alters : (meaning : Meaning) (input : Input) (s : State) → IfOk (step meaning input (turn_start s)) (λ v. Altered input s v.state)
 unfolding step event_part
 step-alters meaning Start s =
-    IfOk-and_then (start_parts (turning (begun s))) turned (Turns Still (turning (begun s))) (λ v. Altered Start s v.state) (start-still (turning (begun s)))
+    IfOk-and_then (start_parts (turning (turn_start s))) turned (Turns Still (turning (turn_start s))) (λ v. Altered Start s v.state)
+    (start-still (turning (turn_start s)))
     (λ v still. record {
       behind_event = s;
       event = alters-still false s s (still-none s);
@@ -743,7 +746,7 @@ step-alters meaning Start s =
     })
 step-alters meaning (Next event) s =
     let tells = tells_settings (Next event) in
-    let t : Working Turning = turning (begun s) in
+    let t : Working Turning = turning (turn_start s) in
     IfOk-and_then (and_then (event_part meaning event t) (later_parts (Next event))) turned (λ v. Altered (Next event) s v.state.state)
     (λ v. Altered (Next event) s v.state)
     (IfOk-and_then (event_part meaning event t) (later_parts (Next event)) (Turns (Alters tells) t) (λ v. Altered (Next event) s v.state.state)

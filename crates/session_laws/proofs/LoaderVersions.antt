@@ -16,7 +16,7 @@ use Rattle.session_port.specs.Written.{Written}
 use Rattle.desk.specs.Meaning.{Meaning}
 use Rattle.desk_laws.proofs.Results.{IfOk-and_then, IfOk-weaker}
 use Rattle.session_files.specs.SessionFiles.{SessionFiles}
-use Rattle.workspaces.specs.Switching.{last_loader_version, asks_build, decided, followed as workspaces_followed, next_version, presents, renewed_by, switch_to}
+use Rattle.workspaces.specs.Switching.{last_loader_version, asks_build, decided, going_on as workspaces_followed, next_version, presents, renewed_by, switch_to}
 use Rattle.workspaces.specs.Switching.{switched}
 use Rattle.workspaces.specs.Workspaces.{Workspaces}
 use Rattle.workspaces.specs.declared.follows.Follows.{Follows}
@@ -24,7 +24,7 @@ use Rattle.workspaces.specs.declared.follows.Follows.TheVariants.{Nothing, Crate
 use Rattle.session_model.specs.Crates.{Numbers, builds_crates, crates_sought, followed_by, waits, with_crates}
 use Rattle.session_model.specs.Machine.{at_workspaces, turn_closed, crates_built, switch_followed, loader_set, roots_renewed, step, switch_done, switch_taken}
 use Rattle.session_model.specs.Machine.{event_taken, warned, watchers_registered}
-use Rattle.session_model.specs.Run.{Runs, Turn, begun}
+use Rattle.session_model.specs.Run.{Runs, Turn, turn_start}
 use Rattle.session_model.specs.State.{State, builds_scripts, discovers, fresh}
 use Rattle.session_model.specs.Switching.{is_switch_due, switch_by, switch_made, unless_exhausted}
 use Rattle.session_model.specs.declared.facts.Facts.{Facts}
@@ -235,7 +235,7 @@ switch-rises before w rises =
     made-rises before (switch_made w.state.client.settings w.state.files w.state.workspaces) w rises
     (made-next w.state.client.settings w.state.files w.state.workspaces)
 
-begun-rises : (s : State) → Rises s.workspaces.loader_version (begun s)
+begun-rises : (s : State) → Rises s.workspaces.loader_version (turn_start s)
 begun-rises s = record { count = 0; version = omega arith; given = refl }
 
 closed-rises : (before : ℕ) (facts : Facts) (w : Working State) → Rises before w → IfOk (turn_closed facts w) (Rises before)
@@ -243,7 +243,7 @@ closed-rises before facts w rises =
     IfOk-weaker (turn_closed facts w) (SameVersions w) (Rises before) (closed-owes SameVersions same-versions (λ revision v. other-passes _ v refl) facts w)
     (λ v same. rises-same before w v rises same)
 
-step-rises : (meaning : Meaning) (s : State) (input : Input) → IfOk (step meaning input (begun s)) (Rises s.workspaces.loader_version)
+step-rises : (meaning : Meaning) (s : State) (input : Input) → IfOk (step meaning input (turn_start s)) (Rises s.workspaces.loader_version)
 step-rises meaning s input =
     let before = s.workspaces.loader_version in
     walk SameVersions same-versions meaning s input (Rises before) (Rises before) (rises-same before) (switch-rises before) (first input)
@@ -252,9 +252,9 @@ step-rises meaning s input =
     first : (input : Input) → Begins meaning s input (Rises s.workspaces.loader_version)
     first Start = begun-rises s
     first (Next event) =
-        IfOk-weaker (event_taken meaning event (begun s)) (SameVersions (begun s)) (Rises s.workspaces.loader_version)
-        (event-owes SameVersions same-versions (λ path w. other-passes _ w refl) meaning event (begun s))
-        (λ v same. rises-same s.workspaces.loader_version (begun s) v (begun-rises s) same)
+        IfOk-weaker (event_taken meaning event (turn_start s)) (SameVersions (turn_start s)) (Rises s.workspaces.loader_version)
+        (event-owes SameVersions same-versions (λ path w. other-passes _ w refl) meaning event (turn_start s))
+        (λ v same. rises-same s.workspaces.loader_version (turn_start s) v (begun-rises s) same)
 
 -- ---- a run
 

@@ -32,7 +32,7 @@ use Rattle.session_model.specs.Machine.{load_handed_over, load_started, prime_pa
 use Rattle.session_model.specs.Machine.{state_in, status_part, step, switch_part, turned, turning, with_desk, with_state, with_workspaces}
 use Rattle.session_model.specs.OwnJobs.{OwnJob, before_fetch, build_job, checks_among_tasks, fetch_job, load_job, numbered_behind}
 use Rattle.session_model.specs.OwnJobs.{own_job, parts_before_fetch, run_jobs}
-use Rattle.session_model.specs.Run.{begun}
+use Rattle.session_model.specs.Run.{turn_start}
 use Rattle.session_model.specs.State.{State, fetch_kind, may_start, snapshot_of}
 use Rattle.session_model.specs.declared.input.Event.{Event}
 use Rattle.session_model.specs.declared.input.Input.{Input}
@@ -255,17 +255,17 @@ five-split (Ok a) f g h i k = four-split (f a) g h i k
 five-split (Err counter) f g h i k = refl
 
 pub step-split : (meaning : Meaning) (input : Input) (s : State)
-    → step meaning input (begun s) ≡ and_then (and_then (parts_before_fetch meaning input (turning (begun s))) (parts_from_fetch input)) turned
+    → step meaning input (turn_start s) ≡ and_then (and_then (parts_before_fetch meaning input (turning (turn_start s))) (parts_from_fetch input)) turned
 unfolding step
 step-split meaning Start s =
-    ap (λ r. and_then r turned) (three-split (status_part (turning (begun s))) register_part begin_part (parts_from_fetch Start))
+    ap (λ r. and_then r turned) (three-split (status_part (turning (turn_start s))) register_part begin_part (parts_from_fetch Start))
 step-split meaning (Next event) s =
-    ap (λ r. and_then r turned) (five-split (event_part meaning event (turning (begun s))) switch_part files_part quiet_part publish_part
+    ap (λ r. and_then r turned) (five-split (event_part meaning event (turning (turn_start s))) switch_part files_part quiet_part publish_part
     (parts_from_fetch (Next event)))
 
-pub before-is : (meaning : Meaning) (input : Input) (s : State) (t : Working Turning) → parts_before_fetch meaning input (turning (begun s)) ≡ Ok t
+pub before-is : (meaning : Meaning) (input : Input) (s : State) (t : Working Turning) → parts_before_fetch meaning input (turning (turn_start s)) ≡ Ok t
     → before_fetch meaning input s ≡ t.state.state
-before-is meaning input s t is = ap (λ r. (result_unwrap_or r (turning (begun s))).state.state) is
+before-is meaning input s t is = ap (λ r. (result_unwrap_or r (turning (turn_start s))).state.state) is
 
 -- a session in which the fetch that is due has started
 abbrev pub fetch_begun : Input → State → State

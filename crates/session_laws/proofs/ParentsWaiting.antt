@@ -24,7 +24,7 @@ use Rattle.session_model.specs.Hearing.{heard_of, told_by}
 use Rattle.session_model.specs.Machine.{answer_taken, at_client, client_in, turn_counted, event_part, folders_taken, happened, later_parts, noticed, received}
 use Rattle.session_model.specs.Machine.{step, event_taken, told, turned, Turning, turning, with_client}
 use Rattle.session_model.specs.Rows.{turn_begun}
-use Rattle.session_model.specs.Run.{Runs, Steps, Turn, begun}
+use Rattle.session_model.specs.Run.{Runs, Steps, Turn, turn_start}
 use Rattle.session_model.specs.State.{Sources, State, fresh}
 use Rattle.session_model.specs.declared.heard.Heard.{Heard}
 use Rattle.session_model.specs.declared.heard.Heard.TheVariants.{Told, Malformed, Unhandled, Silent}
@@ -282,11 +282,11 @@ happened-tells meaning (Deferred tasks) s tells = absurd (true≢false (sym tell
 happened-tells meaning (Timer ticket) s tells = absurd (true≢false (sym tells))
 
 event-tells : (meaning : Meaning) (event : Event) (s : State) → tells_settings (Next event) ≡ true
-    → IfOk (event_taken meaning event (begun s)) (λ v. EventTells (as_told (Next event) s.client) s v.state)
+    → IfOk (event_taken meaning event (turn_start s)) (λ v. EventTells (as_told (Next event) s.client) s v.state)
 unfolding event_taken
 event-tells meaning event s tells =
     let Goal : Working State → Type 0 = λ v. EventTells (as_told (Next event) s.client) s v.state in
-    IfOk-and_then (turn_counted (begun s)) (happened meaning event) (λ v. v ≡ turn_begun s) Goal (counted-is s)
+    IfOk-and_then (turn_counted (turn_start s)) (happened meaning event) (λ v. v ≡ turn_begun s) Goal (counted-is s)
     (λ v is. subst (λ w. IfOk (happened meaning event w) Goal) (sym is) (happened-tells meaning event s tells))
 
 -- a turn whose input tells something of them: behind its event settings files and parents are filed as in any other
@@ -296,12 +296,12 @@ record TurnTells (input : Input) (s t : State) : Type 0 where
   behind : Behind false behind_event t
 
 step-tells : (meaning : Meaning) (input : Input) (s : State) → tells_settings input ≡ true
-    → IfOk (step meaning input (begun s)) (λ v. TurnTells input s v.state)
+    → IfOk (step meaning input (turn_start s)) (λ v. TurnTells input s v.state)
 unfolding step event_part
 step-tells meaning Start s tells = absurd (true≢false (sym tells))
 step-tells meaning (Next event) s tells =
     let input : Input = Next event in
-    let t : Working Turning = turning (begun s) in
+    let t : Working Turning = turning (turn_start s) in
     IfOk-and_then (and_then (event_part meaning event t) (later_parts (Next event))) turned (λ v. TurnTells input s v.state.state)
     (λ v. TurnTells input s v.state)
     (IfOk-and_then (event_part meaning event t) (later_parts (Next event)) (Turns (EventTells (as_told input s.client)) t)

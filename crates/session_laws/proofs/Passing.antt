@@ -40,7 +40,7 @@ use Rattle.notify.specs.declared.outgo.Outgo.TheVariants.{OpenLogs as OpenLogsMe
 use Rattle.desk.specs.Desk.{Desk}
 use Rattle.desk.specs.Meaning.{Meaning}
 use Rattle.desk.specs.Scene.{Scene}
-use Rattle.desk.specs.Steps.{cancelled, counted, handed_over, jobs_kept, requested, taken}
+use Rattle.desk.specs.Steps.{cancelled, counted, handed_over, jobs_kept, requested, result_taken}
 use Rattle.desk_laws.specs.Settled.{PassesOver}
 use Rattle.desk_laws.proofs.Appends.{passed-append}
 use Rattle.desk_laws.proofs.Results.{IfOk-next, IfOk-weaker}
@@ -48,7 +48,8 @@ use Rattle.desk_laws.proofs.Settling.{cancel-settles, message-settles, request-s
 use Rattle.session_files.specs.Changing.{has_skipped}
 use Rattle.session_files.specs.Folds.{after_crates, after_editing, after_messages, after_opening, after_processing, is_open}
 use Rattle.session_files.specs.SessionFiles.{SessionFiles}
-use Rattle.session_files.specs.Steps.{become, changed, close_noted, crates_put, edited, loaded, open_noted, opened, processed, skip_noted}
+use Rattle.session_files.specs.Steps.{become, changed_document, close_noted, crates_put, edited_document, loaded, open_noted, opened_document, processed}
+use Rattle.session_files.specs.Steps.{skip_noted}
 
 -- nothing was ordered but jobs, log lines and tasks that are put off
 abbrev pub Passes : Written → Written → Type 0
@@ -84,8 +85,8 @@ FromDesk w v = Passes w.out v.out
 pub requested-passes : (meaning : Meaning) (scene : Scene) (r : Request) (w : Working Desk) → IfOk (requested meaning scene r w) (FromDesk w)
 requested-passes meaning scene r w = IfOk-weaker (requested meaning scene r w) _ (FromDesk w) (request-settles meaning scene r w) (λ v settled. settled.others)
 
-pub message-passes : (meaning : Meaning) (scene : Scene) (message : TaskMsg) (w : Working Desk) → IfOk (taken meaning scene message w) (FromDesk w)
-message-passes meaning scene message w = IfOk-weaker (taken meaning scene message w) _ (FromDesk w) (message-settles meaning scene message w)
+pub message-passes : (meaning : Meaning) (scene : Scene) (message : TaskMsg) (w : Working Desk) → IfOk (result_taken meaning scene message w) (FromDesk w)
+message-passes meaning scene message w = IfOk-weaker (result_taken meaning scene message w) _ (FromDesk w) (message-settles meaning scene message w)
     (λ v settled. settled.others)
 
 pub cancelled-passes : (id : RequestId) (w : Working Desk) → FromDesk w (cancelled id w)
@@ -162,22 +163,22 @@ become-passes (Ok files) w u passes = passes
 become-passes (Err counter) w u passes = tt
 
 pub opened-passes : (excludes : List (List ℕ)) (path : List ℕ) (version : ℤ) (text : List ℕ) (w : Working SessionFiles)
-    → IfOk (opened excludes path version text w) (FromFiles w)
-unfolding opened open_noted
+    → IfOk (opened_document excludes path version text w) (FromFiles w)
+unfolding opened_document open_noted
 opened-passes excludes path version text w = become-passes (after_opening excludes path version text w.state) w _
     (passes-if DuplicateOpen path (is_open path w.state) w)
 
 changed-cases : (columns : PositionEncoding) (path : List ℕ) (version : ℤ) (changes : List ContentChange) (w : Working SessionFiles) (b : Bool)
-    → IfOk (if b then edited columns path version changes w else Ok (logged UnexpectedChange path w)) (FromFiles w)
-unfolding edited skip_noted
+    → IfOk (if b then edited_document columns path version changes w else Ok (logged UnexpectedChange path w)) (FromFiles w)
+unfolding edited_document skip_noted
 changed-cases columns path version changes w true =
     become-passes (after_editing columns path version changes w.state) w _
     (passes-if SkippedChange path (has_skipped columns changes (finmap.get w.state.texts path)) w)
 changed-cases columns path version changes w false = passes-logged UnexpectedChange path w
 
 pub changed-passes : (columns : PositionEncoding) (path : List ℕ) (version : ℤ) (changes : List ContentChange) (w : Working SessionFiles)
-    → IfOk (changed columns path version changes w) (FromFiles w)
-unfolding changed
+    → IfOk (changed_document columns path version changes w) (FromFiles w)
+unfolding changed_document
 changed-passes columns path version changes w = changed-cases columns path version changes w (is_open path w.state)
 
 noted-cases : (path : List ℕ) (w : Working SessionFiles) (b : Bool) → Passes w.out (if b then w else logged OrphanClose path w).out

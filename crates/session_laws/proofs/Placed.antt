@@ -10,13 +10,13 @@ use Rattle.desk.specs.Meaning.{Meaning}
 use Rattle.workspaces.specs.declared.requests.WaitingFetch.{WaitingFetch}
 use Rattle.session_model.specs.Inputs.{turns_after}
 use Rattle.session_model.specs.Machine.{step}
-use Rattle.session_model.specs.Places.{beginning, Place, place_after, place_after_all, placed}
-use Rattle.session_model.specs.Run.{Turn, begun}
+use Rattle.session_model.specs.Places.{beginning, Place, place_after, place_after_all, place_of_turns}
+use Rattle.session_model.specs.Run.{Turn, turn_start}
 use Rattle.session_model.specs.State.{State}
 use Rattle.session_model.specs.declared.input.Input.{Input}
 use Rattle.session_model.specs.declared.input.Input.TheVariants.{Start, Next}
 use Rattle.session_model.specs.RunEnds.{needs_of}
-use Rattle.session_laws.specs.Invariant.{IsOfTurns, WaitsOfTurns, place_of}
+use Rattle.session_laws.specs.Invariant.{IsOfTurns, WaitsOfTurns, place_of_state}
 use Rattle.session_laws.proofs.Counting.{Counts, given, state_ahead}
 use Rattle.session_laws.proofs.Exhausting.{step-does}
 use Rattle.session_laws.proofs.Rows.{Closes, step-closes}
@@ -44,8 +44,8 @@ as-turns Start version turns now gives le = omega (arith, gives, le)
 as-turns (Next event) version turns now gives le = omega (arith, gives, le)
 
 step-cases : (meaning : Meaning) (input : Input) (turns : ℕ) (s : State) (r : Result (Working State) Counter) → IfOk r (Closes meaning s input)
-    → Counts state_ahead (needs_of meaning input (place_of s)) (given s) r → IsInTurn turns s
-    → IsInTurn (turns_after input turns) (result_unwrap_or r (begun s)).state
+    → Counts state_ahead (needs_of meaning input (place_of_state s)) (given s) r → IsInTurn turns s
+    → IsInTurn (turns_after input turns) (result_unwrap_or r (turn_start s)).state
 step-cases meaning input turns s (Ok v) closes counts h =
     let number : v.state.desk.turns ≡ turns_after input s.desk.turns = ap (λ (d : Desk). d.turns) closes.desk in
     record {
@@ -62,17 +62,17 @@ all-in-turn : (meaning : Meaning) (turns : List Turn) (place : Place) → IsInTu
 all-in-turn meaning [] place h = h
 all-in-turn meaning (turn ∷ turns) place h =
     all-in-turn meaning turns (place_after meaning turn place)
-    (step-cases meaning turn.input place.desk.turns place.rest (step meaning turn.input (begun place.rest)) (step-closes meaning place.rest turn.input)
+    (step-cases meaning turn.input place.desk.turns place.rest (step meaning turn.input (turn_start place.rest)) (step-closes meaning place.rest turn.input)
     (step-does meaning place.rest turn.input) h)
 
 placed-in-turn : (meaning : Meaning) (settings : ConfigData) (turns : List Turn)
-    → IsInTurn (placed meaning settings turns).desk.turns (placed meaning settings turns).rest
+    → IsInTurn (place_of_turns meaning settings turns).desk.turns (place_of_turns meaning settings turns).rest
 placed-in-turn meaning settings turns = all-in-turn meaning turns (beginning settings) (record { counted = omega arith; versions = omega arith; waits = tt })
 
 pub versions-in-turn : (meaning : Meaning) (settings : ConfigData) (turns : List Turn) → let place =
-    placed meaning settings turns in place.rest.workspaces.version ≤ place.desk.turns
+    place_of_turns meaning settings turns in place.rest.workspaces.version ≤ place.desk.turns
 versions-in-turn meaning settings turns =
-    let place = placed meaning settings turns in
+    let place = place_of_turns meaning settings turns in
     let h = placed-in-turn meaning settings turns in
     at-most-on place.rest.workspaces.version place.rest.desk.turns place.desk.turns h.versions h.counted
 
@@ -81,8 +81,8 @@ waits-later None turns more le h = tt
 waits-later (Some fetch) turns more le h = omega (arith, le, h)
 
 pub timers-in-turn : (meaning : Meaning) (settings : ConfigData) (turns : List Turn) → let place =
-    placed meaning settings turns in IsOfTurns place.desk.turns place.rest.workspaces.fetches.waiting
+    place_of_turns meaning settings turns in IsOfTurns place.desk.turns place.rest.workspaces.fetches.waiting
 timers-in-turn meaning settings turns =
-    let place = placed meaning settings turns in
+    let place = place_of_turns meaning settings turns in
     let h = placed-in-turn meaning settings turns in
     waits-later place.rest.workspaces.fetches.waiting place.rest.desk.turns place.desk.turns h.counted h.waits

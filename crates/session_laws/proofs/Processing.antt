@@ -12,7 +12,7 @@ use Rattle.desk.specs.Reactions.{silent}
 use Rattle.desk_laws.specs.Settled.{Settled}
 use Rattle.desk_laws.proofs.Results.{IfOk-and_then, IfOk-weaker, IfOk-within}
 use Rattle.desk_laws.proofs.Settling.{defer-settles, log-settles, nothing-settles, settled-on}
-use Rattle.session_files.specs.Current.{IsCurrent, IsSound, IsTaken}
+use Rattle.session_files.specs.Current.{IsCurrent, IsSound, IsUntouched}
 use Rattle.session_files.specs.Folds.{changed_files}
 use Rattle.session_files.specs.Steps.{processed}
 use Rattle.session_files.proofs.SoundLemmas.{processing_does, taken_none}
@@ -99,7 +99,7 @@ pub record Files (w v : Working State) : Type 0 where
   pub same : v.state.desk ≡ w.state.desk
   pub files : KeepsFiles w.state.files v.state.files
   pub current : IsSound w.state.files → IsCurrent v.state.files
-  pub client : IsTaken w.state.files → v.state.client ≡ w.state.client
+  pub client : IsUntouched w.state.files → v.state.client ≡ w.state.client
   pub shows : ShowsSame w.state.workspaces v.state.workspaces
   pub runs : SameRuns w.state.desk.turns w.state.workspaces v.state.workspaces
 

@@ -23,13 +23,14 @@ use Rattle.session_port.specs.Working.{Working, logged, ordered}
 use Rattle.session_port.specs.Written.{Written}
 use Rattle.desk.specs.Meaning.{Meaning}
 use Rattle.desk_laws.proofs.Results.{IfOk-and_then, IfOk-weaker, IfOk-within}
-use Rattle.session_files.specs.Steps.{close_noted, closed as closed_document}
+use Rattle.session_files.specs.Steps.{close_noted, closed_document}
 use Rattle.workspaces.specs.Workspaces.{Workspaces}
 use Rattle.workspaces.specs.declared.follows.Follows.{Follows}
 use Rattle.session_model.specs.Hearing.{heard_of, told_by}
-use Rattle.session_model.specs.Machine.{at_workspaces, closed_at, turn_counted, file_changed, files_changed, files_in, happened, loader_set, noticed, received}
+use Rattle.session_model.specs.Machine.{at_workspaces, document_closed_at, turn_counted, file_changed, files_changed, files_in, happened, loader_set, noticed}
+use Rattle.session_model.specs.Machine.{received}
 use Rattle.session_model.specs.Machine.{step, switch_done, switch_taken, event_taken, told, with_files}
-use Rattle.session_model.specs.Run.{Steps, Turn, begun}
+use Rattle.session_model.specs.Run.{Steps, Turn, turn_start}
 use Rattle.session_model.specs.State.{State}
 use Rattle.session_model.specs.Switching.{switch_made}
 use Rattle.session_model.specs.declared.heard.Heard.{Heard}
@@ -172,8 +173,9 @@ watched-reads seen before (url ∷ urls) w are =
 abbrev Reads : List (List ℕ) → Working State → Type 0
 Reads files w = to_read w ≡ files
 
-closed-reads : (o : Result (List ℕ) UrlFault) (uri : List ℕ) (w : Working State) → Reads [] w → IfOk (closed_at o uri w) (Reads (cons_option (result_ok o) []))
-unfolding closed_at closed_document ordered
+closed-reads : (o : Result (List ℕ) UrlFault) (uri : List ℕ) (w : Working State) → Reads [] w
+    → IfOk (document_closed_at o uri w) (Reads (cons_option (result_ok o) []))
+unfolding document_closed_at closed_document ordered
 closed-reads (Err fault) uri w none = logged-owes SameFiles same-files _ uri w ∙ none
 closed-reads (Ok path) uri w none =
     IfOk-within files_in with_files (λ f. Ok (closed_document path f)) w (Reads (path ∷ []))
@@ -234,11 +236,11 @@ happened-reads meaning (Vfs messages) w none = other-reads meaning (Vfs messages
 happened-reads meaning (Deferred tasks) w none = other-reads meaning (Deferred tasks) w refl refl none
 happened-reads meaning (Timer ticket) w none = other-reads meaning (Timer ticket) w refl refl none
 
-taken_in-reads : (meaning : Meaning) (event : Event) (s : State) → IfOk (event_taken meaning event (begun s)) (Reads (files_told (Next event)))
+taken_in-reads : (meaning : Meaning) (event : Event) (s : State) → IfOk (event_taken meaning event (turn_start s)) (Reads (files_told (Next event)))
 unfolding event_taken
 taken_in-reads meaning event s =
-    IfOk-and_then (turn_counted (begun s)) (happened meaning event) (SameFiles (begun s)) (Reads (files_told (Next event)))
-    (counted-owes SameFiles same-files (begun s))
+    IfOk-and_then (turn_counted (turn_start s)) (happened meaning event) (SameFiles (turn_start s)) (Reads (files_told (Next event)))
+    (counted-owes SameFiles same-files (turn_start s))
     (λ v same. happened-reads meaning event v same)
 
 -- ---- whole turns
@@ -258,7 +260,7 @@ switch-reads files w reads =
     let made = switch_made w.state.client.settings w.state.files w.state.workspaces in
     IfOk-weaker (switch_taken made w) (SameFiles w) (Reads files) (switched-reads made w) (λ v same. same ∙ reads)
 
-step-reads : (meaning : Meaning) (s : State) (input : Input) → IfOk (step meaning input (begun s)) (Reads (files_told input))
+step-reads : (meaning : Meaning) (s : State) (input : Input) → IfOk (step meaning input (turn_start s)) (Reads (files_told input))
 step-reads meaning s Start =
     walk SameFiles same-files meaning s Start (Reads []) (Reads []) (λ w v reads same. same ∙ reads) (switch-reads []) refl
     (λ w now facts reads. IfOk-weaker _ (SameFiles w) (Reads []) (closed-owes SameFiles same-files (λ revision v. other-passes _ v refl) now w)

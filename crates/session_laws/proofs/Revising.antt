@@ -17,7 +17,7 @@ use Rattle.workspaces.specs.Fetches.{fires}
 use Rattle.workspaces.specs.Workspaces.{Workspaces}
 use Rattle.workspaces.specs.declared.follows.Follows.{Follows}
 use Rattle.session_model.specs.Machine.{at_workspaces, turn_closed, desk_kept, loader_set, revised, step, switch_done, switch_taken, timer_set}
-use Rattle.session_model.specs.Run.{Runs, Steps, Turn, begun}
+use Rattle.session_model.specs.Run.{Runs, Steps, Turn, turn_start}
 use Rattle.session_model.specs.State.{State}
 use Rattle.session_model.specs.Switching.{switch_made}
 use Rattle.session_model.specs.declared.facts.Facts.{Facts}
@@ -111,14 +111,14 @@ closed-tells facts w none =
     (kept-owes SameRevisions same-revisions facts.ordered w)
     (λ v same. timer-told facts.revision (revised facts.revision v) (revised-told facts.revision v (same ∙ none)))
 
-step-tells : (meaning : Meaning) (s : State) (input : Input) → IfOk (step meaning input (begun s)) (Tells s.files.host.revision)
+step-tells : (meaning : Meaning) (s : State) (input : Input) → IfOk (step meaning input (turn_start s)) (Tells s.files.host.revision)
 step-tells meaning s input =
     walk SameRevisions same-revisions meaning s input TellsNone (Tells s.files.host.revision) (λ w v none same. same ∙ none) switch-tells (first input)
     (λ w facts keeps none. subst (λ (f : Facts). IfOk (turn_closed facts w) (Tells f.revision)) keeps (closed-tells facts w none))
   where
     first : (input : Input) → Begins meaning s input TellsNone
     first Start = refl
-    first (Next event) = event-owes SameRevisions same-revisions (λ path w. other-passes _ w refl) meaning event (begun s)
+    first (Next event) = event-owes SameRevisions same-revisions (λ path w. other-passes _ w refl) meaning event (turn_start s)
 
 pub turns-tell : (meaning : Meaning) (old : State) (turn : Turn) (new : State) → Steps meaning old turn new
     → filter_map revision_of turn.commands ≡ told_if_other old.files.host.revision new.files.host.revision

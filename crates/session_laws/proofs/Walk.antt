@@ -46,11 +46,11 @@ use Rattle.desk.specs.WorkEnds.{BuildEnd, FetchEnd, LoadEnd, work_ended}
 use Rattle.desk.specs.declared.state.ends.WorkEnd.{WorkEnd}
 use Rattle.desk.specs.declared.state.ends.WorkEnd.TheVariants.{Fetched, Built, Checked, Loaded}
 use Rattle.desk.specs.Meaning.{Meaning}
-use Rattle.desk.specs.Steps.{cancelled, counted as counted_at_desk, handed_over, jobs_kept as kept_at_desk, requested, taken as taken_at_desk}
+use Rattle.desk.specs.Steps.{cancelled, counted as counted_at_desk, handed_over, jobs_kept as kept_at_desk, requested, result_taken as taken_at_desk}
 use Rattle.desk_laws.proofs.Results.{IfOk-and_then, IfOk-if, IfOk-weaker, IfOk-within}
 use Rattle.session_files.specs.Folds.{after_closing, changed_files}
 use Rattle.session_files.specs.SessionFiles.{SessionFiles}
-use Rattle.session_files.specs.Steps.{close_noted, closed as closed_document, crates_put, loaded, processed}
+use Rattle.session_files.specs.Steps.{close_noted, closed_document, crates_put, loaded, processed}
 use Rattle.status.specs.Same.{is_same_status}
 use Rattle.status.specs.declared.status.Status.{Status}
 use Rattle.workspaces.specs.Fetches.{fetch_to_start, fire, fires, start_fetch, start_up}
@@ -66,21 +66,22 @@ use Rattle.session_model.specs.Hearing.{heard_of}
 use Rattle.session_model.specs.Loading.{MacroPaths, crates_loaded, load_due, load_kept, load_kind, with_due_load}
 use Rattle.session_model.specs.Machine.{all_resumed, answer_taken, request_taken, asked_if, at_client, at_desk, at_files, at_workspaces, batched, begin_part}
 use Rattle.session_model.specs.Machine.{begun_fetches}
-use Rattle.session_model.specs.Machine.{loader_taken, build_handed_over, build_part, build_started, build_taken, changed_at, client_in, turn_closed, closed_at}
+use Rattle.session_model.specs.Machine.{loader_taken, build_handed_over, build_part, build_started, build_taken, document_changed_at, client_in, turn_closed}
+use Rattle.session_model.specs.Machine.{document_closed_at}
 use Rattle.session_model.specs.Machine.{closing_part, turn_counted}
-use Rattle.session_model.specs.Machine.{crates_arrived, crates_built, desk_in, effects_done, end_taken, work_taken, event_part, facts_of, fetch_handed_over}
+use Rattle.session_model.specs.Machine.{crates_arrived, crates_built, desk_in, effects_done, end_taken, work_taken, event_part, facts_before, fetch_handed_over}
 use Rattle.session_model.specs.Machine.{fetch_part, fetch_started, fetch_taken, fetch_waits}
 use Rattle.session_model.specs.Machine.{file_changed, files_changed, files_done, files_followed, files_in, files_part, files_processed, files_processed_if}
 use Rattle.session_model.specs.Machine.{folders_taken, switch_followed, further_logged}
 use Rattle.session_model.specs.Machine.{happened, in_state, desk_kept, knowing, later_parts, load_handed_over, load_started, load_taken, loader_set}
-use Rattle.session_model.specs.Machine.{macros_taken, noticed, opened_at, quiet_done, quiet_part}
-use Rattle.session_model.specs.Machine.{received, refreshed, register_part, resumed, revised, roots_renewed, runs_started, save_noted, saved_at}
+use Rattle.session_model.specs.Machine.{macros_taken, noticed, document_opened_at, quiet_done, quiet_part}
+use Rattle.session_model.specs.Machine.{received, client_refreshed, register_part, resumed, revised, roots_renewed, runs_started, save_noted, saved_at}
 use Rattle.session_model.specs.Machine.{saves_registered, settings_filed, some_processed, sources_deferred}
 use Rattle.session_model.specs.Machine.{start_parts, state_in, status_changed, status_done, status_kept, status_part, status_told, step, switch_done}
 use Rattle.session_model.specs.Machine.{switch_part, message_taken, event_taken, text_shown, timer_set, told}
 use Rattle.session_model.specs.Machine.{turned, Turning, turning, warned, watchers_registered, with_client, with_desk, with_files, with_sources, with_state}
 use Rattle.session_model.specs.Machine.{with_status, with_workspaces}
-use Rattle.session_model.specs.Run.{begun}
+use Rattle.session_model.specs.Run.{turn_start}
 use Rattle.session_model.specs.Saving.{path_saved}
 use Rattle.session_model.specs.Sources.{change_for, client_with, further_files, parents_told, sources_now}
 use Rattle.session_model.specs.State.{Sources, State, columns_in, discovers, excludes_in, fetch_kind, goes_by_folders, may_start, scene_of, snapshot_of}
@@ -147,8 +148,8 @@ Closes P Goal facts = (w : Working State) (now : Facts) → KeepsFacts facts now
 
 -- what is so where a turn begins, or behind its event
 abbrev pub Begins : Meaning → State → Input → (Working State → Type 0) → Type 0
-Begins meaning s Start P = P (begun s)
-Begins meaning s (Next event) P = IfOk (event_taken meaning event (begun s)) P
+Begins meaning s Start P = P (turn_start s)
+Begins meaning s (Next event) P = IfOk (event_taken meaning event (turn_start s)) P
 
 module _ (R : Working State → Working State → Type 0) (owed : Owed R) where
   pub none-owes : (w : Working State) → R w w
@@ -254,14 +255,14 @@ module _ (R : Working State → Working State → Type 0) (owed : Owed R) where
 
   -- ---- notifications
 
-  opened-owes : (o : Result (List ℕ) UrlFault) (document : DidOpen) (w : Working State) → IfOk (opened_at o document w) (R w)
-  unfolding opened_at
+  opened-owes : (o : Result (List ℕ) UrlFault) (document : DidOpen) (w : Working State) → IfOk (document_opened_at o document w) (R w)
+  unfolding document_opened_at
   opened-owes (Err fault) document w = logged-owes _ document.uri w
   opened-owes (Ok path) document w =
       files-owe _ w (opened-passes (excludes_in w.state.client.settings) path document.version document.text (record { state = w.state.files; out = w.out }))
 
-  changed-owes : (o : Result (List ℕ) UrlFault) (change : DidChange) (w : Working State) → IfOk (changed_at o change w) (R w)
-  unfolding changed_at
+  changed-owes : (o : Result (List ℕ) UrlFault) (change : DidChange) (w : Working State) → IfOk (document_changed_at o change w) (R w)
+  unfolding document_changed_at
   changed-owes (Err fault) change w = logged-owes _ change.uri w
   changed-owes (Ok path) change w =
       files-owe _ w (changed-passes (columns_in w.state.client.settings) path change.version change.changes (record { state = w.state.files; out = w.out }))
@@ -417,8 +418,8 @@ module _ (R : Working State → Working State → Type 0) (owed : Owed R) where
   abbrev pub MayReread : Type 0
   MayReread = (path : List ℕ) (w : Working State) → R w (ordered (Invalidate path) w)
 
-  closed-at-owes : MayReread → (o : Result (List ℕ) UrlFault) (uri : List ℕ) (w : Working State) → IfOk (closed_at o uri w) (R w)
-  unfolding closed_at closed_document ordered
+  closed-at-owes : MayReread → (o : Result (List ℕ) UrlFault) (uri : List ℕ) (w : Working State) → IfOk (document_closed_at o uri w) (R w)
+  unfolding document_closed_at closed_document ordered
   closed-at-owes may (Err fault) uri w = logged-owes _ uri w
   closed-at-owes may (Ok path) uri w =
       let v : Working State = record {
@@ -523,8 +524,8 @@ module _ (R : Working State → Working State → Type 0) (owed : Owed R) where
   unfolding files_done
   done-owes w = IfOk-if w.state.files.loading (Ok w) (files_processed w) (R w) (none-owes w) (processed-owes w)
 
-  refreshed-owes : (can : Capabilities) (w : Working State) → IfOk (refreshed can w) (R w)
-  unfolding refreshed
+  refreshed-owes : (can : Capabilities) (w : Working State) → IfOk (client_refreshed can w) (R w)
+  unfolding client_refreshed
   refreshed-owes can w =
       owes-then (asked_if can.semantic_tokens_refresh SemanticTokensRefresh w) _ w (asked_if-owes can.semantic_tokens_refresh SemanticTokensRefresh w)
       (λ v. owes-then (asked_if can.code_lens_refresh CodeLensRefresh v) _ v (asked_if-owes can.code_lens_refresh CodeLensRefresh v)
@@ -680,19 +681,19 @@ module _ (R : Working State → Working State → Type 0) (owed : Owed R) where
 
   -- of a whole turn: what is so behind the event, and is kept by each step and by a switch, is so where the turn is closed
   pub walk : (meaning : Meaning) (s : State) (input : Input) (P Goal : Working State → Type 0) (keeps : (w v : Working State) → P w → R w v → P v)
-      (switches : (w : Working State) → P w → IfOk (switch_done w) P) → Begins meaning s input P → Closes P Goal (facts_of (begun s))
-      → IfOk (step meaning input (begun s)) Goal
+      (switches : (w : Working State) → P w → IfOk (switch_done w) P) → Begins meaning s input P → Closes P Goal (facts_before (turn_start s))
+      → IfOk (step meaning input (turn_start s)) Goal
   unfolding step event_part
   walk meaning s Start P Goal keeps switches first closes =
-      let t : Working Turning = turning (begun s) in
+      let t : Working Turning = turning (turn_start s) in
       IfOk-and_then (start_parts t) turned (λ v. Goal (session_in v)) Goal
-      (starting P Goal keeps (facts_of (begun s)) t closes (record { here = first; same = refl })) (λ v h. h)
+      (starting P Goal keeps (facts_before (turn_start s)) t closes (record { here = first; same = refl })) (λ v h. h)
   walk meaning s (Next event) P Goal keeps switches first closes =
-      let t : Working Turning = turning (begun s) in
-      let facts : Facts = facts_of (begun s) in
+      let t : Working Turning = turning (turn_start s) in
+      let facts : Facts = facts_before (turn_start s) in
       IfOk-and_then (and_then (event_part meaning event t) (later_parts (Next event))) turned (λ v. Goal (session_in v)) Goal
       (IfOk-and_then (event_part meaning event t) (later_parts (Next event)) (Going P facts) (λ v. Goal (session_in v))
       (IfOk-within state_in with_state (event_taken meaning event) t (Going P facts)
-      (IfOk-weaker (event_taken meaning event (begun s)) P _ first (λ v p. record { here = p; same = refl })))
+      (IfOk-weaker (event_taken meaning event (turn_start s)) P _ first (λ v p. record { here = p; same = refl })))
       (λ v g. later P Goal keeps switches facts event v closes g))
       (λ v h. h)

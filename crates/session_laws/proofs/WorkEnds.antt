@@ -2,7 +2,7 @@
 use Rattle.std.proofs.Common.{◌≡◌, ℕ, List, Bool, true, false, refl, sym, ap, ◌∙◌, subst}
 use Rattle.std.specs.Prelude.{codes, Option, None, Some, option_and_then, Result, Ok, Err, if◌then◌else◌}
 use Rattle.std.specs.FinMap as map
-use Rattle.session_port.specs.Jobs.{Jobs, after_message, final_of, fits_final, fits_kind, fitting_job, has_build_data, has_macros, has_workspaces, if_value}
+use Rattle.session_port.specs.Jobs.{Jobs, jobs_after, final_of, fits_final, fits_kind, fitting_job, has_build_data, has_macros, has_workspaces, if_value}
 use Rattle.session_port.specs.Jobs.{without_fitting}
 use Rattle.session_port.specs.declared.event.TaskMsg.{TaskMsg}
 use Rattle.session_port.specs.declared.job.Job.{Job}
@@ -258,5 +258,5 @@ fitting-runs turns message out workspaces (Some job) is =
 
 -- what is in progress behind a message is out behind it
 pub message-runs-to : (turns : ℕ) (message : TaskMsg) (out : Jobs) (workspaces : Workspaces)
-    → RunsTo turns workspaces out (end_kept (work_ended message out) workspaces) (after_message message out)
+    → RunsTo turns workspaces out (end_kept (work_ended message out) workspaces) (jobs_after message out)
 message-runs-to turns message out workspaces = fitting-runs turns message out workspaces (fitting_job message out) refl

@@ -23,7 +23,7 @@ use Rattle.analysis_host.specs.SnapshotData.{SnapshotData}
 use Rattle.docs_vfs.specs.Roots.{is_local_at, root_of}
 use Rattle.layered_settings.specs.declared.change.ConfigChange.{ConfigChange}
 use Rattle.layered_settings.specs.declared.change.SettingsFile.{SettingsFile as RootFile}
-use Rattle.session_files.specs.Current.{IsCurrent, IsSound, IsTaken}
+use Rattle.session_files.specs.Current.{IsCurrent, IsSound, IsUntouched}
 use Rattle.session_files.specs.Folds.{has_changed}
 use Rattle.session_port.specs.Jobs.{fitting_job}
 use Rattle.session_port.specs.declared.event.TaskMsg.{TaskMsg}
@@ -152,7 +152,7 @@ pub record EndsWait (message : TaskMsg) (s : State) : Type 0 where
 pub record BringsFiles (old new : State) : Type 0 where
   pub roots : new.files.host.world.roots ≡ old.sources.roots
   pub current : IsSound old.files → IsCurrent new.files
-  pub taken : IsTaken new.files
+  pub taken : IsUntouched new.files
   pub revision : new.files.host.revision ≡ old.files.host.revision + 1 + (if has_changed old.files then 1 else 0)
 
 -- what a message of a job does to the files: nothing, or this

@@ -1,7 +1,7 @@
 -- What the turns of a session order of the host beside jobs: settings of the loader, files to be read anew, revisions.
 use Rattle.std.specs.Prelude.{◌<◌, ℕ, ◌==◌, List, [], ◌∷◌, bytes_eq, Option, None, Some, if◌then◌else◌}
 use Rattle.std.specs.List.{filter_map, flat_map, list_any}
-use Rattle.client.specs.Folds.{paths_of}
+use Rattle.client.specs.Folds.{paths_named}
 use Rattle.lsp_frame.specs.declared.message.Message.TheVariants.{Notification as NotificationMessage}
 use Rattle.notify.specs.declared.notice.Notice.{Notice}
 use Rattle.notify.specs.declared.notice.Notice.TheVariants.{DidChangeWatchedFiles, DidClose}
@@ -47,7 +47,7 @@ urls_told other = []
 
 -- their paths, of the URLs that name one
 abbrev pub files_told : Input → List (List ℕ)
-files_told (Next (Lsp (NotificationMessage n))) = paths_of (urls_told (told_by (heard_of n)))
+files_told (Next (Lsp (NotificationMessage n))) = paths_named (urls_told (told_by (heard_of n)))
 files_told other = []
 
 -- ---- revisions

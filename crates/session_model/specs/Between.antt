@@ -10,15 +10,15 @@ use Rattle.docs_vfs.specs.declared.file_kinds.Kept.{Kept}
 use Rattle.docs_vfs.specs.declared.file_kinds.Kept.TheVariants.{Nothing, Contents, Excluded}
 use Rattle.ra_config.specs.Config.{ConfigData}
 use Rattle.analysis_host.specs.SnapshotData.{SnapshotData}
-use Rattle.session_port.specs.Jobs.{Jobs, ticket_of}
+use Rattle.session_port.specs.Jobs.{Jobs, ticket_of_job}
 use Rattle.session_port.specs.Record.{spawned}
 use Rattle.session_port.specs.declared.event.TaskMsg.{TaskMsg}
 use Rattle.session_port.specs.declared.job.Job.{Job}
 use Rattle.desk.specs.Meaning.{Meaning}
 use Rattle.session_files.specs.Current.{AreNumbers}
-use Rattle.session_files.specs.Texts.{entry_of}
+use Rattle.session_files.specs.Texts.{text_entry}
 use Rattle.session_model.specs.Inputs.{batch_of}
-use Rattle.session_model.specs.Places.{Place, next_turn, placed}
+use Rattle.session_model.specs.Places.{Place, next_turn, place_of_turns}
 use Rattle.session_model.specs.Rows.{machine_within, snapshot_within}
 use Rattle.session_model.specs.Run.{Turn}
 
@@ -40,7 +40,7 @@ abbrev pub ShowsFiles : Place → SnapshotData → Type 0
 ShowsFiles place snapshot =
     ((snapshot.world.texts ≡ place.rest.files.host.world.texts) × (snapshot.config ≡ place.rest.client.settings))
     ⊎ ((place.loading ≡ true) × ((path : List ℕ)
-    → map.get snapshot.world.texts path ≡ entry_of (contents_of (place.documents.kept path))))
+    → map.get snapshot.world.texts path ≡ text_entry (contents_of (place.documents.kept path))))
 
 -- a snapshot shows the documents, the files, the settings and the workspaces of this place; its crate graph and its
 -- revision may be later ones
@@ -61,17 +61,17 @@ pub record WasHandedOver (meaning : Meaning) (settings : ConfigData) (turns : Li
   pub turn : Turn
   pub later : List Turn
   pub split : turns ≡ before ++ turn ∷ later
-  pub not_before : ticket ≤ next_turn (placed meaning settings before)
+  pub not_before : ticket ≤ next_turn (place_of_turns meaning settings before)
   pub earlier : List TaskMsg
   pub within : AreEarlier earlier (batch_of turn.input)
-  pub snapshot : let place = placed meaning settings before in
+  pub snapshot : let place = place_of_turns meaning settings before in
       job.snapshot ≡ snapshot_within place (machine_within meaning earlier place)
-  pub documents : ShowsDocuments (placed meaning settings before) job.snapshot
+  pub documents : ShowsDocuments (place_of_turns meaning settings before) job.snapshot
   pub handed : Contains (spawned turn.commands) job
 
 abbrev pub AreHandedOver : Meaning → ConfigData → List Turn → Jobs → Type 0
 AreHandedOver meaning settings turns jobs =
-    (number : ℕ) (job : Job) (ticket : ℕ) → map.get jobs number ≡ Some job → ticket_of job.kind ≡ Some ticket
+    (number : ℕ) (job : Job) (ticket : ℕ) → map.get jobs number ≡ Some job → ticket_of_job job.kind ≡ Some ticket
     → WasHandedOver meaning settings turns ticket job
 
 -- ---- what queries see of the files
@@ -90,4 +90,4 @@ pub record SeesFiles (place : Place) : Type 0 where
       → option_map (λ (number : FileId × FileExcluded). number.1) (map.get place.rest.files.ids path)
       ≡ excluded_of (place.documents.kept path)
   pub texts : place.loading ≡ false → (path : List ℕ)
-      → map.get place.rest.files.host.world.texts path ≡ entry_of (contents_of (place.documents.kept path))
+      → map.get place.rest.files.host.world.texts path ≡ text_entry (contents_of (place.documents.kept path))

@@ -21,7 +21,7 @@ use Rattle.session_model.specs.Loading.{MacroPaths, load_due, load_kind, with_du
 use Rattle.session_model.specs.Machine.{Turning, begin_part, event_part, files_part, publish_part, quiet_part}
 use Rattle.session_model.specs.Machine.{register_part, status_part}
 use Rattle.session_model.specs.Machine.{switch_part, turning, with_workspaces}
-use Rattle.session_model.specs.Run.{begun}
+use Rattle.session_model.specs.Run.{turn_start}
 use Rattle.session_model.specs.State.{State, fetch_kind, may_start, snapshot_of}
 use Rattle.session_model.specs.declared.input.Event.TheVariants.{Lsp, Task, Vfs, Deferred, Timer}
 use Rattle.session_model.specs.declared.input.Input.{Input}
@@ -111,7 +111,7 @@ parts_before_fetch meaning (Next event) w =
 -- where the session stands then; as before the turn, where a counter is at its end
 abbrev pub before_fetch : Meaning → Input → State → State
 before_fetch meaning input s =
-    (result_unwrap_or (parts_before_fetch meaning input (turning (begun s))) (turning (begun s))).state.state
+    (result_unwrap_or (parts_before_fetch meaning input (turning (turn_start s))) (turning (turn_start s))).state.state
 
 -- the jobs of a turn that are for no request, in order
 abbrev pub own_jobs : Meaning → Input → State → List OwnJob

@@ -11,13 +11,13 @@ use Rattle.session_port.specs.Written.{responses_in}
 use Rattle.desk.specs.Desk.{Desk}
 use Rattle.desk.specs.Folds.{asked_among, desk_past}
 use Rattle.desk.specs.Meaning.{Meaning}
-use Rattle.desk.specs.Reactions.{Reaction, responses_of, silent, joined, cancel_row, message_row, request_row}
+use Rattle.desk.specs.Reactions.{Reaction, responses_of, silent, reactions_joined, cancel_row, message_row, request_row}
 use Rattle.desk.specs.Scene.{Scene}
 use Rattle.session_model.specs.Hearing.{heard_of, told_by}
 use Rattle.session_model.specs.Inputs.{cancelled_by}
 use Rattle.session_model.specs.Machine.{message_taken}
 use Rattle.session_model.specs.Places.{Place, next_turn}
-use Rattle.session_model.specs.Run.{Turn, begun}
+use Rattle.session_model.specs.Run.{Turn, turn_start}
 use Rattle.session_model.specs.State.{State, snapshot_of}
 use Rattle.session_model.specs.Sublists.{IsSublist}
 use Rattle.session_model.specs.declared.input.Event.TheVariants.{Lsp, Task, Vfs, Deferred, Timer}
@@ -28,7 +28,7 @@ use Rattle.session_model.specs.declared.input.Input.TheVariants.{Start, Next}
 
 -- the machine in a turn that takes an event, before it does: the turn is counted
 abbrev pub turn_begun : State → Working State
-turn_begun s = begun (record s { desk = record s.desk { turns = s.desk.turns + 1 } })
+turn_begun s = turn_start (record s { desk = record s.desk { turns = s.desk.turns + 1 } })
 
 -- the machine after a message of a batch; as before it, where the message needs one more of a counter than there are
 abbrev pub machine_after : Meaning → TaskMsg → Working State → Working State
@@ -102,15 +102,17 @@ abbrev pub batch_row : Meaning → List TaskMsg → Working State → Place → 
 batch_row meaning [] w place = silent
 batch_row meaning (message ∷ messages) w place =
     let done = message_row meaning (scene_within place w) place.desk message in
-    joined done (batch_row meaning messages (machine_after meaning message w) (place_after_message message done place))
+    reactions_joined done (batch_row meaning
+    messages (machine_after meaning message w) (place_after_message message done place))
 
 -- what a turn does, by its input and what the lists say before it: on the documents of all earlier inputs
-abbrev pub row : Meaning → Input → Place → Reaction
-row meaning Start place = silent
-row meaning (Next (Lsp (lsp.Request r))) place = request_row meaning (scene_at place) place.desk (next_turn place) r
-row meaning (Next (Lsp (lsp.Notification n))) place = notice_row (cancelled_by (told_by (heard_of n))) place.desk
-row meaning (Next (Lsp (lsp.Response r))) place = silent
-row meaning (Next (Task batch)) place = batch_row meaning batch (turn_begun place.rest) place
-row meaning (Next (Vfs messages)) place = silent
-row meaning (Next (Deferred tasks)) place = silent
-row meaning (Next (Timer ticket)) place = silent
+abbrev pub turn_row : Meaning → Input → Place → Reaction
+turn_row meaning Start place = silent
+turn_row meaning (Next (Lsp (lsp.Request r))) place =
+    request_row meaning (scene_at place) place.desk (next_turn place) r
+turn_row meaning (Next (Lsp (lsp.Notification n))) place = notice_row (cancelled_by (told_by (heard_of n))) place.desk
+turn_row meaning (Next (Lsp (lsp.Response r))) place = silent
+turn_row meaning (Next (Task batch)) place = batch_row meaning batch (turn_begun place.rest) place
+turn_row meaning (Next (Vfs messages)) place = silent
+turn_row meaning (Next (Deferred tasks)) place = silent
+turn_row meaning (Next (Timer ticket)) place = silent

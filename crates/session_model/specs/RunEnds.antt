@@ -11,13 +11,13 @@ use Rattle.session_port.specs.declared.fault.Counter.TheVariants.{Bytes, Files, 
 use Rattle.session_port.specs.declared.fault.Counter.TheVariants.{Revisions, Turns}
 use Rattle.desk.specs.Meaning.{Meaning}
 use Rattle.session_model.specs.Course.{Course, Stop as CourseStop, takes, stops, waits, exit, client_gone}
-use Rattle.session_model.specs.Course.{bad_frame, bad_message, bytes_in, session_course}
+use Rattle.session_model.specs.Course.{bad_frame, bad_message, bytes_brought, session_course}
 use Rattle.session_model.specs.Inputs.{batch_of, file_count, turns_after}
 use Rattle.session_model.specs.Machine.{step}
 use Rattle.session_model.specs.OwnJobs.{own_jobs}
-use Rattle.session_model.specs.Places.{Place, placed}
-use Rattle.session_model.specs.Rows.{row}
-use Rattle.session_model.specs.Run.{Turn, begun, commands_of, fed_bytes, taking}
+use Rattle.session_model.specs.Places.{Place, place_of_turns}
+use Rattle.session_model.specs.Rows.{turn_row}
+use Rattle.session_model.specs.Run.{Turn, turn_start, commands_of, fed_bytes, taking}
 use Rattle.session_model.specs.declared.fault.SessionError.{SessionError}
 use Rattle.session_model.specs.declared.fault.SessionError.TheVariants.{ClientExited, BadFrame, BadMessage, HostFault}
 use Rattle.session_model.specs.declared.fault.SessionError.TheVariants.{WriteFault, Exhausted, NoMemory}
@@ -74,7 +74,7 @@ given_at place = record {
 abbrev pub needs_of : Meaning → Input → Place → Numbers
 needs_of meaning input place = record {
   turns = turns_after input 0;
-  jobs = length (row meaning input place).jobs + length (own_jobs meaning input place.rest);
+  jobs = length (turn_row meaning input place).jobs + length (own_jobs meaning input place.rest);
   requests = 7;
   revisions = length (batch_of input) + 2;
   files = file_count input;
@@ -95,14 +95,14 @@ AreTooMany given needs LoaderSettings =
 
 -- the machine can't take the input, since one more of a counter is needed than there are
 pub record NeedsMore (meaning : Meaning) (place : Place) (input : Input) (counter : Counter) : Type 0 where
-  pub refused : step meaning input (begun place.rest) ≡ Err counter
+  pub refused : step meaning input (turn_start place.rest) ≡ Err counter
   pub too_many : AreTooMany (given_at place) (needs_of meaning input place) counter
 
 -- one more of a counter was needed than there are, by the turn of the next input, or for the bytes that were given
 abbrev pub IsUsedUp : Meaning → ConfigData → Reader → List HostCall → List Turn → Course → Counter → Type 0
 IsUsedUp meaning config reader calls turns left counter =
-    NextInput left (λ input. NeedsMore meaning (placed meaning config turns) input counter)
-    ⊎ ((counter ≡ Bytes) × (2 ^ 64 ≤ fed_bytes reader + bytes_in (given_in calls)))
+    NextInput left (λ input. NeedsMore meaning (place_of_turns meaning config turns) input counter)
+    ⊎ ((counter ≡ Bytes) × (2 ^ 64 ≤ fed_bytes reader + bytes_brought (given_in calls)))
 
 -- ---- the end of the lists
 
@@ -125,15 +125,15 @@ EndsAt meaning config reader calls turns left (Err NoMemory) = AllTaken calls tu
 
 -- ---- by what ends the course of the events
 
-abbrev pub IsEnd : {T : Type 0} → Result T SessionError → Option CourseStop → Type 0
-IsEnd (Ok x) end = end ≡ Some exit
-IsEnd (Err ClientExited) end = end ≡ Some client_gone
-IsEnd (Err (BadFrame at)) end = end ≡ Some (bad_frame at)
-IsEnd (Err (BadMessage at)) end = end ≡ Some (bad_message at)
-IsEnd (Err HostFault) end = Unit {0}
-IsEnd (Err WriteFault) end = Unit {0}
-IsEnd (Err (Exhausted counter)) end = Unit {0}
-IsEnd (Err NoMemory) end = Unit {0}
+abbrev pub EndsCourse : {T : Type 0} → Result T SessionError → Option CourseStop → Type 0
+EndsCourse (Ok x) end = end ≡ Some exit
+EndsCourse (Err ClientExited) end = end ≡ Some client_gone
+EndsCourse (Err (BadFrame at)) end = end ≡ Some (bad_frame at)
+EndsCourse (Err (BadMessage at)) end = end ≡ Some (bad_message at)
+EndsCourse (Err HostFault) end = Unit {0}
+EndsCourse (Err WriteFault) end = Unit {0}
+EndsCourse (Err (Exhausted counter)) end = Unit {0}
+EndsCourse (Err NoMemory) end = Unit {0}
 
 -- ---- good ends
 

@@ -12,6 +12,7 @@ use Rattle.session_model.specs.State.{State}
 use Rattle.session_model.specs.declared.heard.Heard.{Heard}
 
 -- what is done for what is heard in a notification
-pub noticed_as : {T : Type 0} (heard : Heard) (n : Notification) (result : Result T TurnError) (w : Working State) (state : State) (out : Written) → heard ≡ heard_of n
+pub noticed_as : {T : Type 0} (heard : Heard) (n : Notification) (result : Result T TurnError) (w : Working State) (state : State) (out : Written)
+    → heard ≡ heard_of n
     → Meets result (noticed heard n.method w) state out → Meets result (noticed (heard_of n) n.method w) state out
 noticed_as heard n result w state out is meets = subst (λ (x : Heard). Meets result (noticed x n.method w) state out) is meets

@@ -3,8 +3,8 @@ ghost use Rattle.std.specs.Prelude.{◌≡◌, ◌<◌, ◌^◌, length, Ok, IfO
 ghost use Rattle.docs_vfs.specs.FileUrls.{path_of};
 ghost use Rattle.session_port.specs.Meets.{Meets, Gives};
 ghost use Rattle.session_model.specs.FilesFolds.{changed_files, has_changed};
-ghost use Rattle.session_model.specs.FilesSteps.{changed, closed as closed_document, loaded, opened, processed};
-ghost use Rattle.session_model.specs.Machine.{at_files, loader_taken, changed_at, closed_at, files_done, files_followed, files_processed, opened_at, some_processed};
+ghost use Rattle.session_model.specs.FilesSteps.{changed_document, closed_document, loaded, opened_document, processed};
+ghost use Rattle.session_model.specs.Machine.{at_files, loader_taken, document_changed_at, document_closed_at, files_done, files_followed, files_processed, document_opened_at, some_processed};
 ghost use Rattle.session_model.specs.State.{columns_in, excludes_in};
 ghost use Rattle.session_model.specs.Timing.{bring_files, brings_files};
 
@@ -42,21 +42,21 @@ fn open_at(
     out: &mut TurnOut,
 ) -> Result<(), TurnError>
     requires { length text < 2 ^ 32 }
-    ensures { Meets result (at_files (opened (excludes_in store.old.client.settings) path version text) (record { state = store.old; out = out.old })) store.new out.new }
+    ensures { Meets result (at_files (opened_document (excludes_in store.old.client.settings) path version text) (record { state = store.old; out = out.old })) store.new out.new }
 {
     let excludes = store.client.settings().files_exclude();
     store.files.open(excludes, path, version, text, out)
 }
 
 // A document is open at the path of its URL.
-#[tactic(auto, unfolding(session_model::specs::Machine::opened_at))]
+#[tactic(auto, unfolding(session_model::specs::Machine::document_opened_at))]
 pub(crate) fn on_open(
     store: &mut Store,
     document: DidOpen,
     out: &mut TurnOut,
 ) -> Result<(), TurnError>
     requires { length document.text < 2 ^ 32 }
-    ensures { Meets result (opened_at (path_of document.uri) document (record { state = store.old; out = out.old })) store.new out.new }
+    ensures { Meets result (document_opened_at (path_of document.uri) document (record { state = store.old; out = out.old })) store.new out.new }
 {
     match path_of_url(store.alloc, document.uri.as_str()) {
         Ok(path) => open_at(store, path, document.version, document.text, out),
@@ -74,20 +74,20 @@ fn change_at(
     changes: Items<ContentChange>,
     out: &mut TurnOut,
 ) -> Result<(), TurnError>
-    ensures { Meets result (at_files (changed (columns_in store.old.client.settings) path version changes) (record { state = store.old; out = out.old })) store.new out.new }
+    ensures { Meets result (at_files (changed_document (columns_in store.old.client.settings) path version changes) (record { state = store.old; out = out.old })) store.new out.new }
 {
     let columns = store.client.settings().encodings();
     store.files.change(columns, path, version, changes, out)
 }
 
 // A document is changed at the path of its URL.
-#[tactic(auto, unfolding(session_model::specs::Machine::changed_at))]
+#[tactic(auto, unfolding(session_model::specs::Machine::document_changed_at))]
 pub(crate) fn on_change(
     store: &mut Store,
     change: DidChange,
     out: &mut TurnOut,
 ) -> Result<(), TurnError>
-    ensures { Meets result (changed_at (path_of change.uri) change (record { state = store.old; out = out.old })) store.new out.new }
+    ensures { Meets result (document_changed_at (path_of change.uri) change (record { state = store.old; out = out.old })) store.new out.new }
 {
     match path_of_url(store.alloc, change.uri.as_str()) {
         Ok(path) => change_at(store, path, change.version, change.changes, out),
@@ -105,9 +105,9 @@ fn close_at(store: &mut Store, path: VfsPath, out: &mut TurnOut) -> Result<(), T
 }
 
 // A document is closed at the path of its URL.
-#[tactic(auto, unfolding(session_model::specs::Machine::closed_at))]
+#[tactic(auto, unfolding(session_model::specs::Machine::document_closed_at))]
 pub(crate) fn on_close(store: &mut Store, uri: Text, out: &mut TurnOut) -> Result<(), TurnError>
-    ensures { Meets result (closed_at (path_of uri) uri (record { state = store.old; out = out.old })) store.new out.new }
+    ensures { Meets result (document_closed_at (path_of uri) uri (record { state = store.old; out = out.old })) store.new out.new }
 {
     match path_of_url(store.alloc, uri.as_str()) {
         Ok(path) => close_at(store, path, out),
@@ -143,7 +143,7 @@ pub fn on_loader(
 // changed.
 fn take_up(store: &mut Store, out: &mut TurnOut) -> Result<Items<ChangedFile>, TurnError>
     ensures meets { Meets result (at_files (processed store.old.sources.roots) (record { state = store.old; out = out.old })) store.new out.new }
-    ensures changed { IfOk result (λ changed. changed ≡ changed_files store.old.files) }
+    ensures changed_document { IfOk result (λ changed_document. changed_document ≡ changed_files store.old.files) }
 {
     store.files.process(&store.roots, out)
 }
@@ -155,7 +155,7 @@ fn follow_files(
     changed: &Items<ChangedFile>,
     out: &mut TurnOut,
 ) -> Result<(), TurnError>
-    ensures { Gives result (files_followed changed.now (record { state = store.old; out = out.old })) store.new out.new }
+    ensures { Gives result (files_followed changed_document.now (record { state = store.old; out = out.old })) store.new out.new }
 {
     if changed.is_empty() {
         return Ok(());

@@ -4,7 +4,7 @@ ghost use Rattle.session_port.specs.Meets.{Gives};
 ghost use Rattle.session_model.specs.Machine.{further_logged, settings_filed};
 ghost use Rattle.session_model.specs.Sources.{is_settled, parents_told};
 ghost use Rattle.session_model.specs.State.{State};
-ghost use Rattle.change_effects.specs.Filing.{change_of};
+ghost use Rattle.change_effects.specs.Filing.{filed_change};
 
 use change_effects::{SettingsFile, settings_change};
 use docs_vfs::VfsPath;
@@ -26,7 +26,7 @@ fn is_settled(store: &Store, files: &Items<SettingsFile>) -> bool
 // which the settings have from then on.
 fn take_change(store: &mut Store, files: &[SettingsFile]) -> Result<ConfigChange, NoMemory>
     ensures change { IfOk result (λ change. change
-        ≡ change_of store.old.files.host.world.roots store.old.sources.parents store.old.workspaces.present files.now) }
+        ≡ filed_change store.old.files.host.world.roots store.old.sources.parents store.old.workspaces.present files.now) }
     ensures after { OnOk result (store.new ≡ record store.old { sources = parents_told store.old.sources }) }
 {
     let parents = store.parents.take();

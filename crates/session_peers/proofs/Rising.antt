@@ -13,7 +13,7 @@ use Rattle.analysis_host.specs.Answers.{Finding}
 use Rattle.analysis_host.specs.SnapshotData.{SnapshotData}
 use Rattle.analysis_host.specs.declared.ask.Ask.{Ask}
 use Rattle.session_port.specs.Honest.{IsHonestMessage, AreHonest}
-use Rattle.session_port.specs.Jobs.{Jobs, after_message, after_batch}
+use Rattle.session_port.specs.Jobs.{Jobs, jobs_after, after_batch}
 use Rattle.session_port.specs.Record.{AreRising, last_number, with_jobs}
 use Rattle.session_peers.proofs.Fitting.{after_fitting}
 use Rattle.session_peers.specs.Results.{Finishes, IsOfProject}
@@ -117,7 +117,7 @@ module _ (answer : SnapshotData → Ask → Finding) where
 
   -- it takes it off
   after_first : (low : ℕ) (job : Job) (jobs : List Job) (message : TaskMsg) → AreRising low (job ∷ jobs) → Finishes answer job message
-      → after_message message (with_jobs (job ∷ jobs) map.empty) ≡ with_jobs jobs map.empty
+      → jobs_after message (with_jobs (job ∷ jobs) map.empty) ≡ with_jobs jobs map.empty
   after_first low job jobs message rising finishes =
       after_fitting message (with_jobs (job ∷ jobs) map.empty) job (out_first low job jobs message rising finishes) finishes.fits
       ∙ ap (λ number. map.remove (with_jobs (job ∷ jobs) map.empty) number) finishes.number

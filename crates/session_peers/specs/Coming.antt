@@ -9,7 +9,7 @@ use Rattle.host_orders.specs.HostOrders.{after_next}
 use Rattle.lsp_frame.specs.Frames.{cut_of}
 use Rattle.lsp_frame.specs.declared.frame.Cut.TheVariants.{NeedMore}
 use Rattle.session_peers.specs.Framed.{FramedData, EndsPiece}
-use Rattle.session_port.specs.Events.{bytes_of}
+use Rattle.session_port.specs.Events.{event_bytes}
 use Rattle.session_port.specs.Honest.{AreHonest}
 use Rattle.session_peers.specs.Inline.{IsDry}
 use Rattle.session_port.specs.Jobs.{Jobs, after_batch}
@@ -78,11 +78,11 @@ pub record NeedsRead (out : Jobs) (orders : Orders) (source : FramedData) : Type
 
 -- the bytes that an event takes are held
 abbrev pub IsHeld : FramedData → HostEvent → Type 0
-IsHeld source event = length (bytes_of event) ≤ length source.held
+IsHeld source event = length (event_bytes event) ≤ length source.held
 
 -- what is held after an event was given
 abbrev pub source_after : HostEvent → FramedData → FramedData
-source_after event source = record source { held = drop (length (bytes_of event)) source.held }
+source_after event source = record source { held = drop (length (event_bytes event)) source.held }
 
 abbrev pub jobs_after : HostEvent → JobsData → JobsData
 jobs_after (Bytes piece) jobs = jobs

@@ -3,7 +3,7 @@ use Rattle.std.specs.Prelude.{◌≡◌, ℕ, true, false, length}
 use Rattle.analysis_host.specs.Answers.{Finding}
 use Rattle.analysis_host.specs.SnapshotData.{SnapshotData}
 use Rattle.analysis_host.specs.declared.ask.Ask.{Ask}
-use Rattle.session_port.specs.Jobs.{Jobs, final_of, fits, asks_analysis}
+use Rattle.session_port.specs.Jobs.{Jobs, final_of, fits_job, asks_analysis}
 use Rattle.session_port.specs.Honest.{IsFinalOf}
 use Rattle.session_port.specs.Runs.{IsFinal, IsUncancelled}
 use Rattle.session_port.specs.SmallProject.{IsSmall}
@@ -24,5 +24,5 @@ pub record Finishes (answer : SnapshotData → Ask → Finding) (job : Job) (mes
   pub number : message.job ≡ job.number
   pub result : IsFinalOf answer job (final_of message.body)
   pub uncancelled : IsFinal (final_of message.body) IsUncancelled
-  pub fits : fits job message.body ≡ true
+  pub fits : fits_job job message.body ≡ true
   pub project : IsOfProject job message

@@ -9,7 +9,8 @@ use Rattle.session_port.specs.declared.fault.TurnError.{TurnError}
 use Rattle.session_port.specs.declared.fault.TurnError.TheVariants.{Exhausted, NoMemory}
 
 -- where the part's call meets its step, so does the whole's
-pub within_meets : {S P T : Type 0} (get : S → P) (put : P → S → S) (step : Working P → Result (Working P) Counter) (result : Result T TurnError) (w : Working S) (part : P) (out : Written)
+pub within_meets : {S P T : Type 0} (get : S → P) (put : P → S → S) (step : Working P → Result (Working P) Counter) (result : Result T TurnError)
+    (w : Working S) (part : P) (out : Written)
     → Meets result (step (record { state = get w.state; out = w.out })) part out → Meets result (within get put step w) (put part w.state) out
 unfolding within
 within_meets get put step (Ok x) w part out h = ap (put_back put w.state) h

@@ -1,20 +1,21 @@
 -- What the session asks of an event and of a command, each by one question.
 use Rattle.std.specs.Prelude.{ℕ, List, [], Option, None, Some}
 use Rattle.session_port.specs.declared.command.Command.{Command}
-use Rattle.session_port.specs.declared.command.Command.TheVariants.{Spawn, Revise, Invalidate, Log, Defer, SetLoader, Timer as OrderTimer, Stop}
+use Rattle.session_port.specs.declared.command.Command.TheVariants.{Spawn, Revise, Invalidate, Log, Defer, SetLoader}
+use Rattle.session_port.specs.declared.command.Command.TheVariants.{Timer as OrderTimer, Stop}
 use Rattle.session_port.specs.declared.event.HostEvent.{HostEvent}
 use Rattle.session_port.specs.declared.event.HostEvent.TheVariants.{Bytes, Ended, Tasks, Vfs, DeferredTask, Timer}
 use Rattle.session_port.specs.declared.event.TaskMsg.{TaskMsg}
 use Rattle.session_port.specs.declared.job.Job.{Job}
 
 -- the bytes that an event brings
-abbrev pub bytes_of : HostEvent → List ℕ
-bytes_of (Bytes bytes) = bytes
-bytes_of Ended = []
-bytes_of (Tasks batch) = []
-bytes_of (Vfs messages) = []
-bytes_of (DeferredTask tasks) = []
-bytes_of (Timer ticket) = []
+abbrev pub event_bytes : HostEvent → List ℕ
+event_bytes (Bytes bytes) = bytes
+event_bytes Ended = []
+event_bytes (Tasks batch) = []
+event_bytes (Vfs messages) = []
+event_bytes (DeferredTask tasks) = []
+event_bytes (Timer ticket) = []
 
 -- the messages of jobs that an event brings
 abbrev pub batch_in : HostEvent → List TaskMsg

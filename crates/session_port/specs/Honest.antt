@@ -4,17 +4,20 @@ use Rattle.std.specs.FinMap as maps
 use Rattle.analysis_host.specs.Answers.{Finding}
 use Rattle.analysis_host.specs.SnapshotData.{SnapshotData}
 use Rattle.analysis_host.specs.declared.ask.Ask.{Ask}
-use Rattle.session_port.specs.Jobs.{Jobs, asks_of, first_result, roots_result, if_value, has_workspaces, has_build_data, has_macros, final_of, after_message}
+use Rattle.session_port.specs.Jobs.{Jobs, asks_of, first_result, roots_result, if_value, has_workspaces, has_build_data}
+use Rattle.session_port.specs.Jobs.{has_macros, final_of, jobs_after}
 use Rattle.session_port.specs.declared.event.HostEvent.{HostEvent}
 use Rattle.session_port.specs.Events.{batch_in}
 use Rattle.session_port.specs.declared.event.TaskMsg.{TaskMsg}
 use Rattle.session_port.specs.declared.job.Job.{Job}
 use Rattle.session_port.specs.declared.job.JobKind.{JobKind}
-use Rattle.session_port.specs.declared.job.JobKind.TheVariants.{Request, ProcMacroSources, FetchWorkspaces, FetchBuildData, LoadProcMacros}
+use Rattle.session_port.specs.declared.job.JobKind.TheVariants.{Request, ProcMacroSources, FetchWorkspaces}
+use Rattle.session_port.specs.declared.job.JobKind.TheVariants.{FetchBuildData, LoadProcMacros}
 use Rattle.session_port.specs.declared.job.JobResult.{JobResult}
 use Rattle.session_port.specs.declared.job.JobResult.TheVariants.{Value, Fault, Cancelled, NoMemory}
 
--- a job for which the analysis is asked ends with what its questions come to; a host's job may end with any value of its kind, and with any fault
+-- a job for which the analysis is asked ends with what its questions come to; a host's job may end with any value of
+-- its kind, and with any fault
 abbrev pub IsEndOf : JobKind → List Finding → JobResult → Type 0
 IsEndOf (Request ticket row params) findings result = result ≡ first_result findings
 IsEndOf (ProcMacroSources files) findings result = result ≡ roots_result findings
@@ -26,7 +29,8 @@ IsEndOf (LoadProcMacros paths ignored) findings result = if_value has_macros res
 abbrev pub findings_of : (SnapshotData → Ask → Finding) → Job → List Finding
 findings_of answer job = map (answer job.snapshot) (asks_of job.kind)
 
--- a result that the job may have: what its questions on its snapshot come to, or what its host finds; that it saw a later revision; that memory ran out
+-- a result that the job may have: what its questions on its snapshot come to, or what its host finds; that it saw a
+-- later revision; that memory ran out
 abbrev pub IsResultOf : (SnapshotData → Ask → Finding) → Job → JobResult → Type 0
 IsResultOf answer job (Value value) = IsEndOf job.kind (findings_of answer job) (Value value)
 IsResultOf answer job (Fault code message) = IsEndOf job.kind (findings_of answer job) (Fault code message)
@@ -47,7 +51,8 @@ pub record IsHonestMessage (answer : SnapshotData → Ask → Finding) (out : Jo
 -- so does each message of a batch, at the jobs that the ones before it leave out
 abbrev pub AreHonest : (SnapshotData → Ask → Finding) → Jobs → List TaskMsg → Type 0
 AreHonest answer out [] = Unit {0}
-AreHonest answer out (message ∷ messages) = IsHonestMessage answer out message × AreHonest answer (after_message message out) messages
+AreHonest answer out (message ∷ messages) = IsHonestMessage answer out message
+    × AreHonest answer (jobs_after message out) messages
 
 abbrev pub IsHonest : (SnapshotData → Ask → Finding) → Jobs → HostEvent → Type 0
 IsHonest answer out event = AreHonest answer out (batch_in event)

@@ -1,12 +1,14 @@
 -- Jobs, and what they come to.
-use Rattle.std.specs.Prelude.{ℕ, List, [], ◌∷◌, map as each, Bool, true, false, Option, None, Some, option_and_then, if◌then◌else◌}
+use Rattle.std.specs.Prelude.{ℕ, List, [], ◌∷◌, map as each, Bool, true, false, Option, None, Some, option_and_then}
+use Rattle.std.specs.Prelude.{if◌then◌else◌}
 use Rattle.std.specs.List.{flat_map}
 use Rattle.std.specs.Ordering.{nat_cmp}
 use Rattle.std.specs.FinMap as map
 use Rattle.plain.specs.Plain.{is_plain}
 use Rattle.analysis_host.specs.Answers.{Finding, answer, fault}
 use Rattle.analysis_host.specs.declared.ask.Answer.{Answer}
-use Rattle.analysis_host.specs.declared.ask.Answer.TheVariants.{Json as JsonAnswer, Roots as RootsAnswer, Primed as PrimedAnswer}
+use Rattle.analysis_host.specs.declared.ask.Answer.TheVariants.{Json as JsonAnswer, Roots as RootsAnswer}
+use Rattle.analysis_host.specs.declared.ask.Answer.TheVariants.{Primed as PrimedAnswer}
 use Rattle.analysis_host.specs.declared.ask.Ask.{Ask}
 use Rattle.analysis_host.specs.declared.ask.Ask.TheVariants.{Request as RequestAsk, CratesOf}
 use Rattle.session_port.specs.declared.event.TaskBody.{TaskBody}
@@ -14,7 +16,8 @@ use Rattle.session_port.specs.declared.event.TaskBody.TheVariants.{Final}
 use Rattle.session_port.specs.declared.event.TaskMsg.{TaskMsg}
 use Rattle.session_port.specs.declared.job.Job.{Job}
 use Rattle.session_port.specs.declared.job.JobKind.{JobKind}
-use Rattle.session_port.specs.declared.job.JobKind.TheVariants.{Request, ProcMacroSources, FetchWorkspaces, FetchBuildData, LoadProcMacros}
+use Rattle.session_port.specs.declared.job.JobKind.TheVariants.{Request, ProcMacroSources, FetchWorkspaces}
+use Rattle.session_port.specs.declared.job.JobKind.TheVariants.{FetchBuildData, LoadProcMacros}
 use Rattle.session_port.specs.declared.job.JobResult.{JobResult}
 use Rattle.session_port.specs.declared.job.JobResult.TheVariants.{Value, Fault, Cancelled, NoMemory}
 use Rattle.session_port.specs.declared.job.JobValue.{JobValue}
@@ -25,12 +28,12 @@ abbrev pub Jobs : Type 0
 Jobs = map.FinMap nat_cmp Job
 
 -- the request that a job is for, if it is for one
-abbrev pub ticket_of : JobKind → Option ℕ
-ticket_of (Request ticket row params) = Some ticket
-ticket_of (ProcMacroSources files) = None
-ticket_of (FetchWorkspaces projects detached path force) = None
-ticket_of (FetchBuildData version) = None
-ticket_of (LoadProcMacros paths ignored) = None
+abbrev pub ticket_of_job : JobKind → Option ℕ
+ticket_of_job (Request ticket row params) = Some ticket
+ticket_of_job (ProcMacroSources files) = None
+ticket_of_job (FetchWorkspaces projects detached path force) = None
+ticket_of_job (FetchBuildData version) = None
+ticket_of_job (LoadProcMacros paths ignored) = None
 
 -- the analysis is asked: else the job is the host's own
 abbrev pub asks_analysis : JobKind → Bool
@@ -49,13 +52,13 @@ asks_of (FetchBuildData version) = []
 asks_of (LoadProcMacros paths ignored) = []
 
 -- a job's value is the answer to its question
-abbrev pub value_of : Answer → JobValue
-value_of (JsonAnswer value) = Json value
-value_of (RootsAnswer paths) = Roots paths
-value_of PrimedAnswer = Primed
+abbrev pub value_answering : Answer → JobValue
+value_answering (JsonAnswer value) = Json value
+value_answering (RootsAnswer paths) = Roots paths
+value_answering PrimedAnswer = Primed
 
 abbrev pub result_of : Finding → JobResult
-result_of (answer value) = Value (value_of value)
+result_of (answer value) = Value (value_answering value)
 result_of (fault code message) = Fault code message
 
 -- what a request's job comes to: the answer to its one question
@@ -64,13 +67,13 @@ first_result [] = NoMemory
 first_result (finding ∷ findings) = result_of finding
 
 -- the paths that an answer holds, and those that are found
-abbrev pub roots_in : Answer → List (List ℕ)
-roots_in (JsonAnswer value) = []
-roots_in (RootsAnswer paths) = paths
-roots_in PrimedAnswer = []
+abbrev pub roots_answered : Answer → List (List ℕ)
+roots_answered (JsonAnswer value) = []
+roots_answered (RootsAnswer paths) = paths
+roots_answered PrimedAnswer = []
 
 abbrev pub roots_found : Finding → List (List ℕ)
-roots_found (answer value) = roots_in value
+roots_found (answer value) = roots_answered value
 roots_found (fault code message) = []
 
 -- the first fault stands for a result
@@ -153,24 +156,24 @@ fits_final kind None = false
 fits_final kind (Some result) = fits_kind kind result
 
 -- what a message says is of the kind of its job, and its JSON is plain
-abbrev pub fits : Job → TaskBody → Bool
-fits job body = fits_final job.kind (final_of body)
+abbrev pub fits_job : Job → TaskBody → Bool
+fits_job job body = fits_final job.kind (final_of body)
 
-abbrev pub if_fits : TaskBody → Job → Option Job
-if_fits body job = if fits job body then Some job else None
+abbrev pub if_fits_job : TaskBody → Job → Option Job
+if_fits_job body job = if fits_job job body then Some job else None
 
 -- the job out that a message fits
 abbrev pub fitting_job : TaskMsg → Jobs → Option Job
-fitting_job message out = option_and_then (if_fits message.body) (map.get out message.job)
+fitting_job message out = option_and_then (if_fits_job message.body) (map.get out message.job)
 
 abbrev pub without_fitting : Option Job → TaskMsg → Jobs → Jobs
 without_fitting None message out = out
 without_fitting (Some job) message out = map.remove out message.job
 
 -- the jobs out after a message: a final result that fits takes its job off
-abbrev pub after_message : TaskMsg → Jobs → Jobs
-after_message message out = without_fitting (fitting_job message out) message out
+abbrev pub jobs_after : TaskMsg → Jobs → Jobs
+jobs_after message out = without_fitting (fitting_job message out) message out
 
 abbrev pub after_batch : List TaskMsg → Jobs → Jobs
 after_batch [] out = out
-after_batch (message ∷ messages) out = after_batch messages (after_message message out)
+after_batch (message ∷ messages) out = after_batch messages (jobs_after message out)

@@ -38,7 +38,8 @@ AreUncancelled (message ∷ messages) = IsFinal (final_of message.body) IsUncanc
 abbrev pub HasCounted : ℕ → ℕ → Type 0
 HasCounted before now = HasPolled before now × now ≤ 2 ^ 64 - 1
 
--- a check ends without roots at a question: by the fault that it comes to, by a later revision, or where memory runs out
+-- a check ends without roots at a question: by the fault that it comes to, by a later revision, or where memory runs
+-- out
 abbrev pub StopsAt : Finding → JobResult → Type 0
 StopsAt finding (Value value) = ⊥
 StopsAt finding (Fault code message) = finding ≡ fault code message

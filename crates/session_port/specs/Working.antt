@@ -1,4 +1,5 @@
--- How the parts of a turn are put together: each goes on from the state that those before it leave, and from what they have written.
+-- How the parts of a turn are put together: each goes on from the state that those before it leave, and from what they
+-- have written.
 use Rattle.std.specs.Prelude.{ℕ, ◌+◌, ◌-◌, ◌^◌, List, [], ◌∷◌, ◌++◌, ltb, Result, Ok, Err, if◌then◌else◌}
 use Rattle.lsp_frame.specs.declared.message.Response.{Response}
 use Rattle.lsp_frame.specs.declared.message.Message.{Message}
@@ -43,5 +44,6 @@ put_back put state (Ok v) = Ok (record { state = put v.state state; out = v.out 
 put_back put state (Err counter) = Err counter
 
 -- a step of one part of the state; all else stays
-unfoldable pub within : {S P : Type 0} → (S → P) → (P → S → S) → (Working P → Result (Working P) Counter) → Working S → Result (Working S) Counter
+unfoldable pub within : {S P : Type 0} → (S → P) → (P → S → S) → (Working P → Result (Working P) Counter) → Working S
+    → Result (Working S) Counter
 within get put step w = put_back put w.state (step (record { state = get w.state; out = w.out }))

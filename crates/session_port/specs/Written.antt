@@ -5,7 +5,9 @@ use Rattle.lsp_frame.specs.Frames.{frames_from, bodies_of}
 use Rattle.lsp_frame.specs.Written.{frame_for, body_of, AreWritable}
 use Rattle.lsp_frame.specs.Rules.{message_of}
 use Rattle.lsp_frame.specs.declared.message.Message.{Message}
-use Rattle.lsp_frame.specs.declared.message.Message.TheVariants.{Request as RequestMessage, Notification as NotificationMessage, Response as ResponseMessage}
+use Rattle.lsp_frame.specs.declared.message.Message.TheVariants.{Request as RequestMessage}
+use Rattle.lsp_frame.specs.declared.message.Message.TheVariants.{Notification as NotificationMessage}
+use Rattle.lsp_frame.specs.declared.message.Message.TheVariants.{Response as ResponseMessage}
 use Rattle.lsp_frame.specs.declared.message.Response.{Response}
 use Rattle.session_port.specs.declared.command.Command.{Command}
 
@@ -17,14 +19,14 @@ abbrev pub nothing_done : Written
 nothing_done = record { messages = []; commands = [] }
 
 -- the response that a message is, if it is one
-abbrev pub response_of : Message → Option Response
-response_of (RequestMessage r) = None
-response_of (NotificationMessage n) = None
-response_of (ResponseMessage response) = Some response
+abbrev pub response_in : Message → Option Response
+response_in (RequestMessage r) = None
+response_in (NotificationMessage n) = None
+response_in (ResponseMessage response) = Some response
 
 -- the responses among messages
 abbrev pub responses_in : List Message → List Response
-responses_in messages = filter_map response_of messages
+responses_in messages = filter_map response_in messages
 
 -- each message's values can be written
 abbrev pub AllWritable : List Message → Type 0

@@ -1,6 +1,6 @@
 // What a host gives.
 ghost use Rattle.std.specs.Prelude.{◌≡◌};
-ghost use Rattle.session_port.specs.Jobs.{fits};
+ghost use Rattle.session_port.specs.Jobs.{fits_job};
 
 use crate::command::DeferredTask;
 use crate::job::{Job, JobResult};
@@ -78,7 +78,7 @@ pub enum HostEvent {
 impl TaskBody {
     /// Whether a job of this kind may say so: the value is of its kind, and the JSON in it is plain.
     pub fn fits(&self, job: &Job) -> bool
-        ensures { result ≡ fits job.now self.now }
+        ensures { result ≡ fits_job job.now self.now }
     {
         match self {
             TaskBody::Final(result) => result.fits(&job.kind),

@@ -1,7 +1,7 @@
 // What a job comes to.
 ghost use Rattle.std.specs.Prelude.{◌≡◌, ◌≤◌, ◌<◌, true, None, Some, is_some, IfOk};
 ghost use Rattle.analysis_host.specs.Polls.{HasPolled};
-ghost use Rattle.session_port.specs.Jobs.{asks_analysis, fits_kind, ticket_of};
+ghost use Rattle.session_port.specs.Jobs.{asks_analysis, fits_kind, ticket_of_job};
 ghost use Rattle.session_port.specs.Honest.{IsResultOf};
 ghost use Rattle.session_port.specs.Runs.{IfCancelled, UnlessNoMemory};
 
@@ -74,7 +74,7 @@ fn query<A: Analysis, C: Cancel>(
     analysis: &A,
     cancel: &mut C,
 ) -> Result<JobResult, AllocError>
-    requires asked { is_some (ticket_of job.now.kind) ≡ true }
+    requires asked { is_some (ticket_of_job job.now.kind) ≡ true }
     requires floor { job.now.snapshot.revision ≤ C.floor cancel.old }
     requires fresh { C.held cancel.old ≡ None }
     ensures is { IfOk result (IsResultOf A.answer job.now) }

@@ -16,7 +16,8 @@ use Rattle.reload.proofs.PlaceLaws.{stand_at_numbers}
 use Rattle.session_model.specs.Crates.{Numbers, crate_graph, loaded_as}
 
 -- a closure that changes nothing, and answers this for each of these
-pub asked_map : {F A R : Type 0} (g : Mut F (Bor A × Unit {0}) R) (f : F) (h : A → R) → ((x : A) (r : R) (next : F) → CalledAt g f x r next → (r ≡ h x) × (next ≡ f))
+pub asked_map : {F A R : Type 0} (g : Mut F (Bor A × Unit {0}) R) (f : F) (h : A → R)
+    → ((x : A) (r : R) (next : F) → CalledAt g f x r next → (r ≡ h x) × (next ≡ f))
     → (xs : List A) (rs : List R) (last : F) → Asked g f xs rs last → rs ≡ map h xs
 asked_map g f h each [] [] last asked = refl
 asked_map {F} g f h each (x ∷ xs) (r ∷ rs) last (next, called, later) =
@@ -47,5 +48,6 @@ crates_fit settings numbers present =
     let crates : List CrateInfo = all_crates present (places_from 0 files) in
     let same : length files ≡ length (crate_roots present) = length-map (crate_roots present) (loaded_as numbers) in
     taken-fits (length crates) (length (files_found files))
-    (sym (length-map crates (λ (info : CrateInfo). info.root)) ∙ ap (λ (list : List FileId). length list) (stand_at_numbers present files same ∙ kept_first files)
+    (sym (length-map crates (λ (info : CrateInfo). info.root))
+    ∙ ap (λ (list : List FileId). length list) (stand_at_numbers present files same ∙ kept_first files)
     ∙ length-take most_crates (files_found files))

@@ -3,7 +3,7 @@ ghost use Rattle.std.specs.Prelude.{◌≡◌};
 ghost use Rattle.lsp_frame.specs.Pending.{IsAbove};
 ghost use Rattle.session_port.specs.Meets.{Meets};
 ghost use Rattle.session_model.specs.Meaning.{meaning_of};
-ghost use Rattle.session_model.specs.Building.{is_rebuild, rebuilds};
+ghost use Rattle.session_model.specs.Building.{is_rebuild, asks_to_rebuild};
 ghost use Rattle.session_model.specs.Fetching.{is_reload, reloads};
 ghost use Rattle.session_model.specs.Machine.{request_taken, batched, end_taken, files_processed_if, load_taken, received, message_taken, work_taken};
 
@@ -50,7 +50,7 @@ fn reloads(desk: &Desk, request: &Request) -> bool
 
 // Whether a request asks for the macros anew, and is taken.
 fn rebuilds(desk: &Desk, request: &Request) -> bool
-    ensures { result ≡ rebuilds request.now desk.now }
+    ensures { result ≡ asks_to_rebuild request.now desk.now }
 {
     is_unit(&request.params)
         && is_rebuild(row_of(request.method.as_str()))

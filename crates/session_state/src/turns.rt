@@ -3,7 +3,7 @@ ghost use Rattle.std.specs.Prelude.{◌≡◌, OnOk};
 ghost use Rattle.lsp_frame.specs.Pending.{IsAbove};
 ghost use Rattle.session_port.specs.Meets.{Meets, Gives};
 ghost use Rattle.session_model.specs.Meaning.{Meaning, meaning_of};
-ghost use Rattle.session_model.specs.Machine.{turn_closed, turn_counted, facts_of, happened, desk_kept, revised, step, event_taken};
+ghost use Rattle.session_model.specs.Machine.{turn_closed, turn_counted, facts_before, happened, desk_kept, revised, step, event_taken};
 ghost use Rattle.session_model.specs.declared.input.Input.TheVariants.{Start, Next};
 
 use crate::messages::{on_batch, on_message};
@@ -93,7 +93,7 @@ fn close_turn(store: &mut Store, facts: Facts, out: &mut TurnOut) -> Result<(), 
 
 // The facts before a turn.
 fn facts(store: &Store, out: &TurnOut) -> Facts
-    ensures { result ≡ facts_of (record { state = store.now; out = out.now }) }
+    ensures { result ≡ facts_before (record { state = store.now; out = out.now }) }
 {
     Facts {
         revision: store.files.revision(),

@@ -48,7 +48,8 @@ workspaces-add (workspace ∷ rest) draft free =
 -- facts of the session that don't hold add nothing
 session-adds : (reload deps build none load : Bool) (config check : Option (List ℕ)) (linked : List LinkedProject)
     → reload ≡ false → deps ≡ false → build ≡ false → config ≡ None → check ≡ None → none ≡ false → load ≡ false
-    → add_each all_of (fact_if reload Warning reload_text ∷ fact_if deps Warning rebuild_text ∷ fact_if build Warning build_text ∷ line_if config ∷ line_if check
+    → add_each all_of (fact_if reload Warning reload_text ∷ fact_if deps Warning rebuild_text ∷ fact_if build Warning build_text ∷ line_if config
+    ∷ line_if check
     ∷ fact_if none Warning discover_text ∷ fact_if load Error (load_text linked) ∷ []) nothing_told ≡ nothing_told
 session-adds reload deps build none load config check linked r d b c k n l = rw (r, d, b, c, k, n, l) refl
 
@@ -78,6 +79,7 @@ kept : (w : Working State) (status : Status) → is_same_status w.state.status s
 unfolding status_kept status_changed
 kept w status same = rw same (ap (λ s. Ok (record w { state = with_status s w.state })) (sym ((status_told w.state.status status).0 same)))
 
-pub status_stays : (w : Working State) → is_same_status w.state.status (status_now w.state.client w.state.files w.state.workspaces) ≡ true → status_done w ≡ Ok w
+pub status_stays : (w : Working State) → is_same_status w.state.status (status_now w.state.client w.state.files w.state.workspaces) ≡ true
+    → status_done w ≡ Ok w
 unfolding status_done
 status_stays w same = kept w (status_now w.state.client w.state.files w.state.workspaces) same

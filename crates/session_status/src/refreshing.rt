@@ -3,7 +3,7 @@ ghost use Rattle.std.specs.Prelude.{◌≡◌};
 ghost use Rattle.notify.specs.Writing.{HoldsPlain};
 ghost use Rattle.session_port.specs.Meets.{Meets};
 ghost use Rattle.session_model.specs.Asking.{is_refresh_due};
-ghost use Rattle.session_model.specs.Machine.{asked_if, quiet_done, refreshed};
+ghost use Rattle.session_model.specs.Machine.{asked_if, quiet_done, client_refreshed};
 ghost use Rattle.session_model.specs.Status.{is_quiescent};
 
 use notify::Outgo;
@@ -30,9 +30,9 @@ fn ask_if(
 }
 
 // The client is asked to ask anew for what it shows, for each thing where it can be asked.
-#[tactic(auto, unfolding(session_model::specs::Machine::refreshed))]
+#[tactic(auto, unfolding(session_model::specs::Machine::client_refreshed))]
 fn ask_refreshes(store: &mut Store, out: &mut TurnOut) -> Result<(), TurnError>
-    ensures { Meets result (refreshed store.old.client.settings.capabilities (record { state = store.old; out = out.old })) store.new out.new }
+    ensures { Meets result (client_refreshed store.old.client.settings.capabilities (record { state = store.old; out = out.old })) store.new out.new }
 {
     let settings = store.client.settings();
     let tokens = settings.semantic_tokens_refresh();

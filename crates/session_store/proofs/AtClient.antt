@@ -11,7 +11,8 @@ use Rattle.session_model.specs.Client.{Client}
 use Rattle.session_model.specs.Machine.{at_client, client_in, with_client}
 use Rattle.session_model.specs.State.{State}
 
-pub client_meets : {T : Type 0} (step : Working Client → Result (Working Client) Counter) (result : Result T TurnError) (before after : State) (client client_now : Client) (out out_now : Written)
+pub client_meets : {T : Type 0} (step : Working Client → Result (Working Client) Counter) (result : Result T TurnError) (before after : State)
+    (client client_now : Client) (out out_now : Written)
     → before.client ≡ client → after ≡ record before { client = client_now } → Meets result (step (record { state = client; out = out })) client_now out_now
     → Meets result (at_client step (record { state = before; out = out })) after out_now
 client_meets step result before after client client_now out out_now was is h =

@@ -15,7 +15,8 @@ use Rattle.session_model.specs.SessionFiles.{SessionFiles}
 use Rattle.session_model.specs.State.{State, scene_in, scene_of}
 use Rattle.workspaces.specs.Workspaces.{Workspaces}
 
-pub desk_meets : {T : Type 0} (step : Working Desk → Result (Working Desk) Counter) (result : Result T TurnError) (before after : State) (desk desk_now : Desk) (out out_now : Written)
+pub desk_meets : {T : Type 0} (step : Working Desk → Result (Working Desk) Counter) (result : Result T TurnError) (before after : State) (desk desk_now : Desk)
+    (out out_now : Written)
     → before.desk ≡ desk → after ≡ record before { desk = desk_now } → Meets result (step (record { state = desk; out = out })) desk_now out_now
     → Meets result (at_desk step (record { state = before; out = out })) after out_now
 desk_meets step result before after desk desk_now out out_now was is h =

@@ -3,7 +3,7 @@ ghost use Rattle.std.specs.Prelude.{◌≡◌, ◌≤◌, [], IfOk, Ok};
 ghost use Rattle.lsp_frame.specs.Pending.{IsAbove};
 ghost use Rattle.lsp_frame.specs.Outgoing.{number_limit};
 ghost use Rattle.session_port.specs.Meets.{Meets};
-ghost use Rattle.session_model.specs.DeskSteps.{handed_over, requested, taken};
+ghost use Rattle.session_model.specs.DeskSteps.{handed_over, requested, result_taken};
 ghost use Rattle.session_model.specs.Machine.{at_desk};
 ghost use Rattle.session_model.specs.Meaning.{meaning_of};
 ghost use Rattle.session_model.specs.State.{scene_of, snapshot_of, first_status, fresh, fresh_at};
@@ -180,7 +180,7 @@ impl Store {
         analysis: &A,
         out: &mut TurnOut,
     ) -> Result<Option<WorkEnd>, TurnError>
-        ensures meets { Meets result (at_desk (taken (meaning_of A.decodes A.answer) (scene_of self.old) message) (record { state = self.old; out = out.old })) self.new out.new }
+        ensures meets { Meets result (at_desk (result_taken (meaning_of A.decodes A.answer) (scene_of self.old) message) (record { state = self.old; out = out.old })) self.new out.new }
         ensures ends { IfOk result (λ end. end ≡ work_ended message self.old.desk.jobs) }
     {
         let now = Now {

@@ -8,16 +8,16 @@ use Rattle.std.specs.Ordering.{nat_cmp}
 use Rattle.project_model.specs.declared.crates.MacroState.{MacroState}
 use Rattle.project_model.specs.declared.crates.MacroState.TheVariants.{Failed}
 use Rattle.project_model.specs.declared.workspace.ProjectWorkspace.{ProjectWorkspace}
-use Rattle.reload.specs.Switch.{Runs}
+use Rattle.reload.specs.Switch.{BuildRuns}
 use Rattle.workspaces.specs.Builds.{one_each, missing, runs_of}
-use Rattle.workspaces.specs.Loads.{numbered, told_of, macros_of}
+use Rattle.workspaces.specs.Loads.{numbered, first_told, macros_of}
 
-one_each_length : (error : List ℕ) (present : List ProjectWorkspace) (runs : Runs) → length (one_each error present runs) ≡ length present
+one_each_length : (error : List ℕ) (present : List ProjectWorkspace) (runs : BuildRuns) → length (one_each error present runs) ≡ length present
 one_each_length error [] runs = refl
 one_each_length error (workspace ∷ rest) [] = ap suc (one_each_length error rest [])
 one_each_length error (workspace ∷ rest) (run ∷ runs) = ap suc (one_each_length error rest runs)
 
-pub runs_length : (given : Result Runs (List ℕ)) (present : List ProjectWorkspace) → length (runs_of given present) ≡ length present
+pub runs_length : (given : Result BuildRuns (List ℕ)) (present : List ProjectWorkspace) → length (runs_of given present) ≡ length present
 runs_length (Ok runs) present = one_each_length missing present runs
 runs_length (Err error) present = one_each_length error present []
 
@@ -27,7 +27,7 @@ numbers_kept told (number ∷ rest) = ap (λ l. number ∷ l) (numbers_kept told
 
 pub numbers_of : (told : Result (List (ℕ × MacroState)) (List ℕ)) (listed : List ℕ) → map (λ (entry : ℕ × MacroState). entry.0) (macros_of told listed)
     ≡ listed
-numbers_of (Ok entries) listed = numbers_kept (told_of entries) listed
+numbers_of (Ok entries) listed = numbers_kept (first_told entries) listed
 numbers_of (Err error) listed = numbers_kept (λ number. Some (Failed error)) listed
 
 -- what was told of a crate is found by its number

@@ -7,7 +7,7 @@ use Rattle.op_board.specs.QueueRuns.{running}
 use Rattle.workspaces.specs.declared.outputs.FetchOutput.{FetchOutput}
 use Rattle.workspaces.specs.declared.requests.FetchRequest.{FetchRequest}
 use Rattle.workspaces.specs.declared.requests.WaitingFetch.{WaitingFetch}
-use Rattle.workspaces.specs.Fetches.{requested, is_forced, waits_forced, is_served, waits_from, renewed, fires, ask_waiting, fire, starts_forced}
+use Rattle.workspaces.specs.Fetches.{fetch_requested, is_forced, waits_forced, is_served, waits_from, with_new_ticket, fires, ask_waiting, fire, starts_forced}
 use Rattle.workspaces.specs.Fetches.{fetch_to_start, start_fetch}
 use Rattle.workspaces.specs.FetchRuns.{FetchAct, fetches_after, IsFetchRun, fetches_started, fetches_ended, newer, last_ordered, asks_force, StartsNone}
 use Rattle.workspaces.specs.FetchRuns.{last_forced}
@@ -69,7 +69,7 @@ planned_waits true turn request f ordered is = is
 planned_waits false turn request f ordered is = refl
 
 renewed_waits : (turn : ℕ) (waiting : Option WaitingFetch) (ordered : Option ℕ) → WaitsFor ordered waiting
-    → WaitsFor (newer (option_map (λ (fetch : WaitingFetch). turn) waiting) ordered) (option_map (renewed turn) waiting)
+    → WaitsFor (newer (option_map (λ (fetch : WaitingFetch). turn) waiting) ordered) (option_map (with_new_ticket turn) waiting)
 renewed_waits turn None ordered is = tt
 renewed_waits turn (Some fetch) ordered is = refl
 
@@ -125,10 +125,10 @@ moves false false is = is
 planned_force : (served : Bool) (turn : ℕ) (request : FetchRequest) (f : Fetches) → asks_force f ≡ true
     → asks_force (cond served f (waits_from turn request f)) ≡ true
 planned_force true turn request f is = is
-planned_force false turn request f is = waits_more (is_forced (requested f)) (waits_forced f.waiting) request.force is
+planned_force false turn request f is = waits_more (is_forced (fetch_requested f)) (waits_forced f.waiting) request.force is
 
 renewed_force : (turn : ℕ) (a : Bool) (waiting : Option WaitingFetch) → (a || waits_forced waiting) ≡ true →
-    (a || waits_forced (option_map (renewed turn) waiting)) ≡ true
+    (a || waits_forced (option_map (with_new_ticket turn) waiting)) ≡ true
 renewed_force turn a None is = is
 renewed_force turn a (Some fetch) is = is
 
@@ -145,11 +145,11 @@ pub stays_forced : (since before : List FetchAct) → StartsNone since → asks_
 stays_forced [] before none is = is
 stays_forced (Asks cause request ∷ since) before none is =
     let f = fetches_after (since ++ before) in
-    asks_more (is_forced (requested f)) (waits_forced f.waiting) request.force (stays_forced since before none is)
+    asks_more (is_forced (fetch_requested f)) (waits_forced f.waiting) request.force (stays_forced since before none is)
 stays_forced (Plans turn request ∷ since) before none is =
     let f = fetches_after (since ++ before) in planned_force (is_served f) turn request f (stays_forced since before none is)
 stays_forced (Renews turn ∷ since) before none is =
-    let f = fetches_after (since ++ before) in renewed_force turn (is_forced (requested f)) f.waiting (stays_forced since before none is)
+    let f = fetches_after (since ++ before) in renewed_force turn (is_forced (fetch_requested f)) f.waiting (stays_forced since before none is)
 stays_forced (Fires ticket ∷ since) before none is =
     let f = fetches_after (since ++ before) in fired_force (fires ticket f.waiting) f.queue f.forced f.waiting (stays_forced since before none is)
 stays_forced (Starts may ∷ since) before none is = absurd none

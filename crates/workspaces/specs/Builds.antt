@@ -1,10 +1,11 @@
 -- How runs of build data are asked for, start and end.
-use Rattle.std.specs.Prelude.{ℕ, Bool, false, if◌then◌else◌, List, [], ◌∷◌, codes, Option, None, Some, option_map, Result, Ok, Err}
+use Rattle.std.specs.Prelude.{ℕ, Bool, false, if◌then◌else◌, List, [], ◌∷◌, codes, Option, None, Some, option_map}
+use Rattle.std.specs.Prelude.{Result, Ok, Err}
 use Rattle.op_board.specs.Queue.{starts, after_start}
 use Rattle.op_board.specs.QueueRuns.{queue_step}
 use Rattle.op_board.specs.QueueRuns.QueueAct.{Requests, Ends}
 use Rattle.project_model.specs.declared.workspace.ProjectWorkspace.{ProjectWorkspace}
-use Rattle.reload.specs.Switch.{Runs}
+use Rattle.reload.specs.Switch.{BuildRuns}
 use Rattle.workspaces.specs.Fetches.{unforced, ask_fetch}
 use Rattle.workspaces.specs.Workspaces.{Builds, Workspaces}
 
@@ -18,17 +19,21 @@ starts_on version before (Some request) = version
 
 -- after the run that is to start, if there is one, was handed out, on workspaces of this version
 abbrev pub after_build_start : ℕ → Builds → Builds
-after_build_start version b = record { queue = after_start b.queue; version = starts_on version b.version (starts b.queue) }
+after_build_start version b = record {
+  queue = after_start b.queue;
+  version = starts_on version b.version (starts b.queue);
+}
 
 -- the version that the run is on that is to start; none starts while a fetch is in progress
 abbrev pub build_to_start : Bool → ℕ → Builds → Option ℕ
-build_to_start fetching version b = if fetching then None else option_map (λ (request : List ℕ × Unit {0}). version) (starts b.queue)
+build_to_start fetching version b = if fetching then None
+    else option_map (λ (request : List ℕ × Unit {0}). version) (starts b.queue)
 
 abbrev pub start_build : Bool → ℕ → Builds → Builds
 start_build fetching version b = if fetching then b else after_build_start version b
 
 -- one run for each workspace, in order; the error stands for those that are missing
-abbrev pub one_each : List ℕ → List ProjectWorkspace → Runs → Runs
+abbrev pub one_each : List ℕ → List ProjectWorkspace → BuildRuns → BuildRuns
 one_each error [] runs = []
 one_each error (workspace ∷ rest) [] = Err error ∷ one_each error rest []
 one_each error (workspace ∷ rest) (run ∷ runs) = run ∷ one_each error rest runs
@@ -37,25 +42,37 @@ abbrev pub missing : List ℕ
 missing = codes "missing"
 
 -- a run that failed as a whole is that error for each workspace
-abbrev pub runs_of : Result Runs (List ℕ) → List ProjectWorkspace → Runs
+abbrev pub runs_of : Result BuildRuns (List ℕ) → List ProjectWorkspace → BuildRuns
 runs_of (Ok runs) present = one_each missing present runs
 runs_of (Err error) present = one_each error present []
 
 -- what a run made is kept with the version that it was on
-abbrev pub end_build : Result Runs (List ℕ) → List ProjectWorkspace → Builds → Builds
-end_build result present b = record b { queue = queue_step (Ends (record { version = b.version; runs = runs_of result present })) b.queue }
+abbrev pub end_build : Result BuildRuns (List ℕ) → List ProjectWorkspace → Builds → Builds
+end_build result present b = record b {
+  queue = queue_step
+      (Ends (record { version = b.version; runs = runs_of result present })) b.queue;
+}
 
 -- a saved file asks for build data where what it depends on changed
 abbrev pub rebuild : Workspaces → Workspaces
 rebuild w =
     if w.build_deps_changed
-    then record w { builds = ask_build (codes "build_deps_changed - save notification") w.builds; build_deps_changed = false }
+    then record w {
+      builds = ask_build (codes "build_deps_changed - save notification") w.builds;
+      build_deps_changed = false;
+    }
     else w
 
 -- a client asks for its workspaces anew
 abbrev pub reload : Workspaces → Workspaces
-reload w = record w { fetches = ask_fetch (codes "reload workspace request") unforced w.fetches; build_deps_changed = false }
+reload w = record w {
+  fetches = ask_fetch (codes "reload workspace request") unforced w.fetches;
+  build_deps_changed = false;
+}
 
 -- a client asks for its macros anew
 abbrev pub rebuild_macros : Workspaces → Workspaces
-rebuild_macros w = record w { builds = ask_build (codes "rebuild proc macros request") w.builds; build_deps_changed = false }
+rebuild_macros w = record w {
+  builds = ask_build (codes "rebuild proc macros request") w.builds;
+  build_deps_changed = false;
+}

@@ -1,8 +1,10 @@
 -- Runs of the calls on fetches: what they did, one act after another. A run has its last act first.
-use Rattle.std.specs.Prelude.{◌≡◌, ℕ, ◌+◌, Bool, true, false, ◌||◌, List, [], ◌∷◌, ◌++◌, Option, None, Some, option_to_list, Result}
+use Rattle.std.specs.Prelude.{◌≡◌, ℕ, ◌+◌, Bool, true, false, ◌||◌, List, [], ◌∷◌, ◌++◌, Option, None, Some}
+use Rattle.std.specs.Prelude.{option_to_list, Result}
 use Rattle.reload.specs.Switch.{Fetched}
 use Rattle.workspaces.specs.declared.requests.FetchRequest.{FetchRequest}
-use Rattle.workspaces.specs.Fetches.{requested, is_forced, waits_forced, ask_fetch, plan_fetch, planned_timer, renew_timer, renewed_timer, fire}
+use Rattle.workspaces.specs.Fetches.{fetch_requested, is_forced, waits_forced, ask_fetch, plan_fetch, planned_timer}
+use Rattle.workspaces.specs.Fetches.{renew_timer, renewed_timer, fire}
 use Rattle.workspaces.specs.Fetches.{fetch_to_start, start_fetch, end_fetch}
 use Rattle.workspaces.specs.Workspaces.{Fetches, no_fetches}
 
@@ -41,7 +43,8 @@ IsFetchRun (act ∷ before) = IsFetchRun before
 -- the fetches that were started, the last one first
 abbrev pub fetches_started : List FetchAct → List (List ℕ × FetchRequest)
 fetches_started [] = []
-fetches_started (Starts may_fetch ∷ before) = option_to_list (fetch_to_start may_fetch (fetches_after before)) ++ fetches_started before
+fetches_started (Starts may_fetch ∷ before) = option_to_list (fetch_to_start may_fetch (fetches_after before))
+    ++ fetches_started before
 fetches_started (act ∷ before) = fetches_started before
 
 -- whether the last of them was forced
@@ -68,7 +71,7 @@ last_ordered (act ∷ before) = last_ordered before
 
 -- a forced fetch waits in the queue or for a timer
 abbrev pub asks_force : Fetches → Bool
-asks_force f = is_forced (requested f) || waits_forced f.waiting
+asks_force f = is_forced (fetch_requested f) || waits_forced f.waiting
 
 abbrev pub StartsNone : List FetchAct → Type 0
 StartsNone [] = Unit {0}

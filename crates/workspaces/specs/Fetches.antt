@@ -1,5 +1,6 @@
 -- How fetches of workspaces are asked for, wait for a timer, start and end.
-use Rattle.std.specs.Prelude.{ℕ, Bool, false, not, ◌&&◌, ◌||◌, ◌==◌, if◌then◌else◌, List, [], ◌∷◌, codes, Option, None, Some, is_some, is_none, option_map}
+use Rattle.std.specs.Prelude.{ℕ, Bool, false, not, ◌&&◌, ◌||◌, ◌==◌, if◌then◌else◌, List, [], ◌∷◌, codes, Option, None}
+use Rattle.std.specs.Prelude.{Some, is_some, is_none, option_map}
 use Rattle.std.specs.Prelude.{Result, Ok, Err}
 use Rattle.op_board.specs.Queue.{starts, after_start}
 use Rattle.op_board.specs.QueueRuns.{queue_step}
@@ -20,8 +21,8 @@ keeping force request = record { path = request.path; force = force || request.f
 -- ---- the queue
 
 -- what the request that waits asks for
-abbrev pub requested : Fetches → Option FetchRequest
-requested f = option_map (λ (request : List ℕ × FetchRequest). request.1) f.queue.waiting
+abbrev pub fetch_requested : Fetches → Option FetchRequest
+fetch_requested f = option_map (λ (request : List ℕ × FetchRequest). request.1) f.queue.waiting
 
 abbrev pub is_forced : Option FetchRequest → Bool
 is_forced None = false
@@ -29,7 +30,10 @@ is_forced (Some request) = request.force
 
 -- a newer request takes the place of the one that waits, and keeps its force flag
 abbrev pub ask_fetch : List ℕ → FetchRequest → Fetches → Fetches
-ask_fetch cause request f = record f { queue = queue_step (Requests (cause, keeping (is_forced (requested f)) request)) f.queue }
+ask_fetch cause request f = record f {
+  queue = queue_step
+      (Requests (cause, keeping (is_forced (fetch_requested f)) request)) f.queue;
+}
 
 -- a session begins with a fetch, unless its projects are discovered
 abbrev pub start_up : Bool → Fetches → Fetches
@@ -58,7 +62,10 @@ fetched_of (Err error) = Err error ∷ []
 
 -- what a fetch found is kept with its force flag
 abbrev pub end_fetch : Result Fetched (List ℕ) → Fetches → Fetches
-end_fetch result f = record f { queue = queue_step (Ends (record { workspaces = fetched_of result; forced = f.forced })) f.queue }
+end_fetch result f = record f {
+  queue = queue_step (Ends (record { workspaces = fetched_of result; forced = f.forced }))
+      f.queue;
+}
 
 -- ---- the timer
 
@@ -67,13 +74,17 @@ abbrev pub waits_forced : Option WaitingFetch → Bool
 waits_forced None = false
 waits_forced (Some fetch) = fetch.request.force
 
--- a request that is about to start serves as well: none waits for a timer, one waits in the queue, and none is in progress
+-- a request that is about to start serves as well: none waits for a timer, one waits in the queue, and none is in
+-- progress
 abbrev pub is_served : Fetches → Bool
 is_served f = is_none f.waiting && is_some f.queue.waiting && not f.queue.in_progress
 
 -- a newer fetch takes the place of the one that waits for a timer, and keeps its force flag
 abbrev pub waits_from : ℕ → FetchRequest → Fetches → Fetches
-waits_from turn request f = record f { waiting = Some (record { ticket = turn; request = keeping (waits_forced f.waiting) request }) }
+waits_from turn request f = record f {
+  waiting = Some
+      (record { ticket = turn; request = keeping (waits_forced f.waiting) request });
+}
 
 abbrev pub plan_fetch : ℕ → FetchRequest → Fetches → Fetches
 plan_fetch turn request f = if is_served f then f else waits_from turn request f
@@ -83,11 +94,11 @@ abbrev pub planned_timer : ℕ → Fetches → Option ℕ
 planned_timer turn f = if is_served f then None else Some turn
 
 -- a fetch that waits gets a new ticket
-abbrev pub renewed : ℕ → WaitingFetch → WaitingFetch
-renewed turn fetch = record { ticket = turn; request = fetch.request }
+abbrev pub with_new_ticket : ℕ → WaitingFetch → WaitingFetch
+with_new_ticket turn fetch = record { ticket = turn; request = fetch.request }
 
 abbrev pub renew_timer : ℕ → Fetches → Fetches
-renew_timer turn f = record f { waiting = option_map (renewed turn) f.waiting }
+renew_timer turn f = record f { waiting = option_map (with_new_ticket turn) f.waiting }
 
 -- the ticket of the timer that is to be ordered then
 abbrev pub renewed_timer : ℕ → Fetches → Option ℕ

@@ -1,5 +1,6 @@
 -- How loads of macros are asked for, start and end.
-use Rattle.std.specs.Prelude.{ℕ, Bool, false, if◌then◌else◌, List, [], ◌∷◌, ◌++◌, map, Option, None, Some, option_map, unwrap_or, Result, Ok, Err, is_ok}
+use Rattle.std.specs.Prelude.{ℕ, Bool, false, if◌then◌else◌, List, [], ◌∷◌, ◌++◌, map, Option, None, Some, option_map}
+use Rattle.std.specs.Prelude.{unwrap_or, Result, Ok, Err, is_ok}
 use Rattle.std.specs.FinMap as by_key
 use Rattle.std.specs.List.{enumerate_from}
 use Rattle.std.specs.Ordering.{nat_cmp}
@@ -24,7 +25,10 @@ listed_in (paths ∷ rest) = map (λ (path : ℕ × MacroPath). path.0) paths ++
 -- crate data waits in the queue, with the libraries of its macros
 abbrev pub ask_load : List ℕ → CrateData → List (List (ℕ × MacroPath)) → Loads → Loads
 ask_load cause crates paths l =
-    record l { queue = queue_step (Requests (cause, record { crates = crates; listed = listed_in paths; paths = paths })) l.queue }
+    record l {
+      queue = queue_step (Requests
+          (cause, record { crates = crates; listed = listed_in paths; paths = paths })) l.queue;
+    }
 
 -- the crate data of the load that is to start; where none is, as before
 abbrev pub starts_with : Option WaitingCrates → Option (List ℕ × LoadRequest) → Option WaitingCrates
@@ -37,7 +41,8 @@ after_load_start l = record { queue = after_start l.queue; waiting = starts_with
 
 -- the libraries that are to be loaded; none are while a fetch is in progress
 abbrev pub load_to_start : Bool → Loads → Option (List (List (ℕ × MacroPath)))
-load_to_start fetching l = if fetching then None else option_map (λ (request : List ℕ × LoadRequest). request.1.paths) (starts l.queue)
+load_to_start fetching l = if fetching then None
+    else option_map (λ (request : List ℕ × LoadRequest). request.1.paths) (starts l.queue)
 
 abbrev pub start_load : Bool → Loads → Loads
 start_load fetching l = if fetching then l else after_load_start l
@@ -47,15 +52,15 @@ abbrev pub state_or_missing : Option MacroState → MacroState
 state_or_missing told = unwrap_or told (Failed missing)
 
 -- of several entries for one crate the first holds
-abbrev pub told_of : List (ℕ × MacroState) → ℕ → Option MacroState
-told_of entries number = by_key.find nat_cmp number entries
+abbrev pub first_told : List (ℕ × MacroState) → ℕ → Option MacroState
+first_told entries number = by_key.find nat_cmp number entries
 
 abbrev pub numbered : (ℕ → Option MacroState) → ℕ → ℕ × MacroState
 numbered told number = (number, state_or_missing (told number))
 
 -- each crate that was listed, in order; a load that failed as a whole failed for each
 abbrev pub macros_of : Result (List (ℕ × MacroState)) (List ℕ) → List ℕ → List (ℕ × MacroState)
-macros_of (Ok entries) listed = map (numbered (told_of entries)) listed
+macros_of (Ok entries) listed = map (numbered (first_told entries)) listed
 macros_of (Err error) listed = map (numbered (λ number. Some (Failed error))) listed
 
 -- each crate by its number, in this state
@@ -68,7 +73,11 @@ unloaded enabled = if enabled then NotYetBuilt else Disabled
 
 -- crate data that doesn't wait for its macros
 abbrev pub without_macros : Bool → CrateData → CrateData
-without_macros enabled graph = record { crates = graph.crates; env = graph.env; macros = all_in (unloaded enabled) graph.crates }
+without_macros enabled graph = record {
+  crates = graph.crates;
+  env = graph.env;
+  macros = all_in (unloaded enabled) graph.crates;
+}
 
 -- the crates whose macros crate data waits for
 abbrev pub listed_for : Option WaitingCrates → List ℕ

@@ -4,7 +4,7 @@ use Rattle.project_model.specs.declared.build.MacroPath.{MacroPath}
 use Rattle.project_model.specs.declared.crates.CrateData.{CrateData}
 use Rattle.project_model.specs.declared.crates.MacroState.{MacroState}
 use Rattle.project_model.specs.declared.workspace.ProjectWorkspace.{ProjectWorkspace}
-use Rattle.reload.specs.Switch.{Runs}
+use Rattle.reload.specs.Switch.{BuildRuns}
 use Rattle.workspaces.specs.Builds.{ask_build, build_to_start, start_build, end_build}
 use Rattle.workspaces.specs.Loads.{ask_load, load_to_start, start_load, end_load}
 use Rattle.workspaces.specs.Workspaces.{Builds, no_builds, Loads, no_loads}
@@ -14,7 +14,7 @@ pub data BuildAct : Type 0 where
   -- whether a fetch is in progress, and the version of the workspaces
   StartsBuild : Bool → ℕ → BuildAct
   -- what was made, and the workspaces
-  EndsBuild : Result Runs (List ℕ) → List ProjectWorkspace → BuildAct
+  EndsBuild : Result BuildRuns (List ℕ) → List ProjectWorkspace → BuildAct
 
 abbrev pub build_step : BuildAct → Builds → Builds
 build_step (AsksBuild cause) b = ask_build cause b
@@ -34,7 +34,8 @@ IsBuildRun (act ∷ before) = IsBuildRun before
 -- the versions on which runs were started, the last one first
 abbrev pub builds_started : List BuildAct → List ℕ
 builds_started [] = []
-builds_started (StartsBuild fetching version ∷ before) = option_to_list (build_to_start fetching version (builds_after before)) ++ builds_started before
+builds_started (StartsBuild fetching version ∷ before) =
+    option_to_list (build_to_start fetching version (builds_after before)) ++ builds_started before
 builds_started (act ∷ before) = builds_started before
 
 -- how many of them ended
@@ -72,7 +73,8 @@ IsLoadRun (act ∷ before) = IsLoadRun before
 -- what was loaded, the last one first
 abbrev pub loads_started : List LoadAct → List (List (List (ℕ × MacroPath)))
 loads_started [] = []
-loads_started (StartsLoad fetching ∷ before) = option_to_list (load_to_start fetching (loads_after before)) ++ loads_started before
+loads_started (StartsLoad fetching ∷ before) = option_to_list (load_to_start fetching (loads_after before))
+    ++ loads_started before
 loads_started (act ∷ before) = loads_started before
 
 -- how many of them ended

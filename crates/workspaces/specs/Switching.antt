@@ -1,7 +1,8 @@
 -- A switch to the workspaces that were fetched, or to what their builds made.
-use Rattle.std.specs.Prelude.{◌≡◌, ℕ, ◌+◌, ◌==◌, Bool, true, false, if◌then◌else◌, List, [], codes, Option, None, Some, option_map, Result, Ok, Err}
+use Rattle.std.specs.Prelude.{◌≡◌, ℕ, ◌+◌, ◌==◌, Bool, true, false, if◌then◌else◌, List, [], codes, Option, None, Some}
+use Rattle.std.specs.Prelude.{option_map, Result, Ok, Err}
 use Rattle.project_model.specs.declared.workspace.ProjectWorkspace.{ProjectWorkspace}
-use Rattle.reload.specs.Switch.{Fetched, Runs, is_empty, runs_on, switch_of}
+use Rattle.reload.specs.Switch.{Fetched, BuildRuns, is_empty, runs_on, switch_of}
 use Rattle.reload.specs.declared.switch.Switch.{Switch}
 use Rattle.reload.specs.declared.switch.Switch.TheVariants as switch
 use Rattle.workspaces.specs.declared.follows.Follows.{Follows}
@@ -22,7 +23,7 @@ abbrev pub was_forced : Option FetchOutput → Bool
 was_forced None = false
 was_forced (Some output) = output.forced
 
-abbrev pub runs_built : Option BuildOutput → Option Runs
+abbrev pub runs_built : Option BuildOutput → Option BuildRuns
 runs_built last = option_map (λ (output : BuildOutput). output.runs) last
 
 abbrev pub version_built : Option BuildOutput → ℕ
@@ -30,7 +31,7 @@ version_built None = 0
 version_built (Some output) = output.version
 
 -- the last build data, where it was run on workspaces of this version
-abbrev pub runs_at : ℕ → Option BuildOutput → Option Runs
+abbrev pub runs_at : ℕ → Option BuildOutput → Option BuildRuns
 runs_at version last = runs_on version (version_built last) (runs_built last)
 
 -- the last fetch and the last build data decide upon a switch
@@ -66,14 +67,16 @@ next_version false version = Some None
 next_version true version = if version == last_loader_version then None else Some (Some (version + 1))
 
 -- all that follows is done with the loader's next version, or waits for build data
-abbrev pub followed : List (List ℕ) → Bool → Workspaces → Option ℕ → Follows × Workspaces
-followed msrv initial w None = (follows.Wait msrv, w)
-followed msrv initial w (Some loader_version) = (follows.GoOn msrv loader_version initial, record w { loader_version = loader_version })
+abbrev pub going_on : List (List ℕ) → Bool → Workspaces → Option ℕ → Follows × Workspaces
+going_on msrv initial w None = (follows.Wait msrv, w)
+going_on msrv initial w (Some loader_version) =
+    (follows.GoOn msrv loader_version initial, record w { loader_version = loader_version })
 
 -- new workspaces are present
 abbrev pub renewed_by : List ProjectWorkspace → List (List ℕ) → Bool → Bool → Workspaces → Option (Follows × Workspaces)
 renewed_by new msrv ask_build go_on w =
-    option_map (followed msrv (is_empty w.present) (asks_build ask_build (presents new w))) (next_version go_on w.loader_version)
+    option_map (going_on msrv (is_empty w.present) (asks_build ask_build (presents new w)))
+    (next_version go_on w.loader_version)
 
 -- what follows a switch, and what it leaves; nothing where the loader's versions have run out
 abbrev pub switch_to : Switch → Workspaces → Option (Follows × Workspaces)
@@ -87,7 +90,7 @@ abbrev pub switched : Bool → Bool → Workspaces → Option (Follows × Worksp
 switched discover build_scripts w = switch_to (decided discover build_scripts w) w
 
 -- what a call answers and leaves, by what it is to answer and leave; that memory ran out is free
-abbrev pub Gives : Option (Follows × Workspaces) → Workspaces → Result Follows SwitchFault → Workspaces → Type 0
-Gives expected old (Ok next) new = expected ≡ Some (next, new)
-Gives expected old (Err fault.Exhausted) new = (expected ≡ None) × (new ≡ old)
-Gives expected old (Err fault.NoMemory) new = new ≡ old
+abbrev pub SwitchesAs : Option (Follows × Workspaces) → Workspaces → Result Follows SwitchFault → Workspaces → Type 0
+SwitchesAs expected old (Ok next) new = expected ≡ Some (next, new)
+SwitchesAs expected old (Err fault.Exhausted) new = (expected ≡ None) × (new ≡ old)
+SwitchesAs expected old (Err fault.NoMemory) new = new ≡ old

@@ -79,7 +79,8 @@ no_workspaces = no_workspaces_at 0
 
 -- build data of no later version; that of the present version has one run for each workspace
 abbrev pub IsOf : List ProjectWorkspace → ℕ → BuildOutput → Type 0
-IsOf present version output = (output.version ≤ version) × (output.version ≡ version → length output.runs ≡ length present)
+IsOf present version output = (output.version ≤ version)
+    × (output.version ≡ version → length output.runs ≡ length present)
 
 -- build data was run on workspaces that were present
 pub record HasBuilt (builds : Builds) (present : List ProjectWorkspace) (version : ℕ) : Type 0 where
@@ -89,4 +90,5 @@ pub record HasBuilt (builds : Builds) (present : List ProjectWorkspace) (version
 -- no fetch waits for a timer, and none of the three is in progress
 abbrev pub is_idle : Workspaces → Bool
 is_idle w =
-    is_none w.fetches.waiting && not w.fetches.queue.in_progress && not w.builds.queue.in_progress && not w.loads.queue.in_progress
+    is_none w.fetches.waiting && not w.fetches.queue.in_progress && not w.builds.queue.in_progress
+    && not w.loads.queue.in_progress

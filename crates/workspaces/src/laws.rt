@@ -3,7 +3,7 @@ ghost use Rattle.std.specs.Prelude.{◌≡◌, ◌≢◌, ◌⊎◌, ℕ, ◌+�
 ghost use Rattle.op_board.specs.QueueRuns.{running};
 ghost use Rattle.project_model.specs.declared.crates.MacroState.{MacroState};
 ghost use Rattle.project_model.specs.declared.workspace.ProjectWorkspace.{ProjectWorkspace};
-ghost use Rattle.reload.specs.Switch.{Fetched, Runs, joined};
+ghost use Rattle.reload.specs.Switch.{Fetched, BuildRuns, with_builds};
 ghost use Rattle.reload.specs.declared.switch.Switch.TheVariants.{Join};
 ghost use Rattle.workspaces.specs.Builds.{build_to_start, end_build, runs_of};
 ghost use Rattle.workspaces.specs.FetchRuns.{FetchAct, fetches_after, IsFetchRun, fetches_started, fetches_ended, last_ordered, asks_force, StartsNone};
@@ -53,10 +53,10 @@ pub fn fetches_come_first()
 /// What a run of build data made is kept with the version on which it was started, and build data of another version of the
 /// workspaces than the present one is not joined to them.
 pub fn old_build_data_is_not_joined()
-    ensures kept { (run : List BuildAct) (made : Result Runs (List ℕ)) (present : List ProjectWorkspace)
+    ensures kept { (run : List BuildAct) (made : Result BuildRuns (List ℕ)) (present : List ProjectWorkspace)
         → version_built (end_build made present (builds_after run)).queue.last ≡ last_started (builds_started run) }
-    ensures joined { (discover build_scripts : Bool) (w : Workspaces) (made : List ProjectWorkspace) → decided discover build_scripts w ≡ Join made
-        → (output : BuildOutput) × (w.builds.queue.last ≡ Some output) × (output.version ≡ w.version) × (made ≡ joined output.runs w.present) }
+    ensures with_builds { (discover build_scripts : Bool) (w : Workspaces) (made : List ProjectWorkspace) → decided discover build_scripts w ≡ Join made
+        → (output : BuildOutput) × (w.builds.queue.last ≡ Some output) × (output.version ≡ w.version) × (made ≡ with_builds output.runs w.present) }
 {
     reload::build_data_is_joined_to_its_version();
 }
@@ -64,6 +64,6 @@ pub fn old_build_data_is_not_joined()
 /// What is kept of a run of build data has one run for each workspace, and of a load of macros one state for each crate
 /// that was listed, in order.
 pub fn each_has_one_entry()
-    ensures runs { (given : Result Runs (List ℕ)) (present : List ProjectWorkspace) → length (runs_of given present) ≡ length present }
+    ensures runs { (given : Result BuildRuns (List ℕ)) (present : List ProjectWorkspace) → length (runs_of given present) ≡ length present }
     ensures macros { (told : Result (List (ℕ × MacroState)) (List ℕ)) (listed : List ℕ) → map (λ entry. entry.0) (macros_of told listed) ≡ listed }
 {}

@@ -1,7 +1,7 @@
 // Answers to the session's own requests.
 ghost use Rattle.std.specs.Prelude.{◌≡◌, OnOk};
 ghost use Rattle.client.specs.Answers.{fault_in, settings_in};
-ghost use Rattle.client.specs.Folds.{follows, asked_after, with_client, errors_with, client_change};
+ghost use Rattle.client.specs.Folds.{follows, asked_after, with_client_settings, errors_with, client_change};
 ghost use Rattle.client.specs.Steps.{answered, logged_if};
 ghost use Rattle.session_port.specs.declared.command.LogCode.TheVariants.{SettingsError};
 ghost use Rattle.session_port.specs.Meets.{Gives};
@@ -44,7 +44,7 @@ impl Client {
 
     // The client sets this from now on, where it is there.
     fn set_client(&mut self, value: Option<Json>) -> Result<(), AllocError>
-        ensures { OnOk result (self.new ≡ record self.old { settings = with_client value self.old.settings; errors = errors_with value self.old }) }
+        ensures { OnOk result (self.new ≡ record self.old { settings = with_client_settings value self.old.settings; errors = errors_with value self.old }) }
     {
         let Some(value) = value else {
             return Ok(());
@@ -58,7 +58,7 @@ impl Client {
     #[tactic(auto, unfolding(session_port::specs::Working::logged, session_port::specs::Working::ordered))]
     fn take_settings(&mut self, response: Response, out: &mut TurnOut) -> Result<(), AllocError>
         ensures { OnOk result (logged_if SettingsError (fault_in response)
-            (record { state = record self.old { settings = with_client (settings_in response) self.old.settings; errors = errors_with (settings_in response) self.old }; out = out.old })
+            (record { state = record self.old { settings = with_client_settings (settings_in response) self.old.settings; errors = errors_with (settings_in response) self.old }; out = out.old })
             ≡ record { state = self.new; out = out.new }) }
     {
         let SettingsAnswer { settings, fault } = read_settings(self.alloc, response)?;

@@ -1,6 +1,6 @@
 // Folders that the client adds and removes.
 ghost use Rattle.std.specs.Prelude.{◌≡◌, ◌++◌, IfOk, OnOk};
-ghost use Rattle.client.specs.Folds.{paths_of, without_each};
+ghost use Rattle.client.specs.Folds.{paths_named, without_each};
 ghost use Rattle.client.specs.Steps.{folders_changed, misses};
 ghost use Rattle.session_port.specs.Meets.{Gives};
 
@@ -18,7 +18,7 @@ fn read_paths(
     urls: Items<Text>,
     out: &mut TurnOut,
 ) -> Result<Items<VfsPath>, AllocError>
-    ensures paths { IfOk result (λ paths. paths ≡ paths_of urls) }
+    ensures paths { IfOk result (λ paths. paths ≡ paths_named urls) }
     ensures logged { IfOk result (λ _. out.new ≡ record out.old { commands = out.old.commands ++ misses urls }) }
 {
     let mut paths = Items::new(alloc);

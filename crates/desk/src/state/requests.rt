@@ -14,7 +14,7 @@ ghost use Rattle.session_port.specs.Meets.{Meets, Gives};
 ghost use Rattle.session_port.specs.Working.{replied};
 ghost use Rattle.desk.specs.Meaning.{meaning_of, can_read};
 ghost use Rattle.desk.specs.Replies.{already_pending, shut_already, unknown_request, invalid_params, finding_reply};
-ghost use Rattle.desk.specs.Steps.{requested, responded, admitted, shut_down, asked, unknown, classed, planned, stated, echoed, queried, submitted, dispatched, handed_over};
+ghost use Rattle.desk.specs.Steps.{requested, responded, request_admitted, shut_down, asked, unknown, classed, planned, stated, echoed, queried, submitted, dispatched, handed_over};
 
 use crate::replies::{already_pending, fault_reply, invalid_params, shut_already, unknown_request};
 use crate::scene::Present;
@@ -392,7 +392,7 @@ impl Desk {
     }
 
     // A request that waits now.
-    #[tactic(auto, unfolding(crate::specs::Steps::admitted))]
+    #[tactic(auto, unfolding(crate::specs::Steps::request_admitted))]
     fn admit<P: Present, A: Analysis>(
         &mut self,
         scene: &P,
@@ -401,7 +401,7 @@ impl Desk {
         analysis: &A,
         out: &mut TurnOut,
     ) -> Result<(), TurnError>
-        ensures { Meets result (admitted (meaning_of A.decodes A.answer) (P.scene scene.now) method params (record { state = self.old; out = out.old })) self.new out.new }
+        ensures { Meets result (request_admitted (meaning_of A.decodes A.answer) (P.scene scene.now) method params (record { state = self.old; out = out.old })) self.new out.new }
     {
         let row = row_of(method.as_str());
         if is_shutdown(row) {

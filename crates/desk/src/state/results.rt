@@ -2,7 +2,7 @@
 ghost use Rattle.std.specs.Prelude.{◌≡◌, true, decimal, IfOk, IfSome, MatchOption, None, Result, Some};
 ghost use Rattle.std.specs.FinMap as map;
 ghost use Rattle.method_table.specs.Rows.{class_of};
-ghost use Rattle.session_port.specs.Jobs.{fits, fits_kind, fitting_job, plain_result, ticket_of};
+ghost use Rattle.session_port.specs.Jobs.{fits_job, fits_kind, fitting_job, plain_result, ticket_of_job};
 ghost use Rattle.lsp_frame.specs.Pending.{id_of};
 ghost use Rattle.session_port.specs.Meets.{Meets, Gives};
 ghost use Rattle.session_port.specs.Working.{Working, logged};
@@ -11,7 +11,7 @@ ghost use Rattle.session_port.specs.declared.fault.Counter.{Counter};
 ghost use Rattle.desk.specs.Desk.{Desk as DeskData, waiting_for};
 ghost use Rattle.desk.specs.Meaning.{meaning_of};
 ghost use Rattle.desk.specs.Replies.{stopped_reply};
-ghost use Rattle.desk.specs.Steps.{taken, delivered, stopped, responded};
+ghost use Rattle.desk.specs.Steps.{result_taken, delivered, stopped, responded};
 ghost use Rattle.desk.specs.WorkEnds.{work_end_of, work_ended};
 
 use crate::replies::{finished_reply, stopped_reply};
@@ -97,7 +97,7 @@ impl Desk {
         analysis: &A,
         out: &mut TurnOut,
     ) -> Result<(), TurnError>
-        requires own { ticket_of job.kind ≡ Some ticket }
+        requires own { ticket_of_job job.kind ≡ Some ticket }
         requires plain { plain_result outcome ≡ true }
         ensures { Meets result (delivered (meaning_of A.decodes A.answer) (P.scene scene.now) (id_of ticket self.old.pending) job outcome (record { state = self.old; out = out.old })) self.new out.new }
     {
@@ -155,7 +155,7 @@ impl Desk {
     // Takes the job off that a message fits, where it fits one.
     fn take_fitting(&mut self, message: &TaskMsg) -> Option<Job>
         ensures value { result ≡ fitting_job message.now self.old.jobs }
-        ensures fits { IfSome result (λ job. fits job message.now.body ≡ true) }
+        ensures fits_job { IfSome result (λ job. fits_job job message.now.body ≡ true) }
         ensures state { MatchOption result (self.new ≡ self.old) (λ _. self.new ≡ record self.old { jobs = map.remove self.old.jobs message.now.job }) }
     {
         let job = self.jobs.get(message.job)?;
@@ -166,7 +166,7 @@ impl Desk {
     }
 
     /// A message of a job, and what it ends of the session's own work: where it fits a job that is out. After an `Err` the desk is spent.
-    #[tactic(auto, unfolding(crate::specs::Steps::ended, crate::specs::Steps::brought))]
+    #[tactic(auto, unfolding(crate::specs::Steps::job_ended, crate::specs::Steps::brought))]
     pub fn on_task<P: Present, A: Analysis>(
         &mut self,
         scene: &P,
@@ -174,7 +174,7 @@ impl Desk {
         analysis: &A,
         out: &mut TurnOut,
     ) -> Result<Option<WorkEnd>, TurnError>
-        ensures meets { Meets result (taken (meaning_of A.decodes A.answer) (P.scene scene.now) message (record { state = self.old; out = out.old })) self.new out.new }
+        ensures meets { Meets result (result_taken (meaning_of A.decodes A.answer) (P.scene scene.now) message (record { state = self.old; out = out.old })) self.new out.new }
         ensures ends { IfOk result (λ end. end ≡ work_ended message self.old.jobs) }
     {
         match self.take_fitting(&message) {

@@ -3,8 +3,8 @@ ghost use Rattle.std.specs.Prelude.{◌≡◌, true, IfOk, None};
 ghost use Rattle.lsp_frame.specs.Written.{AreWritable};
 ghost use Rattle.lsp_frame.specs.declared.message.Message.TheVariants.{Response as ResponseMessage};
 ghost use Rattle.ra_config.specs.Initialize.{initial_config};
-ghost use Rattle.server.specs.Stages.{Setup, by_settings, replied};
-ghost use Rattle.server.specs.Talking.{Answers, IfWaiting, IsInStep, stage_of};
+ghost use Rattle.server.specs.Stages.{Setup, by_settings, with_reply};
+ghost use Rattle.server.specs.Talking.{ComesTo, IfWaiting, IsInStep, stage_of};
 
 use crate::handshake::replies::{no_workspace, welcome};
 use analysis_host::Analysis;
@@ -52,7 +52,7 @@ impl Negotiation {
     ) -> Result<Response, NoMemory>
         requires begun { self.old.handshake ≡ true }
         ensures in_step { IfOk result (λ _. IsInStep self.new) }
-        ensures value { IfOk result (λ response. by_settings A.server_info id (initial_config params.now threads) ≡ replied response (stage_of self.new.config)) }
+        ensures value { IfOk result (λ response. by_settings A.server_info id (initial_config params.now threads) ≡ with_reply response (stage_of self.new.config)) }
         ensures writable { IfOk result (λ response. AreWritable (ResponseMessage response)) }
     {
         match Config::from_initialize(alloc, params, threads)? {
@@ -78,7 +78,7 @@ impl Negotiation {
     ) -> Result<Answer, NoMemory>
         requires in_step { IsInStep self.old }
         ensures in_step { IfOk result (λ answer. IfWaiting answer (IsInStep self.new)) }
-        ensures answers { let setup : Setup = record { threads = threads; info = A.server_info } in IfOk result (Answers setup self.old.config message self.new.config) }
+        ensures answers { let setup : Setup = record { threads = threads; info = A.server_info } in IfOk result (ComesTo setup self.old.config message self.new.config) }
     {
         match self.handshake.step(message)? {
             Step::Initialize(id, params) => {

@@ -7,9 +7,9 @@ ghost use Rattle.lsp_frame.specs.declared.frame.Cut.TheVariants.{NeedMore};
 ghost use Rattle.lsp_frame.specs.declared.message.Message.TheVariants.{Response as ResponseMessage};
 ghost use Rattle.session_port.specs.Record.{Rose, after_ok, added, took};
 ghost use Rattle.session_laws.specs.Run.{fed_bytes, told_of};
-ghost use Rattle.server.specs.Opening.{IsHostError, Opens, bytes_of};
+ghost use Rattle.server.specs.Opening.{IsHostError, Opens, reply_bytes};
 ghost use Rattle.server.specs.Stages.{Setup};
-ghost use Rattle.server.specs.Talking.{Advances, AdvancesByEvent, IsInStep, IsReplied, IsWriteError, first_talk, opening_of};
+ghost use Rattle.server.specs.Talking.{TalkAdvances, TalkAdvancesByEvent, IsInStep, IsReplied, IsWriteError, first_talk, opening_of};
 
 use crate::handshake::negotiation::{Answer, Negotiation};
 use analysis_host::Analysis;
@@ -62,7 +62,7 @@ fn put_reply<S: Sink>(alloc: Global, response: Response, sink: &mut S) -> Result
     requires writable { AreWritable (ResponseMessage response) }
     requires sink_fresh { S.spent sink.old ≡ false }
     ensures sink_fresh { OnOk result (S.spent sink.new ≡ false) }
-    ensures turns { S.turns sink.new ≡ after_ok result (λ _. added (S.turns sink.old) (bytes_of response)) (S.turns sink.old) }
+    ensures turns { S.turns sink.new ≡ after_ok result (λ _. added (S.turns sink.old) (reply_bytes response)) (S.turns sink.old) }
     ensures err { IfErr result IsWriteError }
     ensures sink_later { S.faults sink.old ≤ S.faults sink.new }
     ensures write_fault { result ≡ Err SessionError.WriteFault → Rose (S.faults sink.old) (S.faults sink.new) }
@@ -132,7 +132,7 @@ fn take_event<H: Host<A>, A: Analysis>(talk: &mut Talk, host: &mut H) -> Result<
     requires fits { fed_bytes talk.old.reader < 2 ^ 64 }
     ensures host_fresh { OnOk result (H.spent host.new ≡ false) }
     ensures idle { OnOk result (H.out host.new ≡ map.empty) }
-    ensures event { (setup : Setup) (turns : Option (List (List ℕ))) → AdvancesByEvent setup talk.old talk.new (told_of (H.calls host.old) turns) (told_of (H.calls host.new) turns) result }
+    ensures event { (setup : Setup) (turns : Option (List (List ℕ))) → TalkAdvancesByEvent setup talk.old talk.new (told_of (H.calls host.old) turns) (told_of (H.calls host.new) turns) result }
     ensures handed { H.handed host.new ≡ H.handed host.old }
     ensures honest_stays { H.honest host.new ≡ H.honest host.old }
     ensures host_later { H.faults host.old ≤ H.faults host.new }
@@ -176,7 +176,7 @@ fn advance<H: Host<A>, S: Sink, A: Analysis>(
     ensures host_fresh { OnOk result (H.spent host.new ≡ false) }
     ensures sink_fresh { OnOk result (S.spent sink.new ≡ false) }
     ensures idle { OnOk result (H.out host.new ≡ map.empty) }
-    ensures turn { let setup : Setup = record { threads = threads; info = A.server_info } in Advances setup talk.old talk.new (told_of (H.calls host.old) (S.turns sink.old)) (told_of (H.calls host.new) (S.turns sink.new)) result }
+    ensures turn { let setup : Setup = record { threads = threads; info = A.server_info } in TalkAdvances setup talk.old talk.new (told_of (H.calls host.old) (S.turns sink.old)) (told_of (H.calls host.new) (S.turns sink.new)) result }
     ensures handed { OnOk result (H.handed host.new ≡ H.handed host.old) }
     ensures honest_stays { H.honest host.new ≡ H.honest host.old }
     ensures host_later { H.faults host.old ≤ H.faults host.new }

@@ -2,7 +2,7 @@
 ghost use Rattle.std.specs.Prelude.{◌≡◌, true, is_some, IfOk, OnOk, OnErr};
 ghost use Rattle.std.specs.Option.{option_copied};
 ghost use Rattle.reload.specs.Errors.{fetch_error};
-ghost use Rattle.workspaces.specs.Fetches.{requested, is_forced, waits_forced, ask_fetch, start_up, fetch_to_start, start_fetch, fetched_of, end_fetch};
+ghost use Rattle.workspaces.specs.Fetches.{fetch_requested, is_forced, waits_forced, ask_fetch, start_up, fetch_to_start, start_fetch, fetched_of, end_fetch};
 ghost use Rattle.workspaces.specs.Fetches.{is_served, plan_fetch, planned_timer, renew_timer, renewed_timer, fires, fire};
 ghost use Rattle.workspaces.specs.Switching.{list_fetched};
 

@@ -2,7 +2,7 @@
 ghost use Rattle.std.specs.Prelude.{◌≡◌, ◌+◌, ◌<◌, ◌^◌, ◌↔◌, IsTrue, IfOk, MatchResult};
 ghost use Rattle.std.specs.Arc.{arc_value};
 ghost use Rattle.reload.specs.Switch.{is_empty};
-ghost use Rattle.workspaces.specs.Switching.{decided, new_workspaces_cause, asks_build, presents, next_version, followed, renewed_by, switch_to, switched, Gives};
+ghost use Rattle.workspaces.specs.Switching.{decided, new_workspaces_cause, asks_build, presents, next_version, going_on, renewed_by, switch_to, switched, SwitchesAs};
 ghost use Rattle.workspaces.specs.declared.follows.SwitchFault.TheVariants.{Exhausted};
 
 use crate::follows::{Follows, SwitchFault};
@@ -75,7 +75,7 @@ impl Workspaces {
     }
 
     fn follow(&mut self, msrv: Items<Text>, initial: bool, loader_version: Option<u32>) -> Follows
-        ensures { (result, self.new) ≡ followed msrv initial self.old loader_version }
+        ensures { (result, self.new) ≡ going_on msrv initial self.old loader_version }
     {
         match loader_version {
             None => Follows::Wait { msrv },
@@ -99,7 +99,7 @@ impl Workspaces {
         go_on: bool,
     ) -> Result<Follows, SwitchFault>
         requires { self.old.version + 1 < 2 ^ 64 }
-        ensures { Gives (renewed_by workspaces msrv ask_build go_on self.old) self.old result self.new }
+        ensures { SwitchesAs (renewed_by workspaces msrv ask_build go_on self.old) self.old result self.new }
     {
         let loader_version = next_version(go_on, self.loader_version)?;
         let cause = Text::from_str(self.alloc, "workspace updated")?;
@@ -112,7 +112,7 @@ impl Workspaces {
 
     fn switch_to(&mut self, to: Switch) -> Result<Follows, SwitchFault>
         requires { self.old.version + 1 < 2 ^ 64 }
-        ensures { Gives (switch_to to self.old) self.old result self.new }
+        ensures { SwitchesAs (switch_to to self.old) self.old result self.new }
     {
         match to {
             Switch::End => {
@@ -146,7 +146,7 @@ impl Workspaces {
     /// scripts run. After an `Err` the workspaces are as before.
     pub fn switch(&mut self, discover: bool, build_scripts: bool) -> Result<Follows, SwitchFault>
         requires { self.old.version + 1 < 2 ^ 64 }
-        ensures { Gives (switched discover build_scripts self.old) self.old result self.new }
+        ensures { SwitchesAs (switched discover build_scripts self.old) self.old result self.new }
     {
         let to = self.decide(discover, build_scripts)?;
         self.switch_to(to)

@@ -9,7 +9,8 @@ use Rattle.server.proofs.laws.sessions_capabilities_stand.Goals as goal
 pub returns : goal.returns
 returns c = record {
   encoding = λ own encoding.
-      get_member-put_other (codes "positionEncoding") (codes "textDocumentSync") synchronization (put (codes "positionEncoding") (string (encoding_name encoding)) own)
+      get_member-put_other (codes "positionEncoding") (codes "textDocumentSync")
+      synchronization (put (codes "positionEncoding") (string (encoding_name encoding)) own)
       (λ e. true≢false (ap (λ name. bytes_eq name (codes "positionEncoding")) e))
       ∙ get_member-put (codes "positionEncoding") (string (encoding_name encoding)) own;
   documents = λ own encoding.

@@ -21,4 +21,5 @@ pub returns-in-Err-BadFrame : goal.returns-in-Err-BadFrame
 returns-in-Err-BadFrame c = let fault = rw c.in-Err-BadFrame.field-0-is at c.in-Err-BadFrame.ensures.fault in λ events. course-bad_frame _ _ _ fault events
 
 pub returns-in-Err-BadMessage : goal.returns-in-Err-BadMessage
-returns-in-Err-BadMessage c = let fault = rw c.in-Err-BadMessage.field-0-is at c.in-Err-BadMessage.ensures.fault in λ events. course-no_message _ _ _ fault events
+returns-in-Err-BadMessage c = let fault = rw c.in-Err-BadMessage.field-0-is at c.in-Err-BadMessage.ensures.fault in λ events.
+    course-no_message _ _ _ fault events

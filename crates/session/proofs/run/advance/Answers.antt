@@ -8,7 +8,8 @@ use Rattle.session.proofs.Advancing.{brings, goes-turn}
 use Rattle.session.proofs.run.advance.Goals as goal
 
 pub returns-in_err-message-clause-turn : goal.returns-in_err-message-clause-turn
-returns-in_err-message-clause-turn g c = let p = err_from_is_err_and c.from_residual.result c.from_residual.ensures.1 in rw (p.1, p.2) (inl (breaks_at_once _ _ _ refl))
+returns-in_err-message-clause-turn g c = let p = err_from_is_err_and c.from_residual.result c.from_residual.ensures.1
+    in rw (p.1, p.2) (inl (breaks_at_once _ _ _ refl))
 
 pub returns-in-Ok-clause-turn : goal.returns-in-Ok-clause-turn
 returns-in-Ok-clause-turn g c =

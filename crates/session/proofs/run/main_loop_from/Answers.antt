@@ -11,4 +11,5 @@ returns-clause-end g c = answered-caused _ _ _ _ _ _ _ _ (run-answered _ _ _ _ _
 pub returns-clause-complete : goal.returns-clause-complete
 returns-clause-complete g c =
     let answered = run-answered _ _ _ c.args.reader _ _ _ _ c.run_from.ensures.run in
-    answered-complete _ _ _ c.args.reader _ _ _ _ _ _ answered (answered-caused _ _ _ c.args.reader _ _ _ _ answered) c.run_from.ensures.host_fault c.run_from.ensures.write_fault
+    answered-complete _ _ _ c.args.reader _ _ _ _ _ _ answered (answered-caused _ _ _ c.args.reader _ _ _ _ answered) c.run_from.ensures.host_fault
+    c.run_from.ensures.write_fault

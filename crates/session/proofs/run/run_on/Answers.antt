@@ -38,4 +38,5 @@ returns-in-Ok-Stopped-clause-run g c =
 
 pub returns-in-Err-clause-run : goal.returns-in-Err-clause-run
 returns-in-Err-clause-run g c =
-    runs-broken _ _ _ c.args.reader.now c.inputs.reader _ _ _ _ _ _ _ _ c.in-Err.error c.inputs.invariant.so_far c.inputs.invariant.honest_stays c.in-Err.ensures.turn
+    runs-broken _ _ _ c.args.reader.now c.inputs.reader _ _ _ _ _ _ _ _ c.in-Err.error c.inputs.invariant.so_far c.inputs.invariant.honest_stays
+    c.in-Err.ensures.turn

@@ -7,7 +7,8 @@ use Rattle.session.proofs.run.run_on.Given as goal
 
 abbrev pub invariant-inputs : goal.invariant-inputs
 invariant-inputs g l = record {
-  so_far : Stretch (meaning_of g.A.Analysis.decodes g.A.Analysis.answer) l.fn.state l.state (course_from l.fn.reader) (course_from l.reader) (fed_bytes l.fn.reader) (fed_bytes l.reader)
+  so_far : Stretch (meaning_of g.A.Analysis.decodes g.A.Analysis.answer) l.fn.state
+      l.state (course_from l.fn.reader) (course_from l.reader) (fed_bytes l.fn.reader) (fed_bytes l.reader)
       (told_of (g.H.Host.calls l.fn.host) (g.S.Sink.turns l.fn.sink)) (told_of (g.H.Host.calls l.host) (g.S.Sink.turns l.sink))
       (g.H.Host.honest l.fn.host) (g.H.Host.out l.fn.host) (g.H.Host.out l.host);
   host_fresh : g.H.Host.spent l.host ≡ false;

@@ -16,7 +16,8 @@ order-requires g c =
     let rising = (steps-hand meaning c.args.state.now turn c.take_input.new.state steps).rising in
     record {
       fresh = c.requires.host_fresh;
-      rising = subst (λ cs. AreRising (g.H.Host.handed c.args.host.now) (spawned cs)) (sym same) (subst (λ n. AreRising n (spawned turn.commands)) (sym c.requires.handed) rising);
+      rising = subst (λ cs. AreRising (g.H.Host.handed c.args.host.now) (spawned cs)) (sym same)
+          (subst (λ n. AreRising n (spawned turn.commands)) (sym c.requires.handed) rising);
     }
 
 pub returns-in-Ok-order-clause-turn : goal.returns-in-Ok-order-clause-turn
@@ -51,7 +52,8 @@ returns-in-Err-Failed-order-clause-turn g c =
       input_is = refl;
       steps = search rules;
       read = search rules;
-      told = telling-turn turn (told_of (g.H.Host.calls c.args.host.now) (g.S.Sink.turns c.args.sink.now)) (told_of (g.H.Host.calls c.order.new.self) (g.S.Sink.turns c.put_turn.new.self))
+      told = telling-turn turn (told_of (g.H.Host.calls c.args.host.now) (g.S.Sink.turns c.args.sink.now))
+          (told_of (g.H.Host.calls c.order.new.self) (g.S.Sink.turns c.put_turn.new.self))
           (grind (arith, common_steps, h)) (grind (arith, common_steps));
     }
 
@@ -64,6 +66,7 @@ returns-clause-turn g c =
       input_is = refl;
       steps = search rules;
       read = search rules;
-      told = telling-turn turn (told_of (g.H.Host.calls c.args.host.now) (g.S.Sink.turns c.args.sink.now)) (told_of (g.H.Host.calls c.order.new.self) (g.S.Sink.turns c.put_turn.new.self))
+      told = telling-turn turn (told_of (g.H.Host.calls c.args.host.now) (g.S.Sink.turns c.args.sink.now))
+          (told_of (g.H.Host.calls c.order.new.self) (g.S.Sink.turns c.put_turn.new.self))
           (grind (arith, common_steps, h)) (grind (arith, common_steps));
     })

@@ -6,4 +6,5 @@ use Rattle.session_notices.proofs.asking.take_answer.Goals as goal
 
 pub returns : goal.returns
 returns c =
-    client_meets (λ w. Ok (answered c.args.response w)) c.complete.result c.args.store.now _ c.store.inside.client c.complete.new.self _ _ (search rules) (search rules) c.complete.ensures
+    client_meets (λ w. Ok (answered c.args.response w)) c.complete.result c.args.store.now _ c.store.inside.client c.complete.new.self _
+    _ (search rules) (search rules) c.complete.ensures

@@ -6,4 +6,5 @@ use Rattle.session_notices.proofs.settings.log_further.Given as goal
 
 abbrev pub invariant-loop-path : goal.invariant-loop-path
 invariant-loop-path l =
-    (state : State) → further_logged (into_iter_items l.path-iterator) (record { state = state; out = l.out }) ≡ further_logged l.fn.paths (record { state = state; out = l.initial.out })
+    (state : State) → further_logged (into_iter_items l.path-iterator) (record { state = state; out = l.out }) ≡ further_logged
+    l.fn.paths (record { state = state; out = l.initial.out })

@@ -5,4 +5,5 @@ use Rattle.session_renewal.proofs.checking.resume_all.Given as goal
 
 abbrev pub invariant-loop-task : goal.invariant-loop-task
 invariant-loop-task l =
-    all_resumed (into_iter_items l.task-iterator) (record { state = l.store; out = l.out }) ≡ all_resumed l.fn.tasks (record { state = l.initial.store; out = l.initial.out })
+    all_resumed (into_iter_items l.task-iterator) (record { state = l.store; out = l.out }) ≡ all_resumed
+    l.fn.tasks (record { state = l.initial.store; out = l.initial.out })

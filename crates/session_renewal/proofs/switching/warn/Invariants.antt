@@ -6,4 +6,5 @@ use Rattle.session_renewal.proofs.switching.warn.Given as goal
 
 abbrev pub invariant-loop-message : goal.invariant-loop-message
 invariant-loop-message l =
-    (state : State) → warned (into_iter_items l.message-iterator) (record { state = state; out = l.out }) ≡ warned l.fn.texts (record { state = state; out = l.initial.out })
+    (state : State) → warned (into_iter_items l.message-iterator) (record { state = state; out = l.out }) ≡ warned
+    l.fn.texts (record { state = state; out = l.initial.out })

@@ -2,7 +2,7 @@ use Rattle.std.proofs.Common.{ap, subst, sym}
 use Rattle.std.specs.Prelude.{option_and_then, Option}
 use Rattle.lsp_frame.specs.Pending.{id_of}
 use Rattle.lsp_frame.specs.declared.message.RequestId.{RequestId}
-use Rattle.session_port.specs.Jobs.{ticket_of}
+use Rattle.session_port.specs.Jobs.{ticket_of_job}
 use Rattle.session_port.specs.Meets.{Meets}
 use Rattle.session_port.specs.declared.job.JobKind.{JobKind}
 use Rattle.desk.specs.Meaning.{meaning_of}
@@ -16,5 +16,5 @@ returns-clause-meets g c =
     (subst (λ (id : Option RequestId). Meets c.deliver.result
     (delivered (meaning_of g.A.Analysis.decodes g.A.Analysis.answer) (g.P.Present.scene c.args.scene.now) id c.args.job
     c.args.outcome (record { state = c.args.self.now; out = c.args.out.now })) c.deliver.new.self c.deliver.new.out)
-    (sym (ap (λ (kind : JobKind). option_and_then (λ t. id_of t c.args.self.now.pending) (ticket_of kind)) c.in-Request.is))
+    (sym (ap (λ (kind : JobKind). option_and_then (λ t. id_of t c.args.self.now.pending) (ticket_of_job kind)) c.in-Request.is))
     c.deliver.ensures)

@@ -4,7 +4,7 @@ use Rattle.session_laws.specs.Event.TheVariants.{Lsp}
 use Rattle.session_laws.specs.Input.TheVariants.{Next}
 use Rattle.lsp_frame.specs.Reader.{Reader}
 use Rattle.server.specs.Stages.{Setup}
-use Rattle.server.specs.Talking.{Goes, Breaks}
+use Rattle.server.specs.Talking.{TalkGoes, Breaks}
 use Rattle.server.specs.declared.handshake.opening.Talk.{Talk}
 use Rattle.server.proofs.Stretches.{breaks-reply, goes-quiet, goes-reply}
 use Rattle.server.proofs.handshake.opening.advance.Goals as goal
@@ -46,8 +46,10 @@ pub returns-in-Ok-take_event-clause-turn : goal.returns-in-Ok-take_event-clause-
 returns-in-Ok-take_event-clause-turn g c =
     let setup : Setup = record { threads = c.args.threads; info = g.A.Analysis.server_info } in
     let partial = rw c.in-Waits.is at c.in_ok-message.ensures in
-    subst (λ (r : Reader). Goes setup (record { reader = r; negotiation = c.args.talk.now.negotiation; events = c.args.talk.now.events }) c.take_event.new.talk
-    (told_of (g.H.Host.calls c.args.host.now) (g.S.Sink.turns c.args.sink.now)) (told_of (g.H.Host.calls c.take_event.new.host) (g.S.Sink.turns c.args.sink.now)))
+    subst (λ (r : Reader). TalkGoes setup (record { reader = r; negotiation = c.args.talk.now.negotiation; events = c.args.talk.now.events })
+    c.take_event.new.talk
+    (told_of (g.H.Host.calls c.args.host.now) (g.S.Sink.turns c.args.sink.now))
+    (told_of (g.H.Host.calls c.take_event.new.host) (g.S.Sink.turns c.args.sink.now)))
     partial.same (c.in-Ok-take_event.ensures.event setup (g.S.Sink.turns c.args.sink.now))
 
 pub returns-in-Err-take_event-clause-turn : goal.returns-in-Err-take_event-clause-turn
@@ -55,5 +57,6 @@ returns-in-Err-take_event-clause-turn g c =
     let setup : Setup = record { threads = c.args.threads; info = g.A.Analysis.server_info } in
     let partial = rw c.in-Waits.is at c.in_ok-message.ensures in
     subst (λ (r : Reader). Breaks setup (record { reader = r; negotiation = c.args.talk.now.negotiation; events = c.args.talk.now.events })
-    (told_of (g.H.Host.calls c.args.host.now) (g.S.Sink.turns c.args.sink.now)) (told_of (g.H.Host.calls c.take_event.new.host) (g.S.Sink.turns c.args.sink.now)) c.in-Err-take_event.error)
+    (told_of (g.H.Host.calls c.args.host.now) (g.S.Sink.turns c.args.sink.now))
+    (told_of (g.H.Host.calls c.take_event.new.host) (g.S.Sink.turns c.args.sink.now)) c.in-Err-take_event.error)
     partial.same (c.in-Err-take_event.ensures.event setup (g.S.Sink.turns c.args.sink.now))

@@ -60,7 +60,8 @@ pub returns-in-DeferredTask-clause-event : goal.returns-in-DeferredTask-clause-e
 returns-in-DeferredTask-clause-event g c =
     let h = c.in-Ok.ensures in
     let room : c.args.talk.now.events < 2 ^ 64 - 1 = omega arith in
-    λ setup turns. goes-deferred setup c.args.talk.now _ _ c.requires.waits c.requires.sound c.requires.in_step c.requires.fits room c.in-DeferredTask.field-0 _ refl
+    λ setup turns. goes-deferred setup c.args.talk.now _ _ c.requires.waits c.requires.sound c.requires.in_step c.requires.fits room c.in-DeferredTask.field-0 _
+    refl
     (telling-events (DeferredTask c.in-DeferredTask.field-0 ∷ []) _ _ (grind (arith, common_steps, h)) refl)
 
 pub returns-in-Timer-clause-idle : goal.returns-in-Timer-clause-idle

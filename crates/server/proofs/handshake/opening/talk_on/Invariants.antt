@@ -1,12 +1,13 @@
 use Rattle.std.proofs.Common.{◌≤◌, ◌≡◌, ◌<◌, ◌^◌, false}
 use Rattle.std.specs.FinMap as map
 use Rattle.session_laws.specs.Run.{told_of, fed_bytes}
-use Rattle.server.specs.Talking.{Stretch, IsInStep, first_talk, left_of}
+use Rattle.server.specs.Talking.{TalkStretch, IsInStep, first_talk, talk_left}
 use Rattle.server.proofs.handshake.opening.talk_on.Given as goal
 
 abbrev pub invariant-messages : goal.invariant-messages
 invariant-messages g l = record {
-  so_far : Stretch (record { threads = l.threads; info = g.A.Analysis.server_info }) first_talk l.talk (told_of (g.H.Host.calls l.fn.host) (g.S.Sink.turns l.fn.sink)) (told_of (g.H.Host.calls l.host) (g.S.Sink.turns l.sink));
+  so_far : TalkStretch (record { threads = l.threads; info = g.A.Analysis.server_info }) first_talk
+      l.talk (told_of (g.H.Host.calls l.fn.host) (g.S.Sink.turns l.fn.sink)) (told_of (g.H.Host.calls l.host) (g.S.Sink.turns l.sink));
   in_step : IsInStep l.talk.negotiation;
   fits : fed_bytes l.talk.reader < 2 ^ 64;
   idle : g.H.Host.out l.host ≡ map.empty;
@@ -19,4 +20,4 @@ invariant-messages g l = record {
 }
 
 abbrev pub decreases-messages : goal.decreases-messages
-decreases-messages g l = left_of l.talk
+decreases-messages g l = talk_left l.talk

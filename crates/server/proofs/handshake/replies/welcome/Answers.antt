@@ -4,4 +4,7 @@ use Rattle.server.proofs.Written.{result_writable}
 use Rattle.server.proofs.handshake.replies.welcome.Goals as goal
 
 pub returns-clause-writable : goal.returns-clause-writable
-returns-clause-writable g c = (subst IsWritable (sym c.in_ok-value.ensures) (result_writable c.in_ok-info.info c.encodings.result c.in_ok-info.ensures.plain), tt)
+returns-clause-writable g c = (
+  subst IsWritable (sym c.in_ok-value.ensures) (result_writable c.in_ok-info.info c.encodings.result c.in_ok-info.ensures.plain),
+  tt,
+)

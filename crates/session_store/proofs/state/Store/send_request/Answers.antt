@@ -5,4 +5,5 @@ use Rattle.session_store.proofs.state.Store.send_request.Goals as goal
 
 pub returns : goal.returns
 returns c =
-    client_meets (asked_for c.args.message c.args.then) c.ask.result c.args.self.now _ c.self.inside.client c.ask.new.self _ _ (search rules) (search rules) c.ask.ensures
+    client_meets (asked_for c.args.message c.args.then) c.ask.result c.args.self.now _ c.self.inside.client c.ask.new.self _ _ (search rules) (search rules)
+    c.ask.ensures

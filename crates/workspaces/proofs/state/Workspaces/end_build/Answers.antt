@@ -11,5 +11,9 @@ invariant_of-self c =
     (sym c.op_completed.ensures)
     (record {
       started = c.self.invariant.started;
-      ended = (c.self.invariant.started, λ same. ap length c.in_ok-runs.ensures ∙ runs_length c.args.made c.as_slice.result.now ∙ ap length c.as_slice.ensures ∙ ap length c.deref.ensures);
+      ended = (
+        c.self.invariant.started,
+        λ same. ap length c.in_ok-runs.ensures ∙ runs_length c.args.made c.as_slice.result.now ∙ ap length c.as_slice.ensures
+            ∙ ap length c.deref.ensures,
+      );
     })
