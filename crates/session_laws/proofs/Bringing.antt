@@ -36,10 +36,10 @@ use Rattle.session_model.specs.Building.{build_kept}
 use Rattle.session_model.specs.Fetching.{fetch_kept}
 use Rattle.session_model.specs.Loading.{crates_loaded, load_kept}
 use Rattle.session_model.specs.Machine.{Turning, at_desk, at_files, at_workspaces, build_taken, files_done, knowing, crates_arrived, desk_in, end_taken}
-use Rattle.session_model.specs.Machine.{work_taken, fetch_taken, files_followed, files_in, files_part, files_processed}
-use Rattle.session_model.specs.Machine.{files_processed_if, in_state, load_taken, macros_taken, quiet_done, client_refreshed, settings_filed, some_processed}
-use Rattle.session_model.specs.Machine.{state_in}
-use Rattle.session_model.specs.Machine.{message_taken, with_client, with_desk, with_files, with_sources, with_state}
+use Rattle.session_model.specs.Machine.{work_taken, fetch_taken, files_followed, files_in, files_part, files_processed, files_processed_if, in_state}
+use Rattle.session_model.specs.Machine.{load_taken, macros_taken, quiet_done, client_refreshed, settings_filed, some_processed, state_in, message_taken}
+use Rattle.session_model.specs.Machine.{with_client}
+use Rattle.session_model.specs.Machine.{with_desk, with_files, with_sources, with_state}
 use Rattle.session_model.specs.Asking.{is_refresh_due}
 use Rattle.session_model.specs.Sources.{change_for, client_with, further_files, is_settled, parents_told}
 use Rattle.session_model.specs.State.{Sources, State, scene_of, snapshot_of}
@@ -54,6 +54,7 @@ use Rattle.session_laws.proofs.Following.{followed-does, further-same}
 use Rattle.session_laws.proofs.Batches.{logged_if-same}
 use Rattle.session_laws.proofs.OneOut.{fit-true, true-false}
 use Rattle.session_laws.proofs.WorkEnds.{load-has-end}
+use Rattle.session_laws.proofs.Same.{some-same, none-some}
 
 -- ---- files that are processed
 
@@ -234,12 +235,6 @@ ended-brings meaning message w v is ends =
 abbrev OfRoot : List Root → RootFile → Type 0
 OfRoot roots file = (file.root ≡ root_of roots file.path) × (is_local_at roots file.root ≡ true)
 
-some-same : (x y : RootFile) → Some x ≡ Some y → x ≡ y
-some-same x y e = cc
-
-none-some : {P : Type 0} (x : RootFile) → None ≡ Some x → P
-none-some x e = absurd cc
-
 by-local : (roots : List Root) (made found : RootFile) (b : Bool) → is_local_at roots made.root ≡ b → made.root ≡ root_of roots made.path
     → (if b then Some made else None) ≡ Some found → OfRoot roots found
 by-local roots made found true local root is = subst (OfRoot roots) (some-same made found is) (root, local)
@@ -327,9 +322,6 @@ quiet-is : (facts : Facts) (w : Working State) (due : Bool) → is_refresh_due f
     due → quiet_done facts w ≡ if_due due w
 unfolding quiet_done
 quiet-is facts w due is = ap (λ b. if_due b w) is
-
-session_in : Working Turning → Working State
-session_in t = record { state = t.state.state; out = t.out }
 
 pub shown-anew : (t : Turning) (out : Written) → IsShownAnew t
     → quiet_done t.facts (record { state = t.state; out = out }) ≡ client_refreshed t.state.client.settings.capabilities (record { state = t.state; out = out })

@@ -37,9 +37,9 @@ use Rattle.desk.specs.Steps.{handed_over}
 use Rattle.session_files.specs.Changing.{text_after}
 use Rattle.session_files.proofs.SoundLemmas.{taken_none}
 use Rattle.session_files.specs.Folds.{after_changed, after_crates, after_each_changed, after_each_loaded, after_editing, after_loaded, after_loader_message}
-use Rattle.session_files.specs.Folds.{after_messages, after_opening, after_processing}
-use Rattle.session_files.specs.Folds.{are_some, changed_files, contents_put, has_changed, is_excluded_path, is_open, made_of, mark_put, table_put, taken_up}
-use Rattle.session_files.specs.Folds.{text_edited, text_put, version_put, with_changes, with_table, world_put}
+use Rattle.session_files.specs.Folds.{after_messages, after_opening, after_processing, are_some, changed_files, contents_put, has_changed, is_excluded_path}
+use Rattle.session_files.specs.Folds.{is_open}
+use Rattle.session_files.specs.Folds.{made_of, mark_put, table_put, taken_up, text_edited, text_put, version_put, with_changes, with_table, world_put}
 use Rattle.session_files.specs.SessionFiles.{SessionFiles}
 use Rattle.session_files.specs.Steps.{become}
 use Rattle.session_files.specs.Texts.{holds_text}
@@ -462,13 +462,8 @@ pub crates-count : (roots : List Root) (crates : CrateData) (s : State) → Coun
 unfolding after_crates
 crates-count roots crates s = world-counts s _ s.files 1 (ltb s.files.host.revision (2 ^ 64 - 1)) refl refl refl (omega arith)
 
-pub become-ahead : (needs before : Numbers) (s : State) (r : Result SessionFiles Counter) (w : Working SessionFiles) → Counts (files_ahead s) needs before r
-    → Counts (λ (v : Working SessionFiles). files_ahead s v.state) needs before (become r w)
-become-ahead needs before s (Ok now) w h = h
-become-ahead needs before s (Err counter) w h = h
-
-pub become-counts : (needs before : Numbers) (s : State) (r : Result SessionFiles Counter) (w : Working SessionFiles)
-    → Counts (λ (v : SessionFiles). with_files v s) needs before r
-    → Counts (λ (v : Working SessionFiles). with_files v.state s) needs before (become r w)
-become-counts needs before s (Ok now) w h = h
-become-counts needs before s (Err counter) w h = h
+-- files that come to this, as a step of them
+pub become-counts : (of : SessionFiles → State) (needs before : Numbers) (r : Result SessionFiles Counter) (w : Working SessionFiles)
+    → Counts of needs before r → Counts (λ (v : Working SessionFiles). of v.state) needs before (become r w)
+become-counts of needs before (Ok now) w h = h
+become-counts of needs before (Err counter) w h = h

@@ -1,11 +1,9 @@
 -- A turn gives no more numbers than it may need; and one that the machine can't take needs one more of a counter than there are.
-use Rattle.std.proofs.Common.{◌≡◌, ℕ, ◌+◌, ◌-◌, ◌^◌, ◌≤◌, List, [], ◌∷◌, ◌++◌, length, Bool, true, false, refl, sym, ap, ◌∙◌, subst, inl, inr, arith, eqb-true}
-use Rattle.std.proofs.lemmas.Bool.{ltb-false}
+use Rattle.std.proofs.Common.{◌≡◌, ℕ, ◌+◌, ◌-◌, ◌^◌, ◌≤◌, List, [], ◌∷◌, ◌++◌, length, Bool, true, false, refl, sym, ap, ◌∙◌, subst, arith}
 use Rattle.std.proofs.lemmas.List.{length-append}
 use Rattle.std.proofs.lemmas.Result.{IfOk-at_ok}
 use Rattle.std.specs.FinMap as map
-use Rattle.std.specs.Option.{option_map}
-use Rattle.std.specs.Prelude.{◌⊎◌, ◌==◌, Err, IfErr, IfOk, if◌then◌else◌, is_some, ltb, None, Ok, Option, Result, Some}
+use Rattle.std.specs.Prelude.{◌==◌, Err, IfErr, IfOk, if◌then◌else◌, is_some, ltb, None, Ok, Option, Result, Some}
 use Rattle.docs_vfs.specs.FileUrls.{path_of}
 use Rattle.docs_vfs.specs.declared.file_kinds.ChangedFile.{ChangedFile}
 use Rattle.docs_vfs.specs.declared.file_url.UrlFault.{UrlFault}
@@ -17,9 +15,7 @@ use Rattle.lsp_frame.specs.declared.message.Message.TheVariants as lsp
 use Rattle.lsp_frame.specs.declared.message.RequestId.{RequestId}
 use Rattle.lsp_frame.specs.declared.message.Response.{Response}
 use Rattle.project_model.specs.declared.crates.CrateData.{CrateData}
-use Rattle.project_model.specs.declared.workspace.ProjectWorkspace.{ProjectWorkspace}
 use Rattle.layered_settings.specs.declared.change.ConfigChange.{ConfigChange}
-use Rattle.ra_config.specs.Config.{ConfigData}
 use Rattle.ra_config.specs.declared.capabilities.Capabilities.{Capabilities}
 use Rattle.session_port.specs.Jobs.{Jobs, jobs_after}
 use Rattle.session_port.specs.Working.{Working, and_then, logged, ordered, within, written}
@@ -52,9 +48,9 @@ use Rattle.desk.specs.declared.state.ends.WorkEnd.{WorkEnd}
 use Rattle.desk.specs.declared.state.ends.WorkEnd.TheVariants.{Fetched, Built, Checked, Loaded}
 use Rattle.session_laws.proofs.WorkEnds.{work_kept, work-versions}
 use Rattle.session_laws.proofs.OwnJobs.{before-is, fetch_begun, fetch_part-leaves, load_behind, load-due-same, parts_from_fetch, step-split}
-use Rattle.session_model.specs.OwnJobs.{OwnJob, before_fetch, build_job, checks_among_tasks, checks_back, fetch_job, fetch_jobs, jobs_due, load_job}
-use Rattle.session_model.specs.OwnJobs.{own_job, parts_before_fetch, run_jobs, run_jobs_behind}
-use Rattle.session_laws.proofs.Rows.{session_in}
+use Rattle.session_model.specs.OwnJobs.{OwnJob, before_fetch, build_job, checks_among_tasks, checks_back, fetch_job, fetch_jobs, jobs_due, load_job, own_job}
+use Rattle.session_model.specs.OwnJobs.{parts_before_fetch, run_jobs, run_jobs_behind}
+use Rattle.session_laws.proofs.Turns.{session_in}
 use Rattle.desk.specs.Meaning.{Meaning}
 use Rattle.desk.specs.Reactions.{Reaction, cancel_row, message_row, request_row}
 use Rattle.desk.specs.Steps.{cancelled, counted as counted_at_desk, handed_over, jobs_kept as kept_at_desk, requested, result_taken as taken_at_desk}
@@ -64,43 +60,39 @@ use Rattle.desk_laws.proofs.Settling.{cancel-settles, message-settles, message-t
 use Rattle.session_files.specs.SessionFiles.{SessionFiles}
 use Rattle.session_files.specs.Steps.{changed_document, closed_document, crates_put, edited_document, loaded, opened_document, processed}
 use Rattle.workspaces.specs.Fetches.{fetch_to_start, fire, fires, start_fetch, start_up}
-use Rattle.workspaces.specs.Switching.{decided, last_loader_version, next_version, renewed_by, switch_to, switched}
 use Rattle.workspaces.specs.Workspaces.{Workspaces}
 use Rattle.workspaces.specs.declared.follows.Follows.{Follows}
 use Rattle.workspaces.specs.declared.follows.Follows.TheVariants as follows
 use Rattle.workspaces.specs.declared.requests.FetchRequest.{FetchRequest}
-use Rattle.reload.specs.declared.switch.Switch.{Switch}
-use Rattle.reload.specs.declared.switch.Switch.TheVariants as switch
 use Rattle.session_model.specs.Building.{build_due, build_kept, request_told, with_due_build}
 use Rattle.session_model.specs.Checking.{check_kept, check_kind}
-use Rattle.session_model.specs.Crates.{builds_crates, crate_data, is_unknown, with_crates}
+use Rattle.session_model.specs.Crates.{builds_crates, crate_data, is_unknown}
 use Rattle.session_model.specs.Fetching.{fetch_kept, folders_told_if, settings_told, with_fetches}
 use Rattle.session_model.specs.Hearing.{heard_of, told_by}
 use Rattle.session_model.specs.Inputs.{batch_of, cancelled_by, file_count, files_among, files_noticed}
 use Rattle.session_model.specs.Loading.{MacroPaths, crates_loaded, load_due, load_kept, with_due_load}
 use Rattle.session_model.specs.Machine.{all_resumed, answer_taken, request_taken, asked_for_settings, asked_if, at_client, at_desk, at_files, at_workspaces}
-use Rattle.session_model.specs.Machine.{batched, begin_part, begun_fetches, build_handed_over, build_part}
-use Rattle.session_model.specs.Machine.{build_started, build_taken, document_changed_at, client_in, turn_closed, document_closed_at, closing_part, turn_counted}
-use Rattle.session_model.specs.Machine.{crates_arrived}
-use Rattle.session_model.specs.Machine.{crates_built, desk_in, effects_done, end_taken, work_taken, fetch_waits, settings_filed, sources_deferred, event_part}
-use Rattle.session_model.specs.Machine.{fetch_handed_over}
-use Rattle.session_model.specs.Machine.{fetch_part, fetch_started, fetch_taken, files_changed, files_done, files_followed, files_in, files_part}
-use Rattle.session_model.specs.Machine.{files_processed, files_processed_if, folders_taken, switch_followed, happened, in_state, desk_kept, knowing}
-use Rattle.session_model.specs.Machine.{load_handed_over, load_started, load_taken, loader_set, macros_taken, noticed, document_opened_at, quiet_done}
-use Rattle.session_model.specs.Machine.{quiet_part}
-use Rattle.session_model.specs.Machine.{received, client_refreshed, register_part, resumed, revised, roots_renewed, runs_started, save_noted}
-use Rattle.session_model.specs.Machine.{saved_at, saved_file, saves_registered, some_processed, state_in, status_changed, status_done, status_kept, status_part}
-use Rattle.session_model.specs.Machine.{status_told, step, switch_done, switch_part, switch_taken, message_taken, event_taken}
-use Rattle.session_model.specs.Machine.{publish_part, text_shown, timed, timer_set, told, turned, Turning, turning, warned, watchers_registered, with_client}
-use Rattle.session_model.specs.Machine.{with_desk, with_files, with_sources, with_state, with_status, with_workspaces}
+use Rattle.session_model.specs.Machine.{batched, begin_part, begun_fetches, build_handed_over, build_part, build_started, build_taken, document_changed_at}
+use Rattle.session_model.specs.Machine.{client_in}
+use Rattle.session_model.specs.Machine.{turn_closed, document_closed_at, closing_part, turn_counted, crates_arrived, crates_built, desk_in, effects_done}
+use Rattle.session_model.specs.Machine.{end_taken}
+use Rattle.session_model.specs.Machine.{work_taken, fetch_waits, settings_filed, sources_deferred, event_part, fetch_handed_over, fetch_part, fetch_started}
+use Rattle.session_model.specs.Machine.{fetch_taken, files_changed, files_done, files_followed, files_in, files_part, files_processed, files_processed_if}
+use Rattle.session_model.specs.Machine.{folders_taken, switch_followed, happened, in_state, desk_kept, knowing, load_handed_over, load_started, load_taken}
+use Rattle.session_model.specs.Machine.{loader_set, macros_taken, noticed, document_opened_at, quiet_done, quiet_part, received, client_refreshed}
+use Rattle.session_model.specs.Machine.{register_part, resumed}
+use Rattle.session_model.specs.Machine.{revised, roots_renewed, runs_started, save_noted, saved_at, saved_file, saves_registered, some_processed, state_in}
+use Rattle.session_model.specs.Machine.{status_changed, status_done, status_kept, status_part, status_told, step, switch_done, switch_part, switch_taken}
+use Rattle.session_model.specs.Machine.{message_taken, event_taken, publish_part, text_shown, timed, timer_set, told, turned, Turning, turning, warned}
+use Rattle.session_model.specs.Machine.{watchers_registered, with_client, with_desk, with_files, with_sources, with_state, with_status, with_workspaces}
 use Rattle.session_model.specs.RunEnds.{AreTooMany, NeedsMore, Numbers, needs_of}
 use Rattle.session_model.specs.Rows.{batch_row, machine_after, notice_row, place_after_message, turn_row, scene_within, turn_begun}
 use Rattle.session_model.specs.Run.{turn_start}
 use Rattle.session_model.specs.Saving.{path_saved}
 use Rattle.session_model.specs.Sources.{change_for, client_with, further_files, parents_told}
-use Rattle.session_model.specs.State.{State, builds_scripts, columns_in, discovers, excludes_in, goes_by_folders, may_start, scene_of, snapshot_of}
+use Rattle.session_model.specs.State.{State, columns_in, discovers, excludes_in, goes_by_folders, may_start, scene_of, snapshot_of}
 use Rattle.session_model.specs.Status.{opens_logs, shown_of, status_message, status_now, takes_status}
-use Rattle.session_model.specs.Switching.{is_switch_due, switch_by, switch_made, unless_exhausted}
+use Rattle.session_model.specs.Switching.{switch_made}
 use Rattle.session_model.specs.Timing.{bring_files, effects_for, fetch_planned, renewed_if}
 use Rattle.session_model.specs.declared.facts.Facts.{Facts}
 use Rattle.session_model.specs.declared.heard.Heard.{Heard}
@@ -111,16 +103,17 @@ use Rattle.session_model.specs.declared.input.Input.{Input}
 use Rattle.session_model.specs.declared.input.Input.TheVariants.{Start, Next}
 use Rattle.session_laws.specs.Invariant.{place_of_state}
 use Rattle.session_laws.proofs.Batches.{DoesAtDesk, Stays, logged_if-same, or-is, place_now, rest-is, scene-is, settles-within, stays-on, stays-same}
-use Rattle.session_laws.proofs.Counting.{AtMost, Counts, ahead, at-most, become-ahead, become-counts, both, counts-behind, counts-if, counts-more, counts-then}
-use Rattle.session_laws.proofs.Counting.{counts-within, crates-count, editing-counts, files, files_ahead, given, given-workspaces}
-use Rattle.session_laws.proofs.Counting.{gives-desk, gives-on, gives-same, gives-versions, held, job-counts, jobs, many-more, messages-count, next-counts, none}
-use Rattle.session_laws.proofs.Counting.{none-more, opening-counts, processing-counts, request-counts, requests, revisions, state_ahead, state_at, turns}
+use Rattle.session_laws.proofs.Counting.{AtMost, Counts, ahead, at-most, become-counts, both, counts-behind, counts-if, counts-more, counts-then}
+use Rattle.session_laws.proofs.Counting.{counts-within, crates-count, editing-counts, files, files_ahead, given, given-workspaces, gives-desk, gives-on}
+use Rattle.session_laws.proofs.Counting.{gives-same, gives-versions, held, job-counts, jobs, many-more, messages-count, next-counts, none, none-more}
+use Rattle.session_laws.proofs.Counting.{opening-counts, processing-counts, request-counts, requests, revisions, state_ahead, state_at, turns}
 use Rattle.session_laws.proofs.Events.{files-same, notification_input, noted-same}
 use Rattle.session_laws.proofs.Following.{deferred-same, further-same}
 use Rattle.session_laws.proofs.Processing.{at}
 use Rattle.session_laws.proofs.Rows.{counted-is}
 use Rattle.session_laws.proofs.Running.{versions_of, fire-runs, folders-runs, planned-runs, renewed-runs, request-runs, save-runs, settings-runs}
-use Rattle.session_laws.proofs.Switching.{Moves, left_or, loader-same, made-moves, warned-same}
+use Rattle.session_laws.proofs.Made.{Outcome, next-most, switch-makes}
+use Rattle.session_laws.proofs.Switching.{loader-same, warned-same}
 use Rattle.session_laws.proofs.Telling.{answered-does, folders-do}
 
 -- from here on a step gives no more numbers than these
@@ -217,7 +210,7 @@ world-do needs w work h = counts-within state_ahead needs (held w.state) files_i
 crates-do : (roots : List Root) (crates : CrateData) (w : Working State) → Does (revisions 1) w (at_files (crates_put roots crates) w)
 unfolding crates_put
 crates-do roots crates w = world-do (revisions 1) w (crates_put roots crates)
-    (become-ahead (revisions 1) (held w.state) w.state _ _ (crates-count roots crates w.state))
+    (become-counts (files_ahead w.state) (revisions 1) (held w.state) _ _ (crates-count roots crates w.state))
 
 arrived-does : (crates : Option CrateData) (w : Working State) → Does (revisions 1) w (crates_arrived crates w)
 unfolding crates_arrived
@@ -252,7 +245,8 @@ processed-does : (w : Working State) → Does none w (files_processed w)
 unfolding files_processed processed
 processed-does w =
     then-same none w (at_files (processed w.state.sources.roots) w) (files_followed (changed_files w.state.files)) (followed-same (changed_files w.state.files))
-    (world-do none w (processed w.state.sources.roots) (become-ahead none (held w.state) w.state _ _ (processing-counts w.state.sources.roots w.state)))
+    (world-do none w (processed w.state.sources.roots)
+    (become-counts (files_ahead w.state) none (held w.state) _ _ (processing-counts w.state.sources.roots w.state)))
 
 processed_if-does : (b : Bool) (w : Working State) → Does none w (files_processed_if b w)
 unfolding files_processed_if
@@ -264,62 +258,6 @@ unfolding files_done
 done-does w = counts-if state_ahead none (held w.state) w.state.files.loading (Ok w) (files_processed w) (does-same none w w refl) (processed-does w)
 
 -- ---- a switch
-
--- where there is nothing, this is so
-abbrev WhereNone : {X : Type 0} → Option X → Type 0 → Type 0
-WhereNone None P = P
-WhereNone (Some x) P = Unit {0}
-
-map-none : {X Y : Type 0} (f : X → Y) (o : Option X) (P : Type 0) → WhereNone o P → WhereNone (option_map f o) P
-map-none f None P h = h
-map-none f (Some x) P h = tt
-
-none-either : {X : Type 0} (o : Option X) (P Q : Type 0) → WhereNone o Q → WhereNone o (P ⊎ Q)
-none-either None P Q h = inr h
-none-either (Some x) P Q h = tt
-
--- the loader's settings have had their last version
-abbrev HadLast : ℕ → Type 0
-HadLast version = 2 ^ 32 ≤ version + 1
-
-version-cases : (version : ℕ) (b : Bool) → (version == last_loader_version) ≡ b → WhereNone (if b then None else Some (Some (version + 1))) (HadLast version)
-version-cases version true is = let last : version ≡ 4294967295 = eqb-true _ _ is in omega (arith, last)
-version-cases version false is = tt
-
-renewed-none : (new : List ProjectWorkspace) (msrv : List (List ℕ)) (asks goes_on : Bool) (workspaces : Workspaces)
-    → WhereNone (renewed_by new msrv asks goes_on workspaces) (HadLast workspaces.loader_version)
-renewed-none new msrv asks true workspaces =
-    map-none _ (next_version true workspaces.loader_version) (HadLast workspaces.loader_version)
-    (version-cases workspaces.loader_version (workspaces.loader_version == last_loader_version) refl)
-renewed-none new msrv asks false workspaces = tt
-
-to-none : (to : Switch) (workspaces : Workspaces) → WhereNone (switch_to to workspaces) (HadLast workspaces.loader_version)
-to-none switch.End workspaces = tt
-to-none switch.CrateData workspaces = tt
-to-none (switch.Join made) workspaces = renewed-none made [] false true workspaces
-to-none (switch.Replace new msrv asks goes_on) workspaces = renewed-none new msrv asks goes_on workspaces
-
--- or the workspaces have
-abbrev HadLasts : Workspaces → Type 0
-HadLasts workspaces = (2 ^ 64 ≤ workspaces.version + 1) ⊎ HadLast workspaces.loader_version
-
-by-none : (settings : ConfigData) (workspaces : Workspaces) (b : Bool) → ltb workspaces.version (2 ^ 64 - 1) ≡ b
-    → WhereNone (if b then switched (discovers settings) (builds_scripts settings) workspaces else None) (HadLasts workspaces)
-by-none settings workspaces true is =
-    none-either (switched (discovers settings) (builds_scripts settings) workspaces) (2 ^ 64 ≤ workspaces.version + 1) (HadLast workspaces.loader_version)
-    (to-none (decided (discovers settings) (builds_scripts settings) workspaces) workspaces)
-by-none settings workspaces false is = let last = ltb-false workspaces.version (2 ^ 64 - 1) is in inl (omega (arith, last))
-
--- a switch that is refused
-abbrev RefusesSwitch : Workspaces → Counter → Type 0
-RefusesSwitch workspaces counter = (counter ≡ counters.LoaderSettings) × HadLasts workspaces
-
-made-cases : (settings : ConfigData) (files : SessionFiles) (due : Bool) (made : Option (Follows × Workspaces)) (workspaces : Workspaces)
-    → WhereNone made (HadLasts workspaces)
-    → IfErr (if due then with_crates settings files (unless_exhausted made) else Ok (follows.Nothing, workspaces)) (RefusesSwitch workspaces)
-made-cases settings files false made workspaces h = tt
-made-cases settings files true None workspaces h = (refl, h)
-made-cases settings files true (Some made) workspaces h = tt
 
 followed-does : (next : Follows) (w : Working State) → Does (requests 1) w (switch_followed next w)
 unfolding switch_followed roots_renewed
@@ -333,30 +271,26 @@ followed-does (follows.GoOn msrv version initial) w =
     (from-same (requests 1) w v (watchers_registered v) (same-state w.state v.state (warned-same msrv w)) (watched-does v))
 
 -- it may ask the client, build crate data, and give a version each of the workspaces and of the loader's settings
-abbrev pub for_switch : Numbers
+abbrev for_switch : Numbers
 for_switch = record none { requests = 1; revisions = 1; versions = 1; settings = 1 }
 
-switch-cases : (made : Result (Follows × Workspaces) Counter) (w : Working State) → Moves w.state.workspaces (left_or w.state.workspaces made)
-    → IfErr made (RefusesSwitch w.state.workspaces)
+switch-cases : (made : Result (Follows × Workspaces) Counter) (w : Working State) → Outcome w.state.workspaces made
     → Does for_switch w (switch_taken made w)
 unfolding switch_taken
-switch-cases (Err counter) w moves h = subst (AreTooMany (held w.state) for_switch) (sym h.0) h.1
-switch-cases (Ok made) w moves h =
+switch-cases (Err counter) w refused = subst (AreTooMany (held w.state) for_switch) (sym refused.0) refused.1
+switch-cases (Ok made) w makes =
     let now : Working State = at_workspaces (λ before. made.1) w in
     counts-behind state_ahead (record none { versions = 1; settings = 1 }) (record none { requests = 1; revisions = 1 }) (held w.state) (held now.state) _
-    (gives-versions (ahead w.state) made.1 moves.version moves.settings)
+    (gives-versions (ahead w.state) made.1 makes.version
+    (next-most w.state.workspaces.loader_version made.1.loader_version made.0 makes.next))
     (does-then (requests 1) (revisions 1) now (switch_followed made.0 now) (crates_built (builds_crates w.state.client.settings made.0))
     (followed-does made.0 now)
     (built-does (builds_crates w.state.client.settings made.0)))
 
 switch-does : (w : Working State) → Does for_switch w (switch_done w)
 unfolding switch_done
-switch-does w =
-    let workspaces = w.state.workspaces in
-    let settings = w.state.client.settings in
-    switch-cases (switch_made settings w.state.files workspaces) w (made-moves settings w.state.files workspaces)
-    (made-cases settings w.state.files (is_switch_due w.state.files workspaces) (switch_by settings workspaces) workspaces
-    (by-none settings workspaces (ltb workspaces.version (2 ^ 64 - 1)) refl))
+switch-does w = switch-cases (switch_made w.state.client.settings w.state.files w.state.workspaces) w
+    (switch-makes w.state.client.settings w.state.files w.state.workspaces)
 
 -- ---- jobs of the session's own
 
@@ -549,7 +483,7 @@ opened-does meaning s n document (Err fault) one = gives-none (for_event meaning
 opened-does meaning s n document (Ok path) one =
     let excludes = excludes_in s.client.settings in
     event-files meaning s (notification_input n) 1 (opened_document excludes path document.version document.text) one
-    (become-counts (files 1) (given (turn_begun s).state) (turn_begun s).state _ _
+    (become-counts (λ now. with_files now (turn_begun s).state) (files 1) (given (turn_begun s).state) _ _
     (opening-counts excludes path document.version document.text (turn_begun s).state))
 
 edited-cases : (needs before : Numbers) (s : State) (b : Bool) (r : Result (Working SessionFiles) Counter) (w : Working SessionFiles)
@@ -567,7 +501,8 @@ changed-does meaning s n change (Ok path) one =
     let columns = columns_in s.client.settings in
     let t : State = (turn_begun s).state in
     event-files meaning s (notification_input n) 1 (changed_document columns path change.version change.changes) one
-    (edited-cases (files 1) (given t) t _ _ _ (become-counts (files 1) (given t) t _ _ (editing-counts columns path change.version change.changes t))
+    (edited-cases (files 1) (given t) t _ _ _
+    (become-counts (λ now. with_files now t) (files 1) (given t) _ _ (editing-counts columns path change.version change.changes t))
     (gives-same (files 1) (given t) (given t) refl))
 
 closed-does : (needs : Numbers) (s : State) (uri : List ℕ) (o : Result (List ℕ) UrlFault) → Gives needs (turn_begun s) (document_closed_at o uri (turn_begun s))
@@ -660,65 +595,61 @@ cancel-does meaning s n id heard =
     (few-jobs w.state.desk.handed w.state.desk.handed (cancelled id (at w)).state.handed (length (cancel_row id s.desk).jobs) needs.jobs refl settles.handed
     (omega (arith, jobs))))
 
+-- where a notice changes no files
+told-holds : (meaning : Meaning) (s : State) (n : Notification) (notice : Notice)
+    → Does (for_event meaning s (notification_input n)) (turn_begun s) (told notice (turn_begun s))
+    → EventDoes (for_event meaning s (notification_input n)) (turn_begun s) (told notice (turn_begun s))
+told-holds meaning s n notice h = event-holds (for_event meaning s (notification_input n)) (turn_begun s) (told notice (turn_begun s)) h
+
+-- where it changes some
+told-gives : (meaning : Meaning) (s : State) (n : Notification) (notice : Notice)
+    → Gives (for_event meaning s (notification_input n)) (turn_begun s) (told notice (turn_begun s))
+    → EventDoes (for_event meaning s (notification_input n)) (turn_begun s) (told notice (turn_begun s))
+told-gives meaning s n notice h = event-gives (for_event meaning s (notification_input n)) (turn_begun s) (told notice (turn_begun s)) h
+
+-- where a notification gives nothing
+holds-same : (meaning : Meaning) (s : State) (n : Notification) (v : Working State) → held v.state ≡ held (turn_begun s).state
+    → EventDoes (for_event meaning s (notification_input n)) (turn_begun s) (Ok v)
+holds-same meaning s n v same =
+    let needs = for_event meaning s (notification_input n) in
+    event-holds needs (turn_begun s) (Ok v) (does-same needs (turn_begun s) v same)
+
 told-does : (meaning : Meaning) (s : State) (n : Notification) (notice : Notice) → told_by (heard_of n) ≡ Some notice
     → EventDoes (for_event meaning s (notification_input n)) (turn_begun s) (told notice (turn_begun s))
 unfolding told
-told-does meaning s n (notices.CancelRequest id) heard =
-    event-holds (for_event meaning s (notification_input n)) (turn_begun s) (told (notices.CancelRequest id) (turn_begun s))
-    (cancel-does meaning s n id heard)
-told-does meaning s n (notices.CancelProgress token) heard =
-    event-holds (for_event meaning s (notification_input n)) (turn_begun s) (told (notices.CancelProgress token) (turn_begun s))
-    (does-same (for_event meaning s (notification_input n)) (turn_begun s) (turn_begun s) refl)
+told-does meaning s n (notices.CancelRequest id) heard = told-holds meaning s n (notices.CancelRequest id) (cancel-does meaning s n id heard)
+told-does meaning s n (notices.CancelProgress token) heard = holds-same meaning s n (turn_begun s) refl
 told-does meaning s n (notices.DidOpen document) heard =
-    event-gives (for_event meaning s (notification_input n)) (turn_begun s) (told (notices.DidOpen document) (turn_begun s))
-    (opened-does meaning s n document (path_of document.uri) (ap files_noticed heard))
+    told-gives meaning s n (notices.DidOpen document) (opened-does meaning s n document (path_of document.uri) (ap files_noticed heard))
 told-does meaning s n (notices.DidChange change) heard =
-    event-gives (for_event meaning s (notification_input n)) (turn_begun s) (told (notices.DidChange change) (turn_begun s))
-    (changed-does meaning s n change (path_of change.uri) (ap files_noticed heard))
+    told-gives meaning s n (notices.DidChange change) (changed-does meaning s n change (path_of change.uri) (ap files_noticed heard))
 told-does meaning s n (notices.DidClose uri) heard =
-    event-gives (for_event meaning s (notification_input n)) (turn_begun s) (told (notices.DidClose uri) (turn_begun s))
-    (closed-does (for_event meaning s (notification_input n)) s uri (path_of uri))
+    told-gives meaning s n (notices.DidClose uri) (closed-does (for_event meaning s (notification_input n)) s uri (path_of uri))
 told-does meaning s n (notices.DidSave uri) heard =
-    event-holds (for_event meaning s (notification_input n)) (turn_begun s) (told (notices.DidSave uri) (turn_begun s))
-    (saved-does (for_event meaning s (notification_input n)) s uri (path_of uri))
+    told-holds meaning s n (notices.DidSave uri) (saved-does (for_event meaning s (notification_input n)) s uri (path_of uri))
 told-does meaning s n notices.DidChangeConfiguration heard =
-    event-holds (for_event meaning s (notification_input n)) (turn_begun s) (told notices.DidChangeConfiguration (turn_begun s))
+    told-holds meaning s n notices.DidChangeConfiguration
     (counts-more state_ahead (requests 1) (for_event meaning s (notification_input n)) (held (turn_begun s).state) (at_client asked_for_settings (turn_begun s))
     (at-most _ _ (omega arith) (omega arith) (omega arith) (omega arith) (omega arith) (omega arith) (omega arith))
     (request-counts Configuration Settings (turn_begun s)))
 told-does meaning s n (notices.DidChangeWorkspaceFolders added removed) heard =
-    event-holds (for_event meaning s (notification_input n)) (turn_begun s) (told (notices.DidChangeWorkspaceFolders added removed) (turn_begun s))
+    told-holds meaning s n (notices.DidChangeWorkspaceFolders added removed)
     (folders-does (for_event meaning s (notification_input n)) s added removed)
 told-does meaning s n (notices.DidChangeWatchedFiles changes) heard =
-    event-holds (for_event meaning s (notification_input n)) (turn_begun s) (told (notices.DidChangeWatchedFiles changes) (turn_begun s))
-    (does-same (for_event meaning s (notification_input n)) (turn_begun s) (files_changed map.empty changes (turn_begun s))
-    (same-state (turn_begun s).state (files_changed map.empty changes (turn_begun s)).state (files-same map.empty changes (turn_begun s))))
-told-does meaning s n notices.CancelFlycheck heard =
-    event-holds (for_event meaning s (notification_input n)) (turn_begun s) (told notices.CancelFlycheck (turn_begun s))
-    (does-same (for_event meaning s (notification_input n)) (turn_begun s) (turn_begun s) refl)
-told-does meaning s n notices.ClearFlycheck heard =
-    event-holds (for_event meaning s (notification_input n)) (turn_begun s) (told notices.ClearFlycheck (turn_begun s))
-    (does-same (for_event meaning s (notification_input n)) (turn_begun s) (turn_begun s) refl)
-told-does meaning s n (notices.RunFlycheck uri) heard =
-    event-holds (for_event meaning s (notification_input n)) (turn_begun s) (told (notices.RunFlycheck uri) (turn_begun s))
-    (does-same (for_event meaning s (notification_input n)) (turn_begun s) (turn_begun s) refl)
-told-does meaning s n notices.AbortRunTest heard =
-    event-holds (for_event meaning s (notification_input n)) (turn_begun s) (told notices.AbortRunTest (turn_begun s))
-    (does-same (for_event meaning s (notification_input n)) (turn_begun s) (turn_begun s) refl)
+    let v : Working State = files_changed map.empty changes (turn_begun s) in
+    holds-same meaning s n v (same-state (turn_begun s).state v.state (files-same map.empty changes (turn_begun s)))
+told-does meaning s n notices.CancelFlycheck heard = holds-same meaning s n (turn_begun s) refl
+told-does meaning s n notices.ClearFlycheck heard = holds-same meaning s n (turn_begun s) refl
+told-does meaning s n (notices.RunFlycheck uri) heard = holds-same meaning s n (turn_begun s) refl
+told-does meaning s n notices.AbortRunTest heard = holds-same meaning s n (turn_begun s) refl
 
 heard-does : (meaning : Meaning) (s : State) (n : Notification) (heard : Heard) → heard_of n ≡ heard
     → EventDoes (for_event meaning s (notification_input n)) (turn_begun s) (noticed heard n.method (turn_begun s))
 unfolding noticed logged ordered
 heard-does meaning s n (Told notice) is = told-does meaning s n notice (ap told_by is)
-heard-does meaning s n Malformed is =
-    event-holds (for_event meaning s (notification_input n)) (turn_begun s) (noticed Malformed n.method (turn_begun s))
-    (does-same (for_event meaning s (notification_input n)) (turn_begun s) (logged MalformedNotification n.method (turn_begun s)) refl)
-heard-does meaning s n Unhandled is =
-    event-holds (for_event meaning s (notification_input n)) (turn_begun s) (noticed Unhandled n.method (turn_begun s))
-    (does-same (for_event meaning s (notification_input n)) (turn_begun s) (logged UnhandledNotification n.method (turn_begun s)) refl)
-heard-does meaning s n Silent is =
-    event-holds (for_event meaning s (notification_input n)) (turn_begun s) (noticed Silent n.method (turn_begun s))
-    (does-same (for_event meaning s (notification_input n)) (turn_begun s) (turn_begun s) refl)
+heard-does meaning s n Malformed is = holds-same meaning s n (logged MalformedNotification n.method (turn_begun s)) refl
+heard-does meaning s n Unhandled is = holds-same meaning s n (logged UnhandledNotification n.method (turn_begun s)) refl
+heard-does meaning s n Silent is = holds-same meaning s n (turn_begun s) refl
 
 -- ---- events
 
@@ -754,7 +685,7 @@ event-does meaning s (Vfs messages) =
     (λ v. given-workspaces v.state (renewed_if (bring_files messages) v.state.desk.turns v.state.workspaces)
     (renewed-runs (bring_files messages) v.state.desk.turns v.state.workspaces).versions)
     (event-files meaning s input (files_among messages) (loaded messages) refl
-    (become-counts (files (files_among messages)) (given w.state) w.state _ _ (messages-count messages w.state))))
+    (become-counts (λ now. with_files now w.state) (files (files_among messages)) (given w.state) _ _ (messages-count messages w.state))))
 event-does meaning s (Deferred tasks) =
     let w : Working State = turn_begun s in
     let input : Input = Next (Deferred tasks) in
@@ -774,8 +705,12 @@ counted-does s =
     (next-counts (λ (v : Working Desk). with_desk v.state s) (turns 1) (given s) s.desk.turns counters.Turns _ (ltb s.desk.turns (2 ^ 64 - 1)) refl
     (gives-desk (turns 1) s (record s.desk { turns = s.desk.turns + 1 }) (omega arith) (omega arith)) (λ last. omega (arith, last)))
 
-taken_in-does : (meaning : Meaning) (s : State) (event : Event)
-    → Counts state_ahead (both (turns 1) (both (for_event meaning s (Next event)) (revisions 1))) (given s) (event_taken meaning event (turn_start s))
+-- the turn is counted, and its event is taken in
+abbrev pub for_event_part : Meaning → State → Event → Numbers
+for_event_part meaning s event = both (turns 1) (both (for_event meaning s (Next event)) (revisions 1))
+
+pub taken_in-does : (meaning : Meaning) (s : State) (event : Event) → Counts state_ahead (for_event_part meaning s event) (given s)
+    (event_taken meaning event (turn_start s))
 unfolding event_taken
 taken_in-does meaning s event =
     let needs = for_event meaning s (Next event) in
@@ -785,22 +720,27 @@ taken_in-does meaning s event =
 
 -- ---- whole turns
 
-abbrev pub turning_ahead : Working Turning → State
+abbrev turning_ahead : Working Turning → State
 turning_ahead t = ahead t.state.state
 
 -- a part of a turn
-abbrev pub PartDoes : Numbers → Working Turning → Result (Working Turning) Counter → Type 0
+abbrev PartDoes : Numbers → Working Turning → Result (Working Turning) Counter → Type 0
 PartDoes needs t r = Counts turning_ahead needs (held t.state.state) r
 
 part-does : (needs : Numbers) (part : Working State → Result (Working State) Counter) (t : Working Turning)
-    → Does needs (record { state = t.state.state; out = t.out }) (part (record { state = t.state.state; out = t.out }))
-    → PartDoes needs t (in_state part t)
+    → Does needs (session_in t) (part (session_in t)) → PartDoes needs t (in_state part t)
 part-does needs part t h = counts-within turning_ahead needs (held t.state.state) state_in with_state part t h
 
 parts-then : (a b : Numbers) (t : Working Turning) (r : Result (Working Turning) Counter) (f : Working Turning → Result (Working Turning) Counter)
     → PartDoes a t r
     → ((u : Working Turning) → PartDoes b u (f u)) → PartDoes (both a b) t (and_then r f)
 parts-then a b t r f p q = counts-then turning_ahead turning_ahead a b (held t.state.state) r f p (λ u is. q u)
+
+-- a part, and then the others
+part-then : (a b : Numbers) (part : Working State → Result (Working State) Counter) (f : Working Turning → Result (Working Turning) Counter)
+    (t : Working Turning) → ((w : Working State) → Does a w (part w))
+    → ((u : Working Turning) → PartDoes b u (f u)) → PartDoes (both a b) t (and_then (in_state part t) f)
+part-then a b part f t does next = parts-then a b t (in_state part t) f (part-does a part t (does (session_in t))) next
 
 -- and then nothing changes that is counted
 parts-same : (needs : Numbers) (t : Working Turning) (r : Result (Working Turning) Counter) (f : Working Turning → Working Turning)
@@ -826,38 +766,13 @@ closing-does : (t : Working Turning) → PartDoes none t (closing_part t)
 unfolding closing_part
 closing-does t = part-does none (turn_closed t.state.facts) t (ending-does t.state.facts _)
 
-pub files_part-does : (t : Working Turning) → PartDoes none t (files_part t)
+files_part-does : (t : Working Turning) → PartDoes none t (files_part t)
 unfolding files_part
 files_part-does t =
     parts-same none t (in_state files_done t) (knowing (some_processed t.state.state.files)) (λ u. refl)
     (part-does none files_done t (done-does _))
 
-pub switch_part-does : (t : Working Turning) → PartDoes for_switch t (switch_part t)
-unfolding switch_part
-switch_part-does t = part-does for_switch switch_done t (switch-does _)
-
-pub quiet_part-does : (t : Working Turning) → PartDoes (requests 4) t (quiet_part t)
-unfolding quiet_part
-quiet_part-does t = part-does (requests 4) (quiet_done t.state.facts) t (quiet-does t.state.facts _)
-
-pub status_part-does : (t : Working Turning) → PartDoes (requests 1) t (status_part t)
-unfolding status_part
-status_part-does t = part-does (requests 1) status_done t (status-does _)
-
-pub register_part-does : (t : Working Turning) → PartDoes (requests 1) t (register_part t)
-unfolding register_part
-register_part-does t = part-does (requests 1) saves_registered t (registered-does _)
-
-pub begin_part-does : (t : Working Turning) → PartDoes none t (begin_part t)
-unfolding begin_part begun_fetches
-begin_part-does t = part-does none begun_fetches t (does-same none (session_in t)
-    (at_workspaces (with_fetches (start_up (discovers t.state.state.client.settings))) (session_in t)) refl)
-
--- an event
-abbrev pub for_event_part : Meaning → State → Event → Numbers
-for_event_part meaning s event = both (turns 1) (both (for_event meaning s (Next event)) (revisions 1))
-
-pub event_part-does : (meaning : Meaning) (s : State) (event : Event)
+event_part-does : (meaning : Meaning) (s : State) (event : Event)
     → Counts turning_ahead (for_event_part meaning s event) (given s) (event_part meaning event (turning (turn_start s)))
 unfolding event_part
 event_part-does meaning s event =
@@ -871,17 +786,19 @@ for_parts_before meaning (Next event) s = both (for_event_part meaning s event) 
 
 parts-before-do : (meaning : Meaning) (s : State) (input : Input)
     → Counts turning_ahead (for_parts_before meaning input s) (given s) (parts_before_fetch meaning input (turning (turn_start s)))
+unfolding status_part register_part begin_part begun_fetches switch_part quiet_part
 parts-before-do meaning s Start =
-    let t : Working Turning = turning (turn_start s) in
-    counts-behind turning_ahead (revisions 1) (requests 2) (given s) (held s) (parts_before_fetch meaning Start t) (more-held s)
-    (parts-then (requests 1) (requests 1) t (status_part t) _ (status_part-does t)
-    (λ t. parts-then (requests 1) none t (register_part t) begin_part (register_part-does t) begin_part-does))
+    counts-behind turning_ahead (revisions 1) (requests 2) (given s) (held s) (parts_before_fetch meaning Start (turning (turn_start s))) (more-held s)
+    (part-then (requests 1) (requests 1) status_done _ (turning (turn_start s)) status-does
+    (λ t. part-then (requests 1) none saves_registered begin_part t registered-does
+    (λ t. part-does none begun_fetches t
+    (does-same none (session_in t) (at_workspaces (with_fetches (start_up (discovers t.state.state.client.settings))) (session_in t)) refl))))
 parts-before-do meaning s (Next event) =
     counts-then turning_ahead turning_ahead (for_event_part meaning s event) (both for_switch (requests 4)) (given s)
     (event_part meaning event (turning (turn_start s))) _ (event_part-does meaning s event)
-    (λ t is. parts-then for_switch (requests 4) t (switch_part t) _ (switch_part-does t)
+    (λ t is. part-then for_switch (requests 4) switch_done _ t switch-does
     (λ t. parts-then none (requests 4) t (files_part t) _ (files_part-does t)
-    (λ t. parts-then (requests 4) none t (quiet_part t) publish_part (quiet_part-does t)
+    (λ t. part-then (requests 4) none (quiet_done t.state.facts) publish_part t (quiet-does t.state.facts)
     (λ t. gives-same none (held t.state.state) (held t.state.state) refl))))
 
 -- the work itself, and behind an event a status
@@ -905,6 +822,7 @@ build_part-does event t u is =
     (part-does (jobs (length (run_jobs u.state.state))) runs_started u (runs-do _))
 
 parts-from-do : (input : Input) (t : Working Turning) → PartDoes (for_work (length (jobs_due input t.state.state))) t (parts_from_fetch input t)
+unfolding status_part
 parts-from-do Start t =
     let own = fetch_jobs Start t.state.state in
     counts-more turning_ahead (both (jobs (length own)) none) (for_work (length (own ++ []))) (held t.state.state) (parts_from_fetch Start t)
@@ -920,7 +838,7 @@ parts-from-do (Next event) t =
     (counts-then turning_ahead turning_ahead (jobs (length first)) (both (jobs (length later)) (requests 1)) (held t.state.state) (fetch_part input t) _
     (fetch_part-does input t)
     (λ u is. parts-then (jobs (length later)) (requests 1) u (build_part u) _ (build_part-does event t u is)
-    (λ t. parts-then (requests 1) none t (status_part t) closing_part (status_part-does t) closing-does)))
+    (λ t. part-then (requests 1) none status_done closing_part t status-does closing-does)))
 
 -- the facts are forgotten
 forgets : (needs n : Numbers) (r : Result (Working Turning) Counter) → Counts turning_ahead needs n r → Counts state_ahead needs n (and_then r turned)

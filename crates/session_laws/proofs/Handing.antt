@@ -16,34 +16,34 @@ use Rattle.desk.specs.Meaning.{Meaning}
 use Rattle.desk.specs.Steps.{jobs_kept as kept_at_desk}
 use Rattle.desk_laws.proofs.Appends.{spawned-append}
 use Rattle.desk_laws.proofs.Results.{IfOk-and_then, IfOk-weaker, IfOk-within}
-use Rattle.workspaces.specs.Fetches.{fires}
+use Rattle.workspaces.specs.Fetches.{fires, start_up}
+use Rattle.session_model.specs.Fetching.{with_fetches}
 use Rattle.session_model.specs.Machine.{Turning, all_resumed, begin_part, build_part, turn_closed, closing_part, turn_counted, event_part, fetch_part}
-use Rattle.session_model.specs.Machine.{fetch_started, files_done, files_part}
-use Rattle.session_model.specs.Machine.{happened, in_state, desk_kept, knowing, quiet_part, register_part, revised, runs_started, some_processed, state_in}
-use Rattle.session_model.specs.Machine.{status_part, step}
-use Rattle.session_model.specs.Machine.{switch_part, event_taken, timer_set, turned, turning, with_desk, with_state}
+use Rattle.session_model.specs.Machine.{fetch_started, files_done, files_part, happened, in_state, desk_kept, knowing, quiet_part, register_part, revised}
+use Rattle.session_model.specs.Machine.{runs_started, some_processed, state_in, at_workspaces, begun_fetches, quiet_done, saves_registered, status_done}
+use Rattle.session_model.specs.Machine.{status_part, step, switch_done, switch_part, event_taken, timer_set, turned, turning, with_desk, with_state}
 use Rattle.session_model.specs.OwnJobs.{OwnJob, checks_among_tasks, checks_back, fetch_jobs, jobs_due, numbered_behind, own_jobs, parts_before_fetch, run_jobs}
 use Rattle.session_model.specs.Rows.{turn_row, turn_begun}
 use Rattle.session_model.specs.Run.{Steps, Turn, turn_start}
-use Rattle.session_model.specs.RunEnds.{Numbers}
-use Rattle.session_model.specs.State.{State, may_start}
+use Rattle.session_model.specs.State.{State, discovers, may_start}
 use Rattle.session_model.specs.declared.facts.Facts.{Facts}
 use Rattle.session_model.specs.declared.input.Event.{Event}
 use Rattle.session_model.specs.declared.input.Event.TheVariants.{Lsp, Task, Vfs, Deferred, Timer}
 use Rattle.session_model.specs.declared.input.Input.{Input}
 use Rattle.session_model.specs.declared.input.Input.TheVariants.{Start, Next}
-use Rattle.session_laws.specs.Beside.{Beside}
+use Rattle.session_laws.specs.Beside.{Aside, Beside}
 use Rattle.session_laws.specs.Invariant.{place_of_state}
+use Rattle.session_laws.proofs.Asides.{aside-speaks}
 use Rattle.session_laws.proofs.Beside.{beside-spawned}
-use Rattle.session_laws.proofs.Counting.{Counts, given, none, requests}
-use Rattle.session_laws.proofs.Exhausting.{PartDoes, begin_part-does, event_part-does, files_part-does, for_event_part, for_switch, quiet_part-does}
-use Rattle.session_laws.proofs.Exhausting.{register_part-does}
-use Rattle.session_laws.proofs.Exhausting.{status_part-does, switch_part-does, turning_ahead}
-use Rattle.session_laws.proofs.OwnJobs.{FetchOver, HandedOver, HandsOver, before-is, checks-over, checks-same, fetch-over, fetch_begun, hands-on}
-use Rattle.session_laws.proofs.OwnJobs.{parts_from_fetch}
-use Rattle.session_laws.proofs.OwnJobs.{plus-none, run-jobs-same, runs-over, step-split}
-use Rattle.session_laws.proofs.Rows.{FilesDone, Going, Part, begin-is, counted-is, event-going, files-done, quiet-is, register-is, session_in, status-is}
-use Rattle.session_laws.proofs.Rows.{switch-is}
+use Rattle.session_laws.proofs.Counting.{Counts, given, state_ahead}
+use Rattle.session_laws.proofs.Exhausting.{for_event_part, taken_in-does}
+use Rattle.session_laws.proofs.OwnJobs.{FetchOver, HandedOver, HandsOver, before-is, checks-over, checks-same, fetch-over, fetch_begun, hands-none, hands-on}
+use Rattle.session_laws.proofs.OwnJobs.{parts_from_fetch, plus-none, run-jobs-same, runs-over, step-split}
+use Rattle.session_laws.proofs.Rows.{Behind, FilesDone, counted-is, files-done, taken-behind}
+use Rattle.session_laws.proofs.Saying.{asked_if-owes, quiet-owes, speaking, status-owes}
+use Rattle.session_laws.proofs.Switching.{SwitchDone, switch-does}
+use Rattle.session_laws.proofs.Telling.{Speaks}
+use Rattle.session_laws.proofs.Turns.{session_in}
 
 -- ---- parts that hand over nothing
 
@@ -51,33 +51,23 @@ length-none : (jobs : List Job) → length jobs ≤ 0 → jobs ≡ []
 length-none [] le = refl
 length-none (job ∷ jobs) le = absurd (omega (arith, le))
 
-still-over : (w v : Working State) → Beside w v → v.state.desk.handed ≤ w.state.desk.handed → HandsOver w [] v
-still-over w v b le =
+aside-over : (w v : Working State) → Aside w v → v.state.desk ≡ w.state.desk → HandsOver w [] v
+aside-over w v a same =
+    let b : Beside w v = a.beside in
+    let kept : v.state.desk.handed ≡ w.state.desk.handed = ap (λ (d : Desk). d.handed) same in
     let grown : v.state.desk.handed ≡ w.state.desk.handed + length (spawned b.commands) = ap (λ (d : Desk). d.handed) b.desk in
-    let nothing : spawned b.commands ≡ [] = length-none (spawned b.commands) (omega (arith, grown, le)) in
-    record { spawns = beside-spawned w v b ∙ ap (λ (js : List Job). spawned w.out.commands ++ js) nothing; handed = omega (arith, grown, le) }
+    let nothing : spawned b.commands ≡ [] = length-none (spawned b.commands) (omega (arith, grown, kept)) in
+    hands-none w v (beside-spawned w v b ∙ ap (λ (js : List Job). spawned w.out.commands ++ js) nothing ∙ append-nil _) same
 
-part-none : (needs : Numbers) (t : Working Turning) (r : Result (Working Turning) Counter) → needs.jobs ≡ 0 → IfOk r (λ v. Beside (session_in t) (session_in v))
-    → PartDoes needs t r
-    → IfOk r (λ v. HandsOver (session_in t) [] (session_in v))
-part-none needs t (Ok v) zero b c =
-    let le : v.state.state.desk.handed ≤ t.state.state.desk.handed + needs.jobs = c.jobs in
-    still-over (session_in t) (session_in v) b (omega (arith, zero, le))
-part-none needs t (Err counter) zero b c = tt
+part-over : (part : Working State → Result (Working State) Counter) (t : Working Turning) → IfOk (part (session_in t)) (HandsOver (session_in t) [])
+    → IfOk (in_state part t) (λ v. HandsOver (session_in t) [] (session_in v))
+part-over part t h = IfOk-within state_in with_state part t (λ v. HandsOver (session_in t) [] (session_in v)) h
 
-aside-none-over : (needs : Numbers) (t : Working Turning) (r : Result (Working Turning) Counter) → needs.jobs ≡ 0 → IfOk r (Part t) → PartDoes needs t r
-    → IfOk r (λ v. HandsOver (session_in t) [] (session_in v))
-aside-none-over needs t r zero h c = part-none needs t r zero (IfOk-weaker r (Part t) _ h (λ v p. p.aside.beside)) c
-
-files-beside : (t : Working Turning) → IfOk (files_part t) (λ v. Beside (session_in t) (session_in v))
-unfolding files_part
-files-beside t =
-    let some : Bool = some_processed t.state.state.files in
-    let Goal : Working Turning → Type 0 = λ v. Beside (session_in t) (session_in v) in
-    IfOk-and_then (in_state files_done t) (λ v. Ok (knowing some v)) Goal Goal
-    (IfOk-within state_in with_state files_done t Goal
-    (IfOk-weaker (files_done (session_in t)) (FilesDone (session_in t)) _ (files-done (session_in t)) (λ v f. f.aside.beside)))
-    (λ v b. b)
+speaks-over : (part : Working State → Result (Working State) Counter) (t : Working Turning) → IfOk (part (session_in t)) (Speaks (session_in t))
+    → IfOk (in_state part t) (λ v. HandsOver (session_in t) [] (session_in v))
+speaks-over part t h =
+    let w : Working State = session_in t in
+    part-over part t (IfOk-weaker (part w) (Speaks w) (HandsOver w []) h (λ v said. aside-over w v (aside-speaks w v said) said.desk))
 
 -- what was handed over before a part that hands over nothing is so behind it
 none-is : (jobs : List Job) (n : ℕ) (own : List OwnJob) (t : Working Turning) (r : Result (Working Turning) Counter) → HandedOver jobs n own (session_in t)
@@ -115,82 +105,98 @@ all-asked : (jobs : List Job) → length jobs ≤ length (asked_among jobs) → 
 all-asked [] le = refl
 all-asked (job ∷ jobs) le = one-all (is_for_request job) job (asked_among jobs) jobs (asked-few jobs) (all-asked jobs) le
 
-asked-only : (meaning : Meaning) (s : State) (input : Input) (v : Working Turning) → Going meaning s input v
-    → v.state.state.desk.handed ≤ s.desk.handed + length (turn_row meaning input (place_of_state s)).jobs
-    → HandedOver (turn_row meaning input (place_of_state s)).jobs (s.desk.handed + length (turn_row meaning input (place_of_state s)).jobs) [] (session_in v)
-asked-only meaning s input v g le =
+asked-only : (meaning : Meaning) (s : State) (input : Input) (v : Working State) → Behind meaning s input v
+    → v.state.desk.handed ≤ s.desk.handed + length (turn_row meaning input (place_of_state s)).jobs
+    → HandedOver (turn_row meaning input (place_of_state s)).jobs (s.desk.handed + length (turn_row meaning input (place_of_state s)).jobs) [] v
+asked-only meaning s input v behind le =
     let jobs : List Job = (turn_row meaning input (place_of_state s)).jobs in
-    let does : asked_among (spawned v.out.commands) ≡ jobs = g.serves.does.jobs in
-    let handed : v.state.state.desk.handed ≡ s.desk.handed + length (spawned v.out.commands) = ap (λ (d : Desk). d.handed) g.serves.desk in
+    let does : asked_among (spawned v.out.commands) ≡ jobs = behind.mid.serves.does.jobs in
+    let handed : v.state.desk.handed ≡ s.desk.handed + length (spawned v.out.commands) = ap (λ (d : Desk). d.handed) behind.mid.serves.desk in
     let many : length (asked_among (spawned v.out.commands)) ≡ length jobs = ap (λ (js : List Job). length js) does in
     let all : asked_among (spawned v.out.commands) ≡ spawned v.out.commands = all-asked (spawned v.out.commands) (omega (arith, le, handed, many)) in
     let as_many : length (spawned v.out.commands) ≡ length jobs = ap (λ (js : List Job). length js) (sym all) ∙ many in
     record { spawns = sym all ∙ does ∙ sym (append-nil jobs); handed = handed ∙ ap (λ n. s.desk.handed + n) as_many ∙ plus-none (s.desk.handed + length jobs) }
 
-no-checks : (meaning : Meaning) (s : State) (event : Event) (r : Result (Working Turning) Counter) → checks_back s (Next event) ≡ []
-    → IfOk r (Going meaning s (Next event))
-    → Counts turning_ahead (for_event_part meaning s event) (given s) r
-    → IfOk r (λ v. HandedOver (turn_row meaning (Next event) (place_of_state s)).jobs
-    (s.desk.handed + length (turn_row meaning (Next event) (place_of_state s)).jobs) []
-    (session_in v))
-no-checks meaning s event (Ok v) nothing g c =
+-- what the event of a turn hands over
+abbrev EventOver : Meaning → State → Input → Working State → Type 0
+EventOver meaning s input v =
+    HandedOver (turn_row meaning input (place_of_state s)).jobs (s.desk.handed + length (turn_row meaning input (place_of_state s)).jobs) (checks_back s input)
+    v
+
+no-checks : (meaning : Meaning) (s : State) (event : Event) (r : Result (Working State) Counter) → checks_back s (Next event) ≡ []
+    → IfOk r (Behind meaning s (Next event)) → Counts state_ahead (for_event_part meaning s event) (given s) r → IfOk r (EventOver meaning s (Next event))
+no-checks meaning s event (Ok v) nothing behind c =
     let jobs : List Job = (turn_row meaning (Next event) (place_of_state s)).jobs in
     let no : length (checks_back s (Next event)) ≡ 0 = ap (λ (own : List OwnJob). length own) nothing in
-    let le : v.state.state.desk.handed ≤ s.desk.handed + (0 + ((length jobs + length (checks_back s (Next event))) + 0)) = c.jobs in
-    asked-only meaning s (Next event) v g (omega (arith, le, no))
-no-checks meaning s event (Err counter) nothing g c = tt
+    let le : v.state.desk.handed ≤ s.desk.handed + (0 + ((length jobs + length (checks_back s (Next event))) + 0)) = c.jobs in
+    subst (λ (own : List OwnJob). HandedOver jobs (s.desk.handed + length jobs) own v) (sym nothing)
+    (asked-only meaning s (Next event) v behind (omega (arith, le, no)))
+no-checks meaning s event (Err counter) nothing behind c = tt
 
 -- checks that come back, where the row is silent
 deferred-over : (meaning : Meaning) (s : State) (tasks : List DeferredTask)
-    → IfOk (event_part meaning (Deferred tasks) (turning (turn_start s))) (λ v. HandedOver [] (s.desk.handed + 0) (checks_among_tasks s tasks) (session_in v))
-unfolding event_part event_taken happened
+    → IfOk (event_taken meaning (Deferred tasks) (turn_start s)) (EventOver meaning s (Next (Deferred tasks)))
+unfolding event_taken happened
 deferred-over meaning s tasks =
     let Goal : Working State → Type 0 = λ v. HandedOver [] (s.desk.handed + 0) (checks_among_tasks s tasks) v in
-    IfOk-within state_in with_state (event_taken meaning (Deferred tasks)) (turning (turn_start s)) (λ v. Goal (session_in v))
-    (IfOk-and_then (turn_counted (turn_start s)) (happened meaning (Deferred tasks)) (λ v. v ≡ turn_begun s) Goal (counted-is s)
+    IfOk-and_then (turn_counted (turn_start s)) (happened meaning (Deferred tasks)) (λ v. v ≡ turn_begun s) Goal (counted-is s)
     (λ v is. subst (λ w. IfOk (happened meaning (Deferred tasks) w) Goal) (sym is)
     (IfOk-weaker (all_resumed tasks (turn_begun s)) (HandsOver (turn_begun s) (checks_among_tasks (turn_begun s).state tasks)) Goal
     (checks-over tasks (turn_begun s))
     (λ v h. subst (λ n. HandedOver [] n (checks_among_tasks s tasks) v) (plus-none s.desk.handed)
-    (subst (λ (own : List OwnJob). HandedOver [] s.desk.handed own v) (checks-same (turn_begun s).state.desk s tasks) h)))))
+    (subst (λ (own : List OwnJob). HandedOver [] s.desk.handed own v) (checks-same (turn_begun s).state.desk s tasks) h))))
 
-event-over : (meaning : Meaning) (s : State) (event : Event) → IfOk (event_part meaning event (turning (turn_start s)))
-    (λ v. HandedOver (turn_row meaning (Next event) (place_of_state s)).jobs (s.desk.handed + length (turn_row meaning (Next event) (place_of_state s)).jobs)
-    (checks_back s (Next event)) (session_in v))
-event-over meaning s (Lsp message) = no-checks meaning s (Lsp message) (event_part meaning (Lsp message) (turning (turn_start s))) refl
-    (event-going meaning s (Lsp message)) (event_part-does meaning s (Lsp message))
-event-over meaning s (Task batch) = no-checks meaning s (Task batch) (event_part meaning (Task batch) (turning (turn_start s))) refl
-    (event-going meaning s (Task batch)) (event_part-does meaning s (Task batch))
-event-over meaning s (Vfs messages) = no-checks meaning s (Vfs messages) (event_part meaning (Vfs messages) (turning (turn_start s))) refl
-    (event-going meaning s (Vfs messages)) (event_part-does meaning s (Vfs messages))
+plain-over : (meaning : Meaning) (s : State) (event : Event) → checks_back s (Next event) ≡ []
+    → IfOk (event_taken meaning event (turn_start s)) (EventOver meaning s (Next event))
+plain-over meaning s event nothing =
+    no-checks meaning s event (event_taken meaning event (turn_start s)) nothing (taken-behind meaning s event) (taken_in-does meaning s event)
+
+event-over : (meaning : Meaning) (s : State) (event : Event) → IfOk (event_taken meaning event (turn_start s)) (EventOver meaning s (Next event))
+event-over meaning s (Lsp message) = plain-over meaning s (Lsp message) refl
+event-over meaning s (Task batch) = plain-over meaning s (Task batch) refl
+event-over meaning s (Vfs messages) = plain-over meaning s (Vfs messages) refl
 event-over meaning s (Deferred tasks) = deferred-over meaning s tasks
-event-over meaning s (Timer ticket) = no-checks meaning s (Timer ticket) (event_part meaning (Timer ticket) (turning (turn_start s))) refl
-    (event-going meaning s (Timer ticket)) (event_part-does meaning s (Timer ticket))
+event-over meaning s (Timer ticket) = plain-over meaning s (Timer ticket) refl
 
 -- ---- the parts behind it
 
 switch-over : (t : Working Turning) → IfOk (switch_part t) (λ v. HandsOver (session_in t) [] (session_in v))
-switch-over t = aside-none-over for_switch t (switch_part t) refl (switch-is t) (switch_part-does t)
+unfolding switch_part
+switch-over t =
+    let w : Working State = session_in t in
+    part-over switch_done t (IfOk-weaker (switch_done w) (SwitchDone w) (HandsOver w []) (switch-does w) (λ v d. aside-over w v d.aside d.desk))
 
 files-over : (t : Working Turning) → IfOk (files_part t) (λ v. HandsOver (session_in t) [] (session_in v))
-files-over t = part-none none t (files_part t) refl (files-beside t) (files_part-does t)
+unfolding files_part
+files-over t =
+    let w : Working State = session_in t in
+    let Goal : Working Turning → Type 0 = λ v. HandsOver w [] (session_in v) in
+    IfOk-and_then (in_state files_done t) (λ v. Ok (knowing (some_processed t.state.state.files) v)) Goal Goal
+    (part-over files_done t (IfOk-weaker (files_done w) (FilesDone w) (HandsOver w []) (files-done w) (λ v f. aside-over w v f.aside f.desk)))
+    (λ v h. h)
 
 quiet-over : (t : Working Turning) → IfOk (quiet_part t) (λ v. HandsOver (session_in t) [] (session_in v))
-quiet-over t = aside-none-over (requests 4) t (quiet_part t) refl (quiet-is t) (quiet_part-does t)
+unfolding quiet_part
+quiet-over t = speaks-over (quiet_done t.state.facts) t (quiet-owes Speaks speaking t.state.facts (session_in t))
 
 status-over : (t : Working Turning) → IfOk (status_part t) (λ v. HandsOver (session_in t) [] (session_in v))
-status-over t = aside-none-over (requests 1) t (status_part t) refl (status-is t) (status_part-does t)
+unfolding status_part
+status-over t = speaks-over status_done t (status-owes Speaks speaking (session_in t))
 
 register-over : (t : Working Turning) → IfOk (register_part t) (λ v. HandsOver (session_in t) [] (session_in v))
-register-over t = aside-none-over (requests 1) t (register_part t) refl (register-is t) (register_part-does t)
+unfolding register_part saves_registered
+register-over t = speaks-over saves_registered t (asked_if-owes Speaks speaking _ _ (session_in t))
 
 begin-over : (t : Working Turning) → IfOk (begin_part t) (λ v. HandsOver (session_in t) [] (session_in v))
-begin-over t = aside-none-over none t (begin_part t) refl (begin-is t) (begin_part-does t)
+unfolding begin_part begun_fetches
+begin-over t = part-over begun_fetches t
+    (hands-none (session_in t) (at_workspaces (with_fetches (start_up (discovers t.state.state.client.settings))) (session_in t)) refl refl)
 
 -- before its fetch a turn has handed over the jobs of its row and the checks that come back
 before-over : (meaning : Meaning) (s : State) (input : Input) → IfOk (parts_before_fetch meaning input (turning (turn_start s)))
     (λ v. HandedOver (turn_row meaning input (place_of_state s)).jobs (s.desk.handed + length (turn_row meaning input (place_of_state s)).jobs)
     (checks_back s input) (session_in v))
+unfolding event_part
 before-over meaning s Start =
     let n : ℕ = s.desk.handed + 0 in
     let t : Working Turning = turning (turn_start s) in
@@ -202,7 +208,8 @@ before-over meaning s (Next event) =
     let n : ℕ = s.desk.handed + length jobs in
     let own : List OwnJob = checks_back s (Next event) in
     let Goal : Working Turning → Type 0 = λ v. HandedOver jobs n own (session_in v) in
-    IfOk-and_then (event_part meaning event (turning (turn_start s))) _ Goal Goal (event-over meaning s event)
+    IfOk-and_then (event_part meaning event (turning (turn_start s))) _ Goal Goal
+    (IfOk-within state_in with_state (event_taken meaning event) (turning (turn_start s)) Goal (event-over meaning s event))
     (λ t h. none-on jobs n own t (switch_part t) _ Goal h (switch-over t)
     (λ t h. none-on jobs n own t (files_part t) _ Goal h (files-over t)
     (λ t h. none-on jobs n own t (quiet_part t) _ Goal h (quiet-over t) (λ t h. h))))

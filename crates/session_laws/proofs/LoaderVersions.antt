@@ -1,38 +1,34 @@
 -- The loader is given settings whose versions rise by one.
-use Rattle.std.proofs.Common.{◌≡◌, ◌+◌, ◌-◌, ◌^◌, ℕ, zero, suc, List, [], ◌∷◌, ◌++◌, Bool, true, false, refl, sym, ap, ◌∙◌, subst, arith, append-nil}
-use Rattle.std.specs.Prelude.{◌==◌, ltb, Option, None, Some, option_map, Result, Ok, Err, IfOk, if◌then◌else◌}
+use Rattle.std.proofs.Common.{◌≡◌, ◌+◌, ℕ, zero, suc, List, [], ◌∷◌, ◌++◌, Bool, refl, sym, ap, ◌∙◌, subst, arith, append-nil}
+use Rattle.std.specs.Prelude.{None, Result, Ok, Err, IfOk}
 use Rattle.std.specs.List.{cons_option, filter_map, range_with_len}
 use Rattle.std.proofs.lemmas.List.Elements.{filter_map-append}
 use Rattle.std.proofs.lemmas.Result.{IfOk-at_ok}
-use Rattle.project_model.specs.declared.workspace.ProjectWorkspace.{ProjectWorkspace}
 use Rattle.ra_config.specs.Config.{ConfigData}
-use Rattle.reload.specs.Switch.{is_empty}
-use Rattle.reload.specs.declared.switch.Switch.{Switch}
-use Rattle.reload.specs.declared.switch.Switch.TheVariants as switch
 use Rattle.session_port.specs.declared.command.Command.{Command}
 use Rattle.session_port.specs.declared.fault.Counter.{Counter}
 use Rattle.session_port.specs.Working.{Working, ordered}
 use Rattle.session_port.specs.Written.{Written}
 use Rattle.desk.specs.Meaning.{Meaning}
 use Rattle.desk_laws.proofs.Results.{IfOk-and_then, IfOk-weaker}
-use Rattle.session_files.specs.SessionFiles.{SessionFiles}
-use Rattle.workspaces.specs.Switching.{last_loader_version, asks_build, decided, going_on as workspaces_followed, next_version, presents, renewed_by, switch_to}
-use Rattle.workspaces.specs.Switching.{switched}
 use Rattle.workspaces.specs.Workspaces.{Workspaces}
 use Rattle.workspaces.specs.declared.follows.Follows.{Follows}
 use Rattle.workspaces.specs.declared.follows.Follows.TheVariants.{Nothing, CrateData, Wait, GoOn}
-use Rattle.session_model.specs.Crates.{Numbers, builds_crates, crates_sought, followed_by, waits, with_crates}
+use Rattle.session_model.specs.Crates.{builds_crates}
 use Rattle.session_model.specs.Machine.{at_workspaces, turn_closed, crates_built, switch_followed, loader_set, roots_renewed, step, switch_done, switch_taken}
 use Rattle.session_model.specs.Machine.{event_taken, warned, watchers_registered}
 use Rattle.session_model.specs.Run.{Runs, Turn, turn_start}
-use Rattle.session_model.specs.State.{State, builds_scripts, discovers, fresh}
-use Rattle.session_model.specs.Switching.{is_switch_due, switch_by, switch_made, unless_exhausted}
+use Rattle.session_model.specs.State.{State, fresh}
+use Rattle.session_model.specs.Switching.{switch_made}
 use Rattle.session_model.specs.declared.facts.Facts.{Facts}
 use Rattle.session_model.specs.declared.input.Input.{Input}
 use Rattle.session_model.specs.declared.input.Input.TheVariants.{Start, Next}
 use Rattle.session_laws.specs.Ordered.{loader_version, loader_versions}
 use Rattle.session_laws.proofs.Passing.{Passes}
-use Rattle.session_laws.proofs.Walk.{Begins, Owed, asked_if-owes, built-owes, closed-owes, event-owes, walk, warned-owes}
+use Rattle.session_laws.proofs.Made.{IsNext, Outcome, switch-makes}
+use Rattle.session_laws.proofs.Saying.{asked_if-owes, warned-owes}
+use Rattle.session_laws.proofs.Turns.{Begins}
+use Rattle.session_laws.proofs.Walk.{Owed, built-owes, closed-owes, event-owes, owed-by, walk}
 
 -- ---- numbers that rise by one
 
@@ -82,95 +78,10 @@ other-passes command w none = record {
 }
 
 same-versions : Owed SameVersions
-same-versions = record {
-  on = λ w v u p q. record { version = q.version ∙ p.version; given = q.given ∙ p.given };
-  says = λ w out passes. record { version = refl; given = passes-versions w.out out passes };
-  times = λ ticket w. other-passes _ w refl;
-  desk = λ w desk out passes. record { version = refl; given = passes-versions w.out out passes };
-  client = λ w client out passes. record { version = refl; given = passes-versions w.out out passes };
-  files = λ w files out passes. record { version = refl; given = passes-versions w.out out passes };
-  workspaces = λ w workspaces same. record { version = ap (λ (versions : ℕ × ℕ). versions.1) same; given = refl };
-  sources = λ w sources. record { version = refl; given = refl };
-  status = λ w status. record { version = refl; given = refl };
-}
-
--- ---- the version that a switch gives
-
--- where a switch goes on, it is the next one, and the workspaces have it from then on
-abbrev IsNext : ℕ → Follows → ℕ → Type 0
-IsNext before Nothing after = after ≡ before
-IsNext before CrateData after = after ≡ before
-IsNext before (Wait msrv) after = after ≡ before
-IsNext before (GoOn msrv version initial) after = (version ≡ before + 1) × (after ≡ before + 1)
-
-abbrev MakesNext : ℕ → Follows × Workspaces → Type 0
-MakesNext before made = IsNext before made.0 made.1.loader_version
-
-abbrev MayMakeNext : ℕ → Option (Follows × Workspaces) → Type 0
-MayMakeNext before None = Unit {0}
-MayMakeNext before (Some made) = MakesNext before made
-
-next-cases : (msrv : List (List ℕ)) (initial : Bool) (before : ℕ) (workspaces : Workspaces) (b : Bool)
-    → MayMakeNext before (option_map (workspaces_followed msrv initial workspaces) (if b then None else Some (Some (before + 1))))
-next-cases msrv initial before workspaces true = tt
-next-cases msrv initial before workspaces false = (refl, refl)
-
-renewed-cases : (msrv : List (List ℕ)) (initial goes_on : Bool) (before : ℕ) (workspaces : Workspaces) → workspaces.loader_version ≡ before
-    → MayMakeNext before (option_map (workspaces_followed msrv initial workspaces) (next_version goes_on before))
-renewed-cases msrv initial true before workspaces same = next-cases msrv initial before workspaces (before == last_loader_version)
-renewed-cases msrv initial false before workspaces same = same
-
-asked-same : (asks : Bool) (workspaces : Workspaces) → (asks_build asks workspaces).loader_version ≡ workspaces.loader_version
-asked-same true workspaces = refl
-asked-same false workspaces = refl
-
-renewed-next : (new : List ProjectWorkspace) (msrv : List (List ℕ)) (asks goes_on : Bool) (workspaces : Workspaces)
-    → MayMakeNext workspaces.loader_version (renewed_by new msrv asks goes_on workspaces)
-renewed-next new msrv asks goes_on workspaces =
-    renewed-cases msrv (is_empty workspaces.present) goes_on workspaces.loader_version (asks_build asks (presents new workspaces))
-    (asked-same asks (presents new workspaces))
-
-to-next : (to : Switch) (workspaces : Workspaces) → MayMakeNext workspaces.loader_version (switch_to to workspaces)
-to-next switch.End workspaces = refl
-to-next switch.CrateData workspaces = refl
-to-next (switch.Join made) workspaces = renewed-next made [] false true workspaces
-to-next (switch.Replace new msrv asks goes_on) workspaces = renewed-next new msrv asks goes_on workspaces
-
-by-next : (some discover build_scripts : Bool) (workspaces : Workspaces)
-    → MayMakeNext workspaces.loader_version (if some then switched discover build_scripts workspaces else None)
-by-next true discover build_scripts workspaces = to-next (decided discover build_scripts workspaces) workspaces
-by-next false discover build_scripts workspaces = tt
-
-sought-same : (wait : Bool) (settings : ConfigData) (numbers : Numbers) (workspaces : Workspaces)
-    → (crates_sought wait settings numbers workspaces).loader_version ≡ workspaces.loader_version
-sought-same true settings numbers workspaces = refl
-sought-same false settings numbers workspaces = refl
-
-built-next : (settings : ConfigData) (numbers : Numbers) (before : ℕ) (follows : Follows) (workspaces : Workspaces)
-    → IsNext before follows workspaces.loader_version
-    → IsNext before follows (followed_by settings numbers follows workspaces).loader_version
-built-next settings numbers before Nothing workspaces next = next
-built-next settings numbers before CrateData workspaces next = sought-same (waits settings false) settings numbers workspaces ∙ next
-built-next settings numbers before (Wait msrv) workspaces next = next
-built-next settings numbers before (GoOn msrv version initial) workspaces next =
-    (next.0, sought-same (waits settings initial) settings numbers workspaces ∙ next.1)
-
-crates-next : (settings : ConfigData) (files : SessionFiles) (before : ℕ) (made : Option (Follows × Workspaces)) → MayMakeNext before made
-    → IfOk (with_crates settings files (unless_exhausted made)) (MakesNext before)
-crates-next settings files before None next = tt
-crates-next settings files before (Some made) next = built-next settings files.ids before made.0 made.1 next
-
-made-next : (settings : ConfigData) (files : SessionFiles) (workspaces : Workspaces)
-    → IfOk (switch_made settings files workspaces) (MakesNext workspaces.loader_version)
-made-next settings files workspaces = by (is_switch_due files workspaces)
-  where
-    by : (due : Bool)
-        → IfOk (if due then with_crates settings files (unless_exhausted (switch_by settings workspaces)) else Ok (Nothing, workspaces))
-        (MakesNext workspaces.loader_version)
-    by true =
-        crates-next settings files workspaces.loader_version (switch_by settings workspaces)
-        (by-next (ltb workspaces.version (2 ^ 64 - 1)) (discovers settings) (builds_scripts settings) workspaces)
-    by false = refl
+same-versions =
+    owed-by SameVersions (λ w v u p q. record { version = q.version ∙ p.version; given = q.given ∙ p.given })
+    (λ w v p. record { version = ap (λ (versions : ℕ × ℕ). versions.1) p.versions; given = passes-versions w.out v.out p.out })
+    (λ ticket w. other-passes _ w refl)
 
 -- ---- a turn
 
@@ -209,23 +120,23 @@ unfolding switch_followed watchers_registered
 follows-rise before count Nothing w next rises = record { count = count; version = next; given = rises }
 follows-rise before count CrateData w next rises = record { count = count; version = next; given = rises }
 follows-rise before count (Wait msrv) w next rises =
-    rises-same before w (warned msrv w) (record { count = count; version = next; given = rises }) (warned-owes SameVersions same-versions msrv w)
+    rises-same before w (warned msrv w) (record { count = count; version = next; given = rises }) (warned-owes SameVersions same-versions.saying msrv w)
 follows-rise before count (GoOn msrv version initial) w next rises =
     let v : Working State = warned msrv w in
-    let warns = warned-owes SameVersions same-versions msrv w in
+    let warns = warned-owes SameVersions same-versions.saying msrv w in
     IfOk-and_then (watchers_registered v) (λ u. Ok (roots_renewed (loader_set version u))) (SameVersions v) (Rises before)
-    (asked_if-owes SameVersions same-versions _ _ v)
+    (asked_if-owes SameVersions same-versions.saying _ _ v)
     (λ u same. given-next before count version u next.0 (same.version ∙ warns.version ∙ next.1) (same.given ∙ warns.given ∙ rises))
 
-made-rises : (before : ℕ) (made : Result (Follows × Workspaces) Counter) (w : Working State) → (r : Rises before w) → IfOk made (MakesNext (version_in w))
+made-rises : (before : ℕ) (made : Result (Follows × Workspaces) Counter) (w : Working State) → (r : Rises before w) → Outcome w.state.workspaces made
     → IfOk (switch_taken made w) (Rises before)
 unfolding switch_taken
-made-rises before (Err counter) w rises next = tt
-made-rises before (Ok made) w rises next =
+made-rises before (Err counter) w rises outcome = tt
+made-rises before (Ok made) w rises makes =
     let now : Working State = at_workspaces (λ before. made.1) w in
     let builds : Bool = builds_crates w.state.client.settings made.0 in
     IfOk-and_then (switch_followed made.0 now) (crates_built builds) (Rises before) (Rises before)
-    (follows-rise before rises.count made.0 now (subst (λ n. IsNext n made.0 made.1.loader_version) rises.version next) rises.given)
+    (follows-rise before rises.count made.0 now (subst (λ n. IsNext n made.0 made.1.loader_version) rises.version makes.next) rises.given)
     (λ v r. IfOk-weaker (crates_built builds v) (SameVersions v) (Rises before) (built-owes SameVersions same-versions builds v)
     (λ u same. rises-same before v u r same))
 
@@ -233,7 +144,7 @@ switch-rises : (before : ℕ) (w : Working State) → Rises before w → IfOk (s
 unfolding switch_done
 switch-rises before w rises =
     made-rises before (switch_made w.state.client.settings w.state.files w.state.workspaces) w rises
-    (made-next w.state.client.settings w.state.files w.state.workspaces)
+    (switch-makes w.state.client.settings w.state.files w.state.workspaces)
 
 begun-rises : (s : State) → Rises s.workspaces.loader_version (turn_start s)
 begun-rises s = record { count = 0; version = omega arith; given = refl }
@@ -246,14 +157,15 @@ closed-rises before facts w rises =
 step-rises : (meaning : Meaning) (s : State) (input : Input) → IfOk (step meaning input (turn_start s)) (Rises s.workspaces.loader_version)
 step-rises meaning s input =
     let before = s.workspaces.loader_version in
-    walk SameVersions same-versions meaning s input (Rises before) (Rises before) (rises-same before) (switch-rises before) (first input)
+    walk SameVersions same-versions meaning s input (Rises before) (Rises before) (Rises before) (rises-same before) (switch-rises before) (first input)
     (λ w facts kept rises. closed-rises before facts w rises)
   where
-    first : (input : Input) → Begins meaning s input (Rises s.workspaces.loader_version)
+    first : (input : Input) → Begins meaning s input (Rises s.workspaces.loader_version) (Rises s.workspaces.loader_version)
     first Start = begun-rises s
     first (Next event) =
         IfOk-weaker (event_taken meaning event (turn_start s)) (SameVersions (turn_start s)) (Rises s.workspaces.loader_version)
-        (event-owes SameVersions same-versions (λ path w. other-passes _ w refl) meaning event (turn_start s))
+        (event-owes SameVersions same-versions (λ path w. other-passes _ w refl) meaning event
+        (λ is v client out parents passes. record { version = refl; given = passes-versions v.out out passes }) (turn_start s))
         (λ v same. rises-same s.workspaces.loader_version (turn_start s) v (begun-rises s) same)
 
 -- ---- a run

@@ -26,15 +26,13 @@ use Rattle.session_model.specs.Checking.{check_kind}
 use Rattle.session_model.specs.Fetching.{with_fetches}
 use Rattle.session_model.specs.Loading.{MacroPaths, load_due, load_kind, with_due_load}
 use Rattle.session_model.specs.Machine.{Turning, all_resumed, at_desk, at_workspaces, build_handed_over, build_part, build_started, closing_part, desk_in}
-use Rattle.session_model.specs.Machine.{event_part}
-use Rattle.session_model.specs.Machine.{begin_part, fetch_handed_over, fetch_part, fetch_started, files_part}
-use Rattle.session_model.specs.Machine.{load_handed_over, load_started, prime_part, publish_part, quiet_part, register_part, resumed, runs_started}
-use Rattle.session_model.specs.Machine.{state_in, status_part, step, switch_part, turned, turning, with_desk, with_state, with_workspaces}
-use Rattle.session_model.specs.OwnJobs.{OwnJob, before_fetch, build_job, checks_among_tasks, fetch_job, load_job, numbered_behind}
-use Rattle.session_model.specs.OwnJobs.{own_job, parts_before_fetch, run_jobs}
+use Rattle.session_model.specs.Machine.{event_part, begin_part, fetch_handed_over, fetch_part, fetch_started, files_part, load_handed_over, load_started}
+use Rattle.session_model.specs.Machine.{prime_part, publish_part, quiet_part, register_part, resumed, runs_started, state_in, status_part, step, switch_part}
+use Rattle.session_model.specs.Machine.{turned, turning, with_desk, with_state, with_workspaces}
+use Rattle.session_model.specs.OwnJobs.{OwnJob, before_fetch, build_job, checks_among_tasks, fetch_job, load_job, numbered_behind, own_job, parts_before_fetch}
+use Rattle.session_model.specs.OwnJobs.{run_jobs}
 use Rattle.session_model.specs.Run.{turn_start}
 use Rattle.session_model.specs.State.{State, fetch_kind, may_start, snapshot_of}
-use Rattle.session_model.specs.declared.input.Event.{Event}
 use Rattle.session_model.specs.declared.input.Input.{Input}
 use Rattle.session_model.specs.declared.input.Input.TheVariants.{Start, Next}
 

@@ -6,23 +6,25 @@ use Rattle.std.proofs.lemmas.Result.{IfOk-at_ok}
 use Rattle.analysis_host.specs.HostData.{HostData}
 use Rattle.docs_vfs.specs.Roots.{parent_map}
 use Rattle.docs_vfs.specs.declared.source_roots.Root.{Root}
-use Rattle.layered_settings.specs.Change.{has_parents, parents_after, parents_of}
+use Rattle.layered_settings.specs.Change.{has_parents, parents_after, parents_of, no_settings}
 use Rattle.layered_settings.specs.Search.{Parents}
 use Rattle.layered_settings.proofs.ParentPairs.{has_parents_if_equal}
 use Rattle.lsp_frame.specs.declared.message.Response.{Response}
 use Rattle.lsp_frame.specs.declared.message.Message.TheVariants.{Request as RequestMessage, Notification as NotificationMessage, Response as ResponseMessage}
 use Rattle.notify.specs.declared.notice.Notice.{Notice}
 use Rattle.notify.specs.declared.notice.Notice.TheVariants as notices
-use Rattle.ra_config.specs.Config.{ConfigData}
-use Rattle.session_port.specs.Working.{Working, and_then}
+use Rattle.ra_config.specs.Config.{ConfigData, config_at}
+use Rattle.ra_config.specs.Initialize.{config_from, config_with, initial_config, paths_of}
+use Rattle.serde_json.specs.Data.{Data}
+use Rattle.session_port.specs.Working.{Working}
 use Rattle.client.specs.Client.{Client}
 use Rattle.client.specs.Folds.{after_answer, after_folders, follows}
 use Rattle.client.specs.Steps.{answered, folders_changed}
 use Rattle.desk.specs.Meaning.{Meaning}
-use Rattle.desk_laws.proofs.Results.{IfOk-and_then, IfOk-weaker, IfOk-within}
+use Rattle.desk_laws.proofs.Results.{IfOk-and_then, IfOk-within}
 use Rattle.session_model.specs.Hearing.{heard_of, told_by}
-use Rattle.session_model.specs.Machine.{answer_taken, at_client, client_in, turn_counted, event_part, folders_taken, happened, later_parts, noticed, received}
-use Rattle.session_model.specs.Machine.{step, event_taken, told, turned, Turning, turning, with_client}
+use Rattle.session_model.specs.Machine.{answer_taken, at_client, client_in, turn_counted, folders_taken, happened, noticed, received, step, event_taken, told}
+use Rattle.session_model.specs.Machine.{with_client}
 use Rattle.session_model.specs.Rows.{turn_begun}
 use Rattle.session_model.specs.Run.{Runs, Steps, Turn, turn_start}
 use Rattle.session_model.specs.State.{Sources, State, fresh}
@@ -35,9 +37,10 @@ use Rattle.session_model.specs.declared.input.Input.TheVariants.{Start, Next}
 use Rattle.session_laws.specs.Entering.{Enters, KeepsSettings, hold_settings, tells_folders, tells_settings}
 use Rattle.session_laws.specs.Settings.{ChangesAsTold, HasParentsOf, HasSettings, ParentsWait, TakesParents, as_told, with_folders_told}
 use Rattle.session_laws.proofs.Entered.{Alters, TellsParents, enters-on, keeps-settings-on, none-left, none-right, parents_in}
-use Rattle.session_laws.proofs.LetIn.{Altered, Behind, Renews, Turns, after-parents, in-state, later-behind, steps-alter}
+use Rattle.session_laws.proofs.LetIn.{Altered, Renews, TurnAlters, steps-alter, turn-does}
+use Rattle.session_laws.proofs.Turns.{Begins}
 use Rattle.session_laws.proofs.Rows.{counted-is}
-use Rattle.session_laws.proofs.Telling.{answered-does, folders-do}
+use Rattle.session_laws.proofs.Telling.{after-parents, answered-does, folders-do}
 
 -- ---- the parents that wait
 
@@ -133,6 +136,23 @@ others-wait s are =
       );
       those = λ some is. some-others (has_parents (parents_in s) pairs) some pairs (sym is ∙ are);
     }
+
+-- those that a session begins with have none
+pub bare-begin : (root : List ℕ) (threads : ℕ) → (config_at root threads).settings.parents ≡ finmap.empty
+unfolding no_settings
+bare-begin root threads = refl
+
+config-begins : (params : Data) (threads : ℕ) (roots : List (List ℕ))
+    → IfOk (config_with params threads roots) (λ (settings : ConfigData). settings.settings.parents ≡ finmap.empty)
+unfolding config_from no_settings
+config-begins params threads [] = tt
+config-begins params threads (root ∷ rest) = refl
+
+pub settings-begin : (params : Data) (threads : ℕ) (settings : ConfigData) → initial_config params threads ≡ Ok settings
+    → settings.settings.parents ≡ finmap.empty
+unfolding initial_config
+settings-begin params threads settings is =
+    IfOk-at_ok (λ (settings : ConfigData). settings.settings.parents ≡ finmap.empty) is (config-begins params threads (paths_of params))
 
 -- in all runs whose settings begin without parents
 pub parents-wait : (meaning : Meaning) (settings : ConfigData) (turns : List Turn) (last : State) → settings.settings.parents ≡ finmap.empty
@@ -290,26 +310,17 @@ event-tells meaning event s tells =
     (λ v is. subst (λ w. IfOk (happened meaning event w) Goal) (sym is) (happened-tells meaning event s tells))
 
 -- a turn whose input tells something of them: behind its event settings files and parents are filed as in any other
-record TurnTells (input : Input) (s t : State) : Type 0 where
-  behind_event : State
-  event : EventTells (as_told input s.client) s behind_event
-  behind : Behind false behind_event t
+abbrev TurnTells : Input → State → State → Type 0
+TurnTells input s t = TurnAlters false (EventTells (as_told input s.client) s) t
 
 step-tells : (meaning : Meaning) (input : Input) (s : State) → tells_settings input ≡ true
     → IfOk (step meaning input (turn_start s)) (λ v. TurnTells input s v.state)
-unfolding step event_part
-step-tells meaning Start s tells = absurd (true≢false (sym tells))
-step-tells meaning (Next event) s tells =
-    let input : Input = Next event in
-    let t : Working Turning = turning (turn_start s) in
-    IfOk-and_then (and_then (event_part meaning event t) (later_parts (Next event))) turned (λ v. TurnTells input s v.state.state)
-    (λ v. TurnTells input s v.state)
-    (IfOk-and_then (event_part meaning event t) (later_parts (Next event)) (Turns (EventTells (as_told input s.client)) t)
-    (λ v. TurnTells input s v.state.state)
-    (in-state (EventTells (as_told input s.client)) (event_taken meaning event) t (event-tells meaning event s tells))
-    (λ v e. IfOk-weaker (later_parts (Next event) v) (Turns (Behind false) v) (λ u. TurnTells input s u.state.state) (later-behind false event v)
-    (λ u b. record { behind_event = v.state.state; event = e; behind = b })))
-    (λ v h. h)
+step-tells meaning input s tells = turn-does false meaning s input (EventTells (as_told input s.client) s) (first input tells)
+  where
+    first : (input : Input) → tells_settings input ≡ true
+        → Begins meaning s input (λ w. EventTells (as_told input s.client) s w.state) (λ w. EventTells (as_told input s.client) s w.state)
+    first Start tells = absurd (true≢false (sym tells))
+    first (Next event) tells = event-tells meaning event s tells
 
 -- ---- the law
 

@@ -15,9 +15,8 @@ use Rattle.analysis_host.specs.SnapshotData.{SnapshotData}
 use Rattle.method_table.specs.declared.class.PoolClass.TheVariants.{Worker}
 use Rattle.project_model.specs.declared.crates.CrateData.{CrateData}
 use Rattle.session_port.specs.declared.command.Command.{Command}
-use Rattle.session_port.specs.declared.command.Command.TheVariants.{Log}
+use Rattle.session_port.specs.declared.command.Command.TheVariants.{Log, Defer}
 use Rattle.session_port.specs.declared.command.DeferredTask.{DeferredTask}
-use Rattle.session_port.specs.declared.command.Command.TheVariants.{Defer}
 use Rattle.session_port.specs.declared.command.LogCode.{LogCode}
 use Rattle.session_port.specs.declared.command.LogCode.TheVariants.{BadPath, DuplicateOpen, OrphanClose, SettingsError, SkippedChange, UnexpectedChange}
 use Rattle.session_port.specs.declared.command.LogCode.TheVariants.{UnknownResponse}
@@ -45,9 +44,12 @@ use Rattle.desk_laws.specs.Settled.{PassesOver}
 use Rattle.desk_laws.proofs.Appends.{passed-append}
 use Rattle.desk_laws.proofs.Results.{IfOk-next, IfOk-weaker}
 use Rattle.desk_laws.proofs.Settling.{cancel-settles, message-settles, request-settles}
+use Rattle.session_laws.specs.Beside.{Tells}
+use Rattle.session_laws.proofs.Telling.{tells-deferred, tells-logged, tells-none, tells-notification, tells-request}
 use Rattle.session_files.specs.Changing.{has_skipped}
 use Rattle.session_files.specs.Folds.{after_crates, after_editing, after_messages, after_opening, after_processing, is_open}
 use Rattle.session_files.specs.SessionFiles.{SessionFiles}
+use Rattle.session_files.proofs.SoundLemmas.{editing_keeps, messages_keep, opening_keeps}
 use Rattle.session_files.specs.Steps.{become, changed_document, close_noted, crates_put, edited_document, loaded, open_noted, opened_document, processed}
 use Rattle.session_files.specs.Steps.{skip_noted}
 
@@ -65,7 +67,7 @@ pub passes-logged : {S : Type 0} (code : LogCode) (text : List ℕ) (w : Working
 unfolding logged ordered
 passes-logged code text w number_of passes = passed-append number_of w.out.commands (Log code text) (passes.logs code text)
 
-pub passes-deferred : {S : Type 0} (task : DeferredTask) (w : Working S) → Passes w.out (ordered (Defer task) w).out
+passes-deferred : {S : Type 0} (task : DeferredTask) (w : Working S) → Passes w.out (ordered (Defer task) w).out
 unfolding ordered
 passes-deferred task w number_of passes = passed-append number_of w.out.commands (Defer task) (passes.defers task)
 
@@ -76,6 +78,24 @@ passes-logged_if code (Some text) w = passes-logged code text w
 passes-if : {S : Type 0} (code : LogCode) (text : List ℕ) (b : Bool) (w : Working S) → Passes w.out (if b then logged code text w else w).out
 passes-if code text true w = passes-logged code text w
 passes-if code text false w = passes-none w.out
+
+-- and nobody was answered
+pub record Says (old new : Written) : Type 0 where
+  pub passes : Passes old new
+  pub tells : Tells old new
+
+pub says-none : (out : Written) → Says out out
+says-none out = record { passes = passes-none out; tells = tells-none out }
+
+pub says-logged : {S : Type 0} (code : LogCode) (text : List ℕ) (w : Working S) → Says w.out (logged code text w).out
+says-logged code text w = record { passes = passes-logged code text w; tells = tells-logged code text w }
+
+pub says-deferred : {S : Type 0} (task : DeferredTask) (w : Working S) → Says w.out (ordered (Defer task) w).out
+says-deferred task w = record { passes = passes-deferred task w; tells = tells-deferred task w }
+
+pub says-notified : {S : Type 0} (message : Outgo) (w : Working S) → Says w.out (written (notification_of message) w).out
+unfolding written
+says-notified message w = record { passes = passes-none w.out; tells = tells-notification _ w }
 
 -- ---- the desk
 
@@ -107,19 +127,24 @@ kept-passes before w = passes-none w.out
 
 -- ---- what is agreed with the client
 
-abbrev FromClient : Working Client → Working Client → Type 0
+abbrev pub FromClient : Working Client → Working Client → Type 0
 FromClient w v = Passes w.out v.out
+
+-- it is asked for something
+abbrev pub Asks : ReqHandler → Working Client → Working Client → Type 0
+Asks handler w v = Says w.out v.out × (v.state ≡ after_asking handler w.state)
 
 asked-cases : (message : Outgo) (handler : ReqHandler) (w : Working Client) (b : Bool)
     → IfOk (if b then Err Outgoing else Ok (written (request_at w.state.asked.given message) (record w { state = after_asking handler w.state })))
-    (FromClient w)
+    (Asks handler w)
 unfolding written
 asked-cases message handler w true = tt
-asked-cases message handler w false = passes-none w.out
+asked-cases message handler w false =
+    (record { passes = passes-none w.out; tells = tells-request _ (record w { state = after_asking handler w.state }) }, refl)
 
-pub asked-passes : (message : Outgo) (handler : ReqHandler) (w : Working Client) → IfOk (asked_for message handler w) (FromClient w)
+pub asked-says : (message : Outgo) (handler : ReqHandler) (w : Working Client) → IfOk (asked_for message handler w) (Asks handler w)
 unfolding asked_for
-asked-passes message handler w = asked-cases message handler w (w.state.asked.given == number_limit)
+asked-says message handler w = asked-cases message handler w (w.state.asked.given == number_limit)
 
 shown-passes : (b : Bool) (w : Working Client) → FromClient w (if b then written (notification_of OpenLogsMessage) w else w)
 unfolding written
@@ -155,29 +180,44 @@ folders-pass added removed w number_of passes =
 
 -- ---- the files
 
-abbrev FromFiles : Working SessionFiles → Working SessionFiles → Type 0
+abbrev pub FromFiles : Working SessionFiles → Working SessionFiles → Type 0
 FromFiles w v = Passes w.out v.out
 
 become-passes : (r : Result SessionFiles Counter) (w u : Working SessionFiles) → Passes w.out u.out → IfOk (become r u) (FromFiles w)
 become-passes (Ok files) w u passes = passes
 become-passes (Err counter) w u passes = tt
 
+-- and the world stays
+abbrev pub Stays : Working SessionFiles → Working SessionFiles → Type 0
+Stays w v = FromFiles w v × (v.state.host ≡ w.state.host)
+
+become-stays : (r : Result SessionFiles Counter) (w u : Working SessionFiles) → ((now : SessionFiles) → r ≡ Ok now → now.host ≡ w.state.host)
+    → Passes w.out u.out
+    → IfOk (become r u) (Stays w)
+become-stays (Ok files) w u same passes = (passes, same files refl)
+become-stays (Err counter) w u same passes = tt
+
 pub opened-passes : (excludes : List (List ℕ)) (path : List ℕ) (version : ℤ) (text : List ℕ) (w : Working SessionFiles)
-    → IfOk (opened_document excludes path version text w) (FromFiles w)
+    → IfOk (opened_document excludes path version text w) (Stays w)
 unfolding opened_document open_noted
-opened-passes excludes path version text w = become-passes (after_opening excludes path version text w.state) w _
+opened-passes excludes path version text w =
+    become-stays (after_opening excludes path version text w.state) w _ (λ now is. (opening_keeps excludes path version text w.state now is).host)
     (passes-if DuplicateOpen path (is_open path w.state) w)
 
+logged-stays : (code : LogCode) (text : List ℕ) (w : Working SessionFiles) → Stays w (logged code text w)
+unfolding logged ordered
+logged-stays code text w = (passes-logged code text w, refl)
+
 changed-cases : (columns : PositionEncoding) (path : List ℕ) (version : ℤ) (changes : List ContentChange) (w : Working SessionFiles) (b : Bool)
-    → IfOk (if b then edited_document columns path version changes w else Ok (logged UnexpectedChange path w)) (FromFiles w)
+    → IfOk (if b then edited_document columns path version changes w else Ok (logged UnexpectedChange path w)) (Stays w)
 unfolding edited_document skip_noted
 changed-cases columns path version changes w true =
-    become-passes (after_editing columns path version changes w.state) w _
+    become-stays (after_editing columns path version changes w.state) w _ (λ now is. (editing_keeps columns path version changes w.state now is).host)
     (passes-if SkippedChange path (has_skipped columns changes (finmap.get w.state.texts path)) w)
-changed-cases columns path version changes w false = passes-logged UnexpectedChange path w
+changed-cases columns path version changes w false = logged-stays UnexpectedChange path w
 
 pub changed-passes : (columns : PositionEncoding) (path : List ℕ) (version : ℤ) (changes : List ContentChange) (w : Working SessionFiles)
-    → IfOk (changed_document columns path version changes w) (FromFiles w)
+    → IfOk (changed_document columns path version changes w) (Stays w)
 unfolding changed_document
 changed-passes columns path version changes w = changed-cases columns path version changes w (is_open path w.state)
 
@@ -189,9 +229,10 @@ pub close-noted-passes : (path : List ℕ) (w : Working SessionFiles) → FromFi
 unfolding close_noted
 close-noted-passes path w = noted-cases path w (is_open path w.state)
 
-pub loaded-passes : (messages : List LoaderMsg) (w : Working SessionFiles) → IfOk (loaded messages w) (FromFiles w)
+pub loaded-passes : (messages : List LoaderMsg) (w : Working SessionFiles) → IfOk (loaded messages w) (Stays w)
 unfolding loaded
-loaded-passes messages w = become-passes (after_messages messages w.state) w w (passes-none w.out)
+loaded-passes messages w =
+    become-stays (after_messages messages w.state) w w (λ now is. (messages_keep messages w.state now is).host) (passes-none w.out)
 
 pub processed-passes : (roots : List Root) (w : Working SessionFiles) → IfOk (processed roots w) (FromFiles w)
 unfolding processed

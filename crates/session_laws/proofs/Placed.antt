@@ -20,6 +20,7 @@ use Rattle.session_laws.specs.Invariant.{IsOfTurns, WaitsOfTurns, place_of_state
 use Rattle.session_laws.proofs.Counting.{Counts, given, state_ahead}
 use Rattle.session_laws.proofs.Exhausting.{step-does}
 use Rattle.session_laws.proofs.Rows.{Closes, step-closes}
+use Rattle.session_laws.proofs.Same.{at-most-on}
 
 -- the turns of the machine are no more than those of the lists, the versions of its workspaces are no more than its turns, and a fetch that waits for a timer
 -- has the number of one of them
@@ -35,9 +36,6 @@ later-turns (Next event) turns = omega arith
 both-later : (input : Input) (a b : ℕ) → a ≤ b → turns_after input a ≤ turns_after input b
 both-later Start a b le = le
 both-later (Next event) a b le = omega (arith, le)
-
-at-most-on : (a b c : ℕ) → a ≤ b → b ≤ c → a ≤ c
-at-most-on a b c p q = omega (arith, p, q)
 
 as-turns : (input : Input) (version turns now : ℕ) → now ≤ version + turns_after input 0 → version ≤ turns → now ≤ turns_after input turns
 as-turns Start version turns now gives le = omega (arith, gives, le)

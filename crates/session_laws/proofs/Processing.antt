@@ -14,21 +14,23 @@ use Rattle.desk_laws.proofs.Results.{IfOk-and_then, IfOk-weaker, IfOk-within}
 use Rattle.desk_laws.proofs.Settling.{defer-settles, log-settles, nothing-settles, settled-on}
 use Rattle.session_files.specs.Current.{IsCurrent, IsSound, IsUntouched}
 use Rattle.session_files.specs.Folds.{changed_files}
+use Rattle.session_files.specs.SessionFiles.{SessionFiles}
 use Rattle.session_files.specs.Steps.{processed}
 use Rattle.session_files.proofs.SoundLemmas.{processing_does, taken_none}
 use Rattle.workspaces.specs.Fetches.{is_served, waits_from}
 use Rattle.workspaces.specs.Workspaces.{Workspaces}
 use Rattle.workspaces.specs.declared.requests.FetchRequest.{FetchRequest}
 use Rattle.session_model.specs.Machine.{at_files, effects_done, fetch_waits, files_followed, files_in, files_processed, further_logged, settings_filed}
-use Rattle.session_model.specs.Machine.{sources_deferred}
-use Rattle.session_model.specs.Machine.{with_client, with_files, with_sources}
+use Rattle.session_model.specs.Machine.{sources_deferred, with_client, with_files, with_sources}
 use Rattle.session_model.specs.Sources.{change_for, client_with, further_files, parents_told}
 use Rattle.session_model.specs.State.{State}
 use Rattle.session_model.specs.Timing.{effects_for, fetch_planned}
-use Rattle.session_laws.proofs.Crates.{KeepsFiles, processing-keeps}
+use Rattle.session_laws.specs.Beside.{Aside}
+use Rattle.session_laws.proofs.Asides.{aside-on, aside-silent, aside-speaks}
+use Rattle.session_laws.proofs.Crates.{KeepsFiles, kept-documents, processing-keeps}
 use Rattle.session_laws.proofs.Filing.{Processes, processed-does}
 use Rattle.session_laws.proofs.Following.{deferred-same, followed-does, further-same}
-use Rattle.session_laws.proofs.Running.{SameRuns}
+use Rattle.session_laws.proofs.Running.{SameRuns, same-runs}
 
 -- the desk, and what was written and ordered
 abbrev pub at : Working State → Working Desk
@@ -102,6 +104,8 @@ pub record Files (w v : Working State) : Type 0 where
   pub client : IsUntouched w.state.files → v.state.client ≡ w.state.client
   pub shows : ShowsSame w.state.workspaces v.state.workspaces
   pub runs : SameRuns w.state.desk.turns w.state.workspaces v.state.workspaces
+  pub aside : Aside w v
+  pub taken : IsUntouched v.state.files
 
 pub files-processed : (w : Working State) → IfOk (files_processed w) (Files w)
 unfolding files_processed
@@ -125,5 +129,8 @@ files-processed w =
       client = λ taken. f.client (taken_none w.state.files taken);
       shows = f.shows;
       runs = said.runs;
+      aside = aside-on w v u (aside-silent w v done.out refl (kept-documents w.state.files p.state kept)
+          (same-runs w.state.desk.turns w.state.workspaces w.state.workspaces refl)) (aside-speaks v u said);
+      taken = subst IsUntouched (sym said.files) (ap (λ (f : SessionFiles). f.table.before) (processing_does roots w.state.files p.state done.is).rest);
     })))
     (λ u f. f)

@@ -1,5 +1,5 @@
 -- A turn has those files read anew that its input says have changed, in order, and no others.
-use Rattle.std.proofs.Common.{◌≡◌, ℕ, List, [], ◌∷◌, ◌++◌, map, Bool, true, false, cond, refl, sym, ap, ◌∙◌, append-nil, append_assoc, arith}
+use Rattle.std.proofs.Common.{◌≡◌, ℕ, List, [], ◌∷◌, ◌++◌, map, Bool, true, false, cond, refl, sym, ap, ◌∙◌, append-nil, append_assoc, arith, true≢false}
 use Rattle.std.specs.Prelude.{◌||◌, Option, None, Some, is_some, option_map, bytes_eq, Result, Ok, Err, IfOk, if◌then◌else◌}
 use Rattle.std.specs.FinMap as finmap
 use Rattle.std.specs.List.{cons_option, filter_map, list_any}
@@ -29,7 +29,7 @@ use Rattle.workspaces.specs.declared.follows.Follows.{Follows}
 use Rattle.session_model.specs.Hearing.{heard_of, told_by}
 use Rattle.session_model.specs.Machine.{at_workspaces, document_closed_at, turn_counted, file_changed, files_changed, files_in, happened, loader_set, noticed}
 use Rattle.session_model.specs.Machine.{received}
-use Rattle.session_model.specs.Machine.{step, switch_done, switch_taken, event_taken, told, with_files}
+use Rattle.session_model.specs.Machine.{roots_renewed, step, switch_done, switch_taken, event_taken, told, with_files}
 use Rattle.session_model.specs.Run.{Steps, Turn, turn_start}
 use Rattle.session_model.specs.State.{State}
 use Rattle.session_model.specs.Switching.{switch_made}
@@ -41,7 +41,8 @@ use Rattle.session_model.specs.declared.input.Input.{Input}
 use Rattle.session_model.specs.declared.input.Input.TheVariants.{Start, Next}
 use Rattle.session_laws.specs.Ordered.{each_once, file_to_read, files_told, urls_told}
 use Rattle.session_laws.proofs.Passing.{Passes, close-noted-passes}
-use Rattle.session_laws.proofs.Walk.{Owed, closed-owes, counted-owes, happened-owes, logged-owes, notifies, switched-owes, told-owes, walk}
+use Rattle.session_laws.proofs.Saying.{logged-owes}
+use Rattle.session_laws.proofs.Walk.{Owed, closed-owes, counted-owes, happened-owes, notifies, owed-by, rereads, switched-owes, told-owes, walk}
 
 -- ---- what passes has no file read anew
 
@@ -107,17 +108,7 @@ unfolding ordered
 other-passes command w none = filter_map-append file_to_read w.out.commands (command ∷ []) ∙ ap (λ file. to_read w ++ cons_option file []) none ∙ append-nil _
 
 same-files : Owed SameFiles
-same-files = record {
-  on = λ w v u p q. q ∙ p;
-  says = λ w out passes. passes-files w.out out passes;
-  times = λ ticket w. other-passes _ w refl;
-  desk = λ w desk out passes. passes-files w.out out passes;
-  client = λ w client out passes. passes-files w.out out passes;
-  files = λ w files out passes. passes-files w.out out passes;
-  workspaces = λ w workspaces same. refl;
-  sources = λ w sources. refl;
-  status = λ w status. refl;
-}
+same-files = owed-by SameFiles (λ w v u p q. q ∙ p) (λ w v p. passes-files w.out v.out p.out) (λ ticket w. other-passes _ w refl)
 
 -- ---- files that a client watches
 
@@ -176,7 +167,7 @@ Reads files w = to_read w ≡ files
 closed-reads : (o : Result (List ℕ) UrlFault) (uri : List ℕ) (w : Working State) → Reads [] w
     → IfOk (document_closed_at o uri w) (Reads (cons_option (result_ok o) []))
 unfolding document_closed_at closed_document ordered
-closed-reads (Err fault) uri w none = logged-owes SameFiles same-files _ uri w ∙ none
+closed-reads (Err fault) uri w none = logged-owes SameFiles same-files.saying _ uri w ∙ none
 closed-reads (Ok path) uri w none =
     IfOk-within files_in with_files (λ f. Ok (closed_document path f)) w (Reads (path ∷ []))
     (let noted = close_noted path (record { state = w.state.files; out = w.out }) in
@@ -184,21 +175,21 @@ closed-reads (Ok path) uri w none =
     ∙ ap (λ fs. fs ++ path ∷ []) (passes-files w.out noted.out (close-noted-passes path (record { state = w.state.files; out = w.out })) ∙ none))
 
 -- what another notice tells has no file read anew
-plain-reads : (notice : Notice) (w : Working State) → Reads [] w → IfOk (told notice w) (SameFiles w) → IfOk (told notice w) (Reads [])
-plain-reads notice w none h = IfOk-weaker (told notice w) (SameFiles w) (Reads []) h (λ v same. same ∙ none)
+plain-reads : (notice : Notice) (w : Working State) → rereads notice ≡ false → Reads [] w → IfOk (told notice w) (Reads [])
+plain-reads notice w plain none =
+    IfOk-weaker (told notice w) (SameFiles w) (Reads [])
+    (told-owes SameFiles same-files notice (λ is. absurd (true≢false (sym is ∙ plain))) (λ is v client out parents passes. passes-files v.out out passes) w)
+    (λ v same. same ∙ none)
 
 told-reads : (notice : Notice) (w : Working State) → Reads [] w → IfOk (told notice w) (Reads (filter_map named (urls_told (Some notice))))
 unfolding told
-told-reads (notices.CancelRequest id) w none = plain-reads (notices.CancelRequest id) w none (told-owes SameFiles same-files (notices.CancelRequest id) w refl)
-told-reads (notices.DidOpen document) w none = plain-reads (notices.DidOpen document) w none (told-owes SameFiles same-files (notices.DidOpen document) w refl)
-told-reads (notices.DidChange change) w none = plain-reads (notices.DidChange change) w none (told-owes SameFiles same-files (notices.DidChange change) w refl)
+told-reads (notices.CancelRequest id) w none = plain-reads (notices.CancelRequest id) w refl none
+told-reads (notices.DidOpen document) w none = plain-reads (notices.DidOpen document) w refl none
+told-reads (notices.DidChange change) w none = plain-reads (notices.DidChange change) w refl none
 told-reads (notices.DidClose uri) w none = closed-reads (path_of uri) uri w none
-told-reads (notices.DidSave uri) w none = plain-reads (notices.DidSave uri) w none (told-owes SameFiles same-files (notices.DidSave uri) w refl)
-told-reads notices.DidChangeConfiguration w none = plain-reads notices.DidChangeConfiguration w none
-    (told-owes SameFiles same-files notices.DidChangeConfiguration w refl)
-told-reads (notices.DidChangeWorkspaceFolders added removed) w none =
-    plain-reads (notices.DidChangeWorkspaceFolders added removed) w none
-    (told-owes SameFiles same-files (notices.DidChangeWorkspaceFolders added removed) w refl)
+told-reads (notices.DidSave uri) w none = plain-reads (notices.DidSave uri) w refl none
+told-reads notices.DidChangeConfiguration w none = plain-reads notices.DidChangeConfiguration w refl none
+told-reads (notices.DidChangeWorkspaceFolders added removed) w none = plain-reads (notices.DidChangeWorkspaceFolders added removed) w refl none
 told-reads (notices.DidChangeWatchedFiles urls) w none =
     watched-reads finmap.empty [] urls w seen-none ∙ ap (λ fs. fs ++ filter_map named (each_once [] urls)) none
 told-reads (notices.CancelProgress token) w none = none
@@ -211,15 +202,17 @@ heard-reads : (heard : Heard) (method : List ℕ) (w : Working State) → Reads 
     → IfOk (noticed heard method w) (Reads (filter_map named (urls_told (told_by heard))))
 unfolding noticed
 heard-reads (Told notice) method w none = told-reads notice w none
-heard-reads Malformed method w none = logged-owes SameFiles same-files _ method w ∙ none
-heard-reads Unhandled method w none = logged-owes SameFiles same-files _ method w ∙ none
+heard-reads Malformed method w none = logged-owes SameFiles same-files.saying _ method w ∙ none
+heard-reads Unhandled method w none = logged-owes SameFiles same-files.saying _ method w ∙ none
 heard-reads Silent method w none = none
 
 -- an event that is no notification
 other-reads : (meaning : Meaning) (event : Event) (w : Working State) → notifies event ≡ false → files_told (Next event) ≡ [] → Reads [] w
     → IfOk (happened meaning event w) (Reads (files_told (Next event)))
 other-reads meaning event w silent nothing none =
-    IfOk-weaker (happened meaning event w) (SameFiles w) (Reads (files_told (Next event))) (happened-owes SameFiles same-files meaning event w silent)
+    IfOk-weaker (happened meaning event w) (SameFiles w) (Reads (files_told (Next event)))
+    (happened-owes SameFiles same-files meaning event (λ is. absurd (true≢false (sym is ∙ silent)))
+    (λ is v client out parents passes. passes-files v.out out passes) w)
     (λ v same. same ∙ none ∙ sym nothing)
 
 notified-reads : (meaning : Meaning) (n : Notification) (w : Working State) → Reads [] w
@@ -245,14 +238,14 @@ taken_in-reads meaning event s =
 
 -- ---- whole turns
 
-loader-reads : (version : ℕ) (w : Working State) → SameFiles w (loader_set version w)
-unfolding loader_set
+loader-reads : (version : ℕ) (w : Working State) → SameFiles w (roots_renewed (loader_set version w))
+unfolding roots_renewed loader_set
 loader-reads version w = other-passes _ w refl
 
 switched-reads : (made : Result (Follows × Workspaces) Counter) (w : Working State) → IfOk (switch_taken made w) (SameFiles w)
 unfolding switch_taken
 switched-reads (Err counter) w = tt
-switched-reads (Ok made) w = switched-owes SameFiles same-files made (at_workspaces (λ before. made.1) w) (λ msrv version initial is v. loader-reads version v)
+switched-reads (Ok made) w = switched-owes SameFiles same-files loader-reads made (at_workspaces (λ before. made.1) w)
 
 switch-reads : (files : List (List ℕ)) (w : Working State) → Reads files w → IfOk (switch_done w) (Reads files)
 unfolding switch_done
@@ -262,12 +255,12 @@ switch-reads files w reads =
 
 step-reads : (meaning : Meaning) (s : State) (input : Input) → IfOk (step meaning input (turn_start s)) (Reads (files_told input))
 step-reads meaning s Start =
-    walk SameFiles same-files meaning s Start (Reads []) (Reads []) (λ w v reads same. same ∙ reads) (switch-reads []) refl
+    walk SameFiles same-files meaning s Start (Reads []) (Reads []) (Reads []) (λ w v reads same. same ∙ reads) (switch-reads []) refl
     (λ w now facts reads. IfOk-weaker _ (SameFiles w) (Reads []) (closed-owes SameFiles same-files (λ revision v. other-passes _ v refl) now w)
     (λ v same. same ∙ reads))
 step-reads meaning s (Next event) =
     let files = files_told (Next event) in
-    walk SameFiles same-files meaning s (Next event) (Reads files) (Reads files) (λ w v reads same. same ∙ reads) (switch-reads files)
+    walk SameFiles same-files meaning s (Next event) (Reads files) (Reads files) (Reads files) (λ w v reads same. same ∙ reads) (switch-reads files)
     (taken_in-reads meaning event s)
     (λ w now facts reads. IfOk-weaker _ (SameFiles w) (Reads files) (closed-owes SameFiles same-files (λ revision v. other-passes _ v refl) now w)
     (λ v same. same ∙ reads))

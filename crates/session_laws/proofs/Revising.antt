@@ -1,5 +1,5 @@
 -- A turn tells the revision that it comes to once, where it is another, and revisions rise.
-use Rattle.std.proofs.Common.{◌≡◌, ◌≤◌, ◌<◌, ◌+◌, ◌==◌, ℕ, List, [], ◌∷◌, ◌++◌, Bool, true, false, refl, sym, ap, ◌∙◌, subst, arith, append-nil}
+use Rattle.std.proofs.Common.{◌≡◌, ◌≤◌, ◌<◌, ◌==◌, ℕ, List, [], ◌∷◌, ◌++◌, Bool, true, false, refl, sym, ap, ◌∙◌, subst, arith, append-nil}
 use Rattle.std.specs.Prelude.{None, Result, Ok, Err, IfOk, if◌then◌else◌}
 use Rattle.std.specs.List.{cons_option, filter_map}
 use Rattle.std.proofs.lemmas.Bool.Decides.{nat_tests}
@@ -16,7 +16,7 @@ use Rattle.desk_laws.proofs.Results.{IfOk-and_then, IfOk-weaker}
 use Rattle.workspaces.specs.Fetches.{fires}
 use Rattle.workspaces.specs.Workspaces.{Workspaces}
 use Rattle.workspaces.specs.declared.follows.Follows.{Follows}
-use Rattle.session_model.specs.Machine.{at_workspaces, turn_closed, desk_kept, loader_set, revised, step, switch_done, switch_taken, timer_set}
+use Rattle.session_model.specs.Machine.{at_workspaces, turn_closed, desk_kept, loader_set, revised, roots_renewed, step, switch_done, switch_taken, timer_set}
 use Rattle.session_model.specs.Run.{Runs, Steps, Turn, turn_start}
 use Rattle.session_model.specs.State.{State}
 use Rattle.session_model.specs.Switching.{switch_made}
@@ -26,7 +26,8 @@ use Rattle.session_model.specs.declared.input.Input.TheVariants.{Start, Next}
 use Rattle.session_laws.specs.Ordered.{AreAbove, revisions_told, told_if_other}
 use Rattle.session_laws.proofs.LetIn.{turns-let-in}
 use Rattle.session_laws.proofs.Passing.{Passes}
-use Rattle.session_laws.proofs.Walk.{Begins, Owed, event-owes, kept-owes, switched-owes, walk}
+use Rattle.session_laws.proofs.Turns.{Begins}
+use Rattle.session_laws.proofs.Walk.{Owed, event-owes, kept-owes, owed-by, switched-owes, walk}
 
 -- ---- what passes tells no revision
 
@@ -46,17 +47,7 @@ other-passes command w none = filter_map-append revision_of w.out.commands (comm
     ∙ append-nil _
 
 same-revisions : Owed SameRevisions
-same-revisions = record {
-  on = λ w v u p q. q ∙ p;
-  says = λ w out passes. passes-revisions w.out out passes;
-  times = λ ticket w. other-passes _ w refl;
-  desk = λ w desk out passes. passes-revisions w.out out passes;
-  client = λ w client out passes. passes-revisions w.out out passes;
-  files = λ w files out passes. passes-revisions w.out out passes;
-  workspaces = λ w workspaces same. refl;
-  sources = λ w sources. refl;
-  status = λ w status. refl;
-}
+same-revisions = owed-by SameRevisions (λ w v u p q. q ∙ p) (λ w v p. passes-revisions w.out v.out p.out) (λ ticket w. other-passes _ w refl)
 
 -- ---- a turn
 
@@ -68,15 +59,14 @@ TellsNone w = revisions w ≡ []
 abbrev Tells : ℕ → Working State → Type 0
 Tells before w = revisions w ≡ told_if_other before w.state.files.host.revision
 
-loader-tells : (version : ℕ) (w : Working State) → SameRevisions w (loader_set version w)
-unfolding loader_set
+loader-tells : (version : ℕ) (w : Working State) → SameRevisions w (roots_renewed (loader_set version w))
+unfolding roots_renewed loader_set
 loader-tells version w = other-passes _ w refl
 
 switched-tells : (made : Result (Follows × Workspaces) Counter) (w : Working State) → IfOk (switch_taken made w) (SameRevisions w)
 unfolding switch_taken
 switched-tells (Err counter) w = tt
-switched-tells (Ok made) w = switched-owes SameRevisions same-revisions made (at_workspaces (λ before. made.1) w)
-    (λ msrv version initial is v. loader-tells version v)
+switched-tells (Ok made) w = switched-owes SameRevisions same-revisions loader-tells made (at_workspaces (λ before. made.1) w)
 
 switch-tells : (w : Working State) → TellsNone w → IfOk (switch_done w) TellsNone
 unfolding switch_done
@@ -113,12 +103,14 @@ closed-tells facts w none =
 
 step-tells : (meaning : Meaning) (s : State) (input : Input) → IfOk (step meaning input (turn_start s)) (Tells s.files.host.revision)
 step-tells meaning s input =
-    walk SameRevisions same-revisions meaning s input TellsNone (Tells s.files.host.revision) (λ w v none same. same ∙ none) switch-tells (first input)
+    walk SameRevisions same-revisions meaning s input TellsNone TellsNone (Tells s.files.host.revision) (λ w v none same. same ∙ none) switch-tells
+    (first input)
     (λ w facts keeps none. subst (λ (f : Facts). IfOk (turn_closed facts w) (Tells f.revision)) keeps (closed-tells facts w none))
   where
-    first : (input : Input) → Begins meaning s input TellsNone
+    first : (input : Input) → Begins meaning s input TellsNone TellsNone
     first Start = refl
-    first (Next event) = event-owes SameRevisions same-revisions (λ path w. other-passes _ w refl) meaning event (turn_start s)
+    first (Next event) = event-owes SameRevisions same-revisions (λ path w. other-passes _ w refl) meaning event
+        (λ is v client out parents passes. passes-revisions v.out out passes) (turn_start s)
 
 pub turns-tell : (meaning : Meaning) (old : State) (turn : Turn) (new : State) → Steps meaning old turn new
     → filter_map revision_of turn.commands ≡ told_if_other old.files.host.revision new.files.host.revision

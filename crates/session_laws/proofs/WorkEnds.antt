@@ -1,5 +1,5 @@
 -- What the ends of jobs do to what is in progress of the host's own jobs: what ends is off, and nothing else starts or ends.
-use Rattle.std.proofs.Common.{◌≡◌, ℕ, List, Bool, true, false, refl, sym, ap, ◌∙◌, subst}
+use Rattle.std.proofs.Common.{◌≡◌, ℕ, List, Bool, true, false, refl, sym, ap, subst}
 use Rattle.std.specs.Prelude.{codes, Option, None, Some, option_and_then, Result, Ok, Err, if◌then◌else◌}
 use Rattle.std.specs.FinMap as map
 use Rattle.session_port.specs.Jobs.{Jobs, jobs_after, final_of, fits_final, fits_kind, fitting_job, has_build_data, has_macros, has_workspaces, if_value}
