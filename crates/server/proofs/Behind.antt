@@ -4,7 +4,7 @@ use Rattle.std.specs.Prelude.{⊤, Option, Result, Ok, Err}
 use Rattle.lsp_frame.specs.Reader.{Reader}
 use Rattle.ra_config.specs.Config.{ConfigData}
 use Rattle.session_port.specs.Record.{HostCall, Rose}
-use Rattle.session.specs.Course.{end_of}
+use Rattle.session.specs.Course.{stop_of}
 use Rattle.session.specs.Headline.{EndsByCause, IsAnswered, IsComplete}
 use Rattle.session.specs.Run.{Told, IsRun}
 use Rattle.session.specs.Meaning.{Meaning}
@@ -56,7 +56,7 @@ module _ (info : ServerInfo) (meaning : Meaning) (old middle new : Told) (honest
 module _ (info : ServerInfo) (meaning : Meaning) (old new : Told) (honest : Bool) (HostFailed SinkFailed : Type 0) where
   pub welcomed-left : (x : ⊤) → Opens (setup_of info) old new (Ok Left) → Welcomed info meaning old new honest HostFailed SinkFailed (Ok x)
   welcomed-left x opens =
-      let whole = whole-opened (setup_of info) old new new (Ok Left) (Ok x) opens refl (ap end_of opens.ends.2) in
+      let whole = whole-opened (setup_of info) old new new (Ok Left) (Ok x) opens refl (ap stop_of opens.ends.2) in
       record {
         opening = Ok Left;
         middle = new;

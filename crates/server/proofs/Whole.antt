@@ -5,9 +5,9 @@ use Rattle.lsp_frame.specs.Reader.{Reader}
 use Rattle.ra_config.specs.Config.{ConfigData}
 use Rattle.session_port.specs.Record.{HostCall, given_in, grown}
 use Rattle.session_port.specs.declared.event.HostEvent.{HostEvent}
-use Rattle.session.specs.Course.{Course, Stop, course_of, session_course, end_of}
+use Rattle.session.specs.Course.{Course, Stop, course_of, session_course, stop_of}
 use Rattle.session.specs.Headline.{EndsByCause, IsAnswered}
-use Rattle.session.specs.RunEnds.{IsEnd}
+use Rattle.session.specs.RunEnds.{EndsCourse}
 use Rattle.session.specs.Run.{Told, empty_reader}
 use Rattle.session.specs.SessionError.{SessionError}
 use Rattle.session.specs.SessionError.TheVariants.{ClientExited, BadFrame, BadMessage, HostFault, WriteFault, Exhausted, NoMemory}
@@ -30,22 +30,22 @@ same-rest (x ∷ xs) ys zs e = same-rest xs ys zs (same-tail x x (xs ++ ys) (xs 
 some-same : (xs ys : List HostCall) → Some xs ≡ Some ys → xs ≡ ys
 some-same xs ys e = cc
 
-end-taking : (inputs : List Input) (later : Course) → end_of (inputs_taken inputs later) ≡ end_of later
+end-taking : (inputs : List Input) (later : Course) → stop_of (inputs_taken inputs later) ≡ stop_of later
 end-taking [] later = refl
 end-taking (input ∷ inputs) later = end-taking inputs later
 
 module _ (setup : Setup) (old middle new : Told) where
   -- nothing followed the handshake
   pub whole-opened : (result : Result Opening SessionError) (outcome : Result ⊤ SessionError) (o : Opens setup old middle result) → new ≡ middle
-      → IsEnd outcome (end_of o.left)
+      → EndsCourse outcome (stop_of o.left)
       → EndsByCause empty_reader old.calls new.calls outcome
   whole-opened result outcome o same ends = λ before calls was is.
       let grew : new.calls ≡ Some (before ++ o.calls) =
       ap (λ (t : Told). t.calls) (same ∙ o.told) ∙ ap (λ (cs : Option (List HostCall)). grown cs o.calls) was in
       let mine : calls ≡ o.calls = same-rest before calls o.calls (some-same (before ++ calls) (before ++ o.calls) (sym is ∙ grew)) in
-      let end : end_of (session_course 0 [] (given_in calls)) ≡ end_of o.left =
-      ap (λ (cs : List HostCall). end_of (course_of 0 [] (given_in cs))) mine ∙ ap end_of o.course ∙ end-taking o.inputs o.left in
-      subst (IsEnd outcome) (sym end) ends
+      let end : stop_of (session_course 0 [] (given_in calls)) ≡ stop_of o.left =
+      ap (λ (cs : List HostCall). stop_of (course_of 0 [] (given_in cs))) mine ∙ ap stop_of o.course ∙ end-taking o.inputs o.left in
+      subst (EndsCourse outcome) (sym end) ends
 
   -- a session followed it
   pub whole-begun : (meaning : Meaning) (config : ConfigData) (reader : Reader) (honest : Bool) (outcome : Result ⊤ SessionError)
@@ -60,19 +60,19 @@ module _ (setup : Setup) (old middle new : Told) where
       let mine : calls ≡ o.calls ++ a.calls = same-rest before calls (o.calls ++ a.calls)
       (some-same (before ++ calls) (before ++ (o.calls ++ a.calls)) (sym is ∙ both ∙ ap Some (append_assoc before o.calls a.calls))) in
       let given : given_in calls ≡ given_in o.calls ++ given_in a.calls = ap given_in mine ∙ given-append o.calls a.calls in
-      let end : end_of (session_course 0 [] (given_in calls)) ≡ end_of (session_course reader.place reader.held (given_in a.calls)) =
-      ap (λ (es : List HostEvent). end_of (course_of 0 [] es)) given ∙ ap end_of (o.ends.1.course (given_in a.calls))
+      let end : stop_of (session_course 0 [] (given_in calls)) ≡ stop_of (session_course reader.place reader.held (given_in a.calls)) =
+      ap (λ (es : List HostEvent). stop_of (course_of 0 [] es)) given ∙ ap stop_of (o.ends.1.course (given_in a.calls))
       ∙ end-taking o.inputs (course_of reader.place reader.held (given_in a.calls)) in
-      subst (IsEnd outcome) (sym end) (ends (before ++ o.calls) a.calls first both)
+      subst (EndsCourse outcome) (sym end) (ends (before ++ o.calls) a.calls first both)
 
 -- what is left after a handshake that broke off is what ended it
 pub left-ends : (setup : Setup) (events bytes : ℕ) (stage : Stage) (left : Course) (Handed Untaken : Type 0) (error : SessionError)
-    → (Handed × LeftBy setup events bytes stage left error) ⊎ (Untaken × IsHostError error) → IsEnd {T = ⊤} (Err error) (end_of left)
-left-ends setup events bytes stage left Handed Untaken ClientExited (inl h) = ap end_of h.1
+    → (Handed × LeftBy setup events bytes stage left error) ⊎ (Untaken × IsHostError error) → EndsCourse {T = ⊤} (Err error) (stop_of left)
+left-ends setup events bytes stage left Handed Untaken ClientExited (inl h) = ap stop_of h.1
 left-ends setup events bytes stage left Handed Untaken ClientExited (inr h) = absurd h.1
-left-ends setup events bytes stage left Handed Untaken (BadFrame at) (inl h) = ap end_of h.1
+left-ends setup events bytes stage left Handed Untaken (BadFrame at) (inl h) = ap stop_of h.1
 left-ends setup events bytes stage left Handed Untaken (BadFrame at) (inr h) = absurd h.1
-left-ends setup events bytes stage left Handed Untaken (BadMessage at) (inl h) = ap end_of h.1
+left-ends setup events bytes stage left Handed Untaken (BadMessage at) (inl h) = ap stop_of h.1
 left-ends setup events bytes stage left Handed Untaken (BadMessage at) (inr h) = absurd h.1
 left-ends setup events bytes stage left Handed Untaken HostFault h = tt
 left-ends setup events bytes stage left Handed Untaken WriteFault h = tt

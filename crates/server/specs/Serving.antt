@@ -3,7 +3,7 @@ use Rattle.std.specs.Prelude.{◌≡◌, ℕ, List, [], ◌∷◌, ◌++◌, Boo
 use Rattle.lsp_frame.specs.Reader.{Reader}
 use Rattle.ra_config.specs.Config.{ConfigData, config_at}
 use Rattle.session_port.specs.Record.{HostCall, given_in}
-use Rattle.session.specs.Course.{course_of, end_of, exit}
+use Rattle.session.specs.Course.{course_of, stop_of, exit}
 use Rattle.session.specs.Headline.{IsAnswered, EndsByCause, IsComplete}
 use Rattle.session.specs.Meaning.{Meaning}
 use Rattle.session.specs.Run.{Told, IsRun, empty_reader}
@@ -80,7 +80,7 @@ abbrev pub Completes : Option (List HostCall) → Option (List HostCall) → Typ
     → Type 0
 Completes old new HostFailed SinkFailed outcome =
     (before calls : List HostCall) → old ≡ Some before → new ≡ Some (before ++ calls)
-    → end_of (course_of 0 [] (given_in calls)) ≡ Some exit
+    → stop_of (course_of 0 [] (given_in calls)) ≡ Some exit
     → (HostFailed → ⊥) → (SinkFailed → ⊥) → IsGoodServe outcome
 
 -- a handshake was made, and then a session was run with its settings, behind what it has read; what ended it is what

@@ -143,7 +143,7 @@ pub fn on_loader(
 // changed.
 fn take_up(store: &mut Store, out: &mut TurnOut) -> Result<Items<ChangedFile>, TurnError>
     ensures meets { Meets result (at_files (processed store.old.sources.roots) (record { state = store.old; out = out.old })) store.new out.new }
-    ensures changed_document { IfOk result (λ changed_document. changed_document ≡ changed_files store.old.files) }
+    ensures changed { IfOk result (λ changed. changed ≡ changed_files store.old.files) }
 {
     store.files.process(&store.roots, out)
 }
@@ -155,7 +155,7 @@ fn follow_files(
     changed: &Items<ChangedFile>,
     out: &mut TurnOut,
 ) -> Result<(), TurnError>
-    ensures { Gives result (files_followed changed_document.now (record { state = store.old; out = out.old })) store.new out.new }
+    ensures { Gives result (files_followed changed.now (record { state = store.old; out = out.old })) store.new out.new }
 {
     if changed.is_empty() {
         return Ok(());

@@ -1,7 +1,7 @@
 -- What a closure answers for each root, and how many crates a graph has.
 use Rattle.std.proofs.Common.{◌≡◌, ◌<◌, ◌^◌, ℕ, List, [], ◌∷◌, length, map, refl, sym, ap, ◌∙◌, subst, arith}
 use Rattle.std.proofs.lemmas.List.{length-map, length-take}
-use Rattle.std.specs.Prelude.{Option, Result, Ok, Err, IfOk, min, take}
+use Rattle.std.specs.Prelude.{Option, Result, Ok, Err, IfOk, min}
 use Rattle.std.specs.Borrow.{Bor}
 use Rattle.std.specs.Fn.{Mut, CalledAt}
 use Rattle.docs_vfs.specs.declared.file_kinds.FileId.{FileId}

@@ -2,11 +2,11 @@
 use Rattle.std.proofs.Common.{◌≡◌, ℕ, List, [], ◌∷◌, ◌++◌, length, map, Bool, true, false, refl, ap, sym, ◌∙◌}
 use Rattle.std.proofs.Math.Dec.{eqb-suc-zero}
 use Rattle.std.proofs.lemmas.Bool.{true≢false}
-use Rattle.std.specs.Prelude.{◌==◌, ◌||◌, if◌then◌else◌, codes, not, Option, None, Some, is_some, Result, Ok, Err}
+use Rattle.std.specs.Prelude.{◌==◌, ◌||◌, if◌then◌else◌, not, Option, None, Some, is_some, Result, Ok, Err}
 use Rattle.std.specs.List.{concat, list_any}
 use Rattle.project_model.specs.declared.build.BuildScripts.{BuildScripts}
 use Rattle.project_model.specs.declared.workspace.ProjectWorkspace.{ProjectWorkspace}
-use Rattle.reload.specs.Errors.{build_error, fetch_error, line_feed, line_of_build, line_of_failed, line_of_workspace, unless_empty}
+use Rattle.reload.specs.Errors.{build_error, fetch_error, line_feed, line_of_build, line_of_workspace, unless_empty}
 use Rattle.session_status.specs.Failures.{has_failed, has_failed_build}
 
 -- whether a text has a byte

@@ -1,6 +1,4 @@
 use Rattle.std.proofs.Common.{ℕ, ◌<◌, ◌^◌, length, sym, ap, subst}
-use Rattle.project_model.specs.declared.build.MacroPath.{MacroPath}
-use Rattle.session_model.specs.Crates.{crate_graph}
 use Rattle.session_renewal.proofs.Graphs.{crates_fit}
 use Rattle.session_renewal.proofs.crates.crate_data.Goals as goal
 

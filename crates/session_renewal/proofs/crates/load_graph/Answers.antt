@@ -1,4 +1,4 @@
-use Rattle.std.proofs.Common.{◌≡◌, ℕ, List, Option, map, subst, rules}
+use Rattle.std.proofs.Common.{◌≡◌, ℕ, List, map, subst, rules}
 use Rattle.std.specs.Prelude.{IfOk}
 use Rattle.project_model.specs.declared.build.MacroPath.{MacroPath}
 use Rattle.project_model.specs.declared.crates.CrateData.{CrateData}
