@@ -1,5 +1,6 @@
 -- What a snapshot says of its files, which queries name by their numbers.
-use Rattle.std.specs.Prelude.{◌≡◌, ℕ, ℤ, Bool, true, false, is_some, IsSome, List, Option, None, Some, option_and_then, Result, Ok, Err}
+use Rattle.std.specs.Prelude.{◌≡◌, ℕ, ℤ, Bool, true, false, is_some, IsSome, List, Option, None, Some, option_and_then}
+use Rattle.std.specs.Prelude.{Result, Ok, Err}
 use Rattle.std.specs.Arc.{arc_value}
 use Rattle.std.specs.Option.{option_map, unwrap_or}
 use Rattle.std.specs.FinMap as map
@@ -71,7 +72,8 @@ beside path text = resolve Dropped (folder_of path) text
 
 -- the URL of the path that a text is, taken from the folder of a file
 abbrev pub url_beside : SnapshotData → FileId → List ℕ → Option (List ℕ)
-url_beside snapshot anchor text = option_map url_of (option_and_then (λ path. beside path text) (path_at snapshot anchor))
+url_beside snapshot anchor text = option_map url_of
+    (option_and_then (λ path. beside path text) (path_at snapshot anchor))
 
 -- ---- to a number
 

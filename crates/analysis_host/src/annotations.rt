@@ -6,7 +6,7 @@ use crate::file_places::{position_in, range_in};
 use crate::lens::{Annotation, LensResolve};
 use crate::proto_fault::ProtoFault;
 use crate::snapshot::GlobalStateSnapshot;
-use docs_vfs::{FileId, UrlFault, VfsPath, path_of_url};
+use docs_vfs::{FileId, VfsPath, path_named};
 use std::alloc::Global;
 use text_core::Range;
 
@@ -67,9 +67,9 @@ pub fn annotation(
 ) -> Result<Option<Annotation>, ProtoFault>
     ensures { Finds result (annotation snapshot.now range lens.now) }
 {
-    match path_of_url(alloc, lens.url.as_str()) {
-        Ok(path) => annotation_at(snapshot, range, lens, &path),
-        Err(UrlFault::NoMemory) => Err(ProtoFault::NoMemory),
-        Err(UrlFault::NotFile | UrlFault::HasHost | UrlFault::NotText) => Ok(None),
+    match path_named(alloc, lens.url.as_str()) {
+        Ok(Some(path)) => annotation_at(snapshot, range, lens, &path),
+        Ok(None) => Ok(None),
+        Err(_) => Err(ProtoFault::NoMemory),
     }
 }

@@ -23,7 +23,7 @@ pub use annotations::annotation;
 pub use ask::{Answer, Ask, Outcome};
 pub use cancel::{Cancel, Never};
 pub use file_places::{FilePosition, FileRange, file_position, file_range};
-pub use from_proto::{AssistKind, assist_kind, position_of, range_of};
+pub use from_proto::{AssistKind, assist_kind};
 pub use host::{AnalysisHost, Change, FileChange, WorldFault};
 pub use lens::{Annotation, LensKind, LensResolve};
 pub use method_table::RowId;

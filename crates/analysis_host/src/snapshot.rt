@@ -9,6 +9,7 @@ use crate::versions::Versions;
 use crate::world::World;
 use docs_vfs::{SourceRoots, VfsPath};
 use file_ids::FileIds;
+use op_board::CheckFix;
 use plain::{Copied, Items, NoMemory};
 use project_model::{
     CrateData, PackageSpecifier, ProjectWorkspace, TargetSpec,
@@ -28,6 +29,8 @@ pub struct SnapshotParts {
     pub file_ids: FileIds,
     pub versions: Versions,
     pub config: Arc<Config, Global>,
+    /// What checks offer to mend.
+    pub check_fixes: Arc<Items<CheckFix>, Global>,
     pub proc_macros_loaded: bool,
     pub workspaces: Arc<Items<ProjectWorkspace>, Global>,
     pub workspaces_version: u64,
@@ -41,6 +44,7 @@ impl Drop for SnapshotParts {
             file_ids: _,
             versions: _,
             config: _,
+            check_fixes: _,
             proc_macros_loaded: _,
             workspaces: _,
             workspaces_version: _,
@@ -75,6 +79,7 @@ impl Model for GlobalStateSnapshot {
       file_ids = (arc_value s.parts).file_ids;
       versions = (arc_value s.parts).versions;
       config = arc_value (arc_value s.parts).config;
+      check_fixes = arc_value (arc_value s.parts).check_fixes;
       proc_macros_loaded = (arc_value s.parts).proc_macros_loaded;
       workspaces = arc_value (arc_value s.parts).workspaces;
       workspaces_version = (arc_value s.parts).workspaces_version;
@@ -89,6 +94,7 @@ impl GlobalStateSnapshot {
           file_ids = parts.file_ids;
           versions = parts.versions;
           config = arc_value parts.config;
+          check_fixes = arc_value parts.check_fixes;
           proc_macros_loaded = parts.proc_macros_loaded;
           workspaces = arc_value parts.workspaces;
           workspaces_version = parts.workspaces_version;
@@ -130,6 +136,13 @@ impl GlobalStateSnapshot {
         ensures { result.now ≡ self.now.world.crates }
     {
         self.parts.world.crate_data()
+    }
+
+    /// What checks offer to mend.
+    pub fn check_fixes(&self) -> &[CheckFix]
+        ensures { result.now ≡ self.now.check_fixes }
+    {
+        self.parts.check_fixes.as_slice()
     }
 
     /// Whether proc macros are loaded.

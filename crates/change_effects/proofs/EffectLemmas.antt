@@ -8,12 +8,12 @@ use Rattle.std.proofs.lemmas.Bool.{true≢false}
 use Rattle.std.proofs.lemmas.List.Elements.{All-nil, All-cons}
 use Rattle.std.proofs.lemmas.List.Folds.{Any-from_list_any, list_any-from_Any, list_any_none}
 use Rattle.docs_vfs.specs.Files.{Files, change_of, change_with, contents_at, kind_between, changes}
+use Rattle.docs_vfs.specs.Kinds.{is_created_or_deleted}
 use Rattle.docs_vfs.specs.declared.file_kinds.ChangeKind.{ChangeKind}
 use Rattle.docs_vfs.specs.declared.file_kinds.ChangeKind.TheVariants.{Create, Modify, Delete}
 use Rattle.docs_vfs.specs.declared.file_kinds.ChangedFile.{ChangedFile}
 use Rattle.docs_vfs.specs.declared.file_kinds.FileId.{FileId}
 use Rattle.docs_vfs.specs.declared.file_kinds.FileWas.{FileWas}
-use Rattle.reload.specs.Refresh.{is_modify}
 use Rattle.workspaces.specs.Fetches.{is_forced}
 use Rattle.workspaces.specs.Workspaces.{Paths}
 use Rattle.change_effects.specs.declared.effects.SettingsFile.{SettingsFile}
@@ -86,14 +86,14 @@ sources_unless_forced asked additional list = told_unless (are_awaited asked lis
 
 -- ---- causes
 
-came_where : (kind : ChangeKind) → kind ≢ Modify → not (is_modify kind) ≡ true
+came_where : (kind : ChangeKind) → kind ≢ Modify → is_created_or_deleted kind ≡ true
 came_where Create other = refl
 came_where Delete other = refl
 came_where Modify other = absurd (other refl)
 
-other_where : (kind : ChangeKind) (b : Bool) → (not (is_modify kind) && b) ≡ true → (kind ≢ Modify) × (b ≡ true)
-other_where Create b is = (λ same. true≢false (sym (ap is_modify same)), is)
-other_where Delete b is = (λ same. true≢false (sym (ap is_modify same)), is)
+other_where : (kind : ChangeKind) (b : Bool) → (is_created_or_deleted kind && b) ≡ true → (kind ≢ Modify) × (b ≡ true)
+other_where Create b is = (λ same. true≢false (ap is_created_or_deleted same), is)
+other_where Delete b is = (λ same. true≢false (ap is_created_or_deleted same), is)
 other_where Modify b is = absurd (true≢false (sym is))
 
 pub cause_of : (asked : Paths) (list : List ChangedFile) → are_awaited asked list ≡ true → Any (IsCause asked) list
@@ -106,11 +106,11 @@ awaited_by asked list some =
 
 -- ---- modifications
 
-not_both : (kind : ChangeKind) (b : Bool) → kind ≡ Modify → (not (is_modify kind) && b) ≡ false
-not_both kind b is = ap (λ kind. not (is_modify kind) && b) is
+not_both : (kind : ChangeKind) (b : Bool) → kind ≡ Modify → (is_created_or_deleted kind && b) ≡ false
+not_both kind b is = ap (λ kind. is_created_or_deleted kind && b) is
 
 pub none_came : (list : List ChangedFile) → All IsModified list → have_come_or_gone list ≡ false
-none_came list all = list_any_none came_or_went list (λ k d below. ap (λ kind. not (is_modify kind)) (all k d below))
+none_came list all = list_any_none came_or_went list (λ k d below. ap is_created_or_deleted (all k d below))
 
 pub none_awaited : (asked : Paths) (list : List ChangedFile) → All IsModified list → are_awaited asked list ≡ false
 none_awaited asked list all = list_any_none (is_awaited asked) list (λ k d below. not_both _ _ (all k d below))

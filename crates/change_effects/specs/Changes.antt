@@ -2,16 +2,17 @@
 use Rattle.std.specs.Prelude.{ℕ, Bool, false, not, ◌&&◌, ◌||◌, List, codes, bytes_eq, Option, Some, None, is_some}
 use Rattle.std.specs.Prelude.{option_and_then, if◌then◌else◌}
 use Rattle.std.specs.FinMap as map
+use Rattle.docs_vfs.specs.Kinds.{is_created_or_deleted}
 use Rattle.docs_vfs.specs.Paths.{name_of, extension_of}
 use Rattle.docs_vfs.specs.declared.file_kinds.ChangedFile.{ChangedFile}
 use Rattle.docs_vfs.specs.declared.file_kinds.FileId.{FileId}
-use Rattle.reload.specs.Refresh.{is_modify, is_extension_rs, refreshes}
+use Rattle.reload.specs.Refresh.{is_extension_rs, refreshes}
 use Rattle.workspaces.specs.Workspaces.{Paths}
 use Rattle.change_effects.specs.declared.effects.SettingsFile.{SettingsFile}
 
 -- the file was created or deleted
 abbrev pub came_or_went : ChangedFile → Bool
-came_or_went change = not (is_modify change.kind)
+came_or_went change = is_created_or_deleted change.kind
 
 -- and is one that crate data asked for
 abbrev pub is_awaited : Paths → ChangedFile → Bool
@@ -36,7 +37,7 @@ is_rust path = is_extension_rs (option_and_then extension_of (name_of path))
 
 -- a file of Rust that was modified
 abbrev pub is_source : ChangedFile → Bool
-is_source change = is_modify change.kind && is_rust change.path
+is_source change = not (came_or_went change) && is_rust change.path
 
 abbrev pub source_of : ChangedFile → Option FileId
 source_of change = if is_source change then Some change.file else None

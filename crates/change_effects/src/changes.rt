@@ -2,7 +2,7 @@
 ghost use Rattle.std.specs.Prelude.{◌≡◌};
 ghost use Rattle.change_effects.specs.Changes.{came_or_went, is_awaited, is_settings_file, is_rust, is_source, asks_fetch};
 
-use docs_vfs::{ByPath, ChangeKind, ChangedFile, VfsPath};
+use docs_vfs::{ByPath, ChangedFile, VfsPath};
 use plain::Text;
 use reload::should_refresh_for_change;
 
@@ -10,11 +10,7 @@ use reload::should_refresh_for_change;
 pub(crate) fn came_or_went(change: &ChangedFile) -> bool
     ensures { result ≡ came_or_went change.now }
 {
-    match change.kind {
-        ChangeKind::Create => true,
-        ChangeKind::Modify => false,
-        ChangeKind::Delete => true,
-    }
+    change.kind.is_created_or_deleted()
 }
 
 /// Whether the file was created or deleted, and is one that crate data asked for.

@@ -6,7 +6,7 @@ ghost use Rattle.change_effects.specs.Effects.{have_come_or_gone, are_awaited, s
 
 use crate::changes::{asks_fetch, came_or_went, is_awaited, is_settings_file, is_source};
 use docs_vfs::{ByPath, ChangedFile, FileId, SharedBytes, VfsPath};
-use plain::{Copied, Items, NoMemory, Text};
+use plain::{Items, NoMemory, Text, copy};
 use std::alloc::Global;
 use workspaces::FetchRequest;
 
@@ -29,12 +29,6 @@ pub struct ChangeEffects {
     pub macro_sources: Option<Items<FileId>>,
     /// The fetch of workspaces that is asked for.
     pub fetch: Option<FetchRequest>,
-}
-
-fn copy<T: Copied>(value: &T) -> Result<T, NoMemory>
-    ensures { IfOk result (λ copy. copy ≡ value.now) }
-{
-    value.clone()
 }
 
 fn have_come_or_gone(changes: &[ChangedFile]) -> bool

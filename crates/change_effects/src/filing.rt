@@ -1,5 +1,6 @@
 //! Settings files as a change of settings.
 ghost use Rattle.std.specs.Prelude.{◌≡◌, ◌++◌, Some, option_to_list, IfOk, OnOk};
+ghost use Rattle.std.specs.Option.{option_copied};
 ghost use Rattle.text_core.specs.LineEnds.{normalized};
 ghost use Rattle.change_effects.specs.Filing.{filed_change, crate_file, crate_files, file_in, is_at_workspace, is_folder, text_in, workspace_file, workspace_files};
 
@@ -43,29 +44,23 @@ fn text_in(alloc: Global, contents: &Option<SharedBytes>) -> Result<Option<Text>
     }
 }
 
-fn is_folder(folder: &Option<VfsPath>, root: &VfsPath) -> bool
-    ensures { result ≡ is_folder folder.now root.now }
+fn is_folder(folder: Option<&str>, root: &VfsPath) -> bool
+    ensures { result ≡ is_folder (option_copied folder.entry) root.now }
 {
     match folder {
         None => false,
-        Some(folder) => folder == root,
+        Some(folder) => folder == root.as_str(),
     }
 }
 
 /// Whether a path stands right at the root of a workspace.
-fn is_at_workspace(
-    alloc: Global,
-    workspaces: &[ProjectWorkspace],
-    path: &VfsPath,
-) -> Result<bool, NoMemory>
-    ensures { IfOk result (λ is_at. is_at ≡ is_at_workspace workspaces.now path.now) }
+fn is_at_workspace(workspaces: &[ProjectWorkspace], path: &VfsPath) -> bool
+    ensures { result ≡ is_at_workspace workspaces.now path.now }
 {
-    let folder = path.parent(alloc)?;
-    Ok(
-        workspaces
-            .iter()
-            .any(|workspace| is_folder(&folder, &workspace.root)),
-    )
+    let folder = path.parent_str();
+    workspaces
+        .iter()
+        .any(|workspace| is_folder(folder, &workspace.root))
 }
 
 /// A file in a local root, with its root.
@@ -95,7 +90,7 @@ fn workspace_file(
 ) -> Result<Option<RootFile>, NoMemory>
     ensures { IfOk result (λ found. found ≡ workspace_file roots.now workspaces.now file.now) }
 {
-    if is_at_workspace(alloc, workspaces, &file.path)? {
+    if is_at_workspace(workspaces, &file.path) {
         file_in(alloc, roots, file)
     } else {
         Ok(None)
@@ -110,7 +105,7 @@ fn crate_file(
 ) -> Result<Option<RootFile>, NoMemory>
     ensures { IfOk result (λ found. found ≡ crate_file roots.now workspaces.now file.now) }
 {
-    if is_at_workspace(alloc, workspaces, &file.path)? {
+    if is_at_workspace(workspaces, &file.path) {
         Ok(None)
     } else {
         file_in(alloc, roots, file)

@@ -1,19 +1,21 @@
 -- A list of roots and the map of it hold the same.
-use Rattle.std.proofs.Common.{◌≡◌, ℕ, Bool, true, List, [], ◌∷◌, ◌++◌, length, take, drop, map, filter, subst, Option, is_some, refl, sym, ap, ◌∙◌, append_assoc, take-append-drop, take_at, drop_at}
-use Rattle.std.specs.Prelude.{bytes_eq}
+use Rattle.std.proofs.Common.{◌≡◌, ℕ, Bool, true, List, [], ◌∷◌, ◌++◌, length, map, filter, subst, Option, is_some, refl, sym, ap, ◌∙◌}
+use Rattle.std.specs.Prelude.{bytes_eq, if◌then◌else◌}
 use Rattle.std.specs.List.{list_any}
 use Rattle.std.specs.FinMap as by_key
 use Rattle.std.specs.FinMap.Entries.{is_some-find}
 use Rattle.std.specs.Ordering.{eq_by_cmp}
 use Rattle.std.specs.Cmp.Lexicographic.{nat_list_cmp_total, texts_ties}
 use Rattle.docs_vfs.specs.Paths.{path_cmp}
+use Rattle.plain.proofs.Mapped.{from_entries-push}
+use Rattle.std.proofs.lemmas.List.{map-append}
 use Rattle.project_model.specs.declared.crates.CrateInfo.{CrateInfo}
 use Rattle.project_model.specs.declared.target_spec.TargetSpec.{TargetSpec}
 use Rattle.project_model.specs.declared.workspace.ProjectWorkspace.{ProjectWorkspace}
 use Rattle.check_restarts.specs.Among.{is_among, marked, as_map, holds}
 use Rattle.check_restarts.specs.Dependents.{AreAffected}
 use Rattle.check_restarts.specs.Restarts.{first_target, restart_at, alone, place_of, is_affected, or_all, others, AddsOthers, AreRestarts}
-use Rattle.check_restarts.specs.declared.scope.Restart.{Restart}
+use Rattle.project_model.specs.declared.check_scope.Restart.{Restart}
 
 roots_marked : (roots : List (List ℕ)) → map (λ e. e.0) (map marked roots) ≡ roots
 roots_marked [] = refl
@@ -27,16 +29,12 @@ holds_same roots = λ i root. (
     ap is_some (by_key.get-from_entries nat_list_cmp_total (map marked roots) root) ∙ is_some-find path_cmp root (map marked roots)
     ∙ ap (list_any (eq_by_cmp path_cmp root)) (roots_marked roots) ∙ ap (λ test. list_any test roots) (same_test root)) i
 
--- the last item of a front, and what stands before it
-pub cut_last : {X : Type 0} (whole rest front : List X) (last : X) → rest ≡ take (length rest) whole → rest ≡ front ++ last ∷ []
-    → (drop (length front) whole ≡ last ∷ drop (length rest) whole) × (front ≡ take (length front) whole)
-cut_last whole rest front last is cut =
-    let behind = drop (length rest) whole in
-    let parts : whole ≡ front ++ last ∷ behind =
-    sym (take-append-drop (length rest) whole) ∙ ap (λ l. l ++ behind) (sym is) ∙ ap (λ l. l ++ behind) cut ∙ append_assoc front (last ∷ []) behind in (
-      ap (drop (length front)) parts ∙ drop_at front (last ∷ behind) (length front) refl,
-      sym (ap (take (length front)) parts ∙ take_at front (last ∷ behind) (length front) refl),
-    )
+-- one root more
+pub as_map-more : (before : List (List ℕ)) (root : List ℕ)
+    → (if is_some (by_key.get (as_map before) root) then as_map before else by_key.insert (as_map before) root true) ≡ as_map (before ++ root ∷ [])
+as_map-more before root =
+    sym (from_entries-push nat_list_cmp_total (by_key.slice_cmp-IsAntisymmetric by_key.nat_cmp-IsAntisymmetric) (map marked before) root true)
+    ∙ ap (λ es. by_key.from_entries {R = path_cmp} es) (sym (map-append marked before (root ∷ [])))
 
 -- the restarts of the others, and the package's before them
 pub both : (check_workspace : Bool) (crates : List CrateInfo) (paths roots : List (List ℕ)) (workspaces : List ProjectWorkspace) (checks saved : List ℕ) (target : Option TargetSpec)

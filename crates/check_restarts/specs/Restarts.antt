@@ -13,9 +13,9 @@ use Rattle.project_model.specs.Dependencies.{all_deps}
 use Rattle.project_model.specs.Targets.{target_spec_for_file}
 use Rattle.check_restarts.specs.Among.{is_among, has_target_at}
 use Rattle.check_restarts.specs.Dependents.{AreAffected}
-use Rattle.check_restarts.specs.declared.scope.CheckScope.{CheckScope}
-use Rattle.check_restarts.specs.declared.scope.CheckScope.TheVariants as scope
-use Rattle.check_restarts.specs.declared.scope.Restart.{Restart}
+use Rattle.project_model.specs.declared.check_scope.CheckScope.{CheckScope}
+use Rattle.project_model.specs.declared.check_scope.CheckScope.TheVariants as scope
+use Rattle.project_model.specs.declared.check_scope.Restart.{Restart}
 
 -- the target that the first root is the root of
 abbrev pub first_target : List ProjectWorkspace → List (List ℕ) → Option TargetSpec

@@ -2,12 +2,10 @@
 ghost use Rattle.std.specs.Prelude.{◌≡◌, position, bytes_eq, Some, None, is_some, if◌then◌else◌, IfOk};
 ghost use Rattle.check_restarts.specs.Restarts.{first_target, is_named, named_target, root_of, specifier_of, is_project_json, is_alone, place_alone, package_scope};
 
-use crate::copies::copy;
-use crate::scope::CheckScope;
 use docs_vfs::VfsPath;
-use plain::{NoMemory, Text};
+use plain::{NoMemory, Text, copy};
 use project_model::{
-    PackageSpecifier, ProjectWorkspace, TargetKind, TargetSpec,
+    CheckScope, PackageSpecifier, ProjectWorkspace, TargetKind, TargetSpec,
     all_workspace_dependencies_for_package, target_spec_for_file,
 };
 use std::alloc::Global;

@@ -12,10 +12,8 @@ pub(crate) fn as_map(alloc: Global, roots: &[VfsPath]) -> Result<ByPath<bool>, N
     ensures { IfOk result (λ rows. rows ≡ as_map roots.now) }
 {
     let mut rows = ByPath::new(alloc);
-    let mut rest = roots;
-    while let Some((last, front)) = rest.split_last() {
-        rows.insert(last.clone()?, true)?;
-        rest = front;
+    for root in roots {
+        rows.insert_new(root.clone()?, true)?;
     }
     Ok(rows)
 }

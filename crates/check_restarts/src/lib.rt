@@ -4,13 +4,10 @@
 mod affected;
 mod alone;
 mod among;
-mod copies;
 mod dependents;
 mod restarts;
-mod scope;
 mod walk;
 
 pub use affected::affected_roots;
 pub use plain::NoMemory;
 pub use restarts::check_restarts;
-pub use scope::{CheckScope, Restart};

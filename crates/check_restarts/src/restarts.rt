@@ -7,11 +7,9 @@ ghost use Rattle.check_restarts.specs.Restarts.{first_target, restart_at, alone_
 use crate::affected::affected_roots;
 use crate::alone::{first_target, package_scope, place_alone};
 use crate::among::{as_map, has_target_at};
-use crate::copies::copy;
-use crate::scope::{CheckScope, Restart};
 use docs_vfs::{ByPath, VfsPath};
-use plain::{Items, NoMemory};
-use project_model::{CrateInfo, ProjectWorkspace, TargetSpec};
+use plain::{Items, NoMemory, copy};
+use project_model::{CheckScope, CrateInfo, ProjectWorkspace, Restart, TargetSpec};
 use std::alloc::Global;
 
 fn is_any(checks: &[u64], place: usize) -> bool

@@ -23,6 +23,9 @@ use Rattle.analysis_host.specs.contracts.snapshot.SnapshotParts as SnapshotParts
 use Rattle.analysis_host.specs.contracts.versions.Versions as Versions
 use Rattle.analysis_host.specs.contracts.world.World as World
 use Rattle.docs_vfs.proofs.source_roots.Root.TheSendSync as Root
+use Rattle.op_board.proofs.diagnostic.CheckFix.TheSendSync as CheckFix
+use Rattle.project_model.proofs.check_scope.CheckScope.TheSendSync as CheckScope
+use Rattle.session_port.proofs.command.DiscoverArg.TheSendSync as DiscoverArg
 use Rattle.docs_vfs.proofs.source_roots.SourceRoots.TheSendSync as SourceRoots
 use Rattle.project_model.proofs.crates.CrateData.TheSendSync as CrateData
 use Rattle.project_model.proofs.workspace.ProjectWorkspace.TheSendSync as ProjectWorkspace
@@ -87,7 +90,7 @@ versions_send = search trees depth 60 fits 20000
 pub versions_sync : IsSync Versions.the_row
 versions_sync = search trees depth 60 fits 20000
 
-ruleset workspaces = (ProjectWorkspace.the_send, ProjectWorkspace.the_sync, Items.the_send, Items.the_sync)
+ruleset workspaces = (ProjectWorkspace.the_send, ProjectWorkspace.the_sync, CheckFix.the_send, CheckFix.the_sync, Items.the_send, Items.the_sync)
 
 pub parts_send : IsSend SnapshotParts.the_row
 parts_send = declared_send SnapshotParts.the_type (search (world_send, file_ids_send, versions_send, config_send, config_sync, workspaces, heap.Arc-send, sendable) depth 20 fits 20000)
@@ -108,7 +111,7 @@ pub job_sync : IsSync Job.the_row
 job_sync = declared_sync Job.the_type (search (PoolClass.the_sync, JobKind.the_sync, snapshot_sync, sendable) depth 20 fits 20000)
 
 pub command_send : IsSend Command.the_row
-command_send = variants_send Command.enum (search (job_send, LogCode.the_send, DeferredTask.the_send, Root.the_send, Items.the_send, Text.the_send, VfsPath.the_send, sendable) depth 20 fits 20000)
+command_send = variants_send Command.enum (search (job_send, LogCode.the_send, DeferredTask.the_send, CheckScope.the_send, DiscoverArg.the_send, Root.the_send, Items.the_send, Text.the_send, VfsPath.the_send, sendable) depth 20 fits 20000)
 
 -- for a type or a closure that holds one of these
 pub ruleset sends = (world_send, file_ids_send, versions_send, config_send, snapshot_send, job_send, command_send, heap.Arc-send)

@@ -1,6 +1,6 @@
 //! A worker: a thread that answers one job by the analysis.
 ghost use Rattle.std.specs.Prelude.{◌≡◌, true};
-ghost use Rattle.session_port.specs.Jobs.{asks_analysis};
+ghost use Rattle.session_port.specs.Kinds.{asks_analysis};
 ghost use Rattle.crossing.specs.Workers.{IsMessageOf, IsStarted};
 
 use analysis_host::{Analysis, Never};
@@ -35,13 +35,13 @@ pub enum Worker<A: Analysis> {
     Ended(TaskMsg),
 }
 
-fn work<A: Analysis>(analysis: Arc<A, Global>, job: Job) -> TaskMsg
+fn work<A: Analysis>(alloc: Global, analysis: Arc<A, Global>, job: Job) -> TaskMsg
     requires asked { asks_analysis job.kind ≡ true }
     ensures { IsMessageOf A.answer job result }
 {
     // A revision fits 64 bits.
     let _revision = job.snapshot.revision();
-    let result = run_job(&job, &*analysis, &mut Never::new());
+    let result = run_job(alloc, &job, &*analysis, &mut Never::new());
     TaskMsg {
         job: job.number,
         body: TaskBody::Final(result),
@@ -51,6 +51,7 @@ fn work<A: Analysis>(analysis: Arc<A, Global>, job: Job) -> TaskMsg
 /// Starts a worker on a job for which the analysis is asked.
 pub fn start<R: Threads, A: Analysis + Send + Sync + 'static>(
     rt: &R,
+    alloc: Global,
     analysis: Arc<A, Global>,
     job: Job,
 ) -> Worker<A>
@@ -61,7 +62,7 @@ pub fn start<R: Threads, A: Analysis + Send + Sync + 'static>(
         job: Snapshot::of(&job),
         marker: PhantomData,
     };
-    match thread::spawn_with(rt, promise, move || work(analysis, job)) {
+    match thread::spawn_with(rt, promise, move || work(alloc, analysis, job)) {
         Ok(handle) => Worker::Running(handle),
         Err(refused) => Worker::Ended((refused.value)()),
     }

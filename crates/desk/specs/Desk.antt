@@ -3,7 +3,8 @@ use Rattle.std.specs.Prelude.{ℕ, Bool, false, option_and_then, Option}
 use Rattle.std.specs.FinMap as map
 use Rattle.lsp_frame.specs.Pending.{Pending, none_pending, id_of}
 use Rattle.lsp_frame.specs.declared.message.RequestId.{RequestId}
-use Rattle.session_port.specs.Jobs.{Jobs, ticket_of_job}
+use Rattle.session_port.specs.Jobs.{Jobs}
+use Rattle.session_port.specs.Kinds.{ticket_of_job}
 use Rattle.session_port.specs.declared.job.Job.{Job}
 
 pub record Desk : Type 0 where

@@ -14,13 +14,15 @@ use Rattle.lsp_frame.specs.declared.message.Request.{Request}
 use Rattle.lsp_frame.specs.declared.message.Response.{Response}
 use Rattle.method_table.specs.Plans.{is_shutdown}
 use Rattle.method_table.specs.Rows.{row_of}
-use Rattle.session_port.specs.Jobs.{Jobs, ticket_of_job, jobs_after}
+use Rattle.session_port.specs.Jobs.{Jobs, jobs_after}
+use Rattle.session_port.specs.Kinds.{slot_at, slot_of, ticket_of_job}
 use Rattle.session_port.specs.declared.event.TaskMsg.{TaskMsg}
 use Rattle.session_port.specs.declared.job.Job.{Job}
+use Rattle.session_port.specs.declared.kinds.Slot.{Slot}
 use Rattle.desk.specs.Desk.{Desk}
 use Rattle.desk.specs.Reactions.{Reaction, responses_of}
 use Rattle.desk.specs.Replies.{already_pending}
-use Rattle.desk.specs.Slots.{Slot, slot_at, slot_of, unreported}
+use Rattle.desk.specs.Slots.{unreported}
 
 -- the jobs that are for a request
 abbrev pub is_for_request : Job → Bool

@@ -20,11 +20,11 @@ use Rattle.method_table.specs.Unit.{is_unit}
 use Rattle.method_table.specs.declared.request.StateRequest.{StateRequest}
 use Rattle.dispatch.specs.Responses.{response_with}
 use Rattle.session_port.specs.Jobs.{final_of, fitting_job}
+use Rattle.session_port.specs.Kinds.{AskedFor, asked_for}
 use Rattle.session_port.specs.declared.event.TaskMsg.{TaskMsg}
 use Rattle.session_port.specs.declared.job.Job.{Job}
 use Rattle.session_port.specs.declared.job.JobKind.{JobKind}
-use Rattle.session_port.specs.declared.job.JobKind.TheVariants.{Request as RequestJob, ProcMacroSources}
-use Rattle.session_port.specs.declared.job.JobKind.TheVariants.{FetchWorkspaces, FetchBuildData, LoadProcMacros}
+use Rattle.session_port.specs.declared.job.JobKind.TheVariants.{Request as RequestJob}
 use Rattle.session_port.specs.declared.job.JobResult.{JobResult}
 use Rattle.session_port.specs.Written.{responses_in}
 use Rattle.desk.specs.Desk.{Desk, waiting_for}
@@ -113,16 +113,15 @@ abbrev pub cancel_row : RequestId → Desk → Reaction
 cancel_row id desk = if is_pending id desk.pending then says (canceled_by_client id) else silent
 
 -- a job that stopped, of a request that is pending: where the revision is above the job's snapshot's and the row isn't
--- to be tried again, the request is
--- refused; else it is taken as one that is read here, under its ticket
+-- to be tried again, the request is refused; else it is taken as one that is read here, under its ticket
+abbrev pub stopped_for_row : Meaning → Scene → Desk → RequestId → ℕ → Option AskedFor → Reaction
+stopped_for_row meaning scene desk id revision None = silent
+stopped_for_row meaning scene desk id revision (Some r) =
+    if ltb revision scene.snapshot.revision && not (retries r.row) then says (stopped_reply (class_of r.row) id)
+    else class_row meaning scene desk r.ticket id r.row r.params
+
 abbrev pub stopped_row : Meaning → Scene → Desk → RequestId → ℕ → JobKind → Reaction
-stopped_row meaning scene desk id revision (RequestJob ticket row params) =
-    if ltb revision scene.snapshot.revision && not (retries row) then says (stopped_reply (class_of row) id)
-    else class_row meaning scene desk ticket id row params
-stopped_row meaning scene desk id revision (ProcMacroSources files) = silent
-stopped_row meaning scene desk id revision (FetchWorkspaces projects detached path force) = silent
-stopped_row meaning scene desk id revision (FetchBuildData version) = silent
-stopped_row meaning scene desk id revision (LoadProcMacros paths ignored) = silent
+stopped_row meaning scene desk id revision kind = stopped_for_row meaning scene desk id revision (asked_for kind)
 
 -- a result, of a request that is pending
 abbrev pub result_row : Meaning → Scene → Desk → Option Response → RequestId → Job → Reaction

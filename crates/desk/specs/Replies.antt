@@ -4,15 +4,15 @@ use Rattle.serde_json.specs.Data.{Data, boolean, object, member, no_members}
 use Rattle.lsp_frame.specs.declared.message.RequestId.{RequestId}
 use Rattle.lsp_frame.specs.declared.message.Response.{Response}
 use Rattle.analysis_host.specs.Answers.{Finding, answer, fault}
+use Rattle.analysis_host.specs.declared.ask.Answer.{Answer}
+use Rattle.analysis_host.specs.declared.ask.Answer.TheVariants.{Json as JsonAnswer}
 use Rattle.dispatch.specs.Responses.{response_with, refusal, fault_code}
 use Rattle.method_table.specs.declared.class.Class.{Class}
-use Rattle.method_table.specs.declared.class.Class.TheVariants.{State, OnLoop, Formatting, Latency, DocumentDiagnostic}
-use Rattle.method_table.specs.declared.class.Class.TheVariants.{Worker, Identity}
-use Rattle.session_port.specs.Jobs.{value_answering}
+use Rattle.method_table.specs.declared.class.Class.TheVariants.{DocumentDiagnostic}
 use Rattle.session_port.specs.declared.job.JobResult.{JobResult}
 use Rattle.session_port.specs.declared.job.JobResult.TheVariants.{Value, Fault, Cancelled, NoMemory}
 use Rattle.session_port.specs.declared.job.JobValue.{JobValue}
-use Rattle.session_port.specs.declared.job.JobValue.TheVariants.{Json, Roots, Primed, Workspaces, BuildData, ProcMacros}
+use Rattle.session_port.specs.declared.job.JobValue.TheVariants.{Json}
 
 -- -32600
 abbrev pub already_pending : RequestId → Response
@@ -57,12 +57,7 @@ server_cancelled id = record {
 -- why a request is refused whose job stopped for a later revision
 abbrev pub stopped_reply : Class → RequestId → Response
 stopped_reply DocumentDiagnostic id = server_cancelled id
-stopped_reply State id = content_modified id
-stopped_reply OnLoop id = content_modified id
-stopped_reply Formatting id = content_modified id
-stopped_reply Latency id = content_modified id
-stopped_reply Worker id = content_modified id
-stopped_reply Identity id = content_modified id
+stopped_reply other id = content_modified id
 
 abbrev pub fault_reply : RequestId → Option ℤ → List ℕ → Response
 fault_reply id code message = refusal id (fault_code code) message
@@ -74,15 +69,16 @@ no_answer id = refusal id (negsuc 32602) (codes "no answer")
 -- only JSON fits a request's job
 abbrev pub value_reply : RequestId → JobValue → Response
 value_reply id (Json value) = response_with id value
-value_reply id (Roots paths) = no_answer id
-value_reply id Primed = no_answer id
-value_reply id (Workspaces results) = no_answer id
-value_reply id (BuildData results) = no_answer id
-value_reply id (ProcMacros macros) = no_answer id
+value_reply id other = no_answer id
+
+-- and only JSON answers a request
+abbrev pub answer_reply : RequestId → Answer → Response
+answer_reply id (JsonAnswer value) = response_with id value
+answer_reply id other = no_answer id
 
 -- what a question comes to
 abbrev pub finding_reply : RequestId → Finding → Response
-finding_reply id (answer value) = value_reply id (value_answering value)
+finding_reply id (answer value) = answer_reply id value
 finding_reply id (fault code message) = fault_reply id code message
 
 -- what the request of a finished job is answered; a job that stopped has not finished

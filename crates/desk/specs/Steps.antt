@@ -20,14 +20,14 @@ use Rattle.method_table.specs.Unit.{is_unit}
 use Rattle.method_table.specs.declared.request.StateRequest.{StateRequest}
 use Rattle.dispatch.specs.Responses.{response_with}
 use Rattle.session_port.specs.Jobs.{final_of, fitting_job}
+use Rattle.session_port.specs.Kinds.{AskedFor, asked_for}
 use Rattle.session_port.specs.Record.{after_order}
 use Rattle.session_port.specs.declared.command.Command.TheVariants.{Spawn}
 use Rattle.session_port.specs.declared.command.LogCode.TheVariants.{UnknownRequest, StrangeResult}
 use Rattle.session_port.specs.declared.event.TaskMsg.{TaskMsg}
 use Rattle.session_port.specs.declared.job.Job.{Job}
 use Rattle.session_port.specs.declared.job.JobKind.{JobKind}
-use Rattle.session_port.specs.declared.job.JobKind.TheVariants.{Request as RequestJob, ProcMacroSources}
-use Rattle.session_port.specs.declared.job.JobKind.TheVariants.{FetchWorkspaces, FetchBuildData, LoadProcMacros}
+use Rattle.session_port.specs.declared.job.JobKind.TheVariants.{Request as RequestJob}
 use Rattle.session_port.specs.declared.job.JobResult.{JobResult}
 use Rattle.session_port.specs.Working.{Working, and_then, next_number, replied, ordered, logged}
 use Rattle.session_port.specs.declared.fault.Counter.{Counter}
@@ -146,17 +146,16 @@ cancelled id w = if is_pending id w.state.pending then request_answered id (canc
 -- ---- results
 
 -- where the revision is above that of the job's snapshot, a row that isn't to be tried again is refused; else the
--- request is taken as one that is
--- read now, under the ticket that it has
-unfoldable pub stopped : Meaning → Scene → ℕ → JobKind → Working Desk → Result (Working Desk) Counter
-stopped meaning scene revision (RequestJob ticket row params) w =
-    if ltb revision scene.snapshot.revision && not (retries row)
-    then Ok (responded ticket (stopped_reply (class_of row)) w)
-    else classed meaning scene ticket row params w
-stopped meaning scene revision (ProcMacroSources files) w = Ok w
-stopped meaning scene revision (FetchWorkspaces projects detached path force) w = Ok w
-stopped meaning scene revision (FetchBuildData version) w = Ok w
-stopped meaning scene revision (LoadProcMacros paths ignored) w = Ok w
+-- request is taken as one that is read now, under the ticket that it has
+unfoldable pub stopped_for : Meaning → Scene → ℕ → Option AskedFor → Working Desk → Result (Working Desk) Counter
+stopped_for meaning scene revision None w = Ok w
+stopped_for meaning scene revision (Some r) w =
+    if ltb revision scene.snapshot.revision && not (retries r.row)
+    then Ok (responded r.ticket (stopped_reply (class_of r.row)) w)
+    else classed meaning scene r.ticket r.row r.params w
+
+abbrev pub stopped : Meaning → Scene → ℕ → JobKind → Working Desk → Result (Working Desk) Counter
+stopped meaning scene revision kind w = stopped_for meaning scene revision (asked_for kind) w
 
 unfoldable pub settled : Meaning → Scene → Option Response → RequestId → Job → Working Desk
     → Result (Working Desk) Counter
@@ -169,17 +168,18 @@ unfoldable pub delivered : Meaning → Scene → Option RequestId → Job → Jo
 delivered meaning scene None job result w = Ok w
 delivered meaning scene (Some id) job result w = settled meaning scene (finished_reply id result) id job w
 
--- what a message tells of a job: where it has ended, its request gets the result
-unfoldable pub brought : Meaning → Scene → Option JobResult → Job → Working Desk → Result (Working Desk) Counter
-brought meaning scene None job w = Ok w
-brought meaning scene (Some result) job w = delivered meaning scene (waiting_for job w.state) job result w
+-- what a message tells of a job that it fits: one that has ended is off the list, and its request gets the result; of
+-- one that goes on nothing is done here
+unfoldable pub brought : Meaning → Scene → Option JobResult → Job → ℕ → Working Desk → Result (Working Desk) Counter
+brought meaning scene None job number w = Ok w
+brought meaning scene (Some result) job number w =
+    delivered meaning scene (waiting_for job w.state) job result
+    (record w { state = record w.state { jobs = map.remove w.state.jobs number } })
 
--- a job that a message fits is off the list; a message that fits none is logged
+-- a message that fits no job is logged
 unfoldable pub job_ended : Meaning → Scene → Option Job → TaskMsg → Working Desk → Result (Working Desk) Counter
 job_ended meaning scene None message w = Ok (logged StrangeResult (decimal message.job) w)
-job_ended meaning scene (Some job) message w =
-    brought meaning scene (final_of message.body) job
-    (record w { state = record w.state { jobs = map.remove w.state.jobs message.job } })
+job_ended meaning scene (Some job) message w = brought meaning scene (final_of message.body) job message.job w
 
 abbrev pub result_taken : Meaning → Scene → TaskMsg → Working Desk → Result (Working Desk) Counter
 result_taken meaning scene message w = job_ended meaning scene (fitting_job message w.state.jobs) message w

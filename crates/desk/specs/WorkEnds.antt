@@ -4,15 +4,17 @@ use Rattle.project_model.specs.declared.build.BuildScripts.{BuildScripts}
 use Rattle.project_model.specs.declared.crates.MacroState.{MacroState}
 use Rattle.project_model.specs.declared.workspace.ProjectWorkspace.{ProjectWorkspace}
 use Rattle.session_port.specs.Jobs.{Jobs, final_of, fitting_job}
+use Rattle.session_port.specs.Kinds.{job_group}
+use Rattle.session_port.specs.declared.event.TaskBody.TheVariants.{Final}
 use Rattle.session_port.specs.declared.event.TaskMsg.{TaskMsg}
 use Rattle.session_port.specs.declared.job.Job.{Job}
 use Rattle.session_port.specs.declared.job.JobKind.{JobKind}
-use Rattle.session_port.specs.declared.job.JobKind.TheVariants.{Request, ProcMacroSources, FetchWorkspaces}
-use Rattle.session_port.specs.declared.job.JobKind.TheVariants.{FetchBuildData, LoadProcMacros}
 use Rattle.session_port.specs.declared.job.JobResult.{JobResult}
 use Rattle.session_port.specs.declared.job.JobResult.TheVariants.{Value, Fault, Cancelled, NoMemory}
 use Rattle.session_port.specs.declared.job.JobValue.{JobValue}
 use Rattle.session_port.specs.declared.job.JobValue.TheVariants.{Roots, Workspaces, BuildData, ProcMacros}
+use Rattle.session_port.specs.declared.kinds.JobGroup.{JobGroup}
+use Rattle.session_port.specs.declared.kinds.JobGroup.TheVariants as groups
 use Rattle.desk.specs.declared.state.ends.WorkEnd.{WorkEnd}
 use Rattle.desk.specs.declared.state.ends.WorkEnd.TheVariants.{Fetched, Built, Checked, Loaded}
 
@@ -63,13 +65,21 @@ check_end (Err reason) = None
 
 -- ---- what ends
 
--- what a job of this kind ends that came to this: a request's ends no work of the session's own
+-- what a job of this group ends that came to this: a fetch, a run of build data, a load of macros and a check of
+-- sources are work of the session's own whose end it waits for
+abbrev pub end_in : JobGroup → Result JobValue (List ℕ) → Option WorkEnd
+end_in groups.Fetches came = fetch_end came
+end_in groups.Builds came = build_end came
+end_in groups.Loads came = load_end came
+end_in groups.SourceChecks came = check_end came
+end_in other came = None
+
 abbrev pub work_end_of : JobKind → JobResult → Option WorkEnd
-work_end_of (Request ticket row params) result = None
-work_end_of (ProcMacroSources files) result = check_end (value_or_reason result)
-work_end_of (FetchWorkspaces projects detached path force) result = fetch_end (value_or_reason result)
-work_end_of (FetchBuildData version) result = build_end (value_or_reason result)
-work_end_of (LoadProcMacros paths ignored) result = load_end (value_or_reason result)
+work_end_of kind result = end_in (job_group kind) (value_or_reason result)
+
+-- the message that the job with this number has ended so
+abbrev pub ended_message : ℕ → JobResult → TaskMsg
+ended_message number result = record { job = number; body = Final result }
 
 -- what a message ends that fits this job, if it fits one
 abbrev pub work_told : TaskMsg → Option Job → Option WorkEnd

@@ -100,12 +100,7 @@ pub fn stopped_reply(alloc: Global, class: Class, id: RequestId) -> Result<Respo
 {
     match class {
         Class::DocumentDiagnostic => server_cancelled(alloc, id),
-        Class::State
-        | Class::OnLoop
-        | Class::Formatting
-        | Class::Latency
-        | Class::Worker
-        | Class::Identity => content_modified(alloc, id),
+        _ => content_modified(alloc, id),
     }
 }
 

@@ -12,7 +12,9 @@ use Rattle.lsp_frame.proofs.InStep.{none-distinct, registered-distinct, complete
 use Rattle.lsp_frame.proofs.InStep.{id_of-registered}
 use Rattle.method_table.specs.declared.class.PoolClass.{PoolClass}
 use Rattle.method_table.specs.declared.row_id.RowId.{RowId}
-use Rattle.session_port.specs.Jobs.{Jobs, ticket_of_job, final_of, fits_final, if_fits_job, fitting_job, jobs_after}
+use Rattle.session_port.specs.Jobs.{Jobs, final_of, fitting_job, jobs_after}
+use Rattle.session_port.specs.Kinds.{slot_at, slot_of, ticket_of_job}
+use Rattle.session_port.proofs.Facts.{ends-of_slot, slot-ticket, ticket-slot}
 use Rattle.session_port.specs.Record.{with_jobs}
 use Rattle.session_port.specs.declared.event.TaskMsg.{TaskMsg}
 use Rattle.session_port.specs.declared.job.Job.{Job}
@@ -29,11 +31,11 @@ use Rattle.desk.specs.Slots.{parts_left, unreported}
 use Rattle.desk_laws.specs.Invariant.{IsHeldByOne, KeepsSound, Sound, desk_then}
 use Rattle.desk_laws.specs.Reacting.{Reacts}
 use Rattle.desk_laws.proofs.Appends.{with_jobs-append}
-use Rattle.desk_laws.proofs.Fitting.{after_message-none, after_message-some}
+use Rattle.desk_laws.proofs.Fitting.{after_message-going, after_message-none, after_message-some, fit-fits}
 use Rattle.desk_laws.proofs.Keyed.{by_key, get-insert_other, get-remove_same, get-remove_other, insert-remove}
 use Rattle.desk_laws.proofs.Orders.{by_number_total, by_number_same}
 use Rattle.desk_laws.proofs.Reacting.{new-reacts, result-reacts}
-use Rattle.desk_laws.proofs.Slots.{first-slot, held-again, held-beside, held-by_one, held-first, held-without, new-out, still-out, was-out}
+use Rattle.desk_laws.proofs.Slots.{held-again, held-beside, held-by_one, held-first, held-without, is-first, new-out, still-out, was-out}
 
 some-same : {X : Type 0} (x y : X) → Some x ≡ Some y → x ≡ y
 some-same x y e = cc
@@ -56,8 +58,7 @@ sound-parts desk revision s = record {
   numbers = s.numbers;
   below = s.below;
   revisions = s.revisions;
-  held =
-      s.held;
+  held = s.held;
 }
 
 pub sound-whole : (desk : Desk) (revision : ℕ) → SoundOf desk.turns desk.pending desk.jobs desk.handed revision → Sound desk revision
@@ -67,8 +68,7 @@ sound-whole desk revision s = record {
   numbers = s.numbers;
   below = s.below;
   revisions = s.revisions;
-  held =
-      s.held;
+  held = s.held;
 }
 
 -- later turns, more jobs that were handed over, and a later revision
@@ -150,10 +150,10 @@ sound-without turns p js handed revision n t found id is its waits s = record {
 
 -- a request was read, and its job handed over
 sound-request : (turns : ℕ) (p : Pending) (js : Jobs) (handed revision : ℕ) (id : RequestId) (job : Job) → is_pending id p ≡ false
-    → ticket_of_job job.kind ≡ Some (turns + 1) → job.snapshot.revision ≤ revision
+    → slot_of job.kind ≡ Some (slot_at (turns + 1) 0) → job.snapshot.revision ≤ revision
     → SoundOf turns p js handed revision → SoundOf (turns + 1) (registered (turns + 1) id p) (map.insert js (handed + 1) job) (handed + 1) revision
 unfolding registered
-sound-request turns p js handed revision id job new its no_later s = record {
+sound-request turns p js handed revision id job new slot no_later s = record {
   distinct = registered-distinct (turns + 1) id p free s.distinct;
   tickets = λ t i waits. by_key by_number_total by_number_same t (turns + 1)
       (λ same. omega arith)
@@ -169,7 +169,7 @@ sound-request turns p js handed revision id job new its no_later s = record {
       (λ other. s.revisions n j t (was n j other there) is_for);
   held = λ t i waits. by_key by_number_total by_number_same t (turns + 1)
       (λ same. subst (λ o. IsHeld t (parts_left o) now) (sym waits) (same-held t (turns + 1) (0 ∷ []) now same
-      (held-first (turns + 1) handed job js (first-slot job.kind (turns + 1) its)
+      (held-first (turns + 1) handed job js slot
       (λ n j there is_for. let h = s.below n j (turns + 1) there is_for in absurd (omega arith)))))
       (λ other. let was_waiting : map.get p t ≡ Some i = sym (get-insert_other by_number_total by_number_same p (turns + 1) id t other) ∙ waits in
       same-left t i p (registered (turns + 1) id p) now was_waiting waits
@@ -178,6 +178,9 @@ sound-request turns p js handed revision id job new its no_later s = record {
   where
     now : Jobs
     now = map.insert js (handed + 1) job
+
+    its : ticket_of_job job.kind ≡ Some (turns + 1)
+    its = slot-ticket job.kind (turns + 1) 0 slot
 
     none : map.get p (turns + 1) ≡ None
     none = ticket-free turns p (map.get p (turns + 1)) refl s.tickets
@@ -225,9 +228,9 @@ sound-closed turns p js handed revision id s = closed-cases turns p js handed re
 
 -- a job came back, and another one is handed over for its request
 sound-again : (turns : ℕ) (p : Pending) (js : Jobs) (handed revision n ticket : ℕ) (found job : Job) → map.get js n ≡ Some found
-    → ticket_of_job found.kind ≡ Some ticket → ticket_of_job job.kind ≡ Some ticket → job.snapshot.revision ≤ revision
+    → ticket_of_job found.kind ≡ Some ticket → slot_of job.kind ≡ Some (slot_at ticket 0) → job.snapshot.revision ≤ revision
     → SoundOf turns p js handed revision → SoundOf turns p (map.insert (map.remove js n) (handed + 1) job) (handed + 1) revision
-sound-again turns p js handed revision n ticket found job is was_for its no_later s = record {
+sound-again turns p js handed revision n ticket found job is was_for slot no_later s = record {
   distinct = s.distinct;
   tickets = s.tickets;
   numbers = λ m j there. by_key by_number_total by_number_same m (handed + 1)
@@ -240,9 +243,11 @@ sound-again turns p js handed revision n ticket found job is was_for its no_late
       (λ same. subst (λ (k : Job). k.snapshot.revision ≤ revision) (it_is m j same there) no_later)
       (λ other. s.revisions m j t (was m j other there) is_for);
   held = λ t id waits. by_key by_number_total by_number_same t ticket
-      (λ same. same-held t ticket (parts_left (id_of t p)) now same
-      (held-again ticket 0 (parts_left (id_of t p)) handed n found job js s.numbers is (first-slot found.kind ticket was_for) (first-slot job.kind ticket its)
-      (same-held ticket t (parts_left (id_of t p)) js (sym same) (s.held t id waits))))
+      (λ same.
+      let h = same-held ticket t (parts_left (id_of t p)) js (sym same) (s.held t id waits) in
+      same-held t ticket (parts_left (id_of t p)) now same
+      (held-again ticket 0 (parts_left (id_of t p)) handed n found job js s.numbers is
+      (is-first ticket n found js is was_for (subst (λ o. IsHeld ticket (parts_left o) js) waits h)) slot h))
       (λ other. held-beside t (parts_left (id_of t p)) handed job (map.remove js n) (λ m j there. s.numbers m j (still-out n m js j there))
       (λ e. other (some-same t ticket (sym e ∙ its)))
       (held-without t n (parts_left (id_of t p)) found js is (λ e. other (some-same t ticket (sym e ∙ was_for))) (s.held t id waits)));
@@ -250,6 +255,9 @@ sound-again turns p js handed revision n ticket found job is was_for its no_late
   where
     now : Jobs
     now = map.insert (map.remove js n) (handed + 1) job
+
+    its : ticket_of_job job.kind ≡ Some ticket
+    its = slot-ticket job.kind ticket 0 slot
 
     was : (m : ℕ) (j : Job) → m ≢ handed + 1 → map.get now m ≡ Some j → map.get js m ≡ Some j
     was m j other there = still-out n m js j (was-out handed job (map.remove js n) m j other there)
@@ -422,10 +430,10 @@ abbrev pub Going : ℕ → Desk → List Job → ℕ → TaskMsg → Reaction �
 Going first desk js revision message done = Batching first (desk_past message done desk) (js ++ done.jobs) revision
     × AreAnswers (responses_of done) desk.pending
 
--- a message that fits no job
-going-none : (first : ℕ) (desk : Desk) (js : List Job) (revision : ℕ) (message : TaskMsg) → fitting_job message desk.jobs ≡ None
+-- a message that leaves the jobs out as they are
+going-none : (first : ℕ) (desk : Desk) (js : List Job) (revision : ℕ) (message : TaskMsg) → jobs_after message desk.jobs ≡ desk.jobs
     → Batching first desk js revision → Going first desk js revision message silent
-going-none first desk js revision message none b = (
+going-none first desk js revision message same b = (
   record {
     sound = subst (λ xs. SoundOf desk.turns desk.pending (with_jobs xs (jobs_after message desk.jobs)) (desk.handed + 0) revision) (sym (append-nil js))
         (subst (λ out. SoundOf desk.turns desk.pending (with_jobs js out) (desk.handed + 0) revision) (sym same) (sound-stays _ _ _ _ _ b.sound));
@@ -435,11 +443,8 @@ going-none first desk js revision message none b = (
   },
   tt,
 )
-  where
-    same : jobs_after message desk.jobs ≡ desk.jobs
-    same = after_message-none message desk.jobs none
 
--- the parts of a message that fits a job
+-- the parts of the end of a job
 record Took (first : ℕ) (desk : Desk) (js : List Job) (revision : ℕ) (message : TaskMsg) (found : Job) : Type 0 where
   before : Batching first desk js revision
   gone : jobs_after message desk.jobs ≡ map.remove desk.jobs message.job
@@ -447,10 +452,10 @@ record Took (first : ℕ) (desk : Desk) (js : List Job) (revision : ℕ) (messag
   is_there : map.get (with_jobs js desk.jobs) message.job ≡ Some found
   left : with_jobs js (jobs_after message desk.jobs) ≡ map.remove (with_jobs js desk.jobs) message.job
 
-took : (first : ℕ) (desk : Desk) (js : List Job) (revision : ℕ) (message : TaskMsg) (found : Job) → fitting_job message desk.jobs ≡ Some found
-    → Batching first desk js revision → Took first desk js revision message found
-took first desk js revision message found is b =
-    let k = after_message-some message desk.jobs found is in
+took : (first : ℕ) (desk : Desk) (js : List Job) (revision : ℕ) (message : TaskMsg) (found : Job) (result : JobResult) → final_of message.body ≡ Some result
+    → fitting_job message desk.jobs ≡ Some found → Batching first desk js revision → Took first desk js revision message found
+took first desk js revision message found result ends is b =
+    let k = after_message-some message desk.jobs found result ends is in
     let early : message.job ≤ first = b.early message.job found k.1 in
     record {
       before = b;
@@ -563,27 +568,21 @@ going-ticket meaning first scene desk js message found (Some id) result waits t 
     going-reacts first scene desk js message found k.ticket id _ k.its k.waits
     (result-reacts meaning scene desk k.ticket id found result (finished_reply id result) refl k.its) t
 
--- what fits a job tells how it has ended
-fit-final : (message : TaskMsg) (o : Option Job) (found : Job) (final : Option JobResult) → option_and_then (if_fits_job message.body) o ≡ Some found
-    → final_of message.body ≡ final → (result : JobResult) × (final ≡ Some result)
-fit-final message None found final fits is = none-some found fits
-fit-final message (Some job) found (Some result) fits is = (result, refl)
-fit-final message (Some job) found None fits is = none-some found (sym (ap (λ f. if fits_final job.kind f then Some job else None) is) ∙ fits)
-
 going-final : (meaning : Meaning) (first : ℕ) (scene : Scene) (desk : Desk) (js : List Job) (message : TaskMsg) (found : Job) (final : Option JobResult)
     → final_of message.body ≡ final → fitting_job message desk.jobs ≡ Some found
-    → Took first desk js scene.snapshot.revision message found → Going first desk js scene.snapshot.revision message (final_row meaning scene desk final found)
-going-final meaning first scene desk js message found None final is t =
-    let k = fit-final message (map.get desk.jobs message.job) found None is final in none-some k.0 k.1
-going-final meaning first scene desk js message found (Some result) final is t =
-    going-ticket meaning first scene desk js message found (waiting_for found desk) result refl t
+    → Batching first desk js scene.snapshot.revision → Going first desk js scene.snapshot.revision message (final_row meaning scene desk final found)
+going-final meaning first scene desk js message found None goes is b =
+    going-none first desk js scene.snapshot.revision message (after_message-going message desk.jobs goes) b
+going-final meaning first scene desk js message found (Some result) ends is b =
+    going-ticket meaning first scene desk js message found (waiting_for found desk) result refl
+    (took first desk js scene.snapshot.revision message found result ends is b)
 
 going-fitting : (meaning : Meaning) (first : ℕ) (scene : Scene) (desk : Desk) (js : List Job) (message : TaskMsg) (o : Option Job)
     → fitting_job message desk.jobs ≡ o
     → Batching first desk js scene.snapshot.revision → Going first desk js scene.snapshot.revision message (fitting_row meaning scene desk o message)
-going-fitting meaning first scene desk js message None is b = going-none first desk js scene.snapshot.revision message is b
-going-fitting meaning first scene desk js message (Some found) is b =
-    going-final meaning first scene desk js message found (final_of message.body) refl is (took first desk js scene.snapshot.revision message found is b)
+going-fitting meaning first scene desk js message None is b =
+    going-none first desk js scene.snapshot.revision message (after_message-none message desk.jobs is) b
+going-fitting meaning first scene desk js message (Some found) is b = going-final meaning first scene desk js message found (final_of message.body) refl is b
 
 -- a message of a job
 pub message-going : (meaning : Meaning) (first : ℕ) (scene : Scene) (desk : Desk) (js : List Job) (message : TaskMsg)
@@ -629,7 +628,8 @@ pub message-reacts : (meaning : Meaning) (scene : Scene) (desk : Desk) (message 
     → fitting_job message desk.jobs ≡ Some job → ticket_of_job job.kind ≡ Some ticket → id_of ticket desk.pending ≡ Some id
     → Reacts scene desk.handed ticket id (message_row meaning scene desk message)
 message-reacts meaning scene desk message job ticket id is its waits =
-    let k = fit-final message (map.get desk.jobs message.job) job (final_of message.body) is refl in
+    let slot = ticket-slot job.kind ticket its in
+    let k = ends-of_slot job (slot_at ticket slot.0) message.body slot.1 (fit-fits message.body (map.get desk.jobs message.job) job is) in
     let there : waiting_for job desk ≡ Some id = ap (λ o. option_and_then (λ u. id_of u desk.pending) o) its ∙ waits in
     let row : message_row meaning scene desk message ≡ ticket_row meaning scene desk (Some id) job k.0 =
     ap (λ o. fitting_row meaning scene desk o message) is ∙ ap (λ o. final_row meaning scene desk o job) k.1

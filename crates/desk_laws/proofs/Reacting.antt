@@ -1,6 +1,7 @@
 -- What a row does for a request that waits: it answers it, or hands over one job for it.
-use Rattle.std.proofs.Common.{◌≡◌, ℕ, Bool, true, false, refl, subst, inl, inr}
+use Rattle.std.proofs.Common.{◌≡◌, ℕ, Bool, true, false, refl, sym, ◌∙◌, subst, inl, inr}
 use Rattle.std.specs.Prelude.{Option, None, Some, ◌&&◌, not, ltb, if◌then◌else◌}
+use Rattle.std.specs.Option.{option_map}
 use Rattle.serde_json.specs.Data.{Data, null}
 use Rattle.lsp_frame.specs.declared.message.Request.{Request}
 use Rattle.lsp_frame.specs.declared.message.RequestId.{RequestId}
@@ -15,14 +16,14 @@ use Rattle.method_table.specs.StateRequests.{request_of}
 use Rattle.method_table.specs.Unit.{is_unit}
 use Rattle.method_table.specs.declared.request.StateRequest.{StateRequest}
 use Rattle.dispatch.specs.Responses.{response_with}
-use Rattle.session_port.specs.Jobs.{ticket_of_job}
+use Rattle.session_port.specs.Kinds.{AskedFor, asked_for, ticket_of_job}
+use Rattle.session_port.proofs.Facts.{same-ticket, ticket_in}
 use Rattle.session_port.specs.declared.job.Job.{Job}
 use Rattle.session_port.specs.declared.job.JobKind.{JobKind}
-use Rattle.session_port.specs.declared.job.JobKind.TheVariants.{Request as RequestJob, ProcMacroSources, FetchWorkspaces, FetchBuildData, LoadProcMacros}
 use Rattle.session_port.specs.declared.job.JobResult.{JobResult}
 use Rattle.desk.specs.Desk.{Desk}
 use Rattle.desk.specs.Meaning.{Meaning, can_read}
-use Rattle.desk.specs.Reactions.{Reaction, says, if_read, state_row, planned_row, class_row, method_row, new_row, stopped_row, result_row}
+use Rattle.desk.specs.Reactions.{Reaction, says, if_read, state_row, planned_row, class_row, method_row, new_row, stopped_for_row, stopped_row, result_row}
 use Rattle.desk.specs.Replies.{shut_already, unknown_request, invalid_params, stopped_reply, finding_reply, finished_reply}
 use Rattle.desk.specs.Scene.{Scene}
 use Rattle.desk_laws.specs.Reacting.{Reacts}
@@ -81,17 +82,20 @@ new-reacts meaning scene desk ticket r =
     (says-reacts scene desk.handed ticket r.id (response_with r.id null) refl) (says-reacts scene desk.handed ticket r.id (invalid_params r.id) refl))
     (method-reacts meaning scene desk ticket (row_of r.method) r)
 
+stop-asked : (meaning : Meaning) (scene : Scene) (desk : Desk) (ticket : ℕ) (id : RequestId) (revision : ℕ) (o : Option AskedFor)
+    → option_map ticket_in o ≡ Some ticket → Reacts scene desk.handed ticket id (stopped_for_row meaning scene desk id revision o)
+stop-asked meaning scene desk ticket id revision None is = absurd cc
+stop-asked meaning scene desk ticket id revision (Some r) is =
+    let same : r.ticket ≡ ticket = cc in
+    either-reacts scene desk.handed ticket id (ltb revision scene.snapshot.revision && not (retries r.row)) (says (stopped_reply (class_of r.row) id)) _
+    (says-reacts scene desk.handed ticket id (stopped_reply (class_of r.row) id) (stopped-id (class_of r.row) id))
+    (subst (λ u. Reacts scene desk.handed u id (class_row meaning scene desk r.ticket id r.row r.params)) same
+    (class-reacts meaning scene desk r.ticket id r.row r.params))
+
 stop-reacts : (meaning : Meaning) (scene : Scene) (desk : Desk) (ticket : ℕ) (id : RequestId) (revision : ℕ) (kind : JobKind) → ticket_of_job kind ≡ Some ticket
     → Reacts scene desk.handed ticket id (stopped_row meaning scene desk id revision kind)
-stop-reacts meaning scene desk ticket id revision (RequestJob t row params) is =
-    let same : t ≡ ticket = cc in
-    either-reacts scene desk.handed ticket id (ltb revision scene.snapshot.revision && not (retries row)) (says (stopped_reply (class_of row) id)) _
-    (says-reacts scene desk.handed ticket id (stopped_reply (class_of row) id) (stopped-id (class_of row) id))
-    (subst (λ u. Reacts scene desk.handed u id (class_row meaning scene desk t id row params)) same (class-reacts meaning scene desk t id row params))
-stop-reacts meaning scene desk ticket id revision (ProcMacroSources files) is = absurd cc
-stop-reacts meaning scene desk ticket id revision (FetchWorkspaces projects detached path force) is = absurd cc
-stop-reacts meaning scene desk ticket id revision (FetchBuildData version) is = absurd cc
-stop-reacts meaning scene desk ticket id revision (LoadProcMacros paths ignored) is = absurd cc
+stop-reacts meaning scene desk ticket id revision kind is =
+    stop-asked meaning scene desk ticket id revision (asked_for kind) (sym (same-ticket kind) ∙ is)
 
 -- a result of a job whose request waits
 pub result-reacts : (meaning : Meaning) (scene : Scene) (desk : Desk) (ticket : ℕ) (id : RequestId) (job : Job) (result : JobResult) (o : Option Response)

@@ -15,20 +15,19 @@ use Rattle.method_table.specs.declared.planned.Plan.{Plan}
 use Rattle.method_table.specs.declared.planned.Plan.TheVariants as plans
 use Rattle.method_table.specs.declared.row_id.RowId.{RowId}
 use Rattle.session_port.specs.Jobs.{final_of, fitting_job}
+use Rattle.session_port.specs.Kinds.{AskedFor, asked_for}
 use Rattle.session_port.specs.declared.event.TaskMsg.{TaskMsg}
 use Rattle.session_port.specs.declared.job.Job.{Job}
-use Rattle.session_port.specs.declared.job.JobKind.{JobKind}
-use Rattle.session_port.specs.declared.job.JobKind.TheVariants.{Request as RequestJob, ProcMacroSources, FetchWorkspaces, FetchBuildData, LoadProcMacros}
 use Rattle.session_port.specs.declared.job.JobResult.{JobResult}
 use Rattle.session_port.specs.Working.{Working, and_then, next_number}
 use Rattle.session_port.specs.declared.fault.Counter.{Counter}
 use Rattle.session_port.specs.declared.fault.Counter.TheVariants.{Jobs, Turns}
 use Rattle.desk.specs.Desk.{Desk, waiting_for}
 use Rattle.desk.specs.Meaning.{Meaning, can_read}
-use Rattle.desk.specs.Reactions.{Reaction, says, hands_over, if_read, planned_row, class_row, method_row, shutdown_row, new_row, request_row, stopped_row}
+use Rattle.desk.specs.Reactions.{Reaction, says, hands_over, if_read, planned_row, class_row, method_row, shutdown_row, new_row, request_row, stopped_for_row}
 use Rattle.desk.specs.Reactions.{result_row, ticket_row, final_row, fitting_row, message_row}
 use Rattle.desk.specs.Replies.{already_pending, stopped_reply, finished_reply}
-use Rattle.desk.specs.Steps.{dispatched, submitted, planned, classed, asked, noted, shut_down, request_admitted, requested, counted, responded, stopped}
+use Rattle.desk.specs.Steps.{dispatched, submitted, planned, classed, asked, noted, shut_down, request_admitted, requested, counted, responded, stopped_for}
 use Rattle.desk.specs.Steps.{settled}
 use Rattle.desk.specs.Steps.{delivered, brought, job_ended, result_taken}
 use Rattle.desk.specs.Scene.{Scene}
@@ -138,21 +137,18 @@ stop-cases : (meaning : Meaning) (scene : Scene) (ticket : ℕ) (id : RequestId)
 stop-cases meaning scene ticket id row params w true = tt
 stop-cases meaning scene ticket id row params w false = class-errs meaning scene ticket id row params w
 
-stop-errs : (meaning : Meaning) (scene : Scene) (id : RequestId) (revision : ℕ) (kind : JobKind) (w : Working Desk)
-    → IfErr (stopped meaning scene revision kind w) (TooMany w.state.handed (stopped_row meaning scene w.state id revision kind))
-unfolding stopped
-stop-errs meaning scene id revision (RequestJob ticket row params) w =
-    stop-cases meaning scene ticket id row params w (ltb revision scene.snapshot.revision && not (retries row))
-stop-errs meaning scene id revision (ProcMacroSources files) w = tt
-stop-errs meaning scene id revision (FetchWorkspaces projects detached path force) w = tt
-stop-errs meaning scene id revision (FetchBuildData version) w = tt
-stop-errs meaning scene id revision (LoadProcMacros paths ignored) w = tt
+stop-errs : (meaning : Meaning) (scene : Scene) (id : RequestId) (revision : ℕ) (o : Option AskedFor) (w : Working Desk)
+    → IfErr (stopped_for meaning scene revision o w) (TooMany w.state.handed (stopped_for_row meaning scene w.state id revision o))
+unfolding stopped_for
+stop-errs meaning scene id revision None w = tt
+stop-errs meaning scene id revision (Some r) w =
+    stop-cases meaning scene r.ticket id r.row r.params w (ltb revision scene.snapshot.revision && not (retries r.row))
 
 result-errs : (meaning : Meaning) (scene : Scene) (id : RequestId) (job : Job) (o : Option Response) (w : Working Desk)
     → IfErr (settled meaning scene o id job w) (TooMany w.state.handed (result_row meaning scene w.state o id job))
 unfolding settled
 result-errs meaning scene id job (Some response) w = tt
-result-errs meaning scene id job None w = stop-errs meaning scene id job.snapshot.revision job.kind w
+result-errs meaning scene id job None w = stop-errs meaning scene id job.snapshot.revision (asked_for job.kind) w
 
 ticket-errs : (meaning : Meaning) (scene : Scene) (request : Option RequestId) (job : Job) (result : JobResult) (w : Working Desk)
     → IfErr (delivered meaning scene request job result w) (TooMany w.state.handed (ticket_row meaning scene w.state request job result))
@@ -160,20 +156,20 @@ unfolding delivered
 ticket-errs meaning scene None job result w = tt
 ticket-errs meaning scene (Some id) job result w = result-errs meaning scene id job (finished_reply id result) w
 
-final-errs : (meaning : Meaning) (scene : Scene) (final : Option JobResult) (job : Job) (w : Working Desk)
-    → IfErr (brought meaning scene final job w) (TooMany w.state.handed (final_row meaning scene w.state final job))
+final-errs : (meaning : Meaning) (scene : Scene) (final : Option JobResult) (job : Job) (number : ℕ) (w : Working Desk)
+    → IfErr (brought meaning scene final job number w) (TooMany w.state.handed (final_row meaning scene w.state final job))
 unfolding brought
-final-errs meaning scene None job w = tt
-final-errs meaning scene (Some result) job w = ticket-errs meaning scene (waiting_for job w.state) job result w
+final-errs meaning scene None job number w = tt
+final-errs meaning scene (Some result) job number w =
+    subst (λ d. IfErr (brought meaning scene (Some result) job number w) (TooMany w.state.handed d))
+    (row-without meaning scene w.state (map.remove w.state.jobs number) (Some result) job)
+    (ticket-errs meaning scene (waiting_for job w.state) job result (without number w))
 
 job-errs : (meaning : Meaning) (scene : Scene) (job : Option Job) (message : TaskMsg) (w : Working Desk)
     → IfErr (job_ended meaning scene job message w) (TooMany w.state.handed (fitting_row meaning scene w.state job message))
 unfolding job_ended
 job-errs meaning scene None message w = tt
-job-errs meaning scene (Some job) message w =
-    subst (λ d. IfErr (brought meaning scene (final_of message.body) job (without message.job w)) (TooMany w.state.handed d))
-    (row-without meaning scene w.state (map.remove w.state.jobs message.job) (final_of message.body) job)
-    (final-errs meaning scene (final_of message.body) job (without message.job w))
+job-errs meaning scene (Some job) message w = final-errs meaning scene (final_of message.body) job message.job w
 
 pub message-errs : (meaning : Meaning) (scene : Scene) (message : TaskMsg) (w : Working Desk)
     → IfErr (result_taken meaning scene message w) (TooMany w.state.handed (message_row meaning scene w.state message))

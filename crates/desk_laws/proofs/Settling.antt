@@ -1,6 +1,7 @@
 -- A step of the desk is its row of the reply table.
 use Rattle.std.proofs.Common.{◌≡◌, ℕ, List, ◌++◌, Bool, true, false, refl, sym, ap, ◌∙◌, subst, arith, append-nil, append_assoc}
 use Rattle.std.proofs.lemmas.List.{length-append}
+use Rattle.std.specs.Option.{option_map}
 use Rattle.std.specs.Prelude.{Ok, IfOk, Option, None, Some, option_and_then, ◌&&◌, not, ltb, if◌then◌else◌}
 use Rattle.std.specs.FinMap as map
 use Rattle.serde_json.specs.Data.{Data, null}
@@ -11,7 +12,8 @@ use Rattle.lsp_frame.specs.declared.message.RequestId.{RequestId}
 use Rattle.lsp_frame.specs.declared.message.Response.{Response}
 use Rattle.lsp_frame.proofs.InStep.{id_of-registered}
 use Rattle.analysis_host.specs.Answers.{Finding, answer, fault}
-use Rattle.analysis_host.specs.declared.ask.Answer.TheVariants.{Json as JsonAnswer, Roots as RootsAnswer, Primed as PrimedAnswer}
+use Rattle.analysis_host.specs.declared.ask.Answer.TheVariants.{Json as JsonAnswer, Diagnostics as DiagnosticsAnswer, Tests as TestsAnswer}
+use Rattle.analysis_host.specs.declared.ask.Answer.TheVariants.{Roots as RootsAnswer, Primed as PrimedAnswer}
 use Rattle.method_table.specs.Plans.{plan, is_shutdown}
 use Rattle.method_table.specs.Rows.{row_of, class_of, retries, default_of}
 use Rattle.method_table.specs.declared.class.Class.{Class}
@@ -24,7 +26,9 @@ use Rattle.method_table.specs.StateRequests.{request_of}
 use Rattle.method_table.specs.Unit.{is_unit}
 use Rattle.method_table.specs.declared.request.StateRequest.{StateRequest}
 use Rattle.dispatch.specs.Responses.{response_with}
-use Rattle.session_port.specs.Jobs.{Jobs, ticket_of_job, final_of, fitting_job, jobs_after}
+use Rattle.session_port.specs.Jobs.{Jobs, final_of, fitting_job, jobs_after}
+use Rattle.session_port.specs.Kinds.{AskedFor, asked_for, ticket_of_job}
+use Rattle.session_port.proofs.Facts.{same-ticket, ticket_in}
 use Rattle.session_port.specs.Record.{spawned}
 use Rattle.session_port.specs.declared.command.Command.TheVariants.{Defer}
 use Rattle.session_port.specs.declared.command.DeferredTask.{DeferredTask}
@@ -33,10 +37,9 @@ use Rattle.session_port.specs.declared.command.LogCode.TheVariants.{UnknownReque
 use Rattle.session_port.specs.declared.event.TaskMsg.{TaskMsg}
 use Rattle.session_port.specs.declared.job.Job.{Job}
 use Rattle.session_port.specs.declared.job.JobKind.{JobKind}
-use Rattle.session_port.specs.declared.job.JobKind.TheVariants.{Request as RequestJob, ProcMacroSources, FetchWorkspaces, FetchBuildData, LoadProcMacros}
 use Rattle.session_port.specs.declared.job.JobResult.{JobResult}
 use Rattle.session_port.specs.declared.job.JobResult.TheVariants.{Value, Fault, Cancelled, NoMemory}
-use Rattle.session_port.specs.declared.job.JobValue.TheVariants.{Json, Roots, Primed, Workspaces, BuildData, ProcMacros}
+use Rattle.session_port.specs.declared.job.JobValue.TheVariants.{Json, Diagnostics, Tests, Roots, Primed, Workspaces, BuildData, ProcMacros}
 use Rattle.session_port.specs.Working.{Working, logged, ordered, replied}
 use Rattle.session_port.specs.Written.{responses_in}
 use Rattle.session_port.specs.declared.fault.Counter.{Counter}
@@ -45,14 +48,14 @@ use Rattle.desk.specs.Folds.{closed_by, closed_with, shutdown_after}
 use Rattle.desk.specs.Meaning.{Meaning, can_read}
 use Rattle.desk.specs.Reactions.{Reaction, responses_of, silent, says, reactions_joined, hands_over, if_read, state_row, planned_row, class_row, method_row}
 use Rattle.desk.specs.Reactions.{shutdown_row}
-use Rattle.desk.specs.Reactions.{new_row, request_row, cancel_row, stopped_row, result_row, ticket_row, final_row, fitting_row, message_row}
+use Rattle.desk.specs.Reactions.{new_row, request_row, cancel_row, stopped_for_row, stopped_row, result_row, ticket_row, final_row, fitting_row, message_row}
 use Rattle.desk.specs.Replies.{already_pending, invalid_params, unknown_request, shut_already, canceled_by_client, stopped_reply, finding_reply, finished_reply}
 use Rattle.desk.specs.Steps.{request_answered, answered_if, responded, noted, dispatched, echoed, queried, submitted, stated, planned, classed, unknown, asked}
-use Rattle.desk.specs.Steps.{shut_down, request_admitted, requested, cancelled, stopped, settled, delivered, brought, job_ended, result_taken}
+use Rattle.desk.specs.Steps.{shut_down, request_admitted, requested, cancelled, stopped, stopped_for, settled, delivered, brought, job_ended, result_taken}
 use Rattle.desk.specs.Scene.{Scene}
 use Rattle.desk_laws.specs.Settled.{Settled}
 use Rattle.desk_laws.proofs.Appends.{closed_by-append, responses-append, passed-append, spawned-append, asked-append}
-use Rattle.desk_laws.proofs.Fitting.{after_message-none, after_message-some}
+use Rattle.desk_laws.proofs.Fitting.{after_message-going, after_message-none, after_message-some}
 use Rattle.desk_laws.proofs.Results.{IfOk-next, IfOk-weaker}
 
 pub nothing-settles : (w : Working Desk) → Settled None w w silent w.state.jobs
@@ -95,12 +98,16 @@ some-same x y e = cc
 -- a reply is to the request of its id
 pub finding-id : (id : RequestId) (finding : Finding) → (finding_reply id finding).id ≡ Some id
 finding-id id (answer (JsonAnswer value)) = refl
+finding-id id (answer (DiagnosticsAnswer list)) = refl
+finding-id id (answer (TestsAnswer tests)) = refl
 finding-id id (answer (RootsAnswer paths)) = refl
 finding-id id (answer PrimedAnswer) = refl
 finding-id id (fault code message) = refl
 
 pub finished-id : (id : RequestId) (result : JobResult) (response : Response) → finished_reply id result ≡ Some response → response.id ≡ Some id
 finished-id id (Value (Json value)) response is = sym (ap (λ (r : Response). r.id) (some-same _ response is))
+finished-id id (Value (Diagnostics lists)) response is = sym (ap (λ (r : Response). r.id) (some-same _ response is))
+finished-id id (Value (Tests tests)) response is = sym (ap (λ (r : Response). r.id) (some-same _ response is))
 finished-id id (Value (Roots paths)) response is = sym (ap (λ (r : Response). r.id) (some-same _ response is))
 finished-id id (Value Primed) response is = sym (ap (λ (r : Response). r.id) (some-same _ response is))
 finished-id id (Value (Workspaces results)) response is = sym (ap (λ (r : Response). r.id) (some-same _ response is))
@@ -390,15 +397,18 @@ stop-cases meaning scene ticket id row params w false waits = class-settles mean
 abbrev IsFor : JobKind → Pending → Option RequestId → Type 0
 IsFor kind pending request = option_and_then (λ ticket. id_of ticket pending) (ticket_of_job kind) ≡ request
 
+stop-asked : (meaning : Meaning) (scene : Scene) (id : RequestId) (revision : ℕ) (o : Option AskedFor) (w : Working Desk)
+    → option_and_then (λ ticket. id_of ticket w.state.pending) (option_map ticket_in o) ≡ Some id
+    → IfOk (stopped_for meaning scene revision o w) (λ v. Settled None w v (stopped_for_row meaning scene w.state id revision o) w.state.jobs)
+unfolding stopped_for
+stop-asked meaning scene id revision None w waits = nothing-settles w
+stop-asked meaning scene id revision (Some r) w waits =
+    stop-cases meaning scene r.ticket id r.row r.params w (ltb revision scene.snapshot.revision && not (retries r.row)) waits
+
 stop-settles : (meaning : Meaning) (scene : Scene) (id : RequestId) (revision : ℕ) (kind : JobKind) (w : Working Desk) → IsFor kind w.state.pending (Some id)
     → IfOk (stopped meaning scene revision kind w) (λ v. Settled None w v (stopped_row meaning scene w.state id revision kind) w.state.jobs)
-unfolding stopped
-stop-settles meaning scene id revision (RequestJob ticket row params) w waits =
-    stop-cases meaning scene ticket id row params w (ltb revision scene.snapshot.revision && not (retries row)) waits
-stop-settles meaning scene id revision (ProcMacroSources files) w waits = nothing-settles w
-stop-settles meaning scene id revision (FetchWorkspaces projects detached path force) w waits = nothing-settles w
-stop-settles meaning scene id revision (FetchBuildData version) w waits = nothing-settles w
-stop-settles meaning scene id revision (LoadProcMacros paths ignored) w waits = nothing-settles w
+stop-settles meaning scene id revision kind w waits =
+    stop-asked meaning scene id revision (asked_for kind) w (ap (option_and_then (λ ticket. id_of ticket w.state.pending)) (sym (same-ticket kind)) ∙ waits)
 
 result-settles : (meaning : Meaning) (scene : Scene) (id : RequestId) (job : Job) (result : JobResult) (o : Option Response) (w : Working Desk)
     → finished_reply id result ≡ o → waiting_for job w.state ≡ Some id
@@ -414,12 +424,6 @@ unfolding delivered
 ticket-settles meaning scene None job result w waits = nothing-settles w
 ticket-settles meaning scene (Some id) job result w waits = result-settles meaning scene id job result (finished_reply id result) w refl waits
 
-final-settles : (meaning : Meaning) (scene : Scene) (final : Option JobResult) (job : Job) (w : Working Desk)
-    → IfOk (brought meaning scene final job w) (λ v. Settled None w v (final_row meaning scene w.state final job) w.state.jobs)
-unfolding brought
-final-settles meaning scene None job w = nothing-settles w
-final-settles meaning scene (Some result) job w = ticket-settles meaning scene (waiting_for job w.state) job result w refl
-
 abbrev pub without : ℕ → Working Desk → Working Desk
 without number w = record w { state = record w.state { jobs = map.remove w.state.jobs number } }
 
@@ -429,17 +433,14 @@ pub row-without : (meaning : Meaning) (scene : Scene) (desk : Desk) (jobs : Jobs
 row-without meaning scene desk jobs None job = refl
 row-without meaning scene desk jobs (Some result) job = by_request (waiting_for job desk)
   where
-    by_kind : (id : RequestId) (revision : ℕ) (kind : JobKind) → stopped_row meaning scene (record desk { jobs = jobs }) id revision kind ≡ stopped_row meaning
-        scene desk id revision kind
-    by_kind id revision (RequestJob ticket row params) = refl
-    by_kind id revision (ProcMacroSources files) = refl
-    by_kind id revision (FetchWorkspaces projects detached path force) = refl
-    by_kind id revision (FetchBuildData version) = refl
-    by_kind id revision (LoadProcMacros paths ignored) = refl
+    by_asked : (id : RequestId) (revision : ℕ) (o : Option AskedFor) → stopped_for_row meaning scene (record desk { jobs = jobs }) id revision o
+        ≡ stopped_for_row meaning scene desk id revision o
+    by_asked id revision None = refl
+    by_asked id revision (Some r) = refl
 
     by_reply : (o : Option Response) (id : RequestId) → result_row meaning scene (record desk { jobs = jobs }) o id job ≡ result_row meaning scene desk o id job
     by_reply (Some response) id = refl
-    by_reply None id = by_kind id job.snapshot.revision job.kind
+    by_reply None id = by_asked id job.snapshot.revision (asked_for job.kind)
 
     by_request : (o : Option RequestId) → ticket_row meaning scene (record desk { jobs = jobs }) o job result ≡ ticket_row meaning scene desk o job result
     by_request None = refl
@@ -459,19 +460,28 @@ settled-from w v number done jobs a = record {
   shutdown = a.shutdown;
 }
 
+-- what a message does that fits this job: it goes on, or it has ended so
+final-settles : (meaning : Meaning) (scene : Scene) (final : Option JobResult) (job : Job) (message : TaskMsg) (w : Working Desk)
+    → final_of message.body ≡ final → fitting_job message w.state.jobs ≡ Some job
+    → IfOk (brought meaning scene final job message.job w) (λ v. Settled None w v (final_row meaning scene w.state final job) (jobs_after message w.state.jobs))
+unfolding brought
+final-settles meaning scene None job message w goes is =
+    subst (Settled None w w silent) (sym (after_message-going message w.state.jobs goes)) (nothing-settles w)
+final-settles meaning scene (Some result) job message w ends is =
+    let done = final_row meaning scene w.state (Some result) job in
+    let fewer = map.remove w.state.jobs message.job in
+    IfOk-weaker _ (λ v. Settled None (without message.job w) v (final_row meaning scene (without message.job w).state (Some result) job) fewer)
+    (λ v. Settled None w v done (jobs_after message w.state.jobs))
+    (ticket-settles meaning scene (waiting_for job w.state) job result (without message.job w) refl)
+    (λ v a. subst (Settled None w v done) (sym (after_message-some message w.state.jobs job result ends is).0)
+    (subst (λ d. Settled None w v d fewer) (row-without meaning scene w.state fewer (Some result) job) (settled-from w v message.job _ fewer a)))
+
 job-settles : (meaning : Meaning) (scene : Scene) (job : Option Job) (message : TaskMsg) (w : Working Desk) → fitting_job message w.state.jobs ≡ job
     → IfOk (job_ended meaning scene job message w) (λ v. Settled None w v (fitting_row meaning scene w.state job message) (jobs_after message w.state.jobs))
 unfolding job_ended
 job-settles meaning scene None message w is =
     subst (Settled None w (logged _ _ w) silent) (sym (after_message-none message w.state.jobs is)) (log-settles _ _ w)
-job-settles meaning scene (Some job) message w is =
-    let done = final_row meaning scene w.state (final_of message.body) job in
-    let fewer = map.remove w.state.jobs message.job in
-    IfOk-weaker _ (λ v. Settled None (without message.job w) v (final_row meaning scene (without message.job w).state (final_of message.body) job) fewer)
-    (λ v. Settled None w v done (jobs_after message w.state.jobs))
-    (final-settles meaning scene (final_of message.body) job (without message.job w))
-    (λ v a. subst (Settled None w v done) (sym (after_message-some message w.state.jobs job is).0)
-    (subst (λ d. Settled None w v d fewer) (row-without meaning scene w.state fewer (final_of message.body) job) (settled-from w v message.job _ fewer a)))
+job-settles meaning scene (Some job) message w is = final-settles meaning scene (final_of message.body) job message w refl is
 
 -- a message of a job
 pub message-settles : (meaning : Meaning) (scene : Scene) (message : TaskMsg) (w : Working Desk)
@@ -496,18 +506,15 @@ pub message-turns : (meaning : Meaning) (scene : Scene) (desk : Desk) (turns : �
     → message_row meaning scene (record desk { turns = turns }) message ≡ message_row meaning scene desk message
 message-turns meaning scene desk turns message = by_job (fitting_job message desk.jobs)
   where
-    by_kind : (id : RequestId) (revision : ℕ) (kind : JobKind) → stopped_row meaning scene (record desk { turns = turns }) id revision kind ≡ stopped_row
-        meaning scene desk id revision kind
-    by_kind id revision (RequestJob ticket row params) = refl
-    by_kind id revision (ProcMacroSources files) = refl
-    by_kind id revision (FetchWorkspaces projects detached path force) = refl
-    by_kind id revision (FetchBuildData version) = refl
-    by_kind id revision (LoadProcMacros paths ignored) = refl
+    by_asked : (id : RequestId) (revision : ℕ) (o : Option AskedFor) → stopped_for_row meaning scene (record desk { turns = turns }) id revision o
+        ≡ stopped_for_row meaning scene desk id revision o
+    by_asked id revision None = refl
+    by_asked id revision (Some r) = refl
 
     by_reply : (o : Option Response) (id : RequestId) (job : Job) → result_row meaning scene (record desk { turns = turns }) o id job ≡ result_row meaning scene
         desk o id job
     by_reply (Some response) id job = refl
-    by_reply None id job = by_kind id job.snapshot.revision job.kind
+    by_reply None id job = by_asked id job.snapshot.revision (asked_for job.kind)
 
     by_request : (o : Option RequestId) (job : Job) (result : JobResult) → ticket_row meaning scene (record desk { turns = turns }) o job result ≡ ticket_row
         meaning scene desk o job result

@@ -3,12 +3,12 @@ use Rattle.std.proofs.Common.{◌≡◌, ◌≢◌, ℕ, ◌+◌, ◌≤◌, Lis
 use Rattle.std.proofs.lemmas.List.Elements.{All-cons, All-contains, All-nil, Contains-push}
 use Rattle.std.specs.Prelude.{Contains, None, Some}
 use Rattle.std.specs.FinMap as map
-use Rattle.session_port.specs.Jobs.{Jobs, ticket_of_job}
+use Rattle.session_port.specs.Jobs.{Jobs}
+use Rattle.session_port.specs.Kinds.{slot_at, slot_of, ticket_of_job}
+use Rattle.session_port.proofs.Facts.{slot-ticket, ticket-slot}
 use Rattle.session_port.specs.declared.job.Job.{Job}
-use Rattle.session_port.specs.declared.job.JobKind.{JobKind}
-use Rattle.session_port.specs.declared.job.JobKind.TheVariants.{Request, ProcMacroSources, FetchWorkspaces, FetchBuildData, LoadProcMacros}
+use Rattle.session_port.specs.declared.kinds.Slot.{Slot}
 use Rattle.desk.specs.Folds.{HasOneJob, IsHeld}
-use Rattle.desk.specs.Slots.{Slot, slot_at, slot_of}
 use Rattle.desk_laws.specs.Invariant.{IsHeldByOne}
 use Rattle.desk_laws.proofs.Keyed.{by_key, get-insert_same, get-insert_other, get-remove_same, get-remove_other}
 use Rattle.desk_laws.proofs.Orders.{by_number_total, by_number_same}
@@ -19,23 +19,7 @@ some-same x y e = cc
 none-some : {X P : Type 0} (x : X) → None ≡ Some x → P
 none-some x e = absurd cc
 
--- ---- slots and tickets
-
--- a job for a part of a request is for the request
-pub slot-ticket : (kind : JobKind) (ticket part : ℕ) → slot_of kind ≡ Some (slot_at ticket part) → ticket_of_job kind ≡ Some ticket
-slot-ticket (Request t row params) ticket part is = ap (λ (s : Slot). Some s.ticket) (some-same (slot_at t 0) (slot_at ticket part) is)
-slot-ticket (ProcMacroSources files) ticket part is = none-some (slot_at ticket part) is
-slot-ticket (FetchWorkspaces projects detached path force) ticket part is = none-some (slot_at ticket part) is
-slot-ticket (FetchBuildData version) ticket part is = none-some (slot_at ticket part) is
-slot-ticket (LoadProcMacros paths ignored) ticket part is = none-some (slot_at ticket part) is
-
--- and a job for a request is for its part 0
-pub first-slot : (kind : JobKind) (ticket : ℕ) → ticket_of_job kind ≡ Some ticket → slot_of kind ≡ Some (slot_at ticket 0)
-first-slot (Request t row params) ticket is = ap (λ u. Some (slot_at u 0)) (some-same t ticket is)
-first-slot (ProcMacroSources files) ticket is = none-some ticket is
-first-slot (FetchWorkspaces projects detached path force) ticket is = none-some ticket is
-first-slot (FetchBuildData version) ticket is = none-some ticket is
-first-slot (LoadProcMacros paths ignored) ticket is = none-some ticket is
+-- ---- slots
 
 same-part : (ticket part other : ℕ) → Some (slot_at ticket part) ≡ Some (slot_at ticket other) → part ≡ other
 same-part ticket part other is = ap (λ (s : Slot). s.part) (some-same (slot_at ticket part) (slot_at ticket other) is)
@@ -178,6 +162,17 @@ held-again ticket part parts handed n found job js low is was_for its h = record
         let same : m ≡ n = one.only m j (still-out n m js j there) is_for ∙ sym (one.only n found is was_for) in
         none-some j (sym (get-remove_same by_number_total by_number_same js n) ∙ ap (map.get (map.remove js n)) (sym same) ∙ there)
 
+-- a job out for a request is for one of its parts that are left
+pub is-left : (ticket n : ℕ) (parts : List ℕ) (found : Job) (js : Jobs) → map.get js n ≡ Some found → ticket_of_job found.kind ≡ Some ticket
+    → IsHeld ticket parts js
+    → (part : ℕ) × (slot_of found.kind ≡ Some (slot_at ticket part)) × Contains parts part
+is-left ticket n parts found js is its h = let slot = ticket-slot found.kind ticket its in (slot.0, slot.1, h.no_other n found slot.0 is slot.1)
+
+-- where part 0 alone is left, it is for this
+pub is-first : (ticket n : ℕ) (found : Job) (js : Jobs) → map.get js n ≡ Some found → ticket_of_job found.kind ≡ Some ticket → IsHeld ticket (0 ∷ []) js
+    → slot_of found.kind ≡ Some (slot_at ticket 0)
+is-first ticket n found js is its h = let k = is-left ticket n (0 ∷ []) found js is its h in k.1 ∙ ap (λ part. Some (slot_at ticket part)) (only-left 0 k.0 k.2)
+
 -- a request of which one part is left has one job out
 pub held-by_one : (ticket part : ℕ) (jobs : Jobs) → IsHeld ticket (part ∷ []) jobs → IsHeldByOne ticket jobs
 held-by_one ticket part jobs h = record {
@@ -186,8 +181,8 @@ held-by_one ticket part jobs h = record {
   is_out = one.is_out;
   holds = slot-ticket one.job.kind ticket part one.holds;
   only = λ other holder there is_for.
-      let its = first-slot holder.kind ticket is_for in
-      one.only other holder there (its ∙ ap (λ k. Some (slot_at ticket k)) (only-left part 0 (h.no_other other holder 0 there its)));
+      let its = ticket-slot holder.kind ticket is_for in
+      one.only other holder there (its.1 ∙ ap (λ k. Some (slot_at ticket k)) (only-left part its.0 (h.no_other other holder its.0 there its.1)));
 }
   where
     one : HasOneJob (slot_at ticket part) jobs

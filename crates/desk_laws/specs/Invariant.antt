@@ -4,7 +4,8 @@ use Rattle.std.specs.FinMap as map
 use Rattle.lsp_frame.specs.Pending.{AreDistinct, id_of}
 use Rattle.lsp_frame.specs.declared.message.RequestId.{RequestId}
 use Rattle.lsp_frame.specs.declared.message.Request.{Request}
-use Rattle.session_port.specs.Jobs.{Jobs, ticket_of_job}
+use Rattle.session_port.specs.Jobs.{Jobs}
+use Rattle.session_port.specs.Kinds.{ticket_of_job}
 use Rattle.session_port.specs.Record.{with_jobs}
 use Rattle.session_port.specs.declared.job.Job.{Job}
 use Rattle.desk.specs.Desk.{Desk}

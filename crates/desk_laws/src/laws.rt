@@ -3,7 +3,8 @@ ghost use Rattle.std.specs.Prelude.{◌≡◌, ◌+◌, ◌∷◌, ℕ, [], fals
 ghost use Rattle.lsp_frame.specs.Pending.{id_of, is_pending};
 ghost use Rattle.lsp_frame.specs.declared.message.Request.{Request};
 ghost use Rattle.lsp_frame.specs.declared.message.RequestId.{RequestId};
-ghost use Rattle.session_port.specs.Jobs.{jobs_after, fitting_job, ticket_of_job};
+ghost use Rattle.session_port.specs.Jobs.{jobs_after, fitting_job};
+ghost use Rattle.session_port.specs.Kinds.{ticket_of_job};
 ghost use Rattle.session_port.specs.declared.event.TaskMsg.{TaskMsg};
 ghost use Rattle.session_port.specs.declared.job.Job.{Job};
 ghost use Rattle.session_port.specs.Working.{Working};

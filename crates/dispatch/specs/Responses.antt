@@ -5,7 +5,7 @@ use Rattle.serde_json.specs.Data.{Data, null}
 use Rattle.lsp_frame.specs.declared.message.RequestId.{RequestId}
 use Rattle.lsp_frame.specs.declared.message.Response.{Response}
 use Rattle.analysis_host.specs.declared.ask.Answer.{Answer}
-use Rattle.analysis_host.specs.declared.ask.Answer.TheVariants.{Json, Roots, Primed}
+use Rattle.analysis_host.specs.declared.ask.Answer.TheVariants.{Json, Diagnostics, Tests, Roots, Primed}
 use Rattle.analysis_host.specs.declared.ask.Outcome.{Outcome}
 use Rattle.analysis_host.specs.declared.ask.Outcome.TheVariants.{Value, Fault, Cancelled}
 use Rattle.dispatch.specs.declared.cancelled.HandlerCancelledError.{HandlerCancelledError}
@@ -32,6 +32,8 @@ fault_code (Some code) = if int_eq code out_of_memory_code then internal_error_c
 -- the result of an answer; only JSON answers a request
 abbrev pub value_of : Answer → Data
 value_of (Json value) = value
+value_of (Diagnostics list) = null
+value_of (Tests tests) = null
 value_of (Roots paths) = null
 value_of Primed = null
 

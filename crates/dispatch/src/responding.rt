@@ -67,7 +67,9 @@ pub fn result_to_response(
 {
     Ok(match outcome {
         Outcome::Value(Answer::Json(value)) => Ok(response_with(id, value)),
-        Outcome::Value(Answer::Roots(_) | Answer::Primed) => unreachable!(),
+        Outcome::Value(
+            Answer::Diagnostics(_) | Answer::Tests(_) | Answer::Roots(_) | Answer::Primed,
+        ) => unreachable!(),
         Outcome::Fault { code, message } => Ok(refusal(id, fault_code(code), message)),
         Outcome::Cancelled { saw } => Err(HandlerCancelledError { saw }),
     })

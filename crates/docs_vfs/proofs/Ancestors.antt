@@ -1,15 +1,16 @@
 -- A folder that holds a path, and how long another may be: between a folder and the one above it stands none.
-use Rattle.std.proofs.Common.{◌≡◌, ℕ, ◌+◌, ◌<◌, ◌≤◌, true, false, ◌||◌, ◌==◌, nat_eq, List, [], ◌∷◌, ◌++◌, length, take, drop, zero, suc, sym, refl, ap, subst, ◌∙◌, ⊎_elim, arith, append_assoc, append-nil, length-append, take_at}
-use Rattle.std.specs.Prelude.{slice_index}
+use Rattle.std.proofs.Common.{◌≡◌, ℕ, ◌+◌, ◌<◌, ◌≤◌, true, false, ◌||◌, ◌==◌, nat_eq, List, [], ◌∷◌, ◌++◌, length, take, drop, zero, suc, Bor, sym, refl, ap, subst, ◌∙◌, ⊎_elim, arith, append_assoc, append-nil, length-append, take_at}
+use Rattle.std.specs.Prelude.{slice_index, Option, Some, None, MatchOption, IfSome}
+use Rattle.std.specs.Option.{option_copied}
 use Rattle.std.specs.List.{list_any, starts_with}
 use Rattle.std.proofs.Math.Seq.{get_or-append_seam}
-use Rattle.std.proofs.lemmas.Bool.{cases_Bool, true≢false, and_from, and_parts, or_left, or_right, or_from, eq-eqb, eqb-true}
+use Rattle.std.proofs.lemmas.Bool.{cases_Bool, cond-true, true≢false, and_from, and_parts, or_left, or_right, or_from, eq-eqb, eqb-true, ne_eqb}
 use Rattle.std.proofs.lemmas.Bool.Decides.{Decides-eqb, nat_tests}
 use Rattle.std.proofs.lemmas.Slice.Eq.{starts_is}
-use Rattle.docs_vfs.specs.Paths.{is_slash, is_path, is_within}
+use Rattle.docs_vfs.specs.Paths.{is_slash, is_path, is_within, parent_of}
 use Rattle.docs_vfs.specs.Fronts.{whole, IsFolderOf}
 use Rattle.docs_vfs.proofs.PathLemmas.{or_left_false, or_right_false, or_right_true}
-use Rattle.docs_vfs.proofs.FrontLemmas.{whole_cons}
+use Rattle.docs_vfs.proofs.FrontLemmas.{whole_cons, parent_is}
 use Rattle.docs_vfs.proofs.WithinLemmas.{begins_with_folder-is_within}
 
 -- the path begins with the folder, and then comes a slash or the end, or the folder is `/`
@@ -126,3 +127,27 @@ pub above_shorter : (above folder : List ℕ) → IsFolderOf above folder → (l
 above_shorter above folder up long =
     let folder_long : length folder ≡ length up.front + 1 + length up.name = omega (arith, ap length up.is, length-append up.front (47 ∷ up.name)) in
     shorter up.front (length up.name) (length folder) (length above) folder_long (ap length up.same) long
+
+-- ---- the folder that a path lies in, where there is one
+
+pub path_some : (path : List ℕ) → is_path path ≡ true → 0 < length path
+unfolding is_path
+path_some [] is = absurd (true≢false (sym is))
+path_some (b ∷ rest) is = omega arith
+
+folder-parent : (folder path : List ℕ) → is_path path ≡ true → length folder < length path → IsFolderOf folder path → Some folder ≡ parent_of path
+folder-parent folder path path_is shorter above =
+    let long : (length path == 1) ≡ false = ne_eqb (length path) 1 (λ one. omega (arith, path_some folder above.folder_is, shorter, one)) in
+    ap Some above.same ∙ sym (parent_is path above.front above.name long above.is above.whole_name)
+
+pub above-parent : (found : Option (Bor (List ℕ))) (path : List ℕ) → is_path path ≡ true
+    → MatchOption found (length path ≡ 1) (λ folder. IsFolderOf folder.now path × (length folder.now < length path))
+    → option_copied found ≡ parent_of path
+above-parent None path path_is one = sym (cond-true _ _ _ (eq-eqb (length path) 1 one))
+above-parent (Some folder) path path_is above = folder-parent folder.now path path_is above.1 above.0
+
+pub above-path : (found : Option (Bor (List ℕ))) (path : List ℕ)
+    → MatchOption found (length path ≡ 1) (λ folder. IsFolderOf folder.now path × (length folder.now < length path))
+    → IfSome (option_copied found) (λ parent. is_path parent ≡ true)
+above-path None path one = tt
+above-path (Some folder) path above = above.0.folder_is

@@ -16,7 +16,7 @@ use Rattle.docs_vfs.specs.Includes.{places, has_paths, is_kept, IsIndex}
 use Rattle.docs_vfs.proofs.PathLemmas.{or_right_true}
 use Rattle.docs_vfs.proofs.RootChoice.{IsFirstGreatest, AreZero, chosen, held_length, held_by, Held, some_is}
 use Rattle.docs_vfs.proofs.Places.{counts, find_from, FirstAt, NoneAt, first_at, first_is}
-use Rattle.docs_vfs.proofs.Ancestors.{IsAncestor, ancestor_within, within_ancestor, one_of_length, not_longer, no_longer, above_ancestor, path_itself}
+use Rattle.docs_vfs.proofs.Ancestors.{IsAncestor, ancestor_within, within_ancestor, one_of_length, not_longer, no_longer, above_ancestor, path_itself, path_some}
 
 -- ---- the first of the greatest is one
 
@@ -67,11 +67,6 @@ pub all_at : {X : Type 0} (p : X → Bool) (xs : List X) (i : ℕ) (x : X) → l
 all_at p [] i x all is = absurd (none-some x is)
 all_at p (y ∷ ys) zero x all is = ap p (sym (some_is y x is)) ∙ (and_parts (p y) (list_all p ys) all).0
 all_at p (y ∷ ys) (suc i) x all is = all_at p ys i x (and_parts (p y) (list_all p ys) all).1 is
-
-pub path_some : (path : List ℕ) → is_path path ≡ true → 0 < length path
-unfolding is_path
-path_some [] is = absurd (true≢false (sym is))
-path_some (b ∷ rest) is = omega arith
 
 pub not_true : (b : Bool) → not b ≡ true → b ≡ false
 not_true true e = sym e

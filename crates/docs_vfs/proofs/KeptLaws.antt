@@ -3,8 +3,8 @@ use Rattle.std.proofs.Common.{◌≡◌, ℕ, Bool, true, false, ◌||◌, List,
 use Rattle.std.specs.Prelude.{bytes_eq, cond, if◌then◌else◌}
 use Rattle.std.proofs.lemmas.Bool.{cases_Bool, cond-true, cond-false, true≢false}
 use Rattle.std.proofs.lemmas.Slice.Eq.{bytes_eq-Decides}
-use Rattle.docs_vfs.specs.declared.file_kinds.Kept.{Kept}
-use Rattle.docs_vfs.specs.declared.file_kinds.Kept.TheVariants.{Nothing, Contents, Excluded}
+use Rattle.docs_vfs.specs.declared.file_kinds.RowState.{RowState}
+use Rattle.docs_vfs.specs.declared.file_kinds.RowState.TheVariants.{Nothing, Contents, Excluded}
 use Rattle.docs_vfs.specs.Files.{Files, kept_at, contents_of, contents_at, is_marked, kept_of, same_contents, set_in, mark_in}
 use Rattle.docs_vfs.specs.FileLaws.{Keeps, SetsContents, KeepsTaken}
 use Rattle.docs_vfs.proofs.PathLemmas.{or_left_false, or_right_false, or_right_true}
@@ -20,7 +20,7 @@ pub same_contents_itself : (a : Option (List ℕ)) → same_contents a a ≡ tru
 same_contents_itself None = refl
 same_contents_itself (Some a) = itself a
 
-kept_by_contents : (kept : Kept) → is_marked kept ≡ false → kept ≡ kept_of (contents_of kept)
+kept_by_contents : (kept : RowState) → is_marked kept ≡ false → kept ≡ kept_of (contents_of kept)
 kept_by_contents Nothing plain = refl
 kept_by_contents (Contents bytes) plain = refl
 kept_by_contents Excluded plain = absurd (true≢false plain)
@@ -29,7 +29,7 @@ contents_kept : (contents : Option (List ℕ)) → contents_of (kept_of contents
 contents_kept None = refl
 contents_kept (Some bytes) = refl
 
-stays_kept : (kept : Kept) (contents : Option (List ℕ)) → (is_marked kept || same_contents (contents_of kept) contents) ≡ true → kept ≡ (if is_marked kept then Excluded else kept_of contents)
+stays_kept : (kept : RowState) (contents : Option (List ℕ)) → (is_marked kept || same_contents (contents_of kept) contents) ≡ true → kept ≡ (if is_marked kept then Excluded else kept_of contents)
 stays_kept kept contents stays =
     ⊎_elim
     (λ marked. marked_is kept marked ∙ sym (cond-true _ _ _ marked))

@@ -9,8 +9,8 @@ use Rattle.std.proofs.lemmas.Option.{none-some, same_Some}
 use Rattle.std.specs.Result.{is_ok}
 use Rattle.docs_vfs.specs.declared.file_kinds.FileId.{FileId}
 use Rattle.docs_vfs.specs.declared.file_kinds.FileRow.{FileRow}
-use Rattle.docs_vfs.specs.declared.file_kinds.Kept.{Kept}
-use Rattle.docs_vfs.specs.declared.file_kinds.Kept.TheVariants.{Nothing, Excluded}
+use Rattle.docs_vfs.specs.declared.file_kinds.RowState.{RowState}
+use Rattle.docs_vfs.specs.declared.file_kinds.RowState.TheVariants.{Nothing, Excluded}
 use Rattle.docs_vfs.specs.declared.file_kinds.TableFault.{TableFault}
 use Rattle.docs_vfs.specs.declared.file_kinds.TableFault.TheVariants.{Full}
 use Rattle.docs_vfs.specs.Files.{Files, kept_in, kept_at, contents_of, contents_at, is_marked, kept_of, same_contents, number_in, put_at, put_in, set_in, mark_in, and_then}
@@ -79,7 +79,7 @@ no_row None none = refl
 no_row (Some row) none = absurd (none-some row.file (sym none))
 
 -- a path without a number, put into a full table and into one that isn't
-full_put : (t : Files) (path : List ℕ) (kept : Kept) → number_at t path ≡ None → nat_le 4294967295 (t.first + length t.paths) ≡ true → put_in t path kept ≡ Err Full
+full_put : (t : Files) (path : List ℕ) (kept : RowState) → number_at t path ≡ None → nat_le 4294967295 (t.first + length t.paths) ≡ true → put_in t path kept ≡ Err Full
 full_put t path kept none full =
     ap (λ o. and_then (number_in t path o) (λ n. Ok (put_at n.0 n.1 path kept))) (no_row (map.get t.rows path) none)
     ∙ ap (λ r. and_then r (λ n. Ok (put_at n.0 n.1 path kept))) (cond-true _ _ _ full)
@@ -88,7 +88,7 @@ record Named (t : Files) (path : List ℕ) (u : Files) : Type 0 where
   first : u.first ≡ t.first
   paths : u.paths ≡ add_name t.first path t.paths
 
-refused : (t : Files) (path : List ℕ) (kept : Kept) → IsNumbered t → (e : TableFault) (o : Option FileRow) → map.get t.rows path ≡ o → put_in t path kept ≡ Err e → t.paths ≡ add_name t.first path t.paths
+refused : (t : Files) (path : List ℕ) (kept : RowState) → IsNumbered t → (e : TableFault) (o : Option FileRow) → map.get t.rows path ≡ o → put_in t path kept ≡ Err e → t.paths ≡ add_name t.first path t.paths
 refused t path kept numbered e (Some row) has is = add_known t path row.file numbered (ap (option_map (λ (r : FileRow). r.file)) has)
 refused t path kept numbered e None has is =
     ⊎_elim
@@ -96,7 +96,7 @@ refused t path kept numbered e None has is =
     (λ room. absurd (err_is_not_ok e _ (sym is ∙ ap (λ o. and_then (number_in t path o) (λ n. Ok (put_at n.0 n.1 path kept))) has ∙ ap (λ r. and_then r (λ n. Ok (put_at n.0 n.1 path kept))) (cond-false _ _ _ room))))
     (cases_Bool (nat_le 4294967295 (t.first + length t.paths)))
 
-put_named : (t : Files) (path : List ℕ) (kept : Kept) → IsNumbered t → (r : Result Files TableFault) → put_in t path kept ≡ r → Named t path (mark_or t r)
+put_named : (t : Files) (path : List ℕ) (kept : RowState) → IsNumbered t → (r : Result Files TableFault) → put_in t path kept ≡ r → Named t path (mark_or t r)
 put_named t path kept numbered (Ok u) is =
     let put = put_is t path kept u is in
     record {

@@ -9,8 +9,8 @@ use Rattle.std.proofs.lemmas.Option.{none-some, slice_get_within}
 use Rattle.docs_vfs.specs.declared.file_kinds.FileId.{FileId}
 use Rattle.docs_vfs.specs.declared.file_kinds.FileRow.{FileRow}
 use Rattle.docs_vfs.specs.declared.file_kinds.FileWas.{FileWas}
-use Rattle.docs_vfs.specs.declared.file_kinds.Kept.{Kept}
-use Rattle.docs_vfs.specs.declared.file_kinds.Kept.TheVariants.{Excluded}
+use Rattle.docs_vfs.specs.declared.file_kinds.RowState.{RowState}
+use Rattle.docs_vfs.specs.declared.file_kinds.RowState.TheVariants.{Excluded}
 use Rattle.docs_vfs.specs.Paths.{path_cmp}
 use Rattle.docs_vfs.specs.Files.{Files, new_files, kept_in, contents_at, is_marked, kept_of, path_at, next_file, set_in, mark_in}
 use Rattle.docs_vfs.specs.FileLaws.{number_at, IsNumbered, KeepsNumbers}
@@ -23,7 +23,7 @@ number_cond : (b : Bool) (row : FileRow) (o : Option FileRow) → number_of_row 
 number_cond true row o = refl
 number_cond false row o = refl
 
-number_after : (t : Files) (path : List ℕ) (kept : Kept) (u : Files) (put : Put t path kept u) (q : List ℕ) → number_at u q ≡ cond (bytes_eq q path) (Some put.file) (number_at t q)
+number_after : (t : Files) (path : List ℕ) (kept : RowState) (u : Files) (put : Put t path kept u) (q : List ℕ) → number_at u q ≡ cond (bytes_eq q path) (Some put.file) (number_at t q)
 number_after t path kept u put q =
     ap number_of_row (row_after t path kept u put q) ∙ number_cond (bytes_eq q path) (record { file = put.file; kept = kept }) (map.get t.rows q)
 
@@ -59,7 +59,7 @@ place_at first n paths q from is = cond-false (nat_lt n first) None (slice_get p
 record Grows (t u : Files) : Type 0 where
   kept : (q : List ℕ) (f : FileId) → number_at t q ≡ Some f → number_at u q ≡ Some f
 
-touched_after : (t : Files) (path : List ℕ) (kept : Kept) (u : Files) (put : Put t path kept u) → IsNumbered t → Grows t u
+touched_after : (t : Files) (path : List ℕ) (kept : RowState) (u : Files) (put : Put t path kept u) → IsNumbered t → Grows t u
     → (q : List ℕ) (was : FileWas) → map.get u.before q ≡ Some was → number_at u q ≡ Some was.file
 touched_after t path kept u put numbered grows q was is =
     let here : FileWas = record { file = put.file; contents = contents_at t path } in
@@ -76,7 +76,7 @@ touched_after t path kept u put numbered grows q was is =
     (cases_Bool (bytes_eq q path)))
     (cases_Bool (is_some (map.get t.before path)))
 
-put_old : (t : Files) (path : List ℕ) (kept : Kept) (u : Files) (put : Put t path kept u) → IsNumbered t → number_at t path ≡ Some put.file → u.paths ≡ t.paths → KeepsNumbers t path u
+put_old : (t : Files) (path : List ℕ) (kept : RowState) (u : Files) (put : Put t path kept u) → IsNumbered t → number_at t path ≡ Some put.file → u.paths ≡ t.paths → KeepsNumbers t path u
 put_old t path kept u put numbered old paths =
     let same : (q : List ℕ) → number_at u q ≡ number_at t q = λ q.
     number_after t path kept u put q ∙ ⊎_elim
@@ -99,7 +99,7 @@ put_old t path kept u put numbered old paths =
 next_place : (first n : ℕ) → (first + n) - first ≡ n
 next_place first n = omega arith
 
-put_new : (t : Files) (path : List ℕ) (kept : Kept) (u : Files) (put : Put t path kept u) → IsNumbered t → number_at t path ≡ None → put.file ≡ next_file t → u.paths ≡ t.paths ++ path ∷ [] → KeepsNumbers t path u
+put_new : (t : Files) (path : List ℕ) (kept : RowState) (u : Files) (put : Put t path kept u) → IsNumbered t → number_at t path ≡ None → put.file ≡ next_file t → u.paths ≡ t.paths ++ path ∷ [] → KeepsNumbers t path u
 put_new t path kept u put numbered none is_next paths =
     let place : (f : FileId) → path_at u f ≡ place_in t.first (t.paths ++ path ∷ []) f.0 = λ f i. place_in (put.first i) (paths i) f.0 in
     let keep : (q : List ℕ) (f : FileId) → number_at t q ≡ Some f → number_at u q ≡ Some f = λ q f is.
@@ -144,7 +144,7 @@ put_new t path kept u put numbered none is_next paths =
       order = paths ∙ sym (cond-false _ _ _ (ap is_some none));
     }
 
-pub put_numbers : (t : Files) (path : List ℕ) (kept : Kept) (u : Files) → IsNumbered t → Put t path kept u → KeepsNumbers t path u
+pub put_numbers : (t : Files) (path : List ℕ) (kept : RowState) (u : Files) → IsNumbered t → Put t path kept u → KeepsNumbers t path u
 put_numbers t path kept u numbered put =
     ⊎_elim
     (λ (old, paths). put_old t path kept u put numbered old paths)

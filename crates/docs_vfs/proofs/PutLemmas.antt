@@ -11,8 +11,8 @@ use Rattle.std.proofs.lemmas.Slice.Eq.{bytes_eq-Decides}
 use Rattle.docs_vfs.specs.declared.file_kinds.FileId.{FileId}
 use Rattle.docs_vfs.specs.declared.file_kinds.FileRow.{FileRow}
 use Rattle.docs_vfs.specs.declared.file_kinds.FileWas.{FileWas}
-use Rattle.docs_vfs.specs.declared.file_kinds.Kept.{Kept}
-use Rattle.docs_vfs.specs.declared.file_kinds.Kept.TheVariants.{Nothing, Contents, Excluded}
+use Rattle.docs_vfs.specs.declared.file_kinds.RowState.{RowState}
+use Rattle.docs_vfs.specs.declared.file_kinds.RowState.TheVariants.{Nothing, Contents, Excluded}
 use Rattle.docs_vfs.specs.declared.file_kinds.TableFault.{TableFault}
 use Rattle.docs_vfs.specs.Paths.{path_cmp}
 use Rattle.docs_vfs.specs.Files.{Files, kept_in, kept_at, contents_of, contents_at, is_marked, kept_of, same_contents, number_in, next_file, before_of, put_at, put_in, set_in, mark_in, and_then}
@@ -28,30 +28,30 @@ pub itself : (k : List ℕ) → bytes_eq k k ≡ true
 itself k = (bytes_eq-Decides k k).1 refl
 
 -- the table after something was kept of a path
-pub record Put (t : Files) (path : List ℕ) (kept : Kept) (u : Files) : Type 0 where
+pub record Put (t : Files) (path : List ℕ) (kept : RowState) (u : Files) : Type 0 where
   pub file : FileId
   pub rows : u.rows ≡ map.insert t.rows path (record { file = file; kept = kept })
   pub before : u.before ≡ before_of t.before path (record { file = file; contents = contents_at t path })
   pub first : u.first ≡ t.first
   pub number : ((number_at t path ≡ Some file) × (u.paths ≡ t.paths)) ⊎ ((number_at t path ≡ None) × (file ≡ next_file t) × (u.paths ≡ t.paths ++ path ∷ []))
 
-abbrev PutIf : Files → List ℕ → Kept → Result Files TableFault → Type 0
+abbrev PutIf : Files → List ℕ → RowState → Result Files TableFault → Type 0
 PutIf t path kept (Ok u) = Put t path kept u
 PutIf t path kept (Err e) = Unit {0}
 
-put_by : (t : Files) (path : List ℕ) (kept : Kept) (o : Option FileRow) → map.get t.rows path ≡ o → PutIf t path kept (and_then (number_in t path o) (λ n. Ok (put_at n.0 n.1 path kept)))
+put_by : (t : Files) (path : List ℕ) (kept : RowState) (o : Option FileRow) → map.get t.rows path ≡ o → PutIf t path kept (and_then (number_in t path o) (λ n. Ok (put_at n.0 n.1 path kept)))
 put_by t path kept (Some row) is =
     record { file = row.file; rows = refl; before = refl; first = refl; number = inl (ap (option_map (λ (r : FileRow). r.file)) is, refl) }
 put_by t path kept None is =
     cond_both (nat_le 4294967295 (t.first + length t.paths)) _ _ (λ r. PutIf t path kept (and_then r (λ n. Ok (put_at n.0 n.1 path kept)))) (λ _. tt)
     (λ _. record { file = next_file t; rows = refl; before = refl; first = refl; number = inr (ap (option_map (λ (r : FileRow). r.file)) is, refl, refl) })
 
-pub put_is : (t : Files) (path : List ℕ) (kept : Kept) (u : Files) → put_in t path kept ≡ Ok u → Put t path kept u
+pub put_is : (t : Files) (path : List ℕ) (kept : RowState) (u : Files) → put_in t path kept ≡ Ok u → Put t path kept u
 put_is t path kept u is = subst (PutIf t path kept) is (put_by t path kept (map.get t.rows path) refl)
 
 -- ---- what is kept
 
-pub row_after : (t : Files) (path : List ℕ) (kept : Kept) (u : Files) (put : Put t path kept u) (q : List ℕ) → map.get u.rows q ≡ cond (bytes_eq q path) (Some (record { file = put.file; kept = kept })) (map.get t.rows q)
+pub row_after : (t : Files) (path : List ℕ) (kept : RowState) (u : Files) (put : Put t path kept u) (q : List ℕ) → map.get u.rows q ≡ cond (bytes_eq q path) (Some (record { file = put.file; kept = kept })) (map.get t.rows q)
 row_after t path kept u put q =
     ap (λ (m : map.FinMap path_cmp FileRow). map.get m q) put.rows
     ∙ map.get-insert nat_list_cmp_total t.rows path (record { file = put.file; kept = kept }) q
@@ -61,19 +61,19 @@ kept_cond : (b : Bool) (row : FileRow) (o : Option FileRow) → kept_in (cond b 
 kept_cond true row o = refl
 kept_cond false row o = refl
 
-pub put_keeps : (t : Files) (path : List ℕ) (kept : Kept) (u : Files) → Put t path kept u → Keeps t path kept u
+pub put_keeps : (t : Files) (path : List ℕ) (kept : RowState) (u : Files) → Put t path kept u → Keeps t path kept u
 put_keeps t path kept u put q =
     ap kept_in (row_after t path kept u put q) ∙ kept_cond (bytes_eq q path) (record { file = put.file; kept = kept }) (map.get t.rows q)
 
 -- a table that keeps of a path what it kept already
-pub same_keeps : (t : Files) (path : List ℕ) (kept : Kept) → kept_at t path ≡ kept → Keeps t path kept t
+pub same_keeps : (t : Files) (path : List ℕ) (kept : RowState) → kept_at t path ≡ kept → Keeps t path kept t
 same_keeps t path kept is q =
     ⊎_elim
     (λ same. ap (kept_at t) (one_path q path same) ∙ is ∙ sym (cond-true _ _ _ same))
     (λ other. sym (cond-false _ _ _ other))
     (cases_Bool (bytes_eq q path))
 
-pub marked_is : (kept : Kept) → is_marked kept ≡ true → kept ≡ Excluded
+pub marked_is : (kept : RowState) → is_marked kept ≡ true → kept ≡ Excluded
 marked_is Nothing marked = absurd (true≢false (sym marked))
 marked_is (Contents bytes) marked = absurd (true≢false (sym marked))
 marked_is Excluded marked = refl
@@ -99,7 +99,7 @@ no_was : (o : Option FileWas) (now : Option (List ℕ)) → is_some o ≡ false 
 no_was None now none = refl
 no_was (Some was) now none = absurd (true≢false none)
 
-taken_here : (t : Files) (path : List ℕ) (kept : Kept) (u : Files) → Put t path kept u → taken_at u path ≡ taken_at t path
+taken_here : (t : Files) (path : List ℕ) (kept : RowState) (u : Files) → Put t path kept u → taken_at u path ≡ taken_at t path
 taken_here t path kept u put =
     let was : FileWas = record { file = put.file; contents = contents_at t path } in
     let rows = ap (λ (m : map.FinMap path_cmp FileWas). map.get m path) put.before ∙ before_after t path was path in
@@ -112,7 +112,7 @@ same_cond : {A : Type 0} (b : Bool) (x : A) → cond b x x ≡ x
 same_cond true x = refl
 same_cond false x = refl
 
-taken_elsewhere : (t : Files) (path : List ℕ) (kept : Kept) (u : Files) → Put t path kept u → (q : List ℕ) → bytes_eq q path ≡ false → taken_at u q ≡ taken_at t q
+taken_elsewhere : (t : Files) (path : List ℕ) (kept : RowState) (u : Files) → Put t path kept u → (q : List ℕ) → bytes_eq q path ≡ false → taken_at u q ≡ taken_at t q
 taken_elsewhere t path kept u put q other =
     let was : FileWas = record { file = put.file; contents = contents_at t path } in
     let rows =
@@ -121,7 +121,7 @@ taken_elsewhere t path kept u put q other =
     let kept_same = put_keeps t path kept u put q ∙ cond-false _ _ _ other in
     λ i. taken (rows i) (contents_of (kept_same i))
 
-pub put_keeps_taken : (t : Files) (path : List ℕ) (kept : Kept) (u : Files) → Put t path kept u → KeepsTaken t u
+pub put_keeps_taken : (t : Files) (path : List ℕ) (kept : RowState) (u : Files) → Put t path kept u → KeepsTaken t u
 put_keeps_taken t path kept u put q =
     ⊎_elim
     (λ same. let is = one_path q path same in ap (taken_at u) is ∙ taken_here t path kept u put ∙ ap (taken_at t) (sym is))

@@ -15,8 +15,8 @@ use Rattle.docs_vfs.specs.Includes.{places, has_paths, IsIndex}
 use Rattle.docs_vfs.proofs.PathLemmas.{or_right_true}
 use Rattle.docs_vfs.proofs.RootChoice.{above_length, Above, above_by, at_place, from_enumerated}
 use Rattle.docs_vfs.proofs.Places.{counts, find_from, FirstAt, NoneAt, first_is}
-use Rattle.docs_vfs.proofs.Ancestors.{IsAncestor, ancestor_within, within_ancestor, one_of_length, not_longer, no_longer, above_ancestor, path_itself}
-use Rattle.docs_vfs.proofs.Climbs.{any_of, among_from, all_at, path_some, not_true}
+use Rattle.docs_vfs.proofs.Ancestors.{IsAncestor, ancestor_within, within_ancestor, one_of_length, not_longer, no_longer, above_ancestor, path_itself, path_some}
+use Rattle.docs_vfs.proofs.Climbs.{any_of, among_from, all_at, not_true}
 use Rattle.docs_vfs.proofs.Greatest.{BestAt, best_is}
 
 or_none : (b : Bool) → (b || false) ≡ true → b ≡ true

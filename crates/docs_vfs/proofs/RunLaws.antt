@@ -3,8 +3,8 @@ use Rattle.std.proofs.Common.{◌≡◌, ℕ, Bool, true, List, [], ◌∷◌, �
 use Rattle.std.specs.Prelude.{bytes_eq, if◌then◌else◌}
 use Rattle.std.proofs.lemmas.Bool.{cases_Bool, cond-true, cond-false}
 use Rattle.docs_vfs.specs.declared.file_kinds.FileId.{FileId}
-use Rattle.docs_vfs.specs.declared.file_kinds.Kept.{Kept}
-use Rattle.docs_vfs.specs.declared.file_kinds.Kept.TheVariants.{Excluded}
+use Rattle.docs_vfs.specs.declared.file_kinds.RowState.{RowState}
+use Rattle.docs_vfs.specs.declared.file_kinds.RowState.TheVariants.{Excluded}
 use Rattle.docs_vfs.specs.declared.file_kinds.TableFault.{TableFault}
 use Rattle.docs_vfs.specs.Files.{Files, new_files, kept_at, contents_at, is_marked, kept_of, set_in, mark_in, changes}
 use Rattle.docs_vfs.specs.FileLaws.{Keeps, number_at, IsNumbered, KeepsTaken, taken_at, IsDifference}
@@ -25,7 +25,7 @@ stays : (t : Files) → IsNumbered t → Onward t t
 stays t numbered = record { numbered = numbered; numbers = λ q file is. is; marks = λ q is. is }
 
 -- a mark stays where the path of the call would keep it
-marks_stay : (t u : Files) (path : List ℕ) (kept : Kept) → Keeps t path kept u → (is_marked (kept_at t path) ≡ true → is_marked kept ≡ true) → (q : List ℕ) → is_marked (kept_at t q) ≡ true → is_marked (kept_at u q) ≡ true
+marks_stay : (t u : Files) (path : List ℕ) (kept : RowState) → Keeps t path kept u → (is_marked (kept_at t path) ≡ true → is_marked kept ≡ true) → (q : List ℕ) → is_marked (kept_at t q) ≡ true → is_marked (kept_at u q) ≡ true
 marks_stay t u path kept keeps here q is =
     ap is_marked (keeps q)
     ∙ ⊎_elim

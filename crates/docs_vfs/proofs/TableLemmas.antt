@@ -11,8 +11,8 @@ use Rattle.std.proofs.lemmas.Option.{none-some}
 use Rattle.docs_vfs.specs.declared.file_kinds.FileId.{FileId}
 use Rattle.docs_vfs.specs.declared.file_kinds.FileRow.{FileRow}
 use Rattle.docs_vfs.specs.declared.file_kinds.FileWas.{FileWas}
-use Rattle.docs_vfs.specs.declared.file_kinds.Kept.{Kept}
-use Rattle.docs_vfs.specs.declared.file_kinds.Kept.TheVariants.{Contents, Excluded}
+use Rattle.docs_vfs.specs.declared.file_kinds.RowState.{RowState}
+use Rattle.docs_vfs.specs.declared.file_kinds.RowState.TheVariants.{Contents, Excluded}
 use Rattle.docs_vfs.specs.declared.file_kinds.TableFault.{TableFault}
 use Rattle.docs_vfs.specs.declared.file_kinds.TableFault.TheVariants.{Full}
 use Rattle.docs_vfs.specs.Paths.{path_cmp}
@@ -64,7 +64,7 @@ pub same_numbered : (t : Files) (paths : List (List ℕ)) (rows : map.FinMap pat
     → IsNumbered t → IsNumbered (record { first = t.first; paths = paths; rows = rows; before = before })
 same_numbered t paths rows before p r b numbered = subst IsNumbered (sym (same_table t paths rows before p r b)) numbered
 
-pub put_numbered : (t u : Files) (path : List ℕ) (kept : Kept) → IsNumbered t → put_in t path kept ≡ Ok u → IsNumbered u
+pub put_numbered : (t u : Files) (path : List ℕ) (kept : RowState) → IsNumbered t → put_in t path kept ≡ Ok u → IsNumbered u
 put_numbered t u path kept numbered is = (put_numbers t path kept u numbered (put_is t path kept u is)).numbered
 
 pub set_numbered : (t u : Files) (path : List ℕ) (contents : Option (List ℕ)) (changed : Bool) → IsNumbered t → set_in t path contents ≡ Ok (u, changed) → IsNumbered u
@@ -83,13 +83,13 @@ mark_numbered t u path numbered is =
 
 -- the calls, by the row of the path
 
-abbrev with_kept : List ℕ → Kept → Result (Files × FileId) TableFault → Result Files TableFault
+abbrev with_kept : List ℕ → RowState → Result (Files × FileId) TableFault → Result Files TableFault
 with_kept path kept n = and_then n (λ m. Ok (put_at m.0 m.1 path kept))
 
 abbrev as_change : Result Files TableFault → Result (Files × Bool) TableFault
 as_change r = and_then r (λ u. Ok (u, true))
 
-abbrev put_by_row : Files → List ℕ → Kept → Option FileRow → Result Files TableFault
+abbrev put_by_row : Files → List ℕ → RowState → Option FileRow → Result Files TableFault
 put_by_row t path kept o = with_kept path kept (number_in t path o)
 
 abbrev set_by_row : Files → List ℕ → Option (List ℕ) → Option FileRow → Result (Files × Bool) TableFault
@@ -100,7 +100,7 @@ set_by_row t path contents o =
 abbrev mark_by_row : Files → List ℕ → Option FileRow → Result Files TableFault
 mark_by_row t path o = if is_marked (kept_in o) then Ok t else put_by_row t path Excluded o
 
-put_by : (t : Files) (path : List ℕ) (kept : Kept) (o : Option FileRow) → map.get t.rows path ≡ o → put_in t path kept ≡ put_by_row t path kept o
+put_by : (t : Files) (path : List ℕ) (kept : RowState) (o : Option FileRow) → map.get t.rows path ≡ o → put_in t path kept ≡ put_by_row t path kept o
 put_by t path kept o is = ap (put_by_row t path kept) is
 
 set_by : (t : Files) (path : List ℕ) (contents : Option (List ℕ)) (o : Option FileRow) → map.get t.rows path ≡ o → set_in t path contents ≡ set_by_row t path contents o
@@ -120,12 +120,12 @@ pub untouched : (t : Files) (path : List ℕ) → IsNumbered t → map.get t.row
 untouched t path numbered none =
     none_if_never (map.get t.before path) (λ was is. none-some was.file (sym (ap (option_map (λ (r : FileRow). r.file)) none) ∙ numbered.touched path was is))
 
-pub put_full : (t : Files) (path : List ℕ) (kept : Kept) → map.get t.rows path ≡ None → is_full t ≡ true → put_in t path kept ≡ Err Full
+pub put_full : (t : Files) (path : List ℕ) (kept : RowState) → map.get t.rows path ≡ None → is_full t ≡ true → put_in t path kept ≡ Err Full
 put_full t path kept none full =
     put_by t path kept None none ∙ ap (with_kept path kept) (cond-true _ _ _ full)
 
 -- the parts that make the table that a put makes
-pub put_made : (t : Files) (path : List ℕ) (kept : Kept) (file : FileId) (paths : List (List ℕ)) (rows : map.FinMap path_cmp FileRow) (before : map.FinMap path_cmp FileWas)
+pub put_made : (t : Files) (path : List ℕ) (kept : RowState) (file : FileId) (paths : List (List ℕ)) (rows : map.FinMap path_cmp FileRow) (before : map.FinMap path_cmp FileWas)
     → IsNumbered t → map.get t.rows path ≡ None → file ≡ next_file t → is_full t ≡ false → paths ≡ t.paths ++ path ∷ [] → rows ≡ map.insert t.rows path (record { file = file; kept = kept })
     → before ≡ map.insert t.before path (record { file = file; contents = None }) → put_in t path kept ≡ Ok (record { first = t.first; paths = paths; rows = rows; before = before })
 put_made t path kept file paths rows before numbered none next room p r b =

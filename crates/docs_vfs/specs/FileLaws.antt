@@ -10,14 +10,14 @@ use Rattle.docs_vfs.specs.declared.file_kinds.ChangedFile.{ChangedFile}
 use Rattle.docs_vfs.specs.declared.file_kinds.FileId.{FileId}
 use Rattle.docs_vfs.specs.declared.file_kinds.FileRow.{FileRow}
 use Rattle.docs_vfs.specs.declared.file_kinds.FileWas.{FileWas}
-use Rattle.docs_vfs.specs.declared.file_kinds.Kept.{Kept}
-use Rattle.docs_vfs.specs.declared.file_kinds.Kept.TheVariants.{Excluded}
+use Rattle.docs_vfs.specs.declared.file_kinds.RowState.{RowState}
+use Rattle.docs_vfs.specs.declared.file_kinds.RowState.TheVariants.{Excluded}
 use Rattle.docs_vfs.specs.Files.{Files, kept_at, contents_at, is_marked, kept_of, path_at, kind_between, change_with}
 
 -- ---- what is kept
 
 -- the new table keeps this of a path, and of each other path what the old one kept
-abbrev pub Keeps : Files → List ℕ → Kept → Files → Type 0
+abbrev pub Keeps : Files → List ℕ → RowState → Files → Type 0
 Keeps t path kept u = (other : List ℕ) → kept_at u other ≡ (if bytes_eq other path then kept else kept_at t other)
 
 -- the contents at a path are these, unless it is marked, and whether that is a change is said

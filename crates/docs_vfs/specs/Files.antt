@@ -11,8 +11,8 @@ use Rattle.docs_vfs.specs.declared.file_kinds.FileExcluded.{FileExcluded}
 use Rattle.docs_vfs.specs.declared.file_kinds.FileExcluded.TheVariants.{Yes, No}
 use Rattle.docs_vfs.specs.declared.file_kinds.FileRow.{FileRow}
 use Rattle.docs_vfs.specs.declared.file_kinds.FileWas.{FileWas}
-use Rattle.docs_vfs.specs.declared.file_kinds.Kept.{Kept}
-use Rattle.docs_vfs.specs.declared.file_kinds.Kept.TheVariants.{Nothing, Contents, Excluded}
+use Rattle.docs_vfs.specs.declared.file_kinds.RowState.{RowState}
+use Rattle.docs_vfs.specs.declared.file_kinds.RowState.TheVariants.{Nothing, Contents, Excluded}
 use Rattle.docs_vfs.specs.declared.file_kinds.Replaced.{Replaced}
 use Rattle.docs_vfs.specs.declared.file_kinds.TableFault.{TableFault}
 use Rattle.docs_vfs.specs.declared.file_kinds.TableFault.TheVariants.{Full, NoMemory}
@@ -31,19 +31,19 @@ new_files first = record { first = first; paths = []; rows = map.empty; before =
 
 -- ---- what is kept of a path
 
-abbrev pub kept_in : Option FileRow → Kept
+abbrev pub kept_in : Option FileRow → RowState
 kept_in None = Nothing
 kept_in (Some row) = row.kept
 
-abbrev pub kept_at : Files → List ℕ → Kept
+abbrev pub kept_at : Files → List ℕ → RowState
 kept_at t path = kept_in (map.get t.rows path)
 
-abbrev pub contents_of : Kept → Option (List ℕ)
+abbrev pub contents_of : RowState → Option (List ℕ)
 contents_of Nothing = None
 contents_of (Contents bytes) = Some bytes
 contents_of Excluded = None
 
-abbrev pub is_marked : Kept → Bool
+abbrev pub is_marked : RowState → Bool
 is_marked Nothing = false
 is_marked (Contents bytes) = false
 is_marked Excluded = true
@@ -52,7 +52,7 @@ is_marked Excluded = true
 abbrev pub contents_at : Files → List ℕ → Option (List ℕ)
 contents_at t path = contents_of (kept_at t path)
 
-abbrev pub kept_of : Option (List ℕ) → Kept
+abbrev pub kept_of : Option (List ℕ) → RowState
 kept_of None = Nothing
 kept_of (Some bytes) = Contents bytes
 
@@ -76,7 +76,7 @@ has_contents t (Some path) = is_some (contents_at t path)
 abbrev pub exists_in : Files → FileId → Bool
 exists_in t file = has_contents t (path_at t file)
 
-abbrev pub id_by : FileId → Kept → Option (FileId × FileExcluded)
+abbrev pub id_by : FileId → RowState → Option (FileId × FileExcluded)
 id_by file Nothing = None
 id_by file (Contents bytes) = Some (file, No)
 id_by file Excluded = Some (file, Yes)
@@ -120,7 +120,7 @@ and_then (Ok x) next = next x
 and_then (Err e) next = Err e
 
 -- the table that keeps this of a path with this number
-abbrev pub put_at : Files → FileId → List ℕ → Kept → Files
+abbrev pub put_at : Files → FileId → List ℕ → RowState → Files
 put_at t file path kept =
     record t {
       rows = map.insert t.rows path (record { file = file; kept = kept });
@@ -128,7 +128,7 @@ put_at t file path kept =
     }
 
 -- the table that keeps this of a path
-abbrev pub put_in : Files → List ℕ → Kept → Result Files TableFault
+abbrev pub put_in : Files → List ℕ → RowState → Result Files TableFault
 put_in t path kept = and_then (with_number t path) (λ n. Ok (put_at n.0 n.1 path kept))
 
 -- the table with these contents at a path, and whether that is a change

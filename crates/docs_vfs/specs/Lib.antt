@@ -13,3 +13,4 @@ pub mod RootLaws
 pub mod Roots
 pub mod Includes
 pub mod Parents
+pub mod Kinds

@@ -1,5 +1,6 @@
 ghost use Rattle.std.specs.Prelude.{◌≡◌};
 ghost use Rattle.std.proofs.Common.{rules};
+ghost use Rattle.docs_vfs.specs.Kinds.{is_created_or_deleted};
 
 use crate::path::VfsPath;
 use crate::shared_bytes::SharedBytes;
@@ -33,6 +34,18 @@ pub enum ChangeKind {
     Delete,
 }
 
+impl ChangeKind {
+    /// Whether the file came or went.
+    pub fn is_created_or_deleted(self) -> bool
+        ensures { result ≡ is_created_or_deleted self }
+    {
+        match self {
+            ChangeKind::Create | ChangeKind::Delete => true,
+            ChangeKind::Modify => false,
+        }
+    }
+}
+
 /// A file whose contents aren't what they were at the last take. The contents are shared with the table.
 pub struct ChangedFile {
     pub file: FileId,
@@ -54,7 +67,7 @@ impl Drop for ChangedFile {
 
 /// What a table keeps of a path.
 #[derive(Drop)]
-pub enum Kept {
+pub enum RowState {
     Nothing,
     Contents(SharedBytes),
     Excluded,
@@ -63,7 +76,7 @@ pub enum Kept {
 /// A path's number, and what is kept of it.
 pub struct FileRow {
     pub file: FileId,
-    pub kept: Kept,
+    pub kept: RowState,
 }
 
 impl Drop for FileRow {

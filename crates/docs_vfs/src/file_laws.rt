@@ -1,6 +1,6 @@
 ghost use Rattle.std.specs.Prelude.{◌≡◌, ◌++◌, ℕ, Bool, List, Option, Some, Ok, true};
 ghost use Rattle.std.specs.FinMap as map;
-ghost use Rattle.docs_vfs.specs.declared.file_kinds.Kept.TheVariants.{Excluded};
+ghost use Rattle.docs_vfs.specs.declared.file_kinds.RowState.TheVariants.{Excluded};
 ghost use Rattle.docs_vfs.specs.Files.{Files, new_files, set_in, mark_in, changes, contents_at, kept_at, is_marked};
 ghost use Rattle.docs_vfs.specs.FileLaws.{Keeps, SetsContents, IsNumbered, KeepsNumbers, KeepsTaken, number_at, taken_at, IsDifference};
 ghost use Rattle.docs_vfs.specs.declared.file_kinds.FileId.{FileId};

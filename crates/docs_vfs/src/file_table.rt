@@ -8,7 +8,7 @@ ghost use Rattle.docs_vfs.specs.declared.file_kinds.TableFault.TheVariants.{Full
 
 use crate::by_path::ByPath;
 use crate::file_kinds::{
-    ChangeKind, ChangedFile, FileExcluded, FileId, FileRow, FileWas, Kept, Replaced, TableFault,
+    ChangeKind, ChangedFile, FileExcluded, FileId, FileRow, FileWas, Replaced, RowState, TableFault,
 };
 use crate::path::VfsPath;
 use crate::path_table::PathTable;
@@ -58,24 +58,24 @@ impl Model for FileTable {
 }
 
 /// Whether this is a mark.
-fn is_mark(kept: &Kept) -> bool
+fn is_mark(kept: &RowState) -> bool
     ensures { result ≡ is_marked kept.now }
 {
     match kept {
-        Kept::Excluded => true,
-        Kept::Contents(_) => false,
-        Kept::Nothing => false,
+        RowState::Excluded => true,
+        RowState::Contents(_) => false,
+        RowState::Nothing => false,
     }
 }
 
 /// The contents, where these are what is kept.
-fn contents_of(kept: &Kept) -> Option<&SharedBytes>
+fn contents_of(kept: &RowState) -> Option<&SharedBytes>
     ensures { option_copied result ≡ contents_of kept.now }
 {
     match kept {
-        Kept::Contents(bytes) => Some(bytes),
-        Kept::Excluded => None,
-        Kept::Nothing => None,
+        RowState::Contents(bytes) => Some(bytes),
+        RowState::Excluded => None,
+        RowState::Nothing => None,
     }
 }
 
@@ -94,19 +94,19 @@ fn id_of(row: &FileRow) -> Option<(FileId, FileExcluded)>
     ensures { result ≡ id_by row.now.file row.now.kept }
 {
     match &row.kept {
-        Kept::Nothing => None,
-        Kept::Contents(_) => Some((row.file, FileExcluded::No)),
-        Kept::Excluded => Some((row.file, FileExcluded::Yes)),
+        RowState::Nothing => None,
+        RowState::Contents(_) => Some((row.file, FileExcluded::No)),
+        RowState::Excluded => Some((row.file, FileExcluded::Yes)),
     }
 }
 
 /// What is kept of a path with these contents.
-fn keep(contents: Option<SharedBytes>) -> Kept
+fn keep(contents: Option<SharedBytes>) -> RowState
     ensures { result ≡ kept_of contents }
 {
     match contents {
-        Some(bytes) => Kept::Contents(bytes),
-        None => Kept::Nothing,
+        Some(bytes) => RowState::Contents(bytes),
+        None => RowState::Nothing,
     }
 }
 
@@ -206,7 +206,7 @@ fn put_in_row(
     row: &mut FileRow,
     before: &mut ByPath<FileWas>,
     path: &VfsPath,
-    kept: Kept,
+    kept: RowState,
 ) -> Result<(), AllocError>
     ensures ok { OnOk result ((row.new ≡ record row.old { kept = kept }) × (before.new ≡ before_of before.old path.now (was_of row.old))) }
     ensures err { OnErr result ((row.new ≡ row.old) × (before.new ≡ before.old)) }
@@ -281,7 +281,7 @@ fn mark_row(
     if is_mark(&row.kept) {
         return Ok(());
     }
-    put_in_row(row, before, path, Kept::Excluded)
+    put_in_row(row, before, path, RowState::Excluded)
 }
 
 /// Keeps a row of a path that has none, and the path behind those that have numbers. Without memory all stays.
@@ -404,7 +404,7 @@ impl FileTable {
 
     /// Keeps this of a path that has no row, and answers its number.
     #[tactic(auto, using(crate::proofs::TableLemmas::parts))]
-    fn put_new(&mut self, path: &VfsPath, kept: Kept) -> Result<FileId, TableFault>
+    fn put_new(&mut self, path: &VfsPath, kept: RowState) -> Result<FileId, TableFault>
         requires { map.get self.old.rows path.now ≡ None }
         ensures put { Meets result (put_in self.old path.now kept) self.old self.new }
         ensures row { IfOk result (λ file. map.get self.new.rows path.now ≡ Some (record { file = file; kept = kept })) }
@@ -435,7 +435,7 @@ impl FileTable {
         let Some(bytes) = contents else {
             return Ok(unchanged(None));
         };
-        let file = self.put_new(path, Kept::Contents(bytes))?;
+        let file = self.put_new(path, RowState::Contents(bytes))?;
         Ok(Replaced {
             before: None,
             after: Some((file, FileExcluded::No)),
@@ -511,7 +511,7 @@ impl FileTable {
     {
         match self.rows.get_mut(&path) {
             None => {
-                self.put_new(&path, Kept::Excluded)?;
+                self.put_new(&path, RowState::Excluded)?;
             }
             Some(row) => mark_row(row, &mut self.before, &path)?,
         }

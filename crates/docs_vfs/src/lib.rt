@@ -33,7 +33,7 @@ pub use path::VfsPath;
 pub use path_laws::resolved_texts_are_paths;
 pub use path_table::PathTable;
 pub use plain::NoMemory;
-pub use relative::EmptySegments;
+pub use relative::{EmptySegments, parent_text};
 pub use root_laws::the_longest_root_is_chosen;
 pub use shared_bytes::SharedBytes;
 pub use source_roots::{Root, SourceRoots};

@@ -1,4 +1,4 @@
-ghost use Rattle.std.specs.Prelude.{◌==◌, ◌≡◌, length, true, nat_eq, refl, Some, IfOk, IsUtf8, codes, string_bytes};
+ghost use Rattle.std.specs.Prelude.{◌==◌, ◌≡◌, length, true, nat_eq, refl, Some, IfOk, IfSome, IsUtf8, codes, string_bytes};
 ghost use Rattle.std.specs.Option.{option_copied, option_and_then};
 ghost use Rattle.std.specs.Ordering.{nat_cmp};
 ghost use Rattle.std.specs.Hash as fed;
@@ -11,9 +11,9 @@ ghost use Rattle.docs_vfs.specs.Resolve.{below, is_name, resolve};
 
 use crate::path_text::{begins_with_folder_text, cut_at_last_slash, extension_text, is_path_text};
 use crate::relative::{
-    EmptySegments, front_text, is_name_text, push_segment, walk_from, whole_text,
+    EmptySegments, front_text, is_name_text, parent_text, push_segment, walk_from,
 };
-use plain::{Copied, TextKey, Told};
+use plain::{Copied, DecidableEq, TextKey};
 use std::alloc::{AllocError, Global};
 use std::cmp::Ordering;
 use std::hash::{Hash, Hasher};
@@ -136,16 +136,21 @@ impl VfsPath {
         extension_text(self.file_name()?)
     }
 
+    /// The text of the path without its last segment.
+    pub fn parent_str(&self) -> Option<&str>
+        ensures value { option_copied result ≡ parent_of self.now }
+        ensures path { IfSome (option_copied result) (λ parent. is_path parent ≡ true) }
+    {
+        parent_text(self.as_str())
+    }
+
     /// The path without its last segment.
     pub fn parent(&self, alloc: Global) -> Result<Option<VfsPath>, AllocError>
         ensures { IfOk result (λ parent. parent ≡ parent_of self.now) }
     {
-        if self.is_root() {
-            return Ok(None);
-        }
-        match cut_at_last_slash(self.as_str()) {
+        match self.parent_str() {
             None => Ok(None),
-            Some((folder, _name)) => Ok(Some(VfsPath::from_str(alloc, whole_text(folder))?)),
+            Some(parent) => Ok(Some(VfsPath::from_str(alloc, parent)?)),
         }
     }
 
@@ -213,8 +218,8 @@ impl Eq for VfsPath {
     ghost laws = { nat_list_eq_equiv };
 }
 
-impl Told for VfsPath {
-    ghost tells = { bytes_decides };
+impl DecidableEq for VfsPath {
+    ghost decides = { bytes_decides };
 }
 
 impl PartialOrd for VfsPath {

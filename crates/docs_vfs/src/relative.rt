@@ -1,6 +1,7 @@
-ghost use Rattle.std.specs.Prelude.{◌≡◌, ◌++◌, ◌∷◌, true, length, ◌<◌, MatchOption, IfOk, OnOk, IsTrue, string_bytes, if◌then◌else◌};
+ghost use Rattle.std.specs.Prelude.{◌≡◌, ◌++◌, ◌∷◌, true, length, ◌<◌, MatchOption, IfOk, IfSome, OnOk, IsTrue, string_bytes, if◌then◌else◌};
 ghost use Rattle.std.specs.List.{list_any, before_last};
-ghost use Rattle.docs_vfs.specs.Paths.{is_slash, is_path, parts};
+ghost use Rattle.std.specs.Option.{option_copied};
+ghost use Rattle.docs_vfs.specs.Paths.{is_slash, is_path, parent_of, parts};
 ghost use Rattle.docs_vfs.specs.Resolve.{front, is_name, drops, stays, step, walk};
 ghost use Rattle.docs_vfs.specs.Fronts.{whole, IsFront, IsFolderOf, Reaches};
 
@@ -49,6 +50,15 @@ pub(crate) fn folder_above(path: &str) -> Option<&str>
     }
     let (folder, _name) = cut_at_last_slash(path)?;
     Some(whole_text(folder))
+}
+
+/// The text of a path without its last segment; `/` has none.
+pub fn parent_text(path: &str) -> Option<&str>
+    requires { is_path path.now ≡ true }
+    ensures value { option_copied result ≡ parent_of path.now }
+    ensures path { IfSome (option_copied result) (λ parent. is_path parent ≡ true) }
+{
+    folder_above(path)
 }
 
 /// Whether empty segments are left out.

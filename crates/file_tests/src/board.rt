@@ -3,14 +3,14 @@ use crate::calls::{one, text_of};
 use crate::forms::most;
 use docs_vfs::FileId;
 use op_board::{CheckFix, DiagnosticCollection, Pass};
-use plain::Json;
+use plain::{Json, SharedJson};
 use std::alloc::Global;
 
 /// A fix of a file.
 fn fix(alloc: Global) -> Option<CheckFix> {
     Some(CheckFix {
         file: FileId(5),
-        action: Json::from_text(text_of(alloc, "f")?),
+        action: SharedJson::new(alloc, Json::from_text(text_of(alloc, "f")?)).ok()?,
     })
 }
 

@@ -1,8 +1,7 @@
 // Ranges, text edits and diagnostics in JSON. Each function holds one large value, so that it stays quick to prove.
 use crate::calls::{one, path_at, text_of};
-use op_board::{Diagnostic, Related};
+use lsp_types::{Diagnostic, Related, ToJson};
 use plain::Items;
-use protocol_values::ToJson;
 use std::alloc::Global;
 use text_core::{Position, Range, TextEdit};
 

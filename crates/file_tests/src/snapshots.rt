@@ -93,6 +93,7 @@ pub fn snapshot(alloc: Global) -> Option<GlobalStateSnapshot> {
         file_ids: numbers(alloc),
         versions,
         config,
+        check_fixes: Arc::new(alloc, Items::new(alloc)).ok()?,
         proc_macros_loaded: true,
         workspaces,
         workspaces_version: 5,

@@ -3,7 +3,7 @@ ghost use Rattle.std.specs.Prelude.{◌≡◌, true, false, IfOk, OnOk, OnErr, M
 ghost use Rattle.std.specs.Arc.{arc_value};
 ghost use Rattle.crossbeam_queue.specs.SegTies.{IsSegPassOf};
 ghost use Rattle.inbox.specs.Posting.{IsPosting};
-ghost use Rattle.inbox.specs.Rule.{opened, reader_of, host_of, worker, after_post, after_take, Continues};
+ghost use Rattle.inbox.specs.Rule.{opened, reader_of, host_of, worker, after_post, after_take, Continues, IsBeginning};
 
 use crate::entry::Entry;
 use crate::queue::{Inbox, Pass};
@@ -11,6 +11,7 @@ use crate::told::tell;
 use session_port::Source;
 use std::alloc::{AllocError, Global};
 use std::sync::{Arc, Wait};
+use std::thread;
 
 /// The end that takes.
 #[derive(Drop)]
@@ -38,7 +39,7 @@ pub struct WorkerEnd {
     ghost of: { IsSegPassOf (arc_value inbox).queue pass },
 }
 
-/// An inbox for a source: the host's end, and the reader's, which what.me.view.client the source holds.
+/// An inbox for a source: the host's end, and the reader's, which knows what the source holds.
 pub fn open_inbox<R: Wait, S: Source>(
     rt: &R,
     alloc: Global,
@@ -84,6 +85,20 @@ impl WorkerEnd {
     {
         self.inbox.report(rt, &mut self.pass, number)
     }
+
+    /// Posts the number of a job that is done. Where there is no memory it tries again.
+    pub fn report_surely<R: Wait>(&mut self, rt: &R, number: u64)
+        ensures done { self.new.pass.me.view.client.done ≡ self.old.pass.me.view.client.done ++ number ∷ [] }
+        ensures same { self.new.inbox ≡ self.old.inbox }
+    {
+        for _ in rt.forever() {
+            if self.report(rt, number).is_ok() {
+                return;
+            }
+            thread::yield_now();
+        }
+        unreachable!()
+    }
 }
 
 impl HostEnd {
@@ -93,6 +108,20 @@ impl HostEnd {
         ensures same { self.new.inbox ≡ self.old.inbox }
     {
         self.inbox.take(rt, &mut self.pass)
+    }
+
+    /// The oldest entry, once there is one.
+    pub fn wait<R: Wait>(&mut self, rt: &R) -> Entry
+        ensures taken { (self.new.pass.me.view.client ≡ after_take self.old.pass.me.view.client result) × Continues self.old.pass.me.view.client result }
+        ensures same { self.new.inbox ≡ self.old.inbox }
+    {
+        for _ in rt.forever() {
+            if let Some(entry) = self.take(rt) {
+                return entry;
+            }
+            self.inbox.sleep(rt);
+        }
+        unreachable!()
     }
 
     /// An end for a worker, which has posted nothing.
@@ -112,5 +141,18 @@ impl HostEnd {
     {
         let WorkerEnd { inbox: _, pass } = end;
         self.inbox.close(&mut self.pass, pass);
+    }
+
+    /// Takes in the end of a reader that has ended. What was taken of its entries is a beginning of what it posted.
+    pub fn settle<R: Wait>(self, rt: &R, end: ReaderEnd)
+        requires { IsSegPassOf (arc_value self.inbox).queue end.pass }
+        ensures { IsBeginning self.pass.me.view.client.taken end.pass.me.view.client.posted }
+    {
+        let HostEnd { inbox, mut pass } = self;
+        let ReaderEnd {
+            inbox: _,
+            pass: reader,
+        } = end;
+        inbox.settle(rt, &mut pass, reader);
     }
 }

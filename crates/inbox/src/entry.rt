@@ -1,4 +1,7 @@
 //! What stands in the inbox, and what a thread knows of it.
+ghost use Rattle.std.specs.Prelude.{◌≡◌, ◌∷◌, [], length};
+ghost use Rattle.inbox.specs.Posting.{bytes_of};
+
 use crate::told::Token;
 use plain::Bytes;
 use std::collections::LinkedList;
@@ -18,6 +21,19 @@ pub enum Entry {
     NoMemory,
     /// The job with this number is done.
     Done(u64),
+}
+
+impl Entry {
+    /// How many bytes it brings.
+    pub fn len(&self) -> u64
+        ensures { result ≡ length (bytes_of (self.now ∷ [])) }
+    {
+        match self {
+            Entry::Piece(bytes) => bytes.len() as u64,
+            Entry::Opened(_) | Entry::Ended | Entry::Failed(_) | Entry::NoMemory | Entry::Done(_) =>
+                0,
+        }
+    }
 }
 
 /// What a pass knows. No value of it is made.

@@ -6,14 +6,14 @@ use Rattle.serde_json.specs.Data.{Data, null, boolean, string, object, put, memb
 use Rattle.analysis_host.specs.Answers.{Finding, answer}
 use Rattle.analysis_host.specs.SnapshotData.{SnapshotData, encoding_of}
 use Rattle.analysis_host.specs.declared.ask.Ask.{Ask}
-use Rattle.analysis_host.specs.declared.ask.Ask.TheVariants.{Request, CratesOf, Prime}
-use Rattle.analysis_host.specs.declared.ask.Answer.TheVariants.{Json, Roots, Primed}
+use Rattle.analysis_host.specs.declared.ask.Ask.TheVariants.{Request, Part, Syntax, Semantic, Tests as TestsOf, CratesOf, Prime}
+use Rattle.analysis_host.specs.declared.ask.Answer.TheVariants.{Json, Diagnostics, Tests, Roots, Primed}
 use Rattle.analysis_host.specs.declared.server_info.ServerInfo.{ServerInfo}
 use Rattle.method_table.specs.Rows.{default_of}
 use Rattle.method_table.specs.declared.named.TheConstants.{HOVER}
 use Rattle.method_table.specs.declared.row_id.RowId.{RowId}
 use Rattle.requests.specs.Files.{in_text, malformed, refusal, text_of}
-use Rattle.requests.specs.Params.{position_of, uri_of}
+use Rattle.lsp_types.specs.Params.{position_of, uri_of}
 use Rattle.text_core.specs.Lines.{line_text}
 use Rattle.text_core.specs.Positions.{range_of}
 use Rattle.text_core.specs.declared.position.OffsetFault.{OffsetFault}
@@ -107,9 +107,13 @@ abbrev pub ini_request : SnapshotData → RowId → Data → Finding
 ini_request snapshot row params =
     if is_hover row then hover_of snapshot (uri_of params) (position_of params) else answer (Json (default_of row))
 
--- there are no crates
+-- nothing is wrong, and there are no tests and no crates
 abbrev pub ini_answer : SnapshotData → Ask → Finding
 ini_answer snapshot (Request row params) = ini_request snapshot row params
+ini_answer snapshot (Part row params files) = ini_request snapshot row params
+ini_answer snapshot (Syntax file) = answer (Diagnostics [])
+ini_answer snapshot (Semantic file) = answer (Diagnostics [])
+ini_answer snapshot (TestsOf file) = answer (Tests [])
 ini_answer snapshot (CratesOf file) = answer (Roots [])
 ini_answer snapshot Prime = answer Primed
 

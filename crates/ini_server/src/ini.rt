@@ -7,9 +7,10 @@ ghost use Rattle.text_core.specs.Lines.{line_text};
 use analysis_host::{
     Analysis, Answer, Ask, Cancel, GlobalStateSnapshot, Outcome, RowId, ServerInfo,
 };
+use lsp_types::{position_of, uri_of};
 use method_table::{HOVER, default_of};
 use plain::{Items, Json, NoMemory, Text};
-use requests::{malformed, nothing, position_of, refusal, text_of, uri_of};
+use requests::{malformed, nothing, refusal, text_of};
 use serde_json::json;
 use std::alloc::Global;
 use text_core::{Position, PositionEncoding, Range, TextIndex};
@@ -134,7 +135,13 @@ impl Analysis for Ini {
             return Ok(Outcome::Cancelled { saw });
         }
         match ask {
-            Ask::Request { row, params } => request(self.0, snapshot, *row, params.as_json()),
+            Ask::Request { row, params } | Ask::Part { row, params, .. } => {
+                request(self.0, snapshot, *row, params.as_json())
+            }
+            Ask::Syntax(_) | Ask::Semantic(_) => {
+                Ok(Outcome::Value(Answer::Diagnostics(Items::new(self.0))))
+            }
+            Ask::Tests(_) => Ok(Outcome::Value(Answer::Tests(Items::new(self.0)))),
             Ask::CratesOf(_) => Ok(Outcome::Value(Answer::Roots(Items::new(self.0)))),
             Ask::Prime => Ok(Outcome::Value(Answer::Primed)),
         }

@@ -1,5 +1,5 @@
 -- What a reader knows stays true when bytes are added and moved.
-use Rattle.std.proofs.Common.{◌≡◌, ◌+◌, ◌-◌, ◌^◌, ◌<◌, ◌≤◌, ℕ, Bool, true, false, List, ◌++◌, None, length, sym, ap, subst, ◌∙◌, arith, lit<, length-append}
+use Rattle.std.proofs.Common.{◌≡◌, ◌+◌, ◌-◌, ◌^◌, ◌<◌, ℕ, Bool, true, false, List, ◌++◌, None, length, sym, ap, subst, ◌∙◌, arith, lit<, length-append}
 use Rattle.std.proofs.lemmas.Bool.{false≢true}
 use Rattle.memchr.specs.Find.{FindsNeedle}
 use Rattle.lsp_frame.specs.declared.frame.Head.{Head}

@@ -1,7 +1,6 @@
 -- Which step of the handshake a message is (LSP 3.17, "Server lifecycle").
-use Rattle.std.specs.Prelude.{ℕ, nat_eq, negsuc, Bool, true, false, ◌&&◌, List, codes, Option, None, Some, if◌then◌else◌}
+use Rattle.std.specs.Prelude.{ℕ, nat_eq, negsuc, Bool, true, false, ◌&&◌, List, codes, None, Some, if◌then◌else◌}
 use Rattle.std.specs.Cmp.Lexicographic.{pointwise}
-use Rattle.serde_json.specs.Data.{Data}
 use Rattle.lsp_frame.specs.Written.{AreWritable}
 use Rattle.lsp_frame.specs.declared.message.Message.{Message}
 use Rattle.lsp_frame.specs.declared.message.Message.TheVariants.{Request, Notification, Response}

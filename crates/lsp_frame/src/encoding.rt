@@ -8,29 +8,27 @@ ghost use Rattle.lsp_frame.specs.Exact.{IsExact, some_text, call_text, error_tex
 ghost use Rattle.lsp_frame.specs.Rules.{message_of, data_message, id_of, optional_id, optional_error, error_of};
 ghost use Rattle.lsp_frame.specs.Written.{data_of, body_of, error_data, id_data, optional_id_data, params_data, AreWritable, IsWritable, IsWritableIfSome, IsErrorWritable};
 
+use crate::body::Body;
 use crate::message::{Message, Notification, Request, RequestId, Response, ResponseError};
 use itoa::Buffer;
 use plain::{Json, Text};
 use std::alloc::{AllocError, Global};
 
-// The room for a body at first.
-const FIRST_ROOM: usize = 256;
-
 /// A message's body, which reads as the message. No value of it is copied.
 #[tactic(auto, unfolding(crate::specs::Written::body_of))]
-pub fn encode(alloc: Global, message: Message) -> Result<Vec<u8>, AllocError>
+pub fn encode(alloc: Global, message: Message) -> Result<Body, AllocError>
     requires { AreWritable message }
-    ensures value { IfOk result (λ body. body.items ≡ body_of message) }
+    ensures value { IfOk result (λ body. body ≡ body_of message) }
     ensures reads_back { OnOk result (message_of (body_of message) ≡ Some message) }
 {
-    let mut body = Vec::with_capacity(alloc, FIRST_ROOM)?;
+    let mut body = Body::new(alloc)?;
     write_body(message, &mut body)?;
     Ok(body)
 }
 
-fn write_body(message: Message, into: &mut Vec<u8>) -> Result<(), AllocError>
+fn write_body(message: Message, into: &mut Body) -> Result<(), AllocError>
     requires { AreWritable message }
-    ensures text { OnOk result (into.new.items ≡ into.old.items ++ compact_text (data_of message)) }
+    ensures text { OnOk result (into.new ≡ into.old ++ compact_text (data_of message)) }
     ensures exact { OnOk result (IsExact (data_of message)) }
     ensures reads_back { OnOk result (data_message (data_of message) ≡ Some message) }
 {
@@ -41,9 +39,9 @@ fn write_body(message: Message, into: &mut Vec<u8>) -> Result<(), AllocError>
     }
 }
 
-fn write_request(request: Request, into: &mut Vec<u8>) -> Result<(), AllocError>
+fn write_request(request: Request, into: &mut Body) -> Result<(), AllocError>
     requires { IsWritable request.params }
-    ensures text { OnOk result (into.new.items ≡ into.old.items ++ compact_text (data_of (Message.Request request))) }
+    ensures text { OnOk result (into.new ≡ into.old ++ compact_text (data_of (Message.Request request))) }
     ensures exact { OnOk result (IsExact (data_of (Message.Request request))) }
     ensures reads_back { OnOk result (data_message (data_of (Message.Request request))
         ≡ Some (Message.Request request)) }
@@ -55,9 +53,9 @@ fn write_request(request: Request, into: &mut Vec<u8>) -> Result<(), AllocError>
     Ok(())
 }
 
-fn write_notification(notification: Notification, into: &mut Vec<u8>) -> Result<(), AllocError>
+fn write_notification(notification: Notification, into: &mut Body) -> Result<(), AllocError>
     requires { IsWritable notification.params }
-    ensures text { OnOk result (into.new.items ≡ into.old.items ++ compact_text (data_of (Message.Notification notification))) }
+    ensures text { OnOk result (into.new ≡ into.old ++ compact_text (data_of (Message.Notification notification))) }
     ensures exact { OnOk result (IsExact (data_of (Message.Notification notification))) }
     ensures reads_back { OnOk result (data_message (data_of (Message.Notification notification))
         ≡ Some (Message.Notification notification)) }
@@ -69,9 +67,9 @@ fn write_notification(notification: Notification, into: &mut Vec<u8>) -> Result<
 }
 
 /// Appends the members of a call behind its id, and the end.
-fn write_call(method: Text, params: Json, into: &mut Vec<u8>) -> Result<(), AllocError>
+fn write_call(method: Text, params: Json, into: &mut Body) -> Result<(), AllocError>
     requires { IsWritable params }
-    ensures text { OnOk result (into.new.items ≡ into.old.items ++ call_text method (params_data params)) }
+    ensures text { OnOk result (into.new ≡ into.old ++ call_text method (params_data params)) }
     ensures method { OnOk result (IsExact (string method)) }
     ensures params { OnOk result (IfSome (params_data params) IsExact) }
 {
@@ -85,10 +83,10 @@ fn write_call(method: Text, params: Json, into: &mut Vec<u8>) -> Result<(), Allo
     Ok(())
 }
 
-fn write_response(response: Response, into: &mut Vec<u8>) -> Result<(), AllocError>
+fn write_response(response: Response, into: &mut Body) -> Result<(), AllocError>
     requires result { IsWritableIfSome response.result }
     requires error { IsErrorWritable response.error }
-    ensures text { OnOk result (into.new.items ≡ into.old.items ++ compact_text (data_of (Message.Response response))) }
+    ensures text { OnOk result (into.new ≡ into.old ++ compact_text (data_of (Message.Response response))) }
     ensures exact { OnOk result (IsExact (data_of (Message.Response response))) }
     ensures reads_back { OnOk result (data_message (data_of (Message.Response response))
         ≡ Some (Message.Response response)) }
@@ -104,9 +102,9 @@ fn write_response(response: Response, into: &mut Vec<u8>) -> Result<(), AllocErr
 }
 
 /// Appends an error before the other members of a response, if there is one.
-fn write_first_error(error: Option<ResponseError>, into: &mut Vec<u8>) -> Result<(), AllocError>
+fn write_first_error(error: Option<ResponseError>, into: &mut Body) -> Result<(), AllocError>
     requires { IsErrorWritable error }
-    ensures text { OnOk result (into.new.items ≡ into.old.items ++ error_text (option_map error_data error)) }
+    ensures text { OnOk result (into.new ≡ into.old ++ error_text (option_map error_data error)) }
     ensures exact { OnOk result (IfSome (option_map error_data error) IsExact) }
     ensures reads_back { OnOk result (error_of (option_map error_data error) ≡ Some error) }
 {
@@ -119,9 +117,9 @@ fn write_first_error(error: Option<ResponseError>, into: &mut Vec<u8>) -> Result
     Ok(())
 }
 
-fn write_error(error: ResponseError, into: &mut Vec<u8>) -> Result<(), AllocError>
+fn write_error(error: ResponseError, into: &mut Body) -> Result<(), AllocError>
     requires { IsWritableIfSome error.extra }
-    ensures text { OnOk result (into.new.items ≡ into.old.items ++ compact_text (error_data error)) }
+    ensures text { OnOk result (into.new ≡ into.old ++ compact_text (error_data error)) }
     ensures exact { OnOk result (IsExact (error_data error)) }
     ensures reads_back { OnOk result (optional_error (error_data error)
         ≡ Some (Some error)) }
@@ -139,21 +137,21 @@ fn write_error(error: ResponseError, into: &mut Vec<u8>) -> Result<(), AllocErro
 }
 
 /// Appends some bytes and a value's text.
-fn write_value(before: &[u8], value: Json, into: &mut Vec<u8>) -> Result<(), AllocError>
+fn write_value(before: &[u8], value: Json, into: &mut Body) -> Result<(), AllocError>
     requires { IsWritable value }
-    ensures text { OnOk result (into.new.items ≡ into.old.items ++ (before.now ++ compact_text value)) }
+    ensures text { OnOk result (into.new ≡ into.old ++ (before.now ++ compact_text value)) }
     ensures exact { OnOk result (IsExact value) }
 {
-    let text = value.as_value().to_vec(*into.allocator())?;
+    let text = value.as_value().to_vec(into.alloc())?;
     into.extend_from_slice(before)?;
-    into.extend_from_slice(&text)?;
+    into.push(text)?;
     Ok(())
 }
 
 /// The same where there is a value.
-fn write_some(before: &[u8], value: Option<Json>, into: &mut Vec<u8>) -> Result<(), AllocError>
+fn write_some(before: &[u8], value: Option<Json>, into: &mut Body) -> Result<(), AllocError>
     requires { IsWritableIfSome value }
-    ensures text { OnOk result (into.new.items ≡ into.old.items ++ some_text before.now value) }
+    ensures text { OnOk result (into.new ≡ into.old ++ some_text before.now value) }
     ensures exact { OnOk result (IfSome value IsExact) }
 {
     match value {
@@ -164,8 +162,8 @@ fn write_some(before: &[u8], value: Option<Json>, into: &mut Vec<u8>) -> Result<
 
 /// Appends some bytes and an id.
 #[tactic(auto, using(crate::proofs::Bodies::id_IsWritable))]
-fn write_id(before: &[u8], id: RequestId, into: &mut Vec<u8>) -> Result<(), AllocError>
-    ensures text { OnOk result (into.new.items ≡ into.old.items ++ (before.now ++ compact_text (id_data id))) }
+fn write_id(before: &[u8], id: RequestId, into: &mut Body) -> Result<(), AllocError>
+    ensures text { OnOk result (into.new ≡ into.old ++ (before.now ++ compact_text (id_data id))) }
     ensures exact { OnOk result (IsExact (id_data id)) }
     ensures reads_back { id_of (id_data id) ≡ Some id }
 {
@@ -180,9 +178,9 @@ fn write_id(before: &[u8], id: RequestId, into: &mut Vec<u8>) -> Result<(), Allo
 fn write_optional_id(
     before: &[u8],
     id: Option<RequestId>,
-    into: &mut Vec<u8>,
+    into: &mut Body,
 ) -> Result<(), AllocError>
-    ensures text { OnOk result (into.new.items ≡ into.old.items ++ (before.now ++ compact_text (optional_id_data id))) }
+    ensures text { OnOk result (into.new ≡ into.old ++ (before.now ++ compact_text (optional_id_data id))) }
     ensures exact { OnOk result (IsExact (optional_id_data id)) }
     ensures reads_back { optional_id (optional_id_data id) ≡ Some id }
 {
@@ -193,8 +191,8 @@ fn write_optional_id(
 }
 
 /// Appends some bytes and an integer, as it is.
-fn write_integer(before: &[u8], integer: i32, into: &mut Vec<u8>) -> Result<(), AllocError>
-    ensures text { OnOk result (into.new.items ≡ into.old.items ++ (before.now ++ compact_text (number (of_integer integer)))) }
+fn write_integer(before: &[u8], integer: i32, into: &mut Body) -> Result<(), AllocError>
+    ensures text { OnOk result (into.new ≡ into.old ++ (before.now ++ compact_text (number (of_integer integer)))) }
     ensures exact { OnOk result (IsExact (number (of_integer integer))) }
     ensures fits { as_i32 (number (of_integer integer)) ≡ Some integer }
 {

@@ -3,6 +3,7 @@
 //! and `initialized`.
 #![tactic(auto)]
 
+mod body;
 mod cutting;
 mod encoding;
 mod fault;
@@ -21,9 +22,9 @@ mod reading;
 mod step;
 mod writing;
 
-pub use cutting::cut;
+pub use cutting::{HEADER_LIMIT, cut, cut_at, read_head};
 pub use fault::FrameFault;
-pub use frame::Cut;
+pub use frame::{Cut, Head};
 pub use handshake::Handshake;
 pub use header::fields_are_lines;
 pub use incoming::{Incoming, Registered, pending_stays_distinct};

@@ -1,13 +1,14 @@
 // The messages of a stream that comes in pieces.
 ghost use Rattle.std.specs.Prelude.{◌≡◌, ◌+◌, ◌<◌, ◌^◌, ◌++◌, [], ℕ, List, Some, false, length, IfOk, OnOk, MatchOption};
 ghost use Rattle.lsp_frame.specs.Frames.{cut_of, frames_from};
+ghost use Rattle.lsp_frame.specs.Reader.{fed};
 ghost use Rattle.lsp_frame.specs.Pieces.{stream_of, reading_of, behind};
 
 use crate::fault::FrameFault;
 use crate::frame::Cut;
 use crate::message::Message;
 use crate::reader::FrameReader;
-use plain::{Items, NoMemory};
+use plain::{Bytes, Items, NoMemory};
 use std::alloc::{AllocError, Global};
 
 /// The messages of a stream up to its first fault, and that fault.
@@ -51,6 +52,14 @@ fn take_messages(
     }
 }
 
+/// Feeds a copy of a piece.
+fn feed(alloc: Global, reader: &mut FrameReader, piece: &[u8]) -> Result<(), NoMemory>
+    requires { reader.old.place + length reader.old.held + length piece.now < 2 ^ 64 }
+    ensures { OnOk result (reader.new ≡ fed reader.old piece.now) }
+{
+    reader.feed(Bytes::from_slice(alloc, piece)?)
+}
+
 /// The messages of the stream that comes in these pieces. They are those of the whole stream, however it was cut.
 pub fn read_pieces(alloc: Global, pieces: &[Vec<u8>]) -> Result<Reading, NoMemory>
     requires { length (stream_of pieces.now) < 2 ^ 64 }
@@ -59,7 +68,7 @@ pub fn read_pieces(alloc: Global, pieces: &[Vec<u8>]) -> Result<Reading, NoMemor
     let mut reader = FrameReader::new(alloc);
     let mut messages = Items::new(alloc);
     for piece in pieces {
-        reader.feed(piece)?;
+        feed(alloc, &mut reader, piece)?;
         if let Some(fault) = take_messages(&mut reader, &mut messages)? {
             return Ok(Reading {
                 messages,

@@ -10,7 +10,8 @@ use crate::fault::FrameFault;
 use crate::frame::{Cut, Head};
 use crate::message::Message;
 use crate::reading::read_body;
-use plain::{Buffered, NoMemory};
+use piece_buffer::PieceBuffer;
+use plain::{Bytes, NoMemory};
 use std::alloc::{AllocError, Global};
 use std::marker::Model;
 
@@ -32,7 +33,7 @@ impl Known {
 pub struct FrameReader {
     alloc: Global,
     // The bytes that belong to no message given so far, and where in the stream they begin.
-    held: Buffered,
+    held: PieceBuffer,
     place: u64,
     known: Known,
     failed: bool,
@@ -102,7 +103,7 @@ impl FrameReader {
     {
         FrameReader {
             alloc,
-            held: Buffered::new(alloc),
+            held: PieceBuffer::new(alloc),
             place,
             known: Known::NOTHING,
             failed: false,
@@ -145,10 +146,10 @@ impl FrameReader {
         cut_at(self.held.len(), known.head)
     }
 
-    /// Takes the next piece of the stream.
-    pub fn feed(&mut self, bytes: &[u8]) -> Result<(), NoMemory>
-        requires { self.old.place + length self.old.held + length bytes.now < 2 ^ 64 }
-        ensures ok { OnOk result (self.new ≡ fed self.old bytes.now) }
+    /// Takes the next piece of the stream. It isn't copied where no byte is held.
+    pub fn feed(&mut self, bytes: Bytes) -> Result<(), NoMemory>
+        requires { self.old.place + length self.old.held + length bytes < 2 ^ 64 }
+        ensures ok { OnOk result (self.new ≡ fed self.old bytes) }
         ensures err { OnErr result (self.new ≡ self.old) }
     {
         if self.failed {

@@ -3,6 +3,7 @@ ghost use Rattle.std.specs.Prelude.{◌≡◌, ◌++◌, Some, IfOk, OnOk, OnErr
 ghost use Rattle.lsp_frame.specs.Rules.{message_of};
 ghost use Rattle.lsp_frame.specs.Written.{header_for, frame_for, body_of, AreWritable};
 
+use crate::body::Body;
 use crate::encoding::encode;
 use crate::message::Message;
 use itoa::Buffer;
@@ -26,21 +27,14 @@ fn header(alloc: Global, size: usize) -> Result<Vec<u8>, AllocError>
 }
 
 /// Appends one frame.
-fn write_frame(alloc: Global, body: &[u8], into: &mut Vec<u8>) -> Result<(), AllocError>
+fn write_frame(alloc: Global, body: &Body, into: &mut Vec<u8>) -> Result<(), AllocError>
     ensures ok { OnOk result (into.new.items ≡ into.old.items ++ frame_for body.now) }
     ensures err { OnErr result (into.new.items ≡ into.old.items) }
 {
-    let header = header(alloc, body.len())?;
-    into.reserve(header.len().saturating_add(body.len()))?;
-    let before = into.len();
-    into.extend_from_slice(&header)?;
-    match into.extend_from_slice(body) {
-        Ok(()) => Ok(()),
-        Err(error) => {
-            into.truncate(before);
-            Err(error)
-        }
-    }
+    let len = body.len().ok_or(AllocError)?;
+    let header = header(alloc, len)?;
+    into.reserve(header.len().saturating_add(len))?;
+    body.append_to(&header, into)
 }
 
 /// Appends the frame of a message. Its values go into the body as they are, and the body is copied once.

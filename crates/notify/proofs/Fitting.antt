@@ -9,7 +9,7 @@ use Rattle.serde_json.specs.Find.{get_member, as_str}
 use Rattle.method_table.specs.Unit.{is_unit}
 use Rattle.notify.specs.Cancelling.{request_in, token_in}
 use Rattle.notify.specs.Changing.{changed_in}
-use Rattle.notify.specs.Documents.{document_members, uri_in}
+use Rattle.lsp_types.specs.Documents.{document_members, take_document_uri}
 use Rattle.notify.specs.Flychecks.{checked_in}
 use Rattle.notify.specs.Opening.{document_in, text_within}
 use Rattle.notify.specs.Reading.{Reader, readers, reader_of, has_method, bare, FitsWorld, FitsWorldIfRead}
@@ -94,9 +94,9 @@ each_fits = (
       (
         λ params. told_fits notice.DidChange (λ x. tt) (changed_in params),
         (
-          λ params. told_fits notice.DidClose (λ x. tt) (uri_in params),
+          λ params. told_fits notice.DidClose (λ x. tt) (take_document_uri params),
           (
-            λ params. told_fits notice.DidSave (λ x. tt) (uri_in params),
+            λ params. told_fits notice.DidSave (λ x. tt) (take_document_uri params),
             (
               λ params. tt,
               (

@@ -1,5 +1,5 @@
 -- What is written for a message has no float and nests little deeper than the values in it, and so a message can carry it.
-use Rattle.std.proofs.Common.{◌≡◌, ℕ, suc, ◌≤◌, Bool, true, false, not, ◌||◌, List, [], ◌∷◌, map, Option, None, Some, refl, sym, arith}
+use Rattle.std.proofs.Common.{◌≡◌, ℕ, ℤ, pos, negsuc, suc, ◌≤◌, Bool, true, false, not, ◌||◌, List, [], ◌∷◌, map, Option, None, Some, refl, sym, arith}
 use Rattle.std.specs.Prelude.{nat_le, codes, All}
 use Rattle.std.specs.Cmp.Lexicographic.{slice_cmp}
 use Rattle.std.specs.Ordering.{nat_cmp, match_ordering}
@@ -10,22 +10,27 @@ use Rattle.plain.specs.Plain.{is_plain, most_levels}
 use Rattle.serde_json.specs.Data.{Data, null, boolean, string, object, Members, no_members, member, put, depth, items_depth, members_depth}
 use Rattle.serde_json.specs.View.{items_of}
 use Rattle.serde_json.specs.Written.{has_float, items_have_float, members_have_float}
-use Rattle.lsp_frame.specs.Written.{IsWritable, put_some, value_depth}
+use Rattle.lsp_frame.specs.Written.{IsWritable, value_depth}
+use Rattle.lsp_types.specs.Values.{put_some, watcher_value}
+use Rattle.lsp_types.specs.declared.watcher.Watcher.{Watcher}
+use Rattle.lsp_types.specs.declared.watcher.Watcher.TheVariants.{Relative, Text}
 use Rattle.notify.specs.Objects.{one, with_text, list, optional_text, optional_number}
 use Rattle.notify.specs.Progressing.{work_members, progress_value, progress_params}
-use Rattle.notify.specs.Registering.{registering, registration, patterns, save_options, watch_options, watcher_value}
+use Rattle.notify.specs.Publishing.{publish_params, version_value}
+use Rattle.notify.specs.Registering.{registering, registration, patterns, save_options, watch_options}
 use Rattle.notify.specs.Showing.{message_members, asking_members, status_params}
 use Rattle.notify.specs.Testing.{discovered_params, report_value, test_state}
 use Rattle.notify.specs.Writing.{outgo_body, HoldsPlain}
+use Rattle.lsp_types.specs.declared.diagnostic.Diagnostic.{Diagnostic}
+use Rattle.lsp_types.specs.Shallow.{diagnostic_shallow, list_plain}
+use Rattle.lsp_types.specs.Values.{diagnostic_value, list_value}
 use Rattle.notify.specs.declared.outgo.MessageKind.{MessageKind}
 use Rattle.notify.specs.declared.outgo.Outgo.{Outgo}
-use Rattle.notify.specs.declared.outgo.Outgo.TheVariants.{RegisterSave, RegisterWatch, SemanticTokensRefresh, CodeLensRefresh, InlayHintRefresh, DiagnosticRefresh, CreateProgress, Progress, Configuration, ShowMessage, ShowMessageRequest, ServerStatus, OpenLogs, DiscoveredTests, TestState, EndRunTest, AppendOutput}
+use Rattle.notify.specs.declared.outgo.Outgo.TheVariants.{RegisterSave, RegisterWatch, SemanticTokensRefresh, CodeLensRefresh, InlayHintRefresh, DiagnosticRefresh, CreateProgress, Progress, Configuration, ShowMessage, ShowMessageRequest, ServerStatus, Publish, OpenLogs, DiscoveredTests, TestState, EndRunTest, AppendOutput}
 use Rattle.notify.specs.declared.outgo.ProgressValue.{ProgressValue}
 use Rattle.notify.specs.declared.outgo.ProgressValue.TheVariants.{Begin, Report, End}
 use Rattle.notify.specs.declared.outgo.TestReport.{TestReport}
 use Rattle.notify.specs.declared.outgo.TestReport.TheVariants.{Started, Skipped, Passed, Failed}
-use Rattle.notify.specs.declared.outgo.Watcher.{Watcher}
-use Rattle.notify.specs.declared.outgo.Watcher.TheVariants.{Relative, Text}
 
 -- ---- objects and lists of small values are small
 
@@ -238,6 +243,20 @@ state_small state id =
     in_object 1 _ (with_put 1 (codes "testId") (string id) _ (text_small 1 id)
     (with_put 1 (codes "state") (report_value state) no_members (report_small state) (none_in 1)))
 
+-- ---- diagnostics
+
+version_small : (n : ℕ) (version : Option ℤ) → SmallOption n (version_value version)
+version_small n None = tt
+version_small n (Some (pos number)) = record { no_float = refl; levels = omega arith }
+version_small n (Some (negsuc number)) = record { no_float = refl; levels = omega arith }
+
+publish_small : (diagnostics : List Diagnostic) (uri : List ℕ) (version : Option ℤ) → Small 121 (publish_params diagnostics uri version)
+publish_small diagnostics uri version =
+    in_object 120 _ (with_some 120 (codes "version") (version_value version) _ (version_small 120 version)
+    (with_put 120 (codes "uri") (string uri) _ (text_small 120 uri)
+    (with_put 120 (codes "diagnostics") (list_value diagnostic_value diagnostics) no_members
+    (plain_small (list_value diagnostic_value diagnostics) (list_plain diagnostic_value diagnostic_shallow diagnostics)) (none_in 120))))
+
 -- ---- each message
 
 writable : (n : ℕ) (d : Data) → n ≤ 125 → Small n d → IsWritable d
@@ -263,6 +282,7 @@ body_writable Configuration h = writable 3 _ (omega arith) settings
 body_writable (ShowMessage message kind) h = writable 1 _ (omega arith) (in_object 0 _ (message_small 0 message kind))
 body_writable (ShowMessageRequest message kind) h = writable 3 _ (omega arith) (in_object 2 _ (asking_small message kind))
 body_writable (ServerStatus health message quiescent) h = writable 1 _ (omega arith) (status_small health message quiescent)
+body_writable (Publish diagnostics uri version) h = writable 121 _ (omega arith) (publish_small diagnostics uri version)
 body_writable OpenLogs h = writable 0 _ (omega arith) nothing
 body_writable (DiscoveredTests uris tests) h = writable 122 _ (omega arith) (discovered_small uris tests h)
 body_writable (TestState state id) h = writable 2 _ (omega arith) (state_small state id)

@@ -1,4 +1,3 @@
-pub mod Documents
 pub mod Opening
 pub mod Changing
 pub mod Cancelling
@@ -8,6 +7,7 @@ pub mod Reading
 pub mod Objects
 pub mod Registering
 pub mod Progressing
+pub mod Publishing
 pub mod Showing
 pub mod Testing
 pub mod Writing

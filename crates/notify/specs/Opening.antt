@@ -3,7 +3,7 @@ use Rattle.std.specs.Prelude.{ℕ, List, codes, length, nat_le, if◌then◌else
 use Rattle.plain.specs.Reading.{as_i32}
 use Rattle.serde_json.specs.Data.{Data, Members}
 use Rattle.serde_json.specs.Find.{get_member, as_str}
-use Rattle.notify.specs.Documents.{document_members}
+use Rattle.lsp_types.specs.Documents.{document_members}
 use Rattle.notify.specs.declared.notice.DidOpen.{DidOpen}
 
 -- a text that a world can hold

@@ -1,7 +1,7 @@
 -- How far some work is (LSP 3.17, WorkDoneProgress).
 use Rattle.std.specs.Prelude.{ℕ, Bool, List, codes, Option}
 use Rattle.serde_json.specs.Data.{Data, boolean, string, object, Members, no_members, put}
-use Rattle.lsp_frame.specs.Written.{put_some}
+use Rattle.lsp_types.specs.Values.{put_some}
 use Rattle.notify.specs.Objects.{optional_text, optional_number}
 use Rattle.notify.specs.declared.outgo.ProgressValue.{ProgressValue}
 use Rattle.notify.specs.declared.outgo.ProgressValue.TheVariants.{Begin, Report, End}

@@ -8,7 +8,7 @@ use Rattle.lsp_frame.specs.declared.message.Notification.{Notification}
 use Rattle.method_table.specs.Unit.{is_unit}
 use Rattle.notify.specs.Cancelling.{request_in, token_in}
 use Rattle.notify.specs.Changing.{changed_in}
-use Rattle.notify.specs.Documents.{uri_in}
+use Rattle.lsp_types.specs.Documents.{take_document_uri}
 use Rattle.notify.specs.Flychecks.{checked_in}
 use Rattle.notify.specs.Opening.{opened_in}
 use Rattle.notify.specs.Uris.{folders_in, watched_in}
@@ -41,8 +41,8 @@ readers =
     reader (codes "window/workDoneProgress/cancel") (telling CancelProgress token_in) ∷
     reader (codes "textDocument/didOpen") (telling DidOpen opened_in) ∷
     reader (codes "textDocument/didChange") (telling DidChange changed_in) ∷
-    reader (codes "textDocument/didClose") (telling DidClose uri_in) ∷
-    reader (codes "textDocument/didSave") (telling DidSave uri_in) ∷
+    reader (codes "textDocument/didClose") (telling DidClose take_document_uri) ∷
+    reader (codes "textDocument/didSave") (telling DidSave take_document_uri) ∷
     reader (codes "workspace/didChangeConfiguration") (λ params. Some DidChangeConfiguration) ∷
     reader (codes "workspace/didChangeWorkspaceFolders") folders_in ∷
     reader (codes "workspace/didChangeWatchedFiles") (telling DidChangeWatchedFiles watched_in) ∷

@@ -2,8 +2,8 @@
 use Rattle.std.specs.Prelude.{ℕ, false, List, [], ◌∷◌, ◌++◌, codes, map}
 use Rattle.serde_json.specs.Data.{Data, boolean, string, object, no_members, put}
 use Rattle.notify.specs.Objects.{one, with_text, list}
-use Rattle.notify.specs.declared.outgo.Watcher.{Watcher}
-use Rattle.notify.specs.declared.outgo.Watcher.TheVariants.{Relative, Text}
+use Rattle.lsp_types.specs.Values.{list_value, watcher_value}
+use Rattle.lsp_types.specs.declared.watcher.Watcher.{Watcher}
 
 -- `{"id":M,"method":M,"registerOptions":..}`
 abbrev pub registration : List ℕ → Data → Data
@@ -24,14 +24,6 @@ save_options files =
     object (put (codes "includeText") (boolean false)
     (put (codes "documentSelector") (list (map (with_text (codes "pattern")) (patterns files))) no_members))
 
--- `{"baseUri":U,"pattern":P}`
-abbrev pub relative : List ℕ → List ℕ → Data
-relative base pattern = object (put (codes "pattern") (string pattern) (put (codes "baseUri") (string base) no_members))
-
-abbrev pub watcher_value : Watcher → Data
-watcher_value (Relative base pattern) = one (codes "globPattern") (relative base pattern)
-watcher_value (Text pattern) = with_text (codes "globPattern") pattern
-
 -- `{"watchers":[{"globPattern":..}..]}`
 abbrev pub watch_options : List Watcher → Data
-watch_options watchers = one (codes "watchers") (list (map watcher_value watchers))
+watch_options watchers = one (codes "watchers") (list_value watcher_value watchers)

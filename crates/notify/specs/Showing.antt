@@ -1,7 +1,7 @@
 -- What a user is shown (LSP 3.17, ShowMessageRequestParams), and the state of the server.
 use Rattle.std.specs.Prelude.{ℕ, Bool, List, [], ◌∷◌, codes, Option}
 use Rattle.serde_json.specs.Data.{Data, boolean, number, unsigned, string, object, Members, no_members, put}
-use Rattle.lsp_frame.specs.Written.{put_some}
+use Rattle.lsp_types.specs.Values.{put_some}
 use Rattle.notify.specs.Objects.{with_text, list, optional_text}
 use Rattle.notify.specs.declared.outgo.MessageKind.{MessageKind}
 use Rattle.notify.specs.declared.outgo.MessageKind.TheVariants.{Error, Warning, Info}

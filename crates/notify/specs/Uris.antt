@@ -2,14 +2,14 @@
 use Rattle.std.specs.Prelude.{ℕ, List, [], ◌∷◌, codes, Option, Some, option_map, option_and_then}
 use Rattle.serde_json.specs.Data.{Data, Members, Items, no_items, item}
 use Rattle.serde_json.specs.Find.{get_member, as_array, as_object}
-use Rattle.notify.specs.Documents.{uri_of}
+use Rattle.lsp_types.specs.Documents.{take_uri}
 use Rattle.notify.specs.declared.notice.Notice.{Notice}
 use Rattle.notify.specs.declared.notice.Notice.TheVariants.{DidChangeWorkspaceFolders}
 
 -- the URLs of items, where each has one
 abbrev pub uris_in : Items → Option (List (List ℕ))
 uris_in no_items = Some []
-uris_in (item d ds) = option_and_then (λ uri. option_map (λ uris. uri ∷ uris) (uris_in ds)) (uri_of d)
+uris_in (item d ds) = option_and_then (λ uri. option_map (λ uris. uri ∷ uris) (uris_in ds)) (take_uri d)
 
 abbrev pub uris_of : Data → Option (List (List ℕ))
 uris_of list = option_and_then uris_in (as_array list)

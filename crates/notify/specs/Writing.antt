@@ -4,13 +4,14 @@ use Rattle.plain.specs.Plain.{is_plain}
 use Rattle.serde_json.specs.Data.{Data, null, string, object}
 use Rattle.notify.specs.Objects.{one, with_text, list}
 use Rattle.notify.specs.Progressing.{progress_params}
+use Rattle.notify.specs.Publishing.{publish_params}
 use Rattle.notify.specs.Registering.{registering, save_options, watch_options}
 use Rattle.notify.specs.Showing.{message_members, asking_members, status_params}
 use Rattle.notify.specs.Testing.{discovered_params, test_state}
 use Rattle.notify.specs.declared.outgo.Outgo.{Outgo}
 use Rattle.notify.specs.declared.outgo.Outgo.TheVariants.{RegisterSave, RegisterWatch, SemanticTokensRefresh, CodeLensRefresh, InlayHintRefresh}
 use Rattle.notify.specs.declared.outgo.Outgo.TheVariants.{DiagnosticRefresh, CreateProgress, Progress, Configuration, ShowMessage, ShowMessageRequest}
-use Rattle.notify.specs.declared.outgo.Outgo.TheVariants.{ServerStatus, OpenLogs, DiscoveredTests, TestState, EndRunTest, AppendOutput}
+use Rattle.notify.specs.declared.outgo.Outgo.TheVariants.{ServerStatus, Publish, OpenLogs, DiscoveredTests, TestState, EndRunTest, AppendOutput}
 
 -- the method and the params
 abbrev pub outgo_body : Outgo → List ℕ × Data
@@ -28,6 +29,7 @@ outgo_body Configuration =
 outgo_body (ShowMessage message kind) = (codes "window/showMessage", object (message_members message kind))
 outgo_body (ShowMessageRequest message kind) = (codes "window/showMessageRequest", object (asking_members message kind))
 outgo_body (ServerStatus health message quiescent) = (codes "experimental/serverStatus", status_params health message quiescent)
+outgo_body (Publish diagnostics uri version) = (codes "textDocument/publishDiagnostics", publish_params diagnostics uri version)
 outgo_body OpenLogs = (codes "experimental/openServerLogs", null)
 outgo_body (DiscoveredTests uris tests) = (codes "experimental/discoveredTests", discovered_params uris tests)
 outgo_body (TestState state id) = (codes "experimental/changeTestState", test_state state id)
@@ -43,16 +45,9 @@ is_request CodeLensRefresh = true
 is_request InlayHintRefresh = true
 is_request DiagnosticRefresh = true
 is_request (CreateProgress token) = true
-is_request (Progress token value) = false
 is_request Configuration = true
-is_request (ShowMessage message kind) = false
 is_request (ShowMessageRequest message kind) = true
-is_request (ServerStatus health message quiescent) = false
-is_request OpenLogs = false
-is_request (DiscoveredTests uris tests) = false
-is_request (TestState state id) = false
-is_request EndRunTest = false
-is_request (AppendOutput text) = false
+is_request other = false
 
 -- the JSON values in a message are plain
 abbrev pub HoldsPlain : Outgo → Type 0

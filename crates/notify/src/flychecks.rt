@@ -2,7 +2,7 @@
 ghost use Rattle.std.specs.Prelude.{◌≡◌};
 ghost use Rattle.notify.specs.Flychecks.{checked, checked_in};
 
-use crate::opening::uri_of;
+use lsp_types::take_uri;
 use plain::{Json, Text};
 
 // The URL of a document; a document that is absent or null is none.
@@ -10,7 +10,7 @@ fn checked(document: Option<Json>) -> Option<Option<Text>>
     ensures { result ≡ checked document }
 {
     match document {
-        Some(document) if !document.is_null() => Some(Some(uri_of(document)?)),
+        Some(document) if !document.is_null() => Some(Some(take_uri(document)?)),
         _ => Some(None),
     }
 }

@@ -1,8 +1,7 @@
 // Small pieces of JSON.
-ghost use Rattle.std.specs.Prelude.{◌≡◌, [], ◌∷◌, map, IfOk, OnOk};
+ghost use Rattle.std.specs.Prelude.{◌≡◌, [], ◌∷◌, map, IfOk};
 ghost use Rattle.serde_json.specs.Data.{array, string};
 ghost use Rattle.serde_json.specs.View.{items_view, view};
-ghost use Rattle.lsp_frame.specs.Written.{put_some};
 ghost use Rattle.notify.specs.Objects.{list, one, optional_number, optional_text, with_text};
 
 use plain::{Items, Json, Members, NoMemory, Text};
@@ -32,21 +31,6 @@ pub(crate) fn optional_number(number: Option<u32>) -> Option<Json>
     match number {
         Some(number) => Some(Json::from_u32(number)),
         None => None,
-    }
-}
-
-/// Puts a value at a key, if there is one.
-pub(crate) fn put_some(
-    members: &mut Members,
-    alloc: Global,
-    key: &str,
-    value: Option<Json>,
-) -> Result<(), NoMemory>
-    ensures { OnOk result (members.new ≡ put_some key.now value members.old) }
-{
-    match value {
-        Some(value) => members.put(alloc, key, value),
-        None => Ok(()),
     }
 }
 

@@ -1,37 +1,13 @@
-// Documents as params name them, and those that are opened.
+// Documents that are opened.
 ghost use Rattle.std.specs.Prelude.{◌≡◌};
-ghost use Rattle.notify.specs.Documents.{document_members, uri_of, uri_in};
 ghost use Rattle.notify.specs.Opening.{opened_in, text_within};
 
 use crate::notice::DidOpen;
-use plain::{Json, Members, Text};
+use lsp_types::document_members;
+use plain::{Json, Text};
 
 /// The most bytes that a text of a world has.
 const TEXT_LIMIT: usize = 4_294_967_295;
-
-/// The members of the document that params name.
-pub(crate) fn document_members(params: Json) -> Option<Members>
-    ensures { result ≡ document_members params }
-{
-    params
-        .into_members()?
-        .take_value("textDocument")?
-        .into_members()
-}
-
-/// The URL that a value has.
-pub(crate) fn uri_of(value: Json) -> Option<Text>
-    ensures { result ≡ uri_of value }
-{
-    value.into_members()?.take_value("uri")?.into_text()
-}
-
-/// The URL of the document that params name.
-pub(crate) fn uri_in(params: Json) -> Option<Text>
-    ensures { result ≡ uri_in params }
-{
-    document_members(params)?.take_value("uri")?.into_text()
-}
 
 fn text_within(text: Text) -> Option<Text>
     ensures { result ≡ text_within text }

@@ -1,4 +1,5 @@
 // What the server tells and asks by itself.
+use lsp_types::{Diagnostic, Watcher};
 use plain::{Items, Json, Text};
 
 /// How important a message to the user is (LSP 3.17, MessageType).
@@ -7,15 +8,6 @@ pub enum MessageKind {
     Error,
     Warning,
     Info,
-}
-
-/// Files that a client is to watch (LSP 3.17, GlobPattern).
-#[derive(Drop)]
-pub enum Watcher {
-    /// What the pattern names below the URL.
-    Relative { base_uri: Text, pattern: Text },
-    /// What the pattern names.
-    Text(Text),
 }
 
 /// How far some work is (LSP 3.17, WorkDoneProgress).
@@ -82,6 +74,12 @@ pub enum Outgo {
         health: Text,
         message: Option<Text>,
         quiescent: bool,
+    },
+    /// What is wrong in the file of a URL, which has this version where it is open.
+    Publish {
+        diagnostics: Items<Diagnostic>,
+        uri: Text,
+        version: Option<i32>,
     },
     OpenLogs,
     DiscoveredTests {

@@ -2,8 +2,9 @@
 ghost use Rattle.std.specs.Prelude.{◌≡◌, IfOk};
 ghost use Rattle.notify.specs.Progressing.{begin_value, end_value, progress_params, progress_value, work_members};
 
-use crate::objects::{optional_number, optional_text, put_some, text};
+use crate::objects::{optional_number, optional_text, text};
 use crate::outgo::ProgressValue;
+use lsp_types::put_some;
 use plain::{Json, Members, NoMemory, Text};
 use std::alloc::Global;
 

@@ -7,8 +7,9 @@ use crate::changing::changed_in;
 use crate::fault::NoticeFault;
 use crate::flychecks::checked_in;
 use crate::notice::Notice;
-use crate::opening::{opened_in, uri_in};
+use crate::opening::opened_in;
 use crate::uris::{folders_in, watched_in};
+use lsp_types::take_document_uri;
 use method_table::is_unit;
 use plain::{Json, NoMemory, Text};
 use std::alloc::Global;
@@ -30,8 +31,12 @@ fn read(alloc: Global, method: &str, params: Json) -> Result<Option<Option<Notic
         "window/workDoneProgress/cancel" => Ok(Some(token_in(params).map(Notice::CancelProgress))),
         "textDocument/didOpen" => Ok(Some(opened_in(params).map(Notice::DidOpen))),
         "textDocument/didChange" => Ok(Some(changed_in(alloc, params)?.map(Notice::DidChange))),
-        "textDocument/didClose" => Ok(Some(uri_in(params).map(|uri| Notice::DidClose { uri }))),
-        "textDocument/didSave" => Ok(Some(uri_in(params).map(|uri| Notice::DidSave { uri }))),
+        "textDocument/didClose" => Ok(Some(take_document_uri(params).map(|uri| Notice::DidClose {
+            uri,
+        }))),
+        "textDocument/didSave" => Ok(Some(take_document_uri(params).map(|uri| Notice::DidSave {
+            uri,
+        }))),
         "workspace/didChangeConfiguration" => Ok(Some(Some(Notice::DidChangeConfiguration))),
         "workspace/didChangeWorkspaceFolders" => Ok(Some(folders_in(alloc, params)?)),
         "workspace/didChangeWatchedFiles" => Ok(Some(watched_in(alloc, params)?.map(

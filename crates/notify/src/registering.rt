@@ -1,12 +1,10 @@
 // What a client is asked to tell of (LSP 3.17, RegistrationParams).
-ghost use Rattle.std.specs.Prelude.{◌≡◌, [], ◌++◌, codes, map, IfOk};
-ghost use Rattle.serde_json.specs.View.{view};
-ghost use Rattle.notify.specs.Registering.{patterns, registering, registration, relative, save_options, watch_options, watcher_value};
+ghost use Rattle.std.specs.Prelude.{◌≡◌, [], ◌++◌, codes, IfOk};
+ghost use Rattle.notify.specs.Registering.{patterns, registering, registration, save_options, watch_options};
 
-use crate::objects::{alone, array, list_of_objects, one, text, with_text};
-use crate::outgo::Watcher;
+use crate::objects::{alone, list_of_objects, one, text};
+use lsp_types::{Watcher, list_json};
 use plain::{Items, Json, Members, NoMemory, Text};
-use serde_json::Value;
 use std::alloc::Global;
 
 fn registration(alloc: Global, method: &str, options: Json) -> Result<Json, NoMemory>
@@ -69,40 +67,10 @@ fn save_options(alloc: Global, files: &Items<Text>) -> Result<Json, NoMemory>
     Ok(members.into_json())
 }
 
-fn relative(alloc: Global, base_uri: Text, pattern: Text) -> Result<Json, NoMemory>
-    ensures { IfOk result (λ json. json ≡ relative base_uri pattern) }
+fn watch_options(alloc: Global, watchers: &[Watcher]) -> Result<Json, NoMemory>
+    ensures { IfOk result (λ json. json ≡ watch_options watchers.now) }
 {
-    let mut members = Members::new(alloc);
-    members.put(alloc, "baseUri", Json::from_text(base_uri))?;
-    members.put(alloc, "pattern", Json::from_text(pattern))?;
-    Ok(members.into_json())
-}
-
-fn watcher_value(alloc: Global, watcher: Watcher) -> Result<Json, NoMemory>
-    ensures { IfOk result (λ json. json ≡ watcher_value watcher) }
-{
-    match watcher {
-        Watcher::Relative { base_uri, pattern } => {
-            one(alloc, "globPattern", relative(alloc, base_uri, pattern)?)
-        }
-        Watcher::Text(pattern) => with_text(alloc, "globPattern", pattern),
-    }
-}
-
-fn watcher_values(alloc: Global, watchers: Items<Watcher>) -> Result<Vec<Value>, NoMemory>
-    ensures { IfOk result (λ values. map view values.items ≡ map watcher_value watchers) }
-{
-    let mut values = Vec::new(alloc);
-    for watcher in watchers.into_vec() {
-        values.push(watcher_value(alloc, watcher)?.into_value())?;
-    }
-    Ok(values)
-}
-
-fn watch_options(alloc: Global, watchers: Items<Watcher>) -> Result<Json, NoMemory>
-    ensures { IfOk result (λ json. json ≡ watch_options watchers) }
-{
-    one(alloc, "watchers", array(watcher_values(alloc, watchers)?))
+    one(alloc, "watchers", list_json(alloc, watchers)?)
 }
 
 /// The params that ask to be told of saved documents.
@@ -113,8 +81,8 @@ pub(crate) fn registering_save(alloc: Global, files: &Items<Text>) -> Result<Jso
 }
 
 /// The params that ask to be told of changed files.
-pub(crate) fn registering_watch(alloc: Global, watchers: Items<Watcher>) -> Result<Json, NoMemory>
-    ensures { IfOk result (λ json. json ≡ registering (codes "workspace/didChangeWatchedFiles") (watch_options watchers)) }
+pub(crate) fn registering_watch(alloc: Global, watchers: &[Watcher]) -> Result<Json, NoMemory>
+    ensures { IfOk result (λ json. json ≡ registering (codes "workspace/didChangeWatchedFiles") (watch_options watchers.now)) }
 {
     registering(
         alloc,

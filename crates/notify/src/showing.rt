@@ -3,8 +3,9 @@ ghost use Rattle.std.specs.Prelude.{◌≡◌, IfOk};
 ghost use Rattle.serde_json.specs.Data.{object};
 ghost use Rattle.notify.specs.Showing.{asking_members, message_members, status_params, type_of};
 
-use crate::objects::{alone, one, optional_text, put_some, text};
+use crate::objects::{alone, one, optional_text, text};
 use crate::outgo::MessageKind;
+use lsp_types::put_some;
 use plain::{Json, Members, NoMemory, Text};
 use std::alloc::Global;
 

@@ -4,7 +4,7 @@ ghost use Rattle.serde_json.specs.View.{items_view};
 ghost use Rattle.notify.specs.Uris.{uris_in, uris_of, folders_in, event_of, watched_in};
 
 use crate::notice::Notice;
-use crate::opening::uri_of;
+use lsp_types::take_uri;
 use plain::{Items, Json, Members, NoMemory, Text};
 use serde_json::Value;
 use std::alloc::Global;
@@ -15,7 +15,7 @@ fn uris_in(alloc: Global, items: Vec<Value>) -> Result<Option<Items<Text>>, NoMe
 {
     let mut uris = Items::new(alloc);
     for item in items {
-        match uri_of(Json::new(item)) {
+        match take_uri(Json::new(item)) {
             Some(uri) => uris.push(uri)?,
             None => return Ok(None),
         }

@@ -7,6 +7,7 @@ ghost use Rattle.notify.specs.Writing.{HoldsPlain, is_request, outgo_body};
 use crate::objects::{alone, one, text, with_text};
 use crate::outgo::Outgo;
 use crate::progressing::progress_params;
+use crate::publishing::publish_params;
 use crate::registering::{registering_save, registering_watch};
 use crate::showing::{asking_params, message_params, status_params};
 use crate::testing::{discovered_params, test_state};
@@ -27,14 +28,7 @@ pub fn is_request(message: &Outgo) -> bool
         | Outgo::CreateProgress { .. }
         | Outgo::Configuration
         | Outgo::ShowMessageRequest { .. } => true,
-        Outgo::Progress { .. }
-        | Outgo::ShowMessage { .. }
-        | Outgo::ServerStatus { .. }
-        | Outgo::OpenLogs
-        | Outgo::DiscoveredTests { .. }
-        | Outgo::TestState { .. }
-        | Outgo::EndRunTest
-        | Outgo::AppendOutput { .. } => false,
+        _ => false,
     }
 }
 
@@ -53,6 +47,7 @@ fn method_of(message: &Outgo) -> &'static str
         Outgo::ShowMessage { .. } => "window/showMessage",
         Outgo::ShowMessageRequest { .. } => "window/showMessageRequest",
         Outgo::ServerStatus { .. } => "experimental/serverStatus",
+        Outgo::Publish { .. } => "textDocument/publishDiagnostics",
         Outgo::OpenLogs => "experimental/openServerLogs",
         Outgo::DiscoveredTests { .. } => "experimental/discoveredTests",
         Outgo::TestState { .. } => "experimental/changeTestState",
@@ -74,7 +69,7 @@ fn params_of(alloc: Global, message: Outgo) -> Result<Json, NoMemory>
 {
     match message {
         Outgo::RegisterSave { files_to_watch } => registering_save(alloc, &files_to_watch),
-        Outgo::RegisterWatch { watchers } => registering_watch(alloc, watchers),
+        Outgo::RegisterWatch { watchers } => registering_watch(alloc, watchers.as_slice()),
         Outgo::SemanticTokensRefresh
         | Outgo::CodeLensRefresh
         | Outgo::InlayHintRefresh
@@ -91,6 +86,11 @@ fn params_of(alloc: Global, message: Outgo) -> Result<Json, NoMemory>
             message,
             quiescent,
         } => status_params(alloc, health, message, quiescent),
+        Outgo::Publish {
+            diagnostics,
+            uri,
+            version,
+        } => publish_params(alloc, &diagnostics, uri, version),
         Outgo::DiscoveredTests { uris, tests } => discovered_params(alloc, uris, tests),
         Outgo::TestState { state, test_id } => test_state(alloc, state, test_id),
         Outgo::AppendOutput { text } => Ok(Json::from_text(text)),

@@ -8,12 +8,12 @@ use Rattle.std.specs.Ordering.{nat_cmp, is_eq}
 use Rattle.std.specs.FinMap as map
 use Rattle.std.proofs.lemmas.Bool.{cases_Bool, cond_both, cond-true, cond-false, true≢false, eqb-true, and_parts, and_from, or_left, or_right, and_right, false_from_ne_true, ltb-true}
 use Rattle.docs_vfs.specs.declared.file_kinds.FileId.{FileId}
-use Rattle.op_board.specs.declared.diagnostic.Diagnostic.{Diagnostic}
+use Rattle.lsp_types.specs.declared.diagnostic.Diagnostic.{Diagnostic}
 use Rattle.op_board.specs.declared.diagnostic.Pass.{Pass}
 use Rattle.op_board.specs.declared.diagnostic.Pass.TheVariants.{Syntax, Semantic}
 use Rattle.op_board.specs.declared.check_package.CheckPackage.{CheckPackage}
 use Rattle.op_board.specs.declared.check_package.CheckEntry.{CheckEntry}
-use Rattle.op_board.specs.Diagnostics.{same_diagnostic, diagnostic_told}
+use Rattle.lsp_types.specs.Diagnostics.{same_diagnostic, diagnostic_told}
 use Rattle.op_board.specs.Packages.{package_cmp}
 use Rattle.op_board.specs.Marked.{Marked, mark}
 use Rattle.op_board.specs.Board.{has_some}

@@ -6,11 +6,12 @@ use Rattle.std.specs.Cmp.Lexicographic.{pointwise, pointwise_decides}
 use Rattle.std.specs.FinMap as map
 use Rattle.std.proofs.lemmas.Bool.{eqb-true}
 use Rattle.docs_vfs.specs.declared.file_kinds.FileId.{FileId}
-use Rattle.op_board.specs.declared.diagnostic.Diagnostic.{Diagnostic}
+use Rattle.lsp_types.specs.declared.diagnostic.Diagnostic.{Diagnostic}
 use Rattle.op_board.specs.declared.diagnostic.Pass.{Pass}
 use Rattle.op_board.specs.declared.diagnostic.Pass.TheVariants.{Syntax, Semantic}
 use Rattle.op_board.specs.declared.pass_list.PassList.{PassList}
-use Rattle.op_board.specs.Diagnostics.{same_diagnostic, diagnostic_told, in_order}
+use Rattle.lsp_types.specs.Diagnostics.{same_diagnostic, diagnostic_told}
+use Rattle.op_board.specs.Diagnostics.{in_order}
 use Rattle.op_board.specs.Marked.{Marked, mark, mark_if}
 use Rattle.op_board.specs.Board.{Board, Lists, list_of, differs, is_accepted, set_list, clear_list, clear_stored, has_some, lists_of, with_lists}
 use Rattle.op_board.specs.Acts.{Act, after}

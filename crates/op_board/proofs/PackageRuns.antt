@@ -9,12 +9,12 @@ use Rattle.std.specs.FinMap.Entries.{below_all}
 use Rattle.std.proofs.lemmas.Bool.{cond_both, cond-true, cond-false, eqb-true, eq-eqb, ne_eqb, ltb-true, ltb-false, and_parts}
 use Rattle.std.proofs.Common.{append_assoc}
 use Rattle.docs_vfs.specs.declared.file_kinds.FileId.{FileId}
-use Rattle.op_board.specs.declared.diagnostic.Diagnostic.{Diagnostic}
+use Rattle.lsp_types.specs.declared.diagnostic.Diagnostic.{Diagnostic}
 use Rattle.op_board.specs.declared.check_package.CheckPackage.{CheckPackage}
 use Rattle.op_board.specs.declared.check_package.CheckEntry.{CheckEntry}
 use Rattle.op_board.specs.declared.diagnostic.Pass.{Pass}
 use Rattle.op_board.specs.declared.diagnostic.Pass.TheVariants.{Syntax, Semantic}
-use Rattle.op_board.specs.Diagnostics.{same_diagnostic, diagnostic_told}
+use Rattle.lsp_types.specs.Diagnostics.{same_diagnostic, diagnostic_told}
 use Rattle.op_board.specs.Packages.{package_cmp}
 use Rattle.op_board.specs.Marked.{Marked}
 use Rattle.op_board.specs.Checks.{Packages, Checks, mark_package, listed, list_in, new_package, add_entry, renewed, add_to, package_or_new, packages_or_none, add_check, older_than, drops_at, kept, with_left, drop_package, forget, drop_in, sift}

@@ -2,7 +2,7 @@
 use Rattle.std.specs.Prelude.{ℕ, ◌+◌, List, [], ◌∷◌, Option, None, Some}
 use Rattle.std.specs.FinMap as map
 use Rattle.docs_vfs.specs.declared.file_kinds.FileId.{FileId}
-use Rattle.op_board.specs.declared.diagnostic.Diagnostic.{Diagnostic}
+use Rattle.lsp_types.specs.declared.diagnostic.Diagnostic.{Diagnostic}
 use Rattle.op_board.specs.declared.diagnostic.Pass.{Pass}
 use Rattle.op_board.specs.declared.check_package.CheckEntry.{CheckEntry}
 use Rattle.op_board.specs.Board.{Board, new_board, set_native, clear_native, with_checks, clear_all_checks}

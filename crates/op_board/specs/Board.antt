@@ -1,14 +1,15 @@
 -- The board of diagnostics: lists by file for each pass of the analysis, and the files whose lists changed.
-use Rattle.std.specs.Prelude.{ℕ, Bool, true, false, ◌&&◌, not, List, [], ◌∷◌, ◌++◌, Option, None, Some, cond, nat_lt, nat_le}
+use Rattle.std.specs.Prelude.{ℕ, Bool, true, false, ◌&&◌, ◌+◌, not, List, [], ◌∷◌, ◌++◌, Option, None, Some, cond, nat_lt, nat_le, if◌then◌else◌}
 use Rattle.std.specs.Ordering.{nat_cmp}
 use Rattle.std.specs.Cmp.Lexicographic.{pointwise}
 use Rattle.std.specs.FinMap as map
 use Rattle.docs_vfs.specs.declared.file_kinds.FileId.{FileId}
-use Rattle.op_board.specs.declared.diagnostic.Diagnostic.{Diagnostic}
+use Rattle.lsp_types.specs.declared.diagnostic.Diagnostic.{Diagnostic}
 use Rattle.op_board.specs.declared.diagnostic.Pass.{Pass}
 use Rattle.op_board.specs.declared.diagnostic.Pass.TheVariants.{Syntax, Semantic}
 use Rattle.op_board.specs.declared.pass_list.PassList.{PassList}
-use Rattle.op_board.specs.Diagnostics.{same_diagnostic, in_order}
+use Rattle.lsp_types.specs.Diagnostics.{same_diagnostic}
+use Rattle.op_board.specs.Diagnostics.{in_order}
 use Rattle.op_board.specs.Checks.{Checks, checks_of, mark_checks}
 use Rattle.op_board.specs.Marked.{Marked, mark_if}
 
@@ -27,6 +28,14 @@ pub record Board : Type 0 where
 
 abbrev pub new_board : Board
 new_board = record { generation = 0; syntax = map.empty; semantic = map.empty; cleared = map.empty; checks = map.empty; marked = map.empty }
+
+-- the greatest generation
+unfoldable pub most_generations : ℕ
+most_generations = 18446744073709551615
+
+-- the next generation, where one is left
+abbrev pub next_generation : Board → Option ℕ
+next_generation b = if nat_lt b.generation most_generations then Some (b.generation + 1) else None
 
 abbrev pub list_of : Option PassList → List Diagnostic
 list_of None = []

@@ -4,11 +4,11 @@ use Rattle.std.specs.List.{list_any}
 use Rattle.std.specs.Ordering.{nat_cmp, eq_by_cmp}
 use Rattle.std.specs.FinMap as map
 use Rattle.docs_vfs.specs.declared.file_kinds.FileId.{FileId}
-use Rattle.op_board.specs.declared.diagnostic.Diagnostic.{Diagnostic}
+use Rattle.lsp_types.specs.declared.diagnostic.Diagnostic.{Diagnostic}
 use Rattle.op_board.specs.declared.diagnostic.CheckFix.{CheckFix}
 use Rattle.op_board.specs.declared.check_package.CheckPackage.{CheckPackage}
 use Rattle.op_board.specs.declared.check_package.CheckEntry.{CheckEntry}
-use Rattle.op_board.specs.Diagnostics.{same_diagnostic}
+use Rattle.lsp_types.specs.Diagnostics.{same_diagnostic}
 use Rattle.op_board.specs.Packages.{package_cmp}
 use Rattle.op_board.specs.Checks.{Packages, Checks, list_in}
 use Rattle.op_board.specs.Runs.{same_file}

@@ -2,7 +2,7 @@
 use Rattle.std.specs.Prelude.{ℕ, ◌+◌, Bool, true, false, ◌&&◌, List, [], ◌∷◌, Option, None, Some, cond, nat_eq, nat_lt, nat_le}
 use Rattle.std.specs.List.{list_all}
 use Rattle.docs_vfs.specs.declared.file_kinds.FileId.{FileId}
-use Rattle.op_board.specs.declared.diagnostic.Diagnostic.{Diagnostic}
+use Rattle.lsp_types.specs.declared.diagnostic.Diagnostic.{Diagnostic}
 use Rattle.op_board.specs.declared.diagnostic.Pass.{Pass}
 use Rattle.op_board.specs.declared.diagnostic.Pass.TheVariants.{Syntax, Semantic}
 use Rattle.op_board.specs.Diagnostics.{in_order}

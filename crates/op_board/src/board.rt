@@ -1,8 +1,9 @@
-ghost use Rattle.std.specs.Prelude.{◌≡◌, ◌+◌, ◌<◌, ◌++◌, [], OnOk, IfOk};
+ghost use Rattle.std.specs.Prelude.{◌≡◌, ◌++◌, [], OnOk, IfOk, is_some, if◌then◌else◌};
+ghost use Rattle.std.specs.Arc.{arc_value};
 ghost use Rattle.std.specs.FinMap as map;
 ghost use Rattle.op_board.specs.Acts.{step, steps, gives};
 ghost use Rattle.op_board.specs.Acts.Act.{Counts, Clears, Adds, Forgets, ForgetsIn, ForgetsOlder, ForgetsOlderIn, ForgetsAll, Takes};
-ghost use Rattle.op_board.specs.Board.{new_board, set_native, clear_pass, list_of, diagnostics_of};
+ghost use Rattle.op_board.specs.Board.{new_board, next_generation, set_native, clear_pass, list_of, diagnostics_of};
 ghost use Rattle.op_board.specs.Checks.{all_fixes};
 ghost use Rattle.op_board.specs.Marked.{taken};
 
@@ -10,13 +11,15 @@ use crate::by_file::ByFile;
 use crate::check_package::{CheckEntry, push_all};
 use crate::checks::{Checks, add_check, all_fixes, push_checks};
 use crate::clearing::{clear_checks, clear_id, clear_older, clear_one};
-use crate::diagnostic::{CheckFix, Diagnostic, Pass};
+use crate::diagnostic::{CheckFix, Pass};
 use crate::marks::Marks;
 use crate::pass_list::{PassList, clear_list, set_lists};
 use docs_vfs::FileId;
+use lsp_types::Diagnostic;
 use plain::{ByNumber, Items, Text};
 use std::alloc::{AllocError, Global};
 use std::marker::Model;
+use std::sync::Arc;
 
 /// The diagnostics of all files, and the files whose lists changed. After a call that had no memory it is only to
 /// be dropped.
@@ -27,6 +30,8 @@ pub struct DiagnosticCollection {
     semantic: ByFile<PassList>,
     cleared: ByFile<u64>,
     checks: Checks,
+    /// The fixes of all checks, where they were gathered since the checks last changed.
+    fixes: Option<Arc<Items<CheckFix>, Global>>,
     marks: Marks,
 }
 
@@ -39,6 +44,7 @@ impl Drop for DiagnosticCollection {
             semantic: _,
             cleared: _,
             checks: _,
+            fixes: _,
             marks: _,
         } = self;
     }
@@ -47,14 +53,19 @@ impl Drop for DiagnosticCollection {
 impl Model for DiagnosticCollection {
     ghost use Rattle.std.specs.Coded.{codes};
     ghost use Rattle.std.specs.FinMap as map;
+    ghost use Rattle.std.specs.Arc.{arc_value};
+    ghost use Rattle.std.specs.Prelude.{◌≡◌, IfSome};
     ghost use Rattle.op_board.specs.Board.{Board};
-    ghost use Rattle.plain.specs.contracts.json.Json as json;
+    ghost use Rattle.op_board.specs.Checks.{all_fixes};
+    ghost use Rattle.plain.specs.contracts.shared_json.SharedJson as json;
 
     ghost Value = { Board };
 
     ghost coded = { Prim.hlevel (codes, map.code, json.the_row.coded) };
 
     ghost view = { λ b. record { generation = b.generation; syntax = b.syntax; semantic = b.semantic; cleared = b.cleared; checks = b.checks; marked = b.marks } };
+
+    ghost invariant = { λ b. IfSome b.fixes (λ fixes. arc_value fixes ≡ all_fixes b.checks) };
 }
 
 /// Adds what a pass says of a file to a list.
@@ -83,18 +94,23 @@ impl DiagnosticCollection {
             semantic: ByFile::new(alloc),
             cleared: ByFile::new(alloc),
             checks: ByNumber::new(alloc),
+            fixes: None,
             marks: Marks::new(alloc),
         }
     }
 
-    /// The next generation: 1, 2 and so on.
-    pub fn next_generation(&mut self) -> u64
-        requires { self.old.generation < u64.MAX }
-        ensures value { result ≡ self.old.generation + 1 }
-        ensures after { self.new ≡ step Counts self.old }
+    /// The next generation: 1, 2 and so on. None where the greatest number was given; the board then stays as it is.
+    #[tactic(auto, unfolding(crate::specs::Board::most_generations))]
+    pub fn next_generation(&mut self) -> Option<u64>
+        ensures value { result ≡ next_generation self.old }
+        ensures after { self.new ≡ (if is_some result then step Counts self.old else self.old) }
     {
-        self.generation += 1;
-        self.generation
+        if self.generation < u64::MAX {
+            self.generation += 1;
+            Some(self.generation)
+        } else {
+            None
+        }
     }
 
     fn set_pass(
@@ -173,6 +189,7 @@ impl DiagnosticCollection {
             diagnostic,
             fix,
         };
+        self.fixes = None;
         add_check(
             self.alloc,
             &mut self.checks,
@@ -188,6 +205,7 @@ impl DiagnosticCollection {
     pub fn clear_check(&mut self, id: u64) -> Result<(), AllocError>
         ensures { OnOk result (self.new ≡ step (Forgets id) self.old) }
     {
+        self.fixes = None;
         clear_id(&mut self.checks, &mut self.marks, id)
     }
 
@@ -199,6 +217,7 @@ impl DiagnosticCollection {
     ) -> Result<(), AllocError>
         ensures { OnOk result (self.new ≡ step (ForgetsIn id «package») self.old) }
     {
+        self.fixes = None;
         clear_one(&mut self.checks, &mut self.marks, id, &package, None)
     }
 
@@ -206,6 +225,7 @@ impl DiagnosticCollection {
     pub fn clear_check_older_than(&mut self, id: u64, generation: u64) -> Result<(), AllocError>
         ensures { OnOk result (self.new ≡ step (ForgetsOlder id generation) self.old) }
     {
+        self.fixes = None;
         clear_older(&mut self.checks, &mut self.marks, id, generation)
     }
 
@@ -218,6 +238,7 @@ impl DiagnosticCollection {
     ) -> Result<(), AllocError>
         ensures { OnOk result (self.new ≡ step (ForgetsOlderIn id «package» generation) self.old) }
     {
+        self.fixes = None;
         clear_one(
             &mut self.checks,
             &mut self.marks,
@@ -231,6 +252,7 @@ impl DiagnosticCollection {
     pub fn clear_check_all(&mut self) -> Result<(), AllocError>
         ensures { OnOk result (self.new ≡ step ForgetsAll self.old) }
     {
+        self.fixes = None;
         clear_checks(self.alloc, &mut self.checks, &mut self.marks)
     }
 
@@ -251,6 +273,27 @@ impl DiagnosticCollection {
         ensures { IfOk result (λ fixes. fixes ≡ all_fixes self.now.checks) }
     {
         all_fixes(self.alloc, &self.checks)
+    }
+
+    /// Gathers the fixes of all checks, so that they are shared without a copy until the checks change.
+    pub fn gather_fixes(&mut self) -> Result<(), AllocError>
+        ensures { self.new ≡ self.old }
+    {
+        if self.fixes.is_none() {
+            let fixes = all_fixes(self.alloc, &self.checks)?;
+            self.fixes = Some(Arc::new(self.alloc, fixes)?);
+        }
+        Ok(())
+    }
+
+    /// The same as `check_fixes`, shared: those that were gathered, or else a copy.
+    pub fn share_fixes(&self) -> Result<Arc<Items<CheckFix>, Global>, AllocError>
+        ensures { IfOk result (λ fixes. arc_value fixes ≡ all_fixes self.now.checks) }
+    {
+        match &self.fixes {
+            Some(fixes) => Arc::try_clone(fixes),
+            None => Ok(Arc::new(self.alloc, all_fixes(self.alloc, &self.checks)?)?),
+        }
     }
 
     /// The files whose lists changed since the last take, in order, or none where there are none.

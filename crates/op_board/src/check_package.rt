@@ -3,12 +3,13 @@ ghost use Rattle.std.specs.List.{list_any};
 ghost use Rattle.std.specs.Option.{option_copied};
 ghost use Rattle.std.specs.FinMap as map;
 ghost use Rattle.op_board.specs.Checks.{listed, list_in, fixes_of, mark_package, new_package, add_entry, renewed, add_to};
-ghost use Rattle.op_board.specs.Diagnostics.{same_diagnostic};
+ghost use Rattle.lsp_types.specs.Diagnostics.{same_diagnostic};
 
 use crate::by_file::ByFile;
-use crate::diagnostic::{CheckFix, Diagnostic};
+use crate::diagnostic::CheckFix;
 use crate::marks::Marks;
 use docs_vfs::FileId;
+use lsp_types::Diagnostic;
 use plain::Items;
 use std::alloc::{AllocError, Global};
 

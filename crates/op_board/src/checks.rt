@@ -3,9 +3,10 @@ ghost use Rattle.op_board.specs.Checks.{add_in, add_check, lists_in, checks_of, 
 
 use crate::by_package::ByPackage;
 use crate::check_package::{CheckEntry, CheckPackage, add_to, new_package, push_fixes, push_list};
-use crate::diagnostic::{CheckFix, Diagnostic};
+use crate::diagnostic::CheckFix;
 use crate::marks::Marks;
 use docs_vfs::FileId;
+use lsp_types::Diagnostic;
 use plain::{ByNumber, Items, Text};
 use std::alloc::{AllocError, Global};
 

@@ -2,7 +2,7 @@
 ghost use Rattle.std.specs.Prelude.{◌≡◌, ◌↔◌, ℕ, ◌+◌, List, ◌++◌, Option, Some, length};
 ghost use Rattle.std.specs.FinMap as map;
 ghost use Rattle.docs_vfs.specs.declared.file_kinds.FileId.{FileId};
-ghost use Rattle.op_board.specs.declared.diagnostic.Diagnostic.{Diagnostic};
+ghost use Rattle.lsp_types.specs.declared.diagnostic.Diagnostic.{Diagnostic};
 ghost use Rattle.op_board.specs.declared.diagnostic.Pass.{Pass};
 ghost use Rattle.op_board.specs.Acts.{Act, steps, after};
 ghost use Rattle.op_board.specs.Board.{list_of, lists_of};

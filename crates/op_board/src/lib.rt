@@ -14,10 +14,11 @@ mod op_queue;
 mod pass_list;
 
 pub use board::DiagnosticCollection;
-pub use diagnostic::{CheckFix, Diagnostic, Pass, Related};
+pub use diagnostic::{CheckFix, Pass};
 pub use laws::{
     calls_continue_a_run, changed_files_are_marked, one_operation_runs, packages_say_the_newest,
     the_last_accepted_list_is_stored,
 };
+pub use lsp_types::{Diagnostic, Related};
 pub use op_queue::OpQueue;
 pub use plain::NoMemory;

@@ -5,9 +5,10 @@ ghost use Rattle.op_board.specs.Board.{list_of, is_recent, is_above, is_accepted
 ghost use Rattle.op_board.specs.Marked.{mark_if};
 
 use crate::by_file::ByFile;
-use crate::diagnostic::{Diagnostic, sort};
+use crate::diagnostic::sort;
 use crate::marks::Marks;
 use docs_vfs::FileId;
+use lsp_types::Diagnostic;
 use plain::Items;
 use std::alloc::{AllocError, Global};
 

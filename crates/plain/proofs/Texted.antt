@@ -1,5 +1,5 @@
 -- A tree's entries by the texts of their keys.
-use Rattle.std.proofs.Common.{◌≡◌, ◌<◌, ◌≤◌, ℕ, suc, List, [], ◌∷◌, length, true, refl, sym, ap, ◌∙◌, ⊎_elim, Ordering, Less, Equal, Greater}
+use Rattle.std.proofs.Common.{◌≡◌, ◌<◌, ◌≤◌, ℕ, suc, List, [], ◌∷◌, length, true, refl, sym, ap, ◌∙◌, Ordering, Less, Equal, Greater}
 use Rattle.std.specs.Prelude.{Option, Some, None, IsSome, IfSome, MatchOption, cond, map as each, is_some, unwrap_or, if◌then◌else◌}
 use Rattle.std.specs.List.{AllByRecursion, AllZip}
 use Rattle.std.specs.List.Sorted.{IsStrictlySortedBy}
@@ -11,8 +11,6 @@ use Rattle.std.specs.Ordering.{eq_by_cmp}
 use Rattle.std.specs.Cmp.{eq_by_cmp_equiv}
 use Rattle.std.specs.Cmp.Lexicographic.{nat_list_cmp_total}
 use Rattle.std.specs.FinMap as map
-use Rattle.std.specs.FinMap.Entries.{by_order, find-put}
-use Rattle.std.proofs.lemmas.Bool.{cases_Bool, cond-true, cond-false}
 use Rattle.std.proofs.lemmas.Map.{lookup-set_value, lookup-remove_entry}
 use Rattle.std.proofs.lemmas.Map.Keys.{IsDistinct-from_sorted}
 use Rattle.std.proofs.lemmas.List.Elements.{same_from_all_zip}
@@ -29,35 +27,12 @@ tied : (k x y : List ℕ) → is_at (text_cmp k) x ≡ true → is_at (text_cmp 
 tied k x y h = ap (λ n. is_eq (text_cmp n y)) (at_key k x h)
 
 module _ {V : Type 0} where
-  by_at : (o : Ordering) (xs ys zs us : List (List ℕ × V)) → zs ≡ us → by_order o xs ys zs ≡ match_ordering o xs ys us
-  by_at Less xs ys zs us e = refl
-  by_at Equal xs ys zs us e = refl
-  by_at Greater xs ys zs us e = e
-
-  put_is_insert : (k : List ℕ) (v : V) (es : List (List ℕ × V)) → map.put text_cmp k v es ≡ insert_entry text_cmp es k v
-  put_is_insert k v [] = refl
-  put_is_insert k v (e ∷ es) = by_at (text_cmp k e.0) _ _ _ _ (ap (λ l. e ∷ l) (put_is_insert k v es))
-
   inserted : (es : List (List ℕ × V)) (k : List ℕ) (v : V) → map.from_entries {R = text_cmp} (insert_entry text_cmp es k v) ≡ map.insert (map.from_entries es) k v
-  inserted es k v = map.same_map nat_list_cmp_total same_texts _ _ (λ q.
-      map.get-from_entries nat_list_cmp_total (insert_entry text_cmp es k v) q
-      ∙ ap (map.find text_cmp q) (sym (put_is_insert k v es))
-      ∙ find-put text_cmp nat_list_cmp_total q k v es
-      ∙ sym (map.get-insert nat_list_cmp_total (map.from_entries es) k v q ∙ ap (cond (eq_by_cmp text_cmp q k) (Some v)) (map.get-from_entries nat_list_cmp_total es q)))
-
-  -- what is there already may be inserted again
-  inserted_again : (m : map.FinMap text_cmp V) (k : List ℕ) (v : V) → map.get m k ≡ Some v → map.insert m k v ≡ m
-  inserted_again m k v is = map.same_map nat_list_cmp_total same_texts _ _ (λ q.
-      map.get-insert nat_list_cmp_total m k v q
-      ∙ ⊎_elim
-      (λ same. cond-true _ _ _ same ∙ sym is ∙ ap (map.get m) (sym (at_key q k same)))
-      (λ other. cond-false _ _ _ other)
-      (cases_Bool (eq_by_cmp text_cmp q k)))
+  inserted = mapped.inserted nat_list_cmp_total same_texts
 
   -- what is put where there is nothing, and stays where there is something
   pub put_once : (m : map.FinMap text_cmp V) (k : List ℕ) (v w : V) (o : Option V) → map.get m k ≡ o → w ≡ unwrap_or o v → map.insert m k w ≡ (if is_some o then m else map.insert m k v)
-  put_once m k v w None is same = ap (map.insert m k) same
-  put_once m k v w (Some x) is same = ap (map.insert m k) same ∙ inserted_again m k x is
+  put_once = mapped.put_once nat_list_cmp_total same_texts
 
 -- ---- a tree whose keys stand for texts
 

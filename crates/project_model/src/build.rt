@@ -1,8 +1,7 @@
 ghost use Rattle.std.specs.Prelude.{◌≡◌};
 
-use crate::copies::copy;
 use docs_vfs::VfsPath;
-use plain::{Copied, Items, NoMemory, Text};
+use plain::{Copied, Items, NoMemory, Text, copy};
 
 /// What was built of a proc macro crate.
 #[derive(Drop)]

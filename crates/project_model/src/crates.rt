@@ -1,8 +1,7 @@
 ghost use Rattle.std.specs.Prelude.{◌≡◌};
 
-use crate::copies::copy;
 use docs_vfs::{FileId, VfsPath};
-use plain::{Copied, Items, NoMemory, Text};
+use plain::{Copied, Items, NoMemory, Text, copy};
 
 /// A crate of a workspace, before its root file has a number.
 pub struct CrateEntry {

@@ -1,9 +1,10 @@
 //! What a session knows of its project: workspaces with their packages, targets and crates, what their builds
-//! made, the crate graph that an analysis works on, and warnings of workspaces whose compiler is outdated.
+//! made, what a check of them is run on, the crate graph that an analysis works on, and warnings of workspaces whose
+//! compiler is outdated.
 #![tactic(auto)]
 
 mod build;
-mod copies;
+mod check_scope;
 mod crates;
 mod dependencies;
 mod kinds;
@@ -14,6 +15,7 @@ mod target_spec;
 mod workspace;
 
 pub use build::{BuildScripts, MacroPath};
+pub use check_scope::{CheckScope, Restart};
 pub use crates::{CrateData, CrateEntry, CrateInfo, MacroState};
 pub use dependencies::all_workspace_dependencies_for_package;
 pub use kinds::{TargetKind, WorkspaceKind};

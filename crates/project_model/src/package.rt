@@ -1,9 +1,8 @@
 ghost use Rattle.std.specs.Prelude.{◌≡◌};
 
-use crate::copies::copy;
 use crate::kinds::TargetKind;
 use docs_vfs::VfsPath;
-use plain::{Copied, Items, NoMemory, Text};
+use plain::{Copied, Items, NoMemory, Text, copy};
 
 /// What a package builds from one root file.
 pub struct Target {

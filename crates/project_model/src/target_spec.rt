@@ -2,12 +2,11 @@ ghost use Rattle.std.specs.Prelude.{◌≡◌, find, IfOk};
 ghost use Rattle.std.specs.Option.{option_copied};
 ghost use Rattle.project_model.specs.Targets.{has_root, cargo_spec, spec_of, spec_in_package, spec_in_workspace, target_spec_for_file};
 
-use crate::copies::copy;
 use crate::kinds::{TargetKind, WorkspaceKind};
 use crate::package::{Package, Target};
 use crate::workspace::ProjectWorkspace;
 use docs_vfs::VfsPath;
-use plain::{Copied, Items, NoMemory, Text};
+use plain::{Copied, Items, NoMemory, Text, copy};
 
 /// What is told of a target to the tool that builds it.
 #[derive(Drop)]

@@ -1,13 +1,12 @@
 ghost use Rattle.std.specs.Prelude.{◌≡◌, ◌↔◌, IsTrue};
 
 use crate::build::BuildScripts;
-use crate::copies::copy;
 use crate::crates::CrateEntry;
 use crate::kinds::WorkspaceKind;
 use crate::package::Package;
 use crate::same::are_same;
 use docs_vfs::{Root, VfsPath};
-use plain::{Copied, Items, NoMemory, Text, is_same};
+use plain::{Copied, Items, NoMemory, Text, copy, is_same};
 
 /// One workspace of a project, as it was loaded.
 pub struct ProjectWorkspace {

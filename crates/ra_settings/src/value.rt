@@ -1,10 +1,10 @@
-ghost use Rattle.std.specs.Prelude.{◌≡◌, IfOk};
+ghost use Rattle.std.specs.Prelude.{◌≡◌};
 ghost use Rattle.std.specs.Option.{option_copied};
 ghost use Rattle.ra_settings.specs.declared.row.Kind.{Kind};
 ghost use Rattle.ra_settings.specs.Values.{kind_of};
 
 use docs_vfs::VfsPath;
-use plain::{Copied, Items, Json, Text};
+use plain::{Copied, Items, Json, Text, copy};
 use std::alloc::AllocError;
 
 /// Who watches files.
@@ -286,13 +286,6 @@ impl Copied for DiscoverConfig {
     ghost copies = { λ x y h. h };
 }
 
-/// A copy of a value, where there is one.
-fn copy_of<T: Copied>(value: &Option<T>) -> Result<Option<T>, AllocError>
-    ensures { IfOk result (λ copy. copy ≡ value.now) }
-{
-    value.clone()
-}
-
 impl Clone for SettingValue {
     ghost is_clone = { λ value copy. copy ≡ value };
 
@@ -300,8 +293,8 @@ impl Clone for SettingValue {
         Ok(match self {
             SettingValue::Truth(truth) => SettingValue::Truth(*truth),
             SettingValue::Text(text) => SettingValue::Text(text.clone()?),
-            SettingValue::TextOrNull(text) => SettingValue::TextOrNull(copy_of(text)?),
-            SettingValue::TextsOrNull(texts) => SettingValue::TextsOrNull(copy_of(texts)?),
+            SettingValue::TextOrNull(text) => SettingValue::TextOrNull(copy(text)?),
+            SettingValue::TextsOrNull(texts) => SettingValue::TextsOrNull(copy(texts)?),
             SettingValue::Watcher(watcher) => SettingValue::Watcher(*watcher),
             SettingValue::Strategy(strategy) => SettingValue::Strategy(*strategy),
             SettingValue::Paths(paths) => SettingValue::Paths(paths.clone()?),
@@ -311,7 +304,7 @@ impl Clone for SettingValue {
             SettingValue::Lists(lists) => SettingValue::Lists(lists.clone()?),
             SettingValue::Small(n) => SettingValue::Small(*n),
             SettingValue::Threads(threads) => SettingValue::Threads(*threads),
-            SettingValue::Discover(config) => SettingValue::Discover(copy_of(config)?),
+            SettingValue::Discover(config) => SettingValue::Discover(copy(config)?),
         })
     }
 }

@@ -1,4 +1,3 @@
-pub mod Folders
 pub mod Found
 pub mod GraphLaws
 pub mod NameLaws

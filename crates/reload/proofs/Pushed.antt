@@ -1,6 +1,5 @@
 -- A loop that adds what it makes of each item behind what it has made.
-use Rattle.std.proofs.Common.{◌≡◌, ℕ, ◌+◌, ◌<◌, List, [], ◌∷◌, ◌++◌, length, get_or, take, drop, take-append-drop, take_at, drop_at, Option, Some, None}
-use Rattle.std.proofs.Common.{option_to_list, refl, sym, ap, ◌∙◌, append_assoc}
+use Rattle.std.proofs.Common.{◌≡◌, ℕ, ◌+◌, ◌<◌, List, [], ◌∷◌, ◌++◌, length, get_or, drop, Option, Some, None, option_to_list, refl, sym, ap, ◌∙◌, append_assoc}
 use Rattle.std.specs.List.{enumerate_from, filter_map, cons_option}
 use Rattle.std.proofs.lemmas.List.{at_drop_more}
 
@@ -34,14 +33,3 @@ pub three_behind : {X : Type 0} (list a b c : List X) (x y z : X) → a ≡ list
 three_behind list a b c x y z one two three =
     three ∙ ap (λ l. l ++ z ∷ []) two ∙ ap (λ l. (l ++ y ∷ []) ++ z ∷ []) one ∙ append_assoc (list ++ x ∷ []) (y ∷ []) (z ∷ [])
     ∙ append_assoc list (x ∷ []) (y ∷ z ∷ [])
-
--- the last item of a front, and what stands before it
-pub cut_last : {X : Type 0} (whole rest front : List X) (last : X) → rest ≡ take (length rest) whole → rest ≡ front ++ last ∷ []
-    → (drop (length front) whole ≡ last ∷ drop (length rest) whole) × (front ≡ take (length front) whole)
-cut_last whole rest front last is cut =
-    let behind = drop (length rest) whole in
-    let parts : whole ≡ front ++ last ∷ behind =
-    sym (take-append-drop (length rest) whole) ∙ ap (λ l. l ++ behind) (sym is) ∙ ap (λ l. l ++ behind) cut ∙ append_assoc front (last ∷ []) behind in (
-      ap (drop (length front)) parts ∙ drop_at front (last ∷ behind) (length front) refl,
-      sym (ap (take (length front)) parts ∙ take_at front (last ∷ behind) (length front) refl),
-    )

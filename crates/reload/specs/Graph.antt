@@ -4,6 +4,8 @@ use Rattle.std.specs.Prelude.{Some, None, option_map, option_and_then, unwrap_or
 use Rattle.std.specs.List.{filter_map, enumerate_from}
 use Rattle.std.specs.Ordering.{nat_cmp}
 use Rattle.std.specs.FinMap as by_key
+use Rattle.std.specs.Borrow.{Bor}
+use Rattle.std.specs.Option.{option_copied}
 use Rattle.docs_vfs.specs.declared.file_kinds.FileId.{FileId}
 use Rattle.project_model.specs.declared.build.BuildScripts.{BuildScripts}
 use Rattle.project_model.specs.declared.build.MacroPath.{MacroPath}
@@ -79,6 +81,10 @@ numbered_path found (file, number) = (number, path_or_none found)
 abbrev pub path_of : (ℕ → Option MacroPath) → List (Option Standing) → ℕ × CrateEntry → Option (ℕ × MacroPath)
 path_of found places (index, entry) =
     if entry.is_proc_macro then option_map (numbered_path (found index)) (standing_at places index) else None
+
+-- what is found of a crate among entries that are lent
+abbrev pub found_in : by_key.FinMap nat_cmp (Bor MacroPath) → ℕ → Option MacroPath
+found_in rows index = option_copied (by_key.get rows index)
 
 -- of several entries for one crate the first holds
 abbrev pub first_built : Option BuildScripts → ℕ → Option MacroPath

@@ -4,7 +4,7 @@ use Rattle.std.specs.Prelude.{option_and_then, if◌then◌else◌}
 use Rattle.std.specs.List.{ends_with, list_any}
 use Rattle.docs_vfs.specs.Paths.{name_of, extension_of, parent_of}
 use Rattle.docs_vfs.specs.declared.file_kinds.ChangeKind.{ChangeKind}
-use Rattle.docs_vfs.specs.declared.file_kinds.ChangeKind.TheVariants.{Create, Modify, Delete}
+use Rattle.docs_vfs.specs.Kinds.{is_created_or_deleted}
 
 -- the text ends with this one
 abbrev pub ends : List ℕ → List ℕ → Bool
@@ -31,11 +31,6 @@ is_target_folder folder =
     ends folder (codes "src/bin") || ends folder (codes "examples") || ends folder (codes "tests")
     || ends folder (codes "benches")
 
-abbrev pub is_modify : ChangeKind → Bool
-is_modify Create = false
-is_modify Modify = true
-is_modify Delete = false
-
 abbrev pub is_extension_rs : Option (List ℕ) → Bool
 is_extension_rs None = false
 is_extension_rs (Some extension) = bytes_eq extension (codes "rs")
@@ -55,7 +50,7 @@ is_cargo_config path name = is_config_name name && folder_is (λ folder. ends fo
 abbrev pub refreshes_by_name : List ℕ → ChangeKind → List (List ℕ) → List ℕ → Bool
 refreshes_by_name path kind additional name =
     if is_manifest_name name || list_any (λ listed. bytes_eq listed name) additional then true
-    else if is_modify kind then false
+    else if not (is_created_or_deleted kind) then false
     else if not (is_extension_rs (extension_of name)) then is_cargo_config path name
     else is_target path name
 

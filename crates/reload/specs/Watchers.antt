@@ -1,12 +1,13 @@
 -- Which files a client is to watch for a list of workspaces.
-use Rattle.std.specs.Prelude.{ℕ, Bool, true, false, List, [], ◌∷◌, ◌++◌, codes, map, Option, Some, None, if◌then◌else◌}
+use Rattle.std.specs.Prelude.{ℕ, Bool, true, false, List, [], ◌∷◌, ◌++◌, ◌==◌, length, codes, map, Option, Some, None}
+use Rattle.std.specs.Prelude.{if◌then◌else◌}
 use Rattle.docs_vfs.specs.FileUrls.{url_of}
 use Rattle.docs_vfs.specs.declared.source_roots.Root.{Root}
 use Rattle.project_model.specs.declared.kinds.WorkspaceKind.{WorkspaceKind}
 use Rattle.project_model.specs.declared.kinds.WorkspaceKind.TheVariants as kind
 use Rattle.project_model.specs.declared.workspace.ProjectWorkspace.{ProjectWorkspace}
-use Rattle.reload.specs.declared.watcher.Watcher.{Watcher}
-use Rattle.reload.specs.declared.watcher.Watcher.TheVariants as watcher
+use Rattle.lsp_types.specs.declared.watcher.Watcher.{Watcher}
+use Rattle.lsp_types.specs.declared.watcher.Watcher.TheVariants as watcher
 
 abbrev pub rust_files : List ℕ
 rust_files = codes "**/*.rs"
@@ -14,9 +15,9 @@ rust_files = codes "**/*.rs"
 abbrev pub settings_files : List ℕ
 settings_files = codes "**/rust-analyzer.toml"
 
--- a pattern below a folder
+-- a pattern below a folder: no second `/` follows `/` itself
 abbrev pub glob_below : List ℕ → List ℕ → List ℕ
-glob_below folder pattern = folder ++ codes "/" ++ pattern
+glob_below folder pattern = (if length folder == 1 then folder else folder ++ codes "/") ++ pattern
 
 -- what is watched below an include of a local root: with patterns that are relative to its URL, else with whole ones
 abbrev pub below_include : Bool → List ℕ → List Watcher

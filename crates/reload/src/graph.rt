@@ -9,7 +9,7 @@ use crate::ask::{ask_each, crate_roots};
 use crate::macro_paths::push_paths;
 use crate::places::{Place, number_of, place_of, places_of, split};
 use docs_vfs::{FileId, VfsPath};
-use plain::{Items, NoMemory, Text};
+use plain::{Items, NoMemory, Text, copy};
 use project_model::{CrateData, CrateEntry, CrateInfo, MacroPath, ProjectWorkspace};
 use std::alloc::Global;
 
@@ -26,15 +26,6 @@ fn renumbered(alloc: Global, places: &[Option<Place>], deps: &[u32]) -> Result<I
     Ok(list)
 }
 
-fn copy_name(name: &Option<Text>) -> Result<Option<Text>, NoMemory>
-    ensures { IfOk result (λ copy. copy ≡ name.now) }
-{
-    match name {
-        None => Ok(None),
-        Some(name) => Ok(Some(name.clone()?)),
-    }
-}
-
 fn push_crate(
     alloc: Global,
     crates: &mut Items<CrateInfo>,
@@ -49,7 +40,7 @@ fn push_crate(
         Some((file, _number)) => {
             crates.push(CrateInfo {
                 root: file,
-                name: copy_name(&entry.name)?,
+                name: copy(&entry.name)?,
                 deps: renumbered(alloc, places, entry.deps.as_slice())?,
                 is_proc_macro: entry.is_proc_macro,
             })?;
@@ -71,19 +62,6 @@ fn push_crates(
         push_crate(alloc, crates, places, index, entry)?;
     }
     Ok(())
-}
-
-fn copy_env(
-    alloc: Global,
-    env: &[(Text, Option<Text>)],
-) -> Result<Items<(Text, Option<Text>)>, NoMemory>
-    ensures { IfOk result (λ copy. copy ≡ env.now) }
-{
-    let mut copy = Items::new(alloc);
-    for (name, value) in env {
-        copy.push((name.clone()?, copy_name(value)?))?;
-    }
-    Ok(copy)
 }
 
 /// The crates that are kept, where the crates stand at these places.
@@ -140,7 +118,7 @@ pub fn ws_to_crate_graph<F: FnMut(&VfsPath) -> Option<FileId>>(
     let places = places_of(alloc, files.as_slice())?;
     let data = CrateData {
         crates: crates_at(alloc, workspaces, places.as_slice())?,
-        env: copy_env(alloc, extra_env)?,
+        env: Items::from_slice(alloc, extra_env)?,
         macros: Items::new(alloc),
     };
     Ok((data, paths_at(alloc, workspaces, places.as_slice())?))

@@ -13,7 +13,6 @@ mod progress;
 mod refresh;
 mod switch;
 mod switching;
-mod watcher;
 mod watching;
 
 pub use ask::crate_roots;
@@ -24,11 +23,11 @@ pub use laws::{
     kept_crates_are_numbered_in_order, kept_dependencies_are_renumbered,
     same_workspaces_are_equal_but_for_builds,
 };
+pub use lsp_types::Watcher;
 pub use names::eq_ignore_underscore;
 pub use plain::NoMemory;
 pub use progress::Progress;
 pub use refresh::should_refresh_for_change;
 pub use switch::Switch;
 pub use switching::switch_workspaces;
-pub use watcher::Watcher;
 pub use watching::watchers;

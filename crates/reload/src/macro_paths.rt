@@ -1,9 +1,10 @@
 //! What was built of the proc macro crates of a workspace.
-ghost use Rattle.std.specs.Prelude.{◌≡◌, ◌++◌, [], ◌∷◌, option_to_list, IfOk, OnOk};
+ghost use Rattle.std.specs.Prelude.{◌≡◌, ℕ, ◌++◌, [], ◌∷◌, option_to_list, IfOk, OnOk};
 ghost use Rattle.std.specs.List.{filter_map, enumerate_from};
 ghost use Rattle.std.specs.FinMap as by_key;
 ghost use Rattle.std.specs.Option.{option_copied};
-ghost use Rattle.reload.specs.Graph.{built_of, path_or_none, path_of, paths_in};
+ghost use Rattle.std.specs.Ordering.{nat_cmp};
+ghost use Rattle.reload.specs.Graph.{built_of, found_in, path_or_none, path_of, paths_in};
 
 use crate::places::{Place, place_of};
 use plain::{ByNumber, Items, NoMemory, Text};
@@ -20,16 +21,26 @@ fn built_of(build: &Option<BuildScripts>) -> &[(u32, MacroPath)]
 }
 
 /// What was built of each crate, by its index; of several entries for one crate the first.
-fn by_index(alloc: Global, built: &[(u32, MacroPath)]) -> Result<ByNumber<MacroPath>, NoMemory>
-    ensures { IfOk result (λ rows. rows ≡ by_key.from_entries built.now) }
+fn by_index<'a>(
+    alloc: Global,
+    built: &'a [(u32, MacroPath)],
+) -> Result<ByNumber<&'a MacroPath>, NoMemory>
+    ensures { IfOk result (λ rows. (index : ℕ) → found_in rows index ≡ by_key.find nat_cmp index built.now) }
 {
     let mut rows = ByNumber::new(alloc);
-    let mut rest = built;
-    while let Some((last, front)) = rest.split_last() {
-        rows.insert(last.0 as u64, last.1.clone()?)?;
-        rest = front;
+    for entry in built {
+        rows.insert_new(entry.0 as u64, &entry.1)?;
     }
     Ok(rows)
+}
+
+fn found_in<'a>(rows: &ByNumber<&'a MacroPath>, index: u64) -> Option<&'a MacroPath>
+    ensures { option_copied result ≡ found_in rows.now index }
+{
+    match rows.get(index) {
+        Some(path) => Some(*path),
+        None => None,
+    }
 }
 
 fn path_or_none(alloc: Global, found: Option<&MacroPath>) -> Result<MacroPath, NoMemory>
@@ -44,13 +55,13 @@ fn path_or_none(alloc: Global, found: Option<&MacroPath>) -> Result<MacroPath, N
 fn push_path(
     alloc: Global,
     paths: &mut Items<(u32, MacroPath)>,
-    rows: &ByNumber<MacroPath>,
+    rows: &ByNumber<&MacroPath>,
     places: &[Option<Place>],
     index: usize,
     entry: &CrateEntry,
 ) -> Result<(), NoMemory>
     ensures { OnOk result (paths.new ≡ paths.old
-        ++ option_to_list (path_of (by_key.get rows.now) places.now (index, entry.now))) }
+        ++ option_to_list (path_of (found_in rows.now) places.now (index, entry.now))) }
 {
     if !entry.is_proc_macro {
         return Ok(());
@@ -58,7 +69,7 @@ fn push_path(
     match place_of(places, index) {
         None => Ok(()),
         Some((_file, number)) => {
-            paths.push((number, path_or_none(alloc, rows.get(index as u64))?))?;
+            paths.push((number, path_or_none(alloc, found_in(rows, index as u64))?))?;
             Ok(())
         }
     }
@@ -66,12 +77,12 @@ fn push_path(
 
 fn paths_by(
     alloc: Global,
-    rows: &ByNumber<MacroPath>,
+    rows: &ByNumber<&MacroPath>,
     places: &[Option<Place>],
     entries: &[CrateEntry],
 ) -> Result<Items<(u32, MacroPath)>, NoMemory>
     ensures { IfOk result (λ paths. paths
-        ≡ filter_map (path_of (by_key.get rows.now) places.now) (enumerate_from 0 entries.now)) }
+        ≡ filter_map (path_of (found_in rows.now) places.now) (enumerate_from 0 entries.now)) }
 {
     let mut paths = Items::new(alloc);
     for (index, entry) in entries.iter().enumerate() {

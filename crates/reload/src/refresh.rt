@@ -1,44 +1,16 @@
-ghost use Rattle.std.specs.Prelude.{◌≡◌, true, false, bytes_eq, option_and_then, MatchOption};
+ghost use Rattle.std.specs.Prelude.{◌≡◌, true, bytes_eq, option_and_then};
 ghost use Rattle.std.specs.Option.{option_copied};
-ghost use Rattle.std.specs.List.{list_any, before_last, after_last};
-ghost use Rattle.docs_vfs.specs.Paths.{is_slash, parent_of};
-ghost use Rattle.reload.specs.Refresh.{ends, folder_is, is_manifest_name, is_config_name, is_target_file, is_target_folder, is_modify, is_extension_rs, is_target, is_cargo_config, refreshes};
+ghost use Rattle.std.specs.List.{list_any};
+ghost use Rattle.docs_vfs.specs.Paths.{is_path, parent_of};
+ghost use Rattle.reload.specs.Refresh.{ends, folder_is, is_manifest_name, is_config_name, is_target_file, is_target_folder, is_extension_rs, is_target, is_cargo_config, refreshes};
 
-use docs_vfs::{ChangeKind, VfsPath};
+use docs_vfs::{ChangeKind, VfsPath, parent_text};
 use plain::Text;
 
 fn ends(text: &str, end: &str) -> bool
     ensures { result ≡ ends text.now end.now }
 {
     text.as_bytes().ends_with(end.as_bytes())
-}
-
-/// What stands before and after the last slash.
-fn cut_at_last_slash(text: &str) -> Option<(&str, &str)>
-    ensures { MatchOption result (list_any is_slash text.now ≡ false)
-        (λ x. (list_any is_slash text.now ≡ true) × (x.0.now ≡ before_last is_slash text.now)
-        × (x.1.now ≡ after_last is_slash text.now)) }
-{
-    text.rsplit_once('/')
-}
-
-/// The text of the folder of a path.
-fn folder_of(path: &str) -> Option<&str>
-    ensures { option_copied result ≡ parent_of path.now }
-{
-    if path.len() == 1 {
-        return None;
-    }
-    match cut_at_last_slash(path) {
-        None => Some("/"),
-        Some((front, _name)) => {
-            if front.is_empty() {
-                Some("/")
-            } else {
-                Some(front)
-            }
-        }
-    }
 }
 
 fn is_manifest_name(name: &str) -> bool
@@ -75,38 +47,40 @@ fn is_target_folder(folder: &str) -> bool
 }
 
 fn is_in_target_folder(path: &str) -> bool
+    requires { is_path path.now ≡ true }
     ensures { result ≡ folder_is is_target_folder (parent_of path.now) }
 {
-    match folder_of(path) {
+    match parent_text(path) {
         None => false,
         Some(folder) => is_target_folder(folder),
     }
 }
 
-fn is_two_below_target_folder(path: &str) -> bool
+fn is_two_below_target_folder(path: &VfsPath) -> bool
     ensures { result ≡ folder_is is_target_folder (option_and_then parent_of (parent_of path.now)) }
 {
-    match folder_of(path) {
+    match path.parent_str() {
         None => false,
         Some(folder) => is_in_target_folder(folder),
     }
 }
 
-fn is_target(path: &str, name: &str) -> bool
+fn is_target(path: &VfsPath, name: &str) -> bool
     ensures { result ≡ is_target path.now name.now }
 {
-    is_target_file(path)
-        || is_in_target_folder(path)
+    let text = path.as_str();
+    is_target_file(text)
+        || is_in_target_folder(text)
         || (name == "main.rs" && is_two_below_target_folder(path))
 }
 
-fn is_cargo_config(path: &str, name: &str) -> bool
+fn is_cargo_config(path: &VfsPath, name: &str) -> bool
     ensures { result ≡ is_cargo_config path.now name.now }
 {
     if !is_config_name(name) {
         return false;
     }
-    match folder_of(path) {
+    match path.parent_str() {
         None => false,
         Some(folder) => ends(folder, ".cargo"),
     }
@@ -121,16 +95,6 @@ fn is_extension_rs(extension: Option<&str>) -> bool
     }
 }
 
-fn is_modify(kind: ChangeKind) -> bool
-    ensures { result ≡ is_modify kind }
-{
-    match kind {
-        ChangeKind::Create => false,
-        ChangeKind::Modify => true,
-        ChangeKind::Delete => false,
-    }
-}
-
 /// Whether a change of a file asks for the workspaces to be fetched anew.
 pub fn should_refresh_for_change(path: &VfsPath, kind: ChangeKind, additional: &[Text]) -> bool
     ensures { result ≡ refreshes path.now kind additional.now }
@@ -140,11 +104,11 @@ pub fn should_refresh_for_change(path: &VfsPath, kind: ChangeKind, additional: &
     };
     if is_manifest_name(name) || is_listed(additional, name) {
         true
-    } else if is_modify(kind) {
+    } else if !kind.is_created_or_deleted() {
         false
     } else if !is_extension_rs(path.extension()) {
-        is_cargo_config(path.as_str(), name)
+        is_cargo_config(path, name)
     } else {
-        is_target(path.as_str(), name)
+        is_target(path, name)
     }
 }

@@ -2,10 +2,10 @@
 ghost use Rattle.std.specs.Prelude.{◌≡◌, ◌++◌, ◌∷◌, [], true, false, map, IfOk, OnOk};
 ghost use Rattle.docs_vfs.specs.FileUrls.{url_of};
 ghost use Rattle.reload.specs.Watchers.{glob_below, below_include, below_includes, below_root, below_roots, below_workspaces, is_json, as_text, of_build_files, all_build_files, of_manifest, all_manifests, watchers_of};
-ghost use Rattle.reload.specs.declared.watcher.Watcher.TheVariants.{Relative};
+ghost use Rattle.lsp_types.specs.declared.watcher.Watcher.TheVariants.{Relative};
 
-use crate::watcher::Watcher;
 use docs_vfs::{Root, VfsPath, url_of_path};
+use lsp_types::Watcher;
 use plain::{Items, NoMemory, Text};
 use project_model::{ProjectWorkspace, WorkspaceKind};
 use std::alloc::Global;
@@ -18,7 +18,9 @@ fn glob_below(alloc: Global, folder: &VfsPath, pattern: &str) -> Result<Text, No
     ensures { IfOk result (λ text. text ≡ glob_below folder.now pattern.now) }
 {
     let mut text = Text::from_str(alloc, folder.as_str())?;
-    text.push_str("/")?;
+    if !folder.is_root() {
+        text.push_str("/")?;
+    }
     text.push_str(pattern)?;
     Ok(text)
 }

@@ -1,2 +1,1 @@
-pub mod Params
 pub mod Files

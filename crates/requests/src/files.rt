@@ -4,9 +4,9 @@ ghost use Rattle.analysis_host.specs.Answers.{Answers, IsPlainOutcome};
 ghost use Rattle.requests.specs.Files.{malformed, nothing, refusal, text_at, text_of};
 
 use analysis_host::{Answer, GlobalStateSnapshot, Outcome};
-use docs_vfs::{UrlFault, VfsPath, path_of_url};
+use docs_vfs::{VfsPath, path_named};
 use plain::{Json, NoMemory, Text};
-use std::alloc::{AllocError, Global};
+use std::alloc::Global;
 use text_core::TextIndex;
 
 /// A fault without code.
@@ -74,11 +74,8 @@ pub fn text_of<'a>(
         (λ text. text_of snapshot.now uri.now ≡ Ok (option_copied text))
         (λ message. text_of snapshot.now uri.now ≡ Err message)) }
 {
-    match path_of_url(alloc, uri) {
-        Ok(path) => text_in(alloc, snapshot, &path),
-        Err(UrlFault::NoMemory) => Err(AllocError),
-        Err(UrlFault::NotFile | UrlFault::HasHost | UrlFault::NotText) => {
-            Ok(Err(Text::from_str(alloc, "url is not a file")?))
-        }
+    match path_named(alloc, uri)? {
+        Some(path) => text_in(alloc, snapshot, &path),
+        None => Ok(Err(Text::from_str(alloc, "url is not a file")?)),
     }
 }

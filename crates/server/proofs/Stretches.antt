@@ -11,13 +11,16 @@ use Rattle.session_port.specs.Record.{gave, took, given_in, taken_in}
 use Rattle.session_port.specs.declared.command.DeferredTask.{DeferredTask}
 use Rattle.session_port.specs.declared.event.HostEvent.{HostEvent}
 use Rattle.session_port.specs.declared.event.HostEvent.TheVariants.{Bytes, Tasks, Vfs as Files, DeferredTask as Given, Timer as TimerEvent}
+use Rattle.session_port.specs.declared.event.HostEvent.TheVariants.{Flycheck, TestResult, DiscoverProject}
 use Rattle.session_port.specs.declared.event.LoaderMsg.{LoaderMsg}
 use Rattle.session_port.specs.declared.event.TaskMsg.{TaskMsg}
-use Rattle.session_laws.specs.Course.{bytes_brought, course_of, waits}
+use Rattle.session_laws.specs.Course.{bytes_brought, course_of, takes, waits}
 use Rattle.session_laws.specs.Run.{Told, fed_bytes}
 use Rattle.session_laws.specs.SessionError.{SessionError}
 use Rattle.session_laws.specs.SessionError.TheVariants.{ClientExited, BadFrame, BadMessage, HostFault, WriteFault, Exhausted, NoMemory}
-use Rattle.session_laws.specs.Event.TheVariants.{Lsp, Task, Vfs, Deferred, Timer}
+use Rattle.session_laws.specs.Event.TheVariants.{Lsp, Task, Vfs, Deferred, News, Timer}
+use Rattle.session_laws.specs.News.{News as NewsData}
+use Rattle.session_laws.specs.News.TheVariants as news
 use Rattle.session_laws.specs.Input.TheVariants.{Next}
 use Rattle.session_laws.proofs.Asking.{given-append, taken-append}
 use Rattle.session_laws.proofs.Courses.{course-event, course-fed, course-empty, course-waits}
@@ -143,6 +146,17 @@ breaks-here setup talk told error left = inl (record { events = []; asked = tt; 
 abbrev counted : Talk → Talk
 counted talk = record talk { events = talk.events + 1 }
 
+-- the event that brings news
+abbrev told_by : NewsData → HostEvent
+told_by (news.Flycheck messages) = Flycheck messages
+told_by (news.TestResult messages) = TestResult messages
+told_by (news.DiscoverProject messages) = DiscoverProject messages
+
+no_bytes : (told : NewsData) → bytes_brought (told_by told ∷ []) ≡ 0
+no_bytes (news.Flycheck messages) = refl
+no_bytes (news.TestResult messages) = refl
+no_bytes (news.DiscoverProject messages) = refl
+
 module _ (setup : Setup) (before : Talk) (old new : Told) (partial : cut_of before.reader.held ≡ NeedMore) (sound : before.reader.failed ≡ false)
     (in_step : IsInStep before.negotiation) (fits : fed_bytes before.reader < 2 ^ 64) (room : before.events < 2 ^ 64 - 1) where
   -- it was asked for where nothing was left to do
@@ -207,6 +221,32 @@ module _ (setup : Setup) (before : Talk) (old new : Told) (partial : cut_of befo
       handed = refl;
       asks = asks-one (Given tasks);
       fed = omega arith;
+      counted = refl;
+    };
+    fewer = omega (arith, room);
+    in_step = in_step;
+    sound = sound;
+    fits = fits;
+  })
+
+  news_course : (told : NewsData) (more : List HostEvent) → course_from before.reader (told_by told ∷ more) ≡ takes (Next (News told)) (course_from before.reader more)
+  news_course (news.Flycheck messages) more = course-event before.reader.place before.reader.held (Flycheck messages) more partial
+  news_course (news.TestResult messages) more = course-event before.reader.place before.reader.held (TestResult messages) more partial
+  news_course (news.DiscoverProject messages) more = course-event before.reader.place before.reader.held (DiscoverProject messages) more partial
+
+  -- what checks, a test run or discoveries tell is passed over
+  pub goes-news : (brought : NewsData) (now : Talk) → now ≡ counted before → new ≡ replies_told (gave (told_by brought) ∷ []) [] old
+      → TalkGoes setup before now old new
+  goes-news brought now is told = rw is (record {
+    stretch = record {
+      calls = gave (told_by brought) ∷ [];
+      inputs = Next (News brought) ∷ [];
+      course = news_course brought;
+      stage = refl;
+      told = told;
+      handed = refl;
+      asks = asks-one (told_by brought);
+      fed = let none = no_bytes brought in omega (arith, none);
       counted = refl;
     };
     fewer = omega (arith, room);

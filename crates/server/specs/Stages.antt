@@ -11,7 +11,7 @@ use Rattle.ra_config.specs.Config.{ConfigData}
 use Rattle.ra_config.specs.Initialize.{initial_config}
 use Rattle.ra_config.specs.declared.initialize.ConfigFault.{ConfigFault}
 use Rattle.ra_config.specs.declared.initialize.ConfigFault.TheVariants.{NoRoot}
-use Rattle.session_laws.specs.Event.TheVariants.{Lsp, Task, Vfs, Deferred, Timer}
+use Rattle.session_laws.specs.Event.TheVariants.{Lsp, Task, Vfs, Deferred, News, Timer}
 use Rattle.session_laws.specs.Input.{Input}
 use Rattle.session_laws.specs.Input.TheVariants.{Start, Next}
 use Rattle.server.specs.Replies.{welcome, no_workspace}
@@ -72,6 +72,7 @@ by_input setup stage (Next (Lsp message)) = by_message setup stage message
 by_input setup stage (Next (Task batch)) = quiet stage
 by_input setup stage (Next (Vfs messages)) = quiet stage
 by_input setup stage (Next (Deferred tasks)) = quiet stage
+by_input setup stage (Next (News news)) = quiet stage
 by_input setup stage (Next (Timer ticket)) = quiet stage
 
 -- what the handshake waits for after inputs, each on what those before it leave

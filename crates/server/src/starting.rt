@@ -5,9 +5,9 @@ use crate::statuses::{NO_MEMORY, status_text};
 use crate::stdio::{LoggingHost, StandardInput, StandardOutput};
 use crate::words::{Asked, asked_by};
 use analysis_host::Analysis;
+use inline_host::InlineHost;
 use log::Log;
 use plain::{Items, Text};
-use session_peers::InlineHost;
 use std::alloc::AllocError;
 use std::env;
 use std::io::{self, ErrorKind};
@@ -38,7 +38,7 @@ fn run_on_streams<R: Input + Print + AllocGlobal + Log, A: Analysis>(
     let alloc = rt.alloc();
     let keeps = program.keeps_record && asked_by(words.texts()) == Asked::Session;
     let input = StandardInput::new(alloc, rt.reader())?;
-    let mut host = LoggingHost::new(rt, InlineHost::new(alloc, input, analysis, keeps)?);
+    let mut host = LoggingHost::new(rt, InlineHost::new(alloc, input, analysis, keeps));
     let mut output = StandardOutput::new(io::writer(rt));
     let status = run(alloc, program, words, &mut host, &mut output, analysis);
     // Dropped by a call, a host is not spelled out here.

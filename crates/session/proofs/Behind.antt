@@ -3,6 +3,7 @@ use Rattle.std.proofs.Common.{◌≡◌, ℕ, ◌<◌, List, [], ◌∷◌, leng
 use Rattle.session_port.specs.Events.{batch_in}
 use Rattle.session_port.specs.declared.event.HostEvent.{HostEvent}
 use Rattle.session_port.specs.declared.event.HostEvent.TheVariants.{Bytes, Tasks, Vfs, DeferredTask, Timer, Ended as HostEnded}
+use Rattle.session_port.specs.declared.event.HostEvent.TheVariants.{Flycheck, TestResult, DiscoverProject}
 use Rattle.lsp_frame.specs.Frames.{cut_of}
 use Rattle.lsp_frame.specs.declared.frame.Cut.TheVariants.{NeedMore}
 use Rattle.session_laws.specs.Course.{takes, course_of, bytes_brought}
@@ -43,5 +44,8 @@ is-brought (DeferredTask tasks) = record {
   batch = refl;
   later = tt;
 }
+is-brought (Flycheck messages) = record { course = λ at held waits more. course-event at held (Flycheck messages) more waits; none = refl; batch = refl; later = tt }
+is-brought (TestResult messages) = record { course = λ at held waits more. course-event at held (TestResult messages) more waits; none = refl; batch = refl; later = tt }
+is-brought (DiscoverProject messages) = record { course = λ at held waits more. course-event at held (DiscoverProject messages) more waits; none = refl; batch = refl; later = tt }
 is-brought (Timer ticket) = record { course = λ at held waits more. course-event at held (Timer ticket) more waits; none = refl; batch = refl; later = tt }
 is-brought HostEnded = refl

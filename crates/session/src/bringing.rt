@@ -4,7 +4,7 @@ ghost use Rattle.session.specs.Bringing.{brought_by};
 
 use plain::{Bytes, Items};
 use session_port::HostEvent;
-use session_state::{Event, Input};
+use session_state::{Event, Input, News};
 use std::alloc::Global;
 
 // What comes of an event: the input of a turn, bytes that are to be fed, or the end.
@@ -27,6 +27,15 @@ pub(crate) fn brought_by(alloc: Global, event: HostEvent) -> Brought
             }
         }
         HostEvent::Tasks(batch) => Brought::Input(Input::Next(Event::Task(batch))),
+        HostEvent::Flycheck(messages) => {
+            Brought::Input(Input::Next(Event::News(News::Flycheck(messages))))
+        }
+        HostEvent::TestResult(messages) => {
+            Brought::Input(Input::Next(Event::News(News::TestResult(messages))))
+        }
+        HostEvent::DiscoverProject(messages) => {
+            Brought::Input(Input::Next(Event::News(News::DiscoverProject(messages))))
+        }
         HostEvent::Vfs(messages) => Brought::Input(Input::Next(Event::Vfs(messages))),
         HostEvent::DeferredTask(tasks) => Brought::Input(Input::Next(Event::Deferred(tasks))),
         HostEvent::Timer(ticket) => Brought::Input(Input::Next(Event::Timer(ticket))),

@@ -51,11 +51,11 @@ pub fn next_message(reader: &mut FrameReader) -> Result<Coming, AllocError>
 }
 
 /// Feeds the reader, where that many bytes can still be counted.
-pub fn feed(reader: &mut FrameReader, bytes: &Bytes) -> Result<(), SessionError>
+pub fn feed(reader: &mut FrameReader, bytes: Bytes) -> Result<(), SessionError>
     requires sound { reader.old.failed ≡ false }
-    ensures ok { OnOk result (reader.new ≡ record { place = reader.old.place; held = reader.old.held ++ bytes.now; failed = false }) }
-    ensures fits { OnOk result (fed_bytes reader.old + length bytes.now < 2 ^ 64) }
-    ensures err { IfErr result (IsFeedError (fed_bytes reader.old) (length bytes.now)) }
+    ensures ok { OnOk result (reader.new ≡ record { place = reader.old.place; held = reader.old.held ++ bytes; failed = false }) }
+    ensures fits { OnOk result (fed_bytes reader.old + length bytes < 2 ^ 64) }
+    ensures err { IfErr result (IsFeedError (fed_bytes reader.old) (length bytes)) }
 {
     let room = u64::MAX - reader.taken();
     if bytes.len() as u64 > room {
@@ -63,6 +63,6 @@ pub fn feed(reader: &mut FrameReader, bytes: &Bytes) -> Result<(), SessionError>
             counter: Counter::Bytes,
         });
     }
-    reader.feed(bytes.as_slice())?;
+    reader.feed(bytes)?;
     Ok(())
 }

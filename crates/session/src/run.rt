@@ -136,7 +136,7 @@ fn take_event<H: Host<A>, S: Sink, A: Analysis>(
     };
     match brought_by(alloc, event) {
         Brought::Input(input) => run_turn(alloc, input, state, host, sink, analysis),
-        Brought::Fed(bytes) => feed(reader, &bytes),
+        Brought::Fed(bytes) => feed(reader, bytes),
         Brought::Ended => Err(SessionError::ClientExited),
     }
 }

@@ -11,18 +11,22 @@ use Rattle.project_model.specs.declared.crates.CrateData.{CrateData}
 use Rattle.project_model.specs.declared.workspace.ProjectWorkspace.{ProjectWorkspace}
 use Rattle.change_effects.specs.Filing.{filed_change, crate_file, crate_files, file_in, is_at_workspace, text_in, workspace_file, workspace_files}
 use Rattle.change_effects.specs.declared.effects.SettingsFile.{SettingsFile}
-use Rattle.session_port.specs.Jobs.{final_of, fits_final}
+use Rattle.session_port.specs.Jobs.{final_of, fits_job, fits_kind}
 use Rattle.session_port.specs.Working.{Working, and_then}
+use Rattle.session_port.specs.declared.event.TaskBody.{TaskBody}
+use Rattle.session_port.specs.declared.event.TaskBody.TheVariants.{Final}
 use Rattle.session_port.specs.declared.event.TaskMsg.{TaskMsg}
 use Rattle.session_port.specs.declared.fault.Counter.{Counter}
+use Rattle.session_port.specs.declared.job.Job.{Job}
 use Rattle.session_port.specs.declared.job.JobKind.{JobKind}
-use Rattle.session_port.specs.declared.job.JobKind.TheVariants.{Request as RequestJob, ProcMacroSources, FetchWorkspaces, FetchBuildData, LoadProcMacros}
+use Rattle.session_port.specs.declared.job.JobKind.TheVariants.{LoadProcMacros}
 use Rattle.session_port.specs.declared.job.JobResult.{JobResult}
 use Rattle.desk.specs.WorkEnds.{LoadEnd, work_end_of, work_ended, work_told}
 use Rattle.desk.specs.declared.state.ends.WorkEnd.{WorkEnd}
 use Rattle.desk.specs.declared.state.ends.WorkEnd.TheVariants.{Fetched, Built, Checked, Loaded}
 use Rattle.desk.specs.Meaning.{Meaning}
 use Rattle.desk.specs.Steps.{result_taken as taken_at_desk}
+use Rattle.desk_laws.proofs.Fitting.{fit-fits}
 use Rattle.desk_laws.proofs.Results.{IfOk-and_then, IfOk-weaker, IfOk-within}
 use Rattle.session_files.specs.Current.{IsSound}
 use Rattle.session_files.specs.Folds.{after_crates, after_processing, changed_files, have_come_or_gone, has_changed}
@@ -52,7 +56,7 @@ use Rattle.session_laws.specs.Invariant.{is_load}
 use Rattle.session_laws.proofs.Filing.{Processes, PutsCrates, crates-put, ok-from, processed-does}
 use Rattle.session_laws.proofs.Following.{followed-does, further-same}
 use Rattle.session_laws.proofs.Batches.{logged_if-same}
-use Rattle.session_laws.proofs.OneOut.{fit-true, true-false}
+use Rattle.session_laws.proofs.OneOut.{true-false}
 use Rattle.session_laws.proofs.WorkEnds.{load-has-end}
 use Rattle.session_laws.proofs.Same.{some-same, none-some}
 
@@ -201,15 +205,17 @@ message-may-bring meaning message w v is =
     may-bring (crates_by (work_ended message w.state.desk.jobs) w.state.workspaces) w.state v.state
     (IfOk-at_ok (λ (v : Working State). MessageBrings message w.state v.state) is (message-brings meaning message w))
 
--- a final message of a load says how it ended
-final-told : (kind : JobKind) (final : Option JobResult) → is_load kind ≡ true → fits_final kind final ≡ true → (told : LoadEnd)
-    × (option_and_then (work_end_of kind) final ≡ Some (Loaded told))
-final-told kind None loads fit = true-false (sym fit)
-final-told (RequestJob ticket row params) (Some result) loads fit = true-false (sym loads)
-final-told (ProcMacroSources files) (Some result) loads fit = true-false (sym loads)
-final-told (FetchWorkspaces projects detached path force) (Some result) loads fit = true-false (sym loads)
-final-told (FetchBuildData version) (Some result) loads fit = true-false (sym loads)
-final-told (LoadProcMacros paths ignored) (Some result) loads fit = load-has-end result fit
+-- a load ends with what it came to
+load-told : (kind : JobKind) (result : JobResult) → is_load kind ≡ true → fits_kind kind result ≡ true → (told : LoadEnd)
+    × (work_end_of kind result ≡ Some (Loaded told))
+load-told (LoadProcMacros paths ignored) result loads fit = load-has-end result fit
+load-told other result loads fit = true-false (sym loads)
+
+-- so a message says that ends one
+body-told : (job : Job) (body : TaskBody) → is_load job.kind ≡ true → is_some (final_of body) ≡ true → fits_job job body ≡ true → (told : LoadEnd)
+    × (option_and_then (work_end_of job.kind) (final_of body) ≡ Some (Loaded told))
+body-told job (Final result) loads ends fit = load-told job.kind result loads fit
+body-told job other loads ends fit = true-false (sym ends)
 
 -- and crate data that waits comes with it
 waiting-comes : (b : Bool) (o : Option WaitingCrates) (f : WaitingCrates → CrateData) → b ≡ true → is_some o ≡ true → (crates : CrateData)
@@ -220,8 +226,8 @@ waiting-comes b (Some crates) f busy some = (f crates, ap (λ c. if c then Some 
 pub ended-brings : (meaning : Meaning) (message : TaskMsg) (w v : Working State) → message_taken meaning message w ≡ Ok v → EndsWait message w.state
     → BringsFiles w.state v.state
 ended-brings meaning message w v is ends =
-    let fit = fit-true message.body (map.get w.state.desk.jobs message.job) ends.job ends.fits in
-    let told = final-told ends.job.kind (final_of message.body) ends.loads fit in
+    let fit = fit-fits message.body (map.get w.state.desk.jobs message.job) ends.job ends.fits in
+    let told = body-told ends.job message.body ends.loads ends.ends fit in
     let loads : Loads = w.state.workspaces.loads in
     let comes = waiting-comes loads.queue.in_progress loads.waiting (macros_put (macros_of told.0 (listed_for loads.waiting))) ends.in_progress ends.waits in
     let ended : work_ended message w.state.desk.jobs ≡ Some (Loaded told.0) = ap (work_told message) ends.fits ∙ told.1 in

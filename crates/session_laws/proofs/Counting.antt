@@ -9,8 +9,8 @@ use Rattle.docs_vfs.specs.Files.{number_in, put_at, put_in, same_contents, set_i
 use Rattle.docs_vfs.specs.declared.file_kinds.ChangedFile.{ChangedFile}
 use Rattle.docs_vfs.specs.declared.file_kinds.FileId.{FileId}
 use Rattle.docs_vfs.specs.declared.file_kinds.FileRow.{FileRow}
-use Rattle.docs_vfs.specs.declared.file_kinds.Kept.{Kept}
-use Rattle.docs_vfs.specs.declared.file_kinds.Kept.TheVariants.{Excluded}
+use Rattle.docs_vfs.specs.declared.file_kinds.RowState.{RowState}
+use Rattle.docs_vfs.specs.declared.file_kinds.RowState.TheVariants.{Excluded}
 use Rattle.docs_vfs.specs.declared.file_kinds.TableFault.{TableFault}
 use Rattle.docs_vfs.specs.declared.file_kinds.TableFault.TheVariants.{Full}
 use Rattle.docs_vfs.specs.declared.source_roots.Root.{Root}
@@ -127,6 +127,7 @@ gives-on a b n m k p q =
 many-on : (a b n m : Numbers) (counter : Counter) → AtMost m (both n a) → AreTooMany m b counter → AreTooMany n (both a b) counter
 many-on a b n m counters.Turns p h = on-then n.turns m.turns (2 ^ 64) a.turns b.turns p.turns h
 many-on a b n m counters.Bytes p h = h
+many-on a b n m counters.Discoveries p h = h
 many-on a b n m counters.Jobs p h = on-then n.jobs m.jobs (2 ^ 64) a.jobs b.jobs p.jobs h
 many-on a b n m counters.Revisions p h = on-then n.revisions m.revisions (2 ^ 64) a.revisions b.revisions p.revisions h
 many-on a b n m counters.Files p h = on-then n.files m.files (2 ^ 32) a.files b.files p.files h
@@ -137,6 +138,7 @@ many-on a b n m counters.LoaderSettings p (inr h) = inr (on-then n.settings m.se
 pub many-more : (a b n : Numbers) (counter : Counter) → AtMost a b → AreTooMany n a counter → AreTooMany n b counter
 many-more a b n counters.Turns le h = more (2 ^ 64) n.turns a.turns b.turns h le.turns
 many-more a b n counters.Bytes le h = h
+many-more a b n counters.Discoveries le h = h
 many-more a b n counters.Jobs le h = more (2 ^ 64) n.jobs a.jobs b.jobs h le.jobs
 many-more a b n counters.Revisions le h = more (2 ^ 64) n.revisions a.revisions b.revisions h le.revisions
 many-more a b n counters.Files le h = more (2 ^ 32) n.files a.files b.files h le.files
@@ -304,12 +306,13 @@ number-gives : (table : Files) (path : List ℕ) (row : Option FileRow) → Tabl
 number-gives table path (Some row) = omega arith
 number-gives table path None = full-cases table path (is_full table) refl
 
-put-at-gives : (table : Files) (path : List ℕ) (kept : Kept) (r : Result (Files × FileId) TableFault) → TableGives (λ (made : Files × FileId). made.0) table r
+put-at-gives : (table : Files) (path : List ℕ) (kept : RowState) (r : Result (Files × FileId) TableFault)
+    → TableGives (λ (made : Files × FileId). made.0) table r
     → TableGives (λ (made : Files). made) table (and_then_table r (λ n. Ok (put_at n.0 n.1 path kept)))
 put-at-gives table path kept (Ok made) h = h
 put-at-gives table path kept (Err fault) h = h
 
-put-gives : (table : Files) (path : List ℕ) (kept : Kept) → TableGives (λ (made : Files). made) table (put_in table path kept)
+put-gives : (table : Files) (path : List ℕ) (kept : RowState) → TableGives (λ (made : Files). made) table (put_in table path kept)
 put-gives table path kept = put-at-gives table path kept (number_in table path (map.get table.rows path)) (number-gives table path (map.get table.rows path))
 
 set-cases : (table : Files) (b : Bool) (r : Result Files TableFault) → TableGives (λ (made : Files). made) table r

@@ -1,7 +1,7 @@
 -- What each part of a turn lets into the world, and what it makes of the settings.
 use Rattle.std.proofs.Common.{◌≡◌, ℕ, ◌+◌, ◌-◌, ◌^◌, List, [], ◌∷◌, ◌++◌, length, map, Bool, true, false, ltb, refl, sym, ap, ◌∙◌, subst, arith, inl, inr}
 use Rattle.std.proofs.Common.{true≢false}
-use Rattle.std.specs.Prelude.{◌⊎◌, ◌&&◌, ◌||◌, ◌==◌, not, Option, None, Some, is_none, unwrap_or, Result, Ok, Err, if◌then◌else◌}
+use Rattle.std.specs.Prelude.{◌⊎◌, ◌&&◌, ◌||◌, ◌==◌, Option, None, Some, is_none, unwrap_or, Result, Ok, Err, if◌then◌else◌}
 use Rattle.std.specs.FinMap as finmap
 use Rattle.std.specs.List.{list_any}
 use Rattle.std.proofs.lemmas.List.{length-append}
@@ -15,6 +15,7 @@ use Rattle.change_effects.specs.Filing.{filed_change}
 use Rattle.change_effects.specs.declared.effects.SettingsFile.{SettingsFile}
 use Rattle.client.specs.Client.{Client}
 use Rattle.client.specs.Folds.{after_change}
+use Rattle.docs_vfs.specs.Kinds.{is_created_or_deleted}
 use Rattle.docs_vfs.specs.Paths.{path_cmp}
 use Rattle.docs_vfs.specs.declared.file_kinds.ChangeKind.{ChangeKind}
 use Rattle.docs_vfs.specs.declared.file_kinds.ChangeKind.TheVariants.{Create, Modify, Delete}
@@ -25,7 +26,7 @@ use Rattle.layered_settings.specs.Search.{Parents}
 use Rattle.layered_settings.specs.declared.change.ConfigChange.{ConfigChange}
 use Rattle.project_model.specs.declared.crates.CrateData.{CrateData}
 use Rattle.ra_config.specs.Config.{ConfigData}
-use Rattle.session_files.specs.Folds.{after_crates, after_processing, changed_files, crates_with, have_come_or_gone, is_modification, taken_up, with_changes}
+use Rattle.session_files.specs.Folds.{after_crates, after_processing, changed_files, crates_with, have_come_or_gone, taken_up, with_changes}
 use Rattle.session_files.specs.Folds.{world_change, world_put}
 use Rattle.session_files.specs.SessionFiles.{SessionFiles}
 use Rattle.session_files.specs.Texts.{file_change}
@@ -206,7 +207,7 @@ files_host roots list host = record { world = with_change (world_change roots li
 abbrev pub files_entry : List Root → List ChangedFile → Entry
 files_entry roots list = record { present = roots; crates = None; files = list }
 
-kind-comes : (kind : ChangeKind) → not (is_modification kind) ≡ comes_or_goes kind
+kind-comes : (kind : ChangeKind) → is_created_or_deleted kind ≡ comes_or_goes kind
 kind-comes Create = refl
 kind-comes Modify = refl
 kind-comes Delete = refl

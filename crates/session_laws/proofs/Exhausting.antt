@@ -98,7 +98,7 @@ use Rattle.session_model.specs.declared.facts.Facts.{Facts}
 use Rattle.session_model.specs.declared.heard.Heard.{Heard}
 use Rattle.session_model.specs.declared.heard.Heard.TheVariants.{Told, Malformed, Unhandled, Silent}
 use Rattle.session_model.specs.declared.input.Event.{Event}
-use Rattle.session_model.specs.declared.input.Event.TheVariants.{Lsp, Task, Vfs, Deferred, Timer}
+use Rattle.session_model.specs.declared.input.Event.TheVariants.{Lsp, Task, Vfs, Deferred, News, Timer}
 use Rattle.session_model.specs.declared.input.Input.{Input}
 use Rattle.session_model.specs.declared.input.Input.TheVariants.{Start, Next}
 use Rattle.session_laws.specs.Invariant.{place_of_state}
@@ -693,6 +693,9 @@ event-does meaning s (Deferred tasks) =
     (counts-more state_ahead (jobs (length (checks_among_tasks s tasks))) (for_event meaning s input) (held w.state) (all_resumed tasks w)
     (at-most _ _ (omega arith) (omega arith) (omega arith) (omega arith) (omega arith) (omega arith) (omega arith))
     (resumed-do s tasks w))
+event-does meaning s (News news) =
+    event-holds (for_event meaning s (Next (News news))) (turn_begun s) (happened meaning (News news) (turn_begun s))
+    (does-same (for_event meaning s (Next (News news))) (turn_begun s) (turn_begun s) refl)
 event-does meaning s (Timer ticket) =
     event-holds (for_event meaning s (Next (Timer ticket))) (turn_begun s) (happened meaning (Timer ticket) (turn_begun s))
     (does-same (for_event meaning s (Next (Timer ticket))) (turn_begun s) (timed ticket (turn_begun s))

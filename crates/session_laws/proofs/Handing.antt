@@ -28,7 +28,7 @@ use Rattle.session_model.specs.Run.{Steps, Turn, turn_start}
 use Rattle.session_model.specs.State.{State, discovers, may_start}
 use Rattle.session_model.specs.declared.facts.Facts.{Facts}
 use Rattle.session_model.specs.declared.input.Event.{Event}
-use Rattle.session_model.specs.declared.input.Event.TheVariants.{Lsp, Task, Vfs, Deferred, Timer}
+use Rattle.session_model.specs.declared.input.Event.TheVariants.{Lsp, Task, Vfs, Deferred, News, Timer}
 use Rattle.session_model.specs.declared.input.Input.{Input}
 use Rattle.session_model.specs.declared.input.Input.TheVariants.{Start, Next}
 use Rattle.session_laws.specs.Beside.{Aside, Beside}
@@ -156,6 +156,7 @@ event-over meaning s (Lsp message) = plain-over meaning s (Lsp message) refl
 event-over meaning s (Task batch) = plain-over meaning s (Task batch) refl
 event-over meaning s (Vfs messages) = plain-over meaning s (Vfs messages) refl
 event-over meaning s (Deferred tasks) = deferred-over meaning s tasks
+event-over meaning s (News news) = plain-over meaning s (News news) refl
 event-over meaning s (Timer ticket) = plain-over meaning s (Timer ticket) refl
 
 -- ---- the parts behind it

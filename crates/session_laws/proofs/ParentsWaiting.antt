@@ -31,7 +31,7 @@ use Rattle.session_model.specs.State.{Sources, State, fresh}
 use Rattle.session_model.specs.declared.heard.Heard.{Heard}
 use Rattle.session_model.specs.declared.heard.Heard.TheVariants.{Told, Malformed, Unhandled, Silent}
 use Rattle.session_model.specs.declared.input.Event.{Event}
-use Rattle.session_model.specs.declared.input.Event.TheVariants.{Lsp, Task, Vfs, Deferred, Timer}
+use Rattle.session_model.specs.declared.input.Event.TheVariants.{Lsp, Task, Vfs, Deferred, News, Timer}
 use Rattle.session_model.specs.declared.input.Input.{Input}
 use Rattle.session_model.specs.declared.input.Input.TheVariants.{Start, Next}
 use Rattle.session_laws.specs.Entering.{Enters, KeepsSettings, hold_settings, tells_folders, tells_settings}
@@ -222,6 +222,7 @@ silent-told (Next (Lsp (ResponseMessage r))) client silent = absurd (true≢fals
 silent-told (Next (Task batch)) client silent = refl
 silent-told (Next (Vfs messages)) client silent = refl
 silent-told (Next (Deferred tasks)) client silent = refl
+silent-told (Next (News news)) client silent = refl
 silent-told (Next (Timer ticket)) client silent = refl
 
 -- an event that tells something of them lets nothing into the world
@@ -299,6 +300,7 @@ happened-tells meaning (Lsp (ResponseMessage r)) s tells = response-tells r s
 happened-tells meaning (Task batch) s tells = absurd (true≢false (sym tells))
 happened-tells meaning (Vfs messages) s tells = absurd (true≢false (sym tells))
 happened-tells meaning (Deferred tasks) s tells = absurd (true≢false (sym tells))
+happened-tells meaning (News news) s tells = absurd (true≢false (sym tells))
 happened-tells meaning (Timer ticket) s tells = absurd (true≢false (sym tells))
 
 event-tells : (meaning : Meaning) (event : Event) (s : State) → tells_settings (Next event) ≡ true

@@ -36,7 +36,7 @@ use Rattle.session_model.specs.Switching.{switch_made}
 use Rattle.session_model.specs.declared.heard.Heard.{Heard}
 use Rattle.session_model.specs.declared.heard.Heard.TheVariants.{Told, Malformed, Unhandled, Silent}
 use Rattle.session_model.specs.declared.input.Event.{Event}
-use Rattle.session_model.specs.declared.input.Event.TheVariants.{Lsp, Task, Vfs, Deferred, Timer}
+use Rattle.session_model.specs.declared.input.Event.TheVariants.{Lsp, Task, Vfs, Deferred, News, Timer}
 use Rattle.session_model.specs.declared.input.Input.{Input}
 use Rattle.session_model.specs.declared.input.Input.TheVariants.{Start, Next}
 use Rattle.session_laws.specs.Ordered.{each_once, file_to_read, files_told, urls_told}
@@ -227,6 +227,7 @@ happened-reads meaning (Lsp (ResponseMessage r)) w none = other-reads meaning (L
 happened-reads meaning (Task batch) w none = other-reads meaning (Task batch) w refl refl none
 happened-reads meaning (Vfs messages) w none = other-reads meaning (Vfs messages) w refl refl none
 happened-reads meaning (Deferred tasks) w none = other-reads meaning (Deferred tasks) w refl refl none
+happened-reads meaning (News news) w none = other-reads meaning (News news) w refl refl none
 happened-reads meaning (Timer ticket) w none = other-reads meaning (Timer ticket) w refl refl none
 
 taken_in-reads : (meaning : Meaning) (event : Event) (s : State) → IfOk (event_taken meaning event (turn_start s)) (Reads (files_told (Next event)))

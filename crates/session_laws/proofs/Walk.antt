@@ -68,7 +68,7 @@ use Rattle.session_model.specs.declared.facts.Facts.{Facts}
 use Rattle.session_model.specs.declared.heard.Heard.{Heard}
 use Rattle.session_model.specs.declared.heard.Heard.TheVariants.{Told, Malformed, Unhandled, Silent}
 use Rattle.session_model.specs.declared.input.Event.{Event}
-use Rattle.session_model.specs.declared.input.Event.TheVariants.{Lsp, Task, Vfs, Deferred, Timer}
+use Rattle.session_model.specs.declared.input.Event.TheVariants.{Lsp, Task, Vfs, Deferred, News, Timer}
 use Rattle.session_model.specs.declared.input.Input.{Input}
 use Rattle.session_model.specs.declared.input.Input.TheVariants.{Next}
 use Rattle.session_laws.specs.Entering.{tells_folders, tells_settings}
@@ -354,6 +354,7 @@ module _ (R : Working State → Working State → Type 0) (owed : Owed R) where
   happened-owes meaning (Task batch) may tells w = batch-owes meaning batch w
   happened-owes meaning (Vfs messages) may tells w = brought-owes messages w
   happened-owes meaning (Deferred tasks) may tells w = all-resumed-owe tasks w
+  happened-owes meaning (News news) may tells w = none w
   happened-owes meaning (Timer ticket) may tells w = owed.workspaces w (with_fetches (fire ticket) w.state.workspaces)
       (fire-runs 0 ticket w.state.workspaces).versions
 

@@ -1,21 +1,25 @@
 -- What the ends of jobs do to what is in progress of the host's own jobs: what ends is off, and nothing else starts or ends.
-use Rattle.std.proofs.Common.{◌≡◌, ℕ, List, Bool, true, false, refl, sym, ap, subst}
+use Rattle.std.proofs.Common.{◌≡◌, ℕ, List, [], Bool, ◌&&◌, true, false, refl, sym, ap, subst}
 use Rattle.std.specs.Prelude.{codes, Option, None, Some, option_and_then, Result, Ok, Err, if◌then◌else◌}
 use Rattle.std.specs.FinMap as map
-use Rattle.session_port.specs.Jobs.{Jobs, jobs_after, final_of, fits_final, fits_kind, fitting_job, has_build_data, has_macros, has_workspaces, if_value}
-use Rattle.session_port.specs.Jobs.{without_fitting}
+use Rattle.session_port.specs.Jobs.{Jobs, jobs_after, final_of, fits_job, fits_kind, fitting_job, if_value, is_sound, without_ended, without_fitting}
+use Rattle.session_port.specs.Kinds.{is_same_kind, kind_of}
+use Rattle.session_port.specs.declared.event.TaskBody.{TaskBody}
+use Rattle.session_port.specs.declared.event.TaskBody.TheVariants.{Final}
 use Rattle.session_port.specs.declared.event.TaskMsg.{TaskMsg}
 use Rattle.session_port.specs.declared.job.Job.{Job}
 use Rattle.session_port.specs.declared.job.JobKind.{JobKind}
-use Rattle.session_port.specs.declared.job.JobKind.TheVariants.{Request as RequestJob, ProcMacroSources, FetchWorkspaces, FetchBuildData, LoadProcMacros}
+use Rattle.session_port.specs.declared.job.JobKind.TheVariants.{ProcMacroSources, FetchWorkspaces, FetchBuildData, LoadProcMacros}
 use Rattle.session_port.specs.declared.job.JobResult.{JobResult}
 use Rattle.session_port.specs.declared.job.JobResult.TheVariants.{Value, Fault, Cancelled, NoMemory}
 use Rattle.session_port.specs.declared.job.JobValue.{JobValue}
-use Rattle.session_port.specs.declared.job.JobValue.TheVariants.{Json, Roots, Primed, Workspaces as WorkspacesValue, BuildData, ProcMacros}
+use Rattle.session_port.specs.declared.job.JobValue.TheVariants.{Roots, Workspaces as WorkspacesValue, BuildData, ProcMacros}
+use Rattle.session_port.specs.declared.kinds.ValueKind.{ValueKind}
+use Rattle.session_port.specs.declared.kinds.ValueKind.TheVariants as kinds
 use Rattle.desk.specs.WorkEnds.{BuildEnd, FetchEnd, LoadEnd, build_end, check_end, fetch_end, load_end, value_or_reason, work_end_of, work_ended, work_told}
 use Rattle.desk.specs.declared.state.ends.WorkEnd.{WorkEnd}
 use Rattle.desk.specs.declared.state.ends.WorkEnd.TheVariants.{Fetched, Built, Checked, Loaded}
-use Rattle.desk_laws.proofs.Fitting.{after_message-some}
+use Rattle.desk_laws.proofs.Fitting.{fit-fits, fit-out}
 use Rattle.workspaces.specs.Builds.{end_build}
 use Rattle.workspaces.specs.Fetches.{end_fetch}
 use Rattle.workspaces.specs.Loads.{end_load}
@@ -25,7 +29,7 @@ use Rattle.session_model.specs.Checking.{check_kept}
 use Rattle.session_model.specs.Fetching.{fetch_kept}
 use Rattle.session_model.specs.Loading.{load_kept}
 use Rattle.session_laws.specs.Invariant.{IsOfTurns, IsOutIf, is_build, is_fetch, is_load}
-use Rattle.session_laws.proofs.OneOut.{fit-true, kept-off, off-other, true-false}
+use Rattle.session_laws.proofs.OneOut.{kept-off, off-other, true-false}
 use Rattle.session_laws.proofs.Running.{SameRuns, building, fetching, loading, same-runs, versions_of}
 
 -- ---- what an end leaves of the workspaces
@@ -61,7 +65,7 @@ pub build-leaves : (made : BuildEnd) (workspaces : Workspaces)
     → ((build_kept made workspaces).fetches ≡ workspaces.fetches) × ((build_kept made workspaces).loads ≡ workspaces.loads)
     × (versions_of (build_kept made workspaces) ≡ versions_of workspaces)
 build-leaves made workspaces =
-    let ended : Workspaces = record workspaces { builds = end_build made workspaces.present workspaces.builds; switch_wanted = true } in (
+    let ended : Workspaces = record workspaces { builds = end_build made workspaces.builds; switch_wanted = true } in (
       if-leaves (λ (w : Workspaces). w.fetches) (building workspaces) ended workspaces refl,
       if-leaves (λ (w : Workspaces). w.loads) (building workspaces) ended workspaces refl,
       if-leaves versions_of (building workspaces) ended workspaces refl,
@@ -123,38 +127,33 @@ off-runs turns before after n job out same there no_fetch no_build no_load = rec
 
 -- ---- each kind of work
 
+-- the value is of this kind, where a job's value has no lists of files
+abbrev pub is_of : ValueKind → JobValue → Bool
+is_of kind value = is_same_kind (kind_of value) kind && is_sound [] value
+
 -- a fetch ends with what it came to
-fetch-has-end : (result : JobResult) → if_value has_workspaces result ≡ true → (found : FetchEnd) × (fetch_end (value_or_reason result) ≡ Some (Fetched found))
-fetch-has-end (Value (Json value)) fit = true-false (sym fit)
-fetch-has-end (Value (Roots paths)) fit = true-false (sym fit)
-fetch-has-end (Value Primed) fit = true-false (sym fit)
+fetch-has-end : (result : JobResult) → if_value (is_of kinds.Workspaces) result ≡ true → (found : FetchEnd)
+    × (fetch_end (value_or_reason result) ≡ Some (Fetched found))
 fetch-has-end (Value (WorkspacesValue results)) fit = (Ok results, refl)
-fetch-has-end (Value (BuildData results)) fit = true-false (sym fit)
-fetch-has-end (Value (ProcMacros macros)) fit = true-false (sym fit)
+fetch-has-end (Value other) fit = true-false (sym fit)
 fetch-has-end (Fault code message) fit = (Err message, refl)
 fetch-has-end (Cancelled saw) fit = (Err (codes "cancelled"), refl)
 fetch-has-end NoMemory fit = (Err (codes "out of memory"), refl)
 
 -- a run of build data ends with what it came to
-build-has-end : (result : JobResult) → if_value has_build_data result ≡ true → (made : BuildEnd) × (build_end (value_or_reason result) ≡ Some (Built made))
-build-has-end (Value (Json value)) fit = true-false (sym fit)
-build-has-end (Value (Roots paths)) fit = true-false (sym fit)
-build-has-end (Value Primed) fit = true-false (sym fit)
-build-has-end (Value (WorkspacesValue results)) fit = true-false (sym fit)
+build-has-end : (result : JobResult) → if_value (is_of kinds.BuildData) result ≡ true → (made : BuildEnd)
+    × (build_end (value_or_reason result) ≡ Some (Built made))
 build-has-end (Value (BuildData results)) fit = (Ok results, refl)
-build-has-end (Value (ProcMacros macros)) fit = true-false (sym fit)
+build-has-end (Value other) fit = true-false (sym fit)
 build-has-end (Fault code message) fit = (Err message, refl)
 build-has-end (Cancelled saw) fit = (Err (codes "cancelled"), refl)
 build-has-end NoMemory fit = (Err (codes "out of memory"), refl)
 
 -- a load ends with what it came to
-pub load-has-end : (result : JobResult) → if_value has_macros result ≡ true → (told : LoadEnd) × (load_end (value_or_reason result) ≡ Some (Loaded told))
-load-has-end (Value (Json value)) fit = true-false (sym fit)
-load-has-end (Value (Roots paths)) fit = true-false (sym fit)
-load-has-end (Value Primed) fit = true-false (sym fit)
-load-has-end (Value (WorkspacesValue results)) fit = true-false (sym fit)
-load-has-end (Value (BuildData results)) fit = true-false (sym fit)
+pub load-has-end : (result : JobResult) → if_value (is_of kinds.ProcMacros) result ≡ true → (told : LoadEnd)
+    × (load_end (value_or_reason result) ≡ Some (Loaded told))
 load-has-end (Value (ProcMacros macros)) fit = (Ok macros, refl)
+load-has-end (Value other) fit = true-false (sym fit)
 load-has-end (Fault code message) fit = (Err message, refl)
 load-has-end (Cancelled saw) fit = (Err (codes "cancelled"), refl)
 load-has-end NoMemory fit = (Err (codes "out of memory"), refl)
@@ -189,7 +188,7 @@ made-runs turns made workspaces n job out there no_fetch one no_load =
       fetches = λ h. subst (λ (f : Fetches). IsOutIf is_fetch f.queue.in_progress (map.remove out n)) (sym same.0)
           (off-other is_fetch (fetching workspaces) n job out there no_fetch h);
       builds = kept-off is_build building (building workspaces)
-          (record workspaces { builds = end_build made workspaces.present workspaces.builds; switch_wanted = true }) workspaces n job out
+          (record workspaces { builds = end_build made workspaces.builds; switch_wanted = true }) workspaces n job out
           refl there one;
       loads = λ h. subst (λ (l : Loads). IsOutIf is_load l.queue.in_progress (map.remove out n)) (sym same.1)
           (off-other is_load (loading workspaces) n job out there no_load h);
@@ -213,11 +212,7 @@ told-runs turns told workspaces n job out there no_fetch no_build one =
 -- an end of a check leaves all that is in progress
 check-runs : (turns : ℕ) (came : Result JobValue (List ℕ)) (workspaces : Workspaces) → SameRuns turns workspaces (end_kept (check_end came) workspaces)
 check-runs turns (Ok (Roots paths)) workspaces = record { fetching = refl; building = refl; loading = refl; waiting = λ h. h; versions = refl }
-check-runs turns (Ok (Json value)) workspaces = same-runs turns workspaces workspaces refl
-check-runs turns (Ok Primed) workspaces = same-runs turns workspaces workspaces refl
-check-runs turns (Ok (WorkspacesValue results)) workspaces = same-runs turns workspaces workspaces refl
-check-runs turns (Ok (BuildData results)) workspaces = same-runs turns workspaces workspaces refl
-check-runs turns (Ok (ProcMacros macros)) workspaces = same-runs turns workspaces workspaces refl
+check-runs turns (Ok other) workspaces = same-runs turns workspaces workspaces refl
 check-runs turns (Err reason) workspaces = same-runs turns workspaces workspaces refl
 
 -- ---- a message
@@ -226,8 +221,6 @@ check-runs turns (Err reason) workspaces = same-runs turns workspaces workspaces
 result-runs : (turns : ℕ) (workspaces : Workspaces) (n : ℕ) (job : Job) (out : Jobs) (kind : JobKind) (result : JobResult) → job.kind ≡ kind
     → map.get out n ≡ Some job
     → fits_kind kind result ≡ true → RunsTo turns workspaces out (end_kept (work_end_of kind result) workspaces) (map.remove out n)
-result-runs turns workspaces n job out (RequestJob ticket row params) result its there fit =
-    off-runs turns workspaces workspaces n job out (same-runs turns workspaces workspaces refl) there (ap is_fetch its) (ap is_build its) (ap is_load its)
 result-runs turns workspaces n job out (ProcMacroSources files) result its there fit =
     off-runs turns workspaces (end_kept (check_end (value_or_reason result)) workspaces) n job out (check-runs turns (value_or_reason result) workspaces) there
     (ap is_fetch its) (ap is_build its) (ap is_load its)
@@ -243,18 +236,21 @@ result-runs turns workspaces n job out (LoadProcMacros paths ignored) result its
     let end = load-has-end result fit in
     subst (λ (o : Option WorkEnd). RunsTo turns workspaces out (end_kept o workspaces) (map.remove out n)) (sym end.1)
     (told-runs turns end.0 workspaces n job out there (ap is_fetch its) (ap is_build its) (ap is_load its))
+result-runs turns workspaces n job out other result its there fit =
+    off-runs turns workspaces workspaces n job out (same-runs turns workspaces workspaces refl) there (ap is_fetch its) (ap is_build its) (ap is_load its)
 
-final-runs : (turns : ℕ) (workspaces : Workspaces) (n : ℕ) (job : Job) (out : Jobs) (final : Option JobResult) → map.get out n ≡ Some job
-    → fits_final job.kind final ≡ true → RunsTo turns workspaces out (end_kept (option_and_then (work_end_of job.kind) final) workspaces) (map.remove out n)
-final-runs turns workspaces n job out None there fit = true-false (sym fit)
-final-runs turns workspaces n job out (Some result) there fit = result-runs turns workspaces n job out job.kind result refl there fit
+-- a message that fits a job out: it goes on, or it has ended so
+body-runs : (turns : ℕ) (workspaces : Workspaces) (n : ℕ) (job : Job) (out : Jobs) (body : TaskBody) → map.get out n ≡ Some job → fits_job job body ≡ true
+    → RunsTo turns workspaces out (end_kept (option_and_then (work_end_of job.kind) (final_of body)) workspaces) (without_ended body n out)
+body-runs turns workspaces n job out (Final result) there fit = result-runs turns workspaces n job out job.kind result refl there fit
+body-runs turns workspaces n job out other there fit = same-runs-to turns workspaces workspaces out (same-runs turns workspaces workspaces refl)
 
 fitting-runs : (turns : ℕ) (message : TaskMsg) (out : Jobs) (workspaces : Workspaces) (o : Option Job) → fitting_job message out ≡ o
     → RunsTo turns workspaces out (end_kept (work_told message o) workspaces) (without_fitting o message out)
 fitting-runs turns message out workspaces None is = same-runs-to turns workspaces workspaces out (same-runs turns workspaces workspaces refl)
 fitting-runs turns message out workspaces (Some job) is =
-    final-runs turns workspaces message.job job out (final_of message.body) (after_message-some message out job is).1
-    (fit-true message.body (map.get out message.job) job is)
+    body-runs turns workspaces message.job job out message.body (fit-out message.body (map.get out message.job) job is)
+    (fit-fits message.body (map.get out message.job) job is)
 
 -- what is in progress behind a message is out behind it
 pub message-runs-to : (turns : ℕ) (message : TaskMsg) (out : Jobs) (workspaces : Workspaces)

@@ -25,7 +25,7 @@ use Rattle.layered_settings.specs.declared.change.ConfigChange.{ConfigChange}
 use Rattle.layered_settings.specs.declared.change.SettingsFile.{SettingsFile as RootFile}
 use Rattle.session_files.specs.Current.{IsCurrent, IsSound, IsUntouched}
 use Rattle.session_files.specs.Folds.{has_changed}
-use Rattle.session_port.specs.Jobs.{fitting_job}
+use Rattle.session_port.specs.Jobs.{final_of, fitting_job}
 use Rattle.session_port.specs.declared.event.TaskMsg.{TaskMsg}
 use Rattle.session_port.specs.declared.job.Job.{Job}
 use Rattle.session_model.specs.Machine.{Turning}
@@ -33,7 +33,7 @@ use Rattle.session_model.specs.Sources.{client_with}
 use Rattle.session_model.specs.State.{State}
 use Rattle.session_model.specs.Status.{is_quiescent}
 use Rattle.session_laws.specs.Invariant.{is_load}
-use Rattle.session_model.specs.declared.input.Event.TheVariants.{Lsp, Task, Vfs, Deferred, Timer}
+use Rattle.session_model.specs.declared.input.Event.TheVariants.{Lsp, Task, Vfs, Deferred, News, Timer}
 use Rattle.session_model.specs.declared.input.Input.{Input}
 use Rattle.session_model.specs.declared.input.Input.TheVariants.{Start, Next}
 
@@ -116,6 +116,7 @@ tells_settings (Next (Lsp (ResponseMessage r))) = true
 tells_settings (Next (Task batch)) = false
 tells_settings (Next (Vfs messages)) = false
 tells_settings (Next (Deferred tasks)) = false
+tells_settings (Next (News news)) = false
 tells_settings (Next (Timer ticket)) = false
 
 -- the settings stay, and so do the errors that are told of them
@@ -137,11 +138,13 @@ pub record LetsIn (old new : State) : Type 0 where
 
 -- ---- macros that come
 
--- the load of macros that this message ends is in progress, and crate data waits for it
+-- the load of macros that this message ends is in progress, and crate data waits for it; a message may tell of a load
+-- that goes on
 pub record EndsWait (message : TaskMsg) (s : State) : Type 0 where
   pub job : Job
   pub fits : fitting_job message s.desk.jobs ≡ Some job
   pub loads : is_load job.kind ≡ true
+  pub ends : is_some (final_of message.body) ≡ true
   pub in_progress : s.workspaces.loads.queue.in_progress ≡ true
   pub waits : is_some s.workspaces.loads.waiting ≡ true
 

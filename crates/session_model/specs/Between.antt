@@ -6,11 +6,12 @@ use Rattle.docs_vfs.specs.Files.{contents_of}
 use Rattle.docs_vfs.specs.declared.file_kinds.FileExcluded.{FileExcluded}
 use Rattle.docs_vfs.specs.declared.file_kinds.FileExcluded.TheVariants.{No, Yes}
 use Rattle.docs_vfs.specs.declared.file_kinds.FileId.{FileId}
-use Rattle.docs_vfs.specs.declared.file_kinds.Kept.{Kept}
-use Rattle.docs_vfs.specs.declared.file_kinds.Kept.TheVariants.{Nothing, Contents, Excluded}
+use Rattle.docs_vfs.specs.declared.file_kinds.RowState.{RowState}
+use Rattle.docs_vfs.specs.declared.file_kinds.RowState.TheVariants.{Nothing, Contents, Excluded}
 use Rattle.ra_config.specs.Config.{ConfigData}
 use Rattle.analysis_host.specs.SnapshotData.{SnapshotData}
-use Rattle.session_port.specs.Jobs.{Jobs, ticket_of_job}
+use Rattle.session_port.specs.Jobs.{Jobs}
+use Rattle.session_port.specs.Kinds.{ticket_of_job}
 use Rattle.session_port.specs.Record.{spawned}
 use Rattle.session_port.specs.declared.event.TaskMsg.{TaskMsg}
 use Rattle.session_port.specs.declared.job.Job.{Job}
@@ -77,7 +78,7 @@ AreHandedOver meaning settings turns jobs =
 -- ---- what queries see of the files
 
 -- whether a path is marked, where it has contents or a mark
-abbrev pub excluded_of : Kept → Option FileExcluded
+abbrev pub excluded_of : RowState → Option FileExcluded
 excluded_of Nothing = None
 excluded_of (Contents bytes) = Some No
 excluded_of Excluded = Some Yes

@@ -23,7 +23,7 @@ use Rattle.session_model.specs.Machine.{register_part, status_part}
 use Rattle.session_model.specs.Machine.{switch_part, turning, with_workspaces}
 use Rattle.session_model.specs.Run.{turn_start}
 use Rattle.session_model.specs.State.{State, fetch_kind, may_start, snapshot_of}
-use Rattle.session_model.specs.declared.input.Event.TheVariants.{Lsp, Task, Vfs, Deferred, Timer}
+use Rattle.session_model.specs.declared.input.Event.TheVariants.{Deferred}
 use Rattle.session_model.specs.declared.input.Input.{Input}
 use Rattle.session_model.specs.declared.input.Input.TheVariants.{Start, Next}
 
@@ -55,12 +55,8 @@ checks_among_tasks s (CheckProcMacroSources files ∷ tasks) = own_job s (check_
 
 -- those that an input brings back
 abbrev pub checks_back : State → Input → List OwnJob
-checks_back s Start = []
-checks_back s (Next (Lsp message)) = []
-checks_back s (Next (Task batch)) = []
-checks_back s (Next (Vfs messages)) = []
 checks_back s (Next (Deferred tasks)) = checks_among_tasks s tasks
-checks_back s (Next (Timer ticket)) = []
+checks_back s other = []
 
 -- ---- work that is asked for
 

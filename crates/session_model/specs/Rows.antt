@@ -20,9 +20,9 @@ use Rattle.session_model.specs.Places.{Place, next_turn}
 use Rattle.session_model.specs.Run.{Turn, turn_start}
 use Rattle.session_model.specs.State.{State, snapshot_of}
 use Rattle.session_model.specs.Sublists.{IsSublist}
-use Rattle.session_model.specs.declared.input.Event.TheVariants.{Lsp, Task, Vfs, Deferred, Timer}
+use Rattle.session_model.specs.declared.input.Event.TheVariants.{Lsp, Task}
 use Rattle.session_model.specs.declared.input.Input.{Input}
-use Rattle.session_model.specs.declared.input.Input.TheVariants.{Start, Next}
+use Rattle.session_model.specs.declared.input.Input.TheVariants.{Next}
 
 -- ---- within a turn
 
@@ -107,12 +107,8 @@ batch_row meaning (message ∷ messages) w place =
 
 -- what a turn does, by its input and what the lists say before it: on the documents of all earlier inputs
 abbrev pub turn_row : Meaning → Input → Place → Reaction
-turn_row meaning Start place = silent
 turn_row meaning (Next (Lsp (lsp.Request r))) place =
     request_row meaning (scene_at place) place.desk (next_turn place) r
 turn_row meaning (Next (Lsp (lsp.Notification n))) place = notice_row (cancelled_by (told_by (heard_of n))) place.desk
-turn_row meaning (Next (Lsp (lsp.Response r))) place = silent
 turn_row meaning (Next (Task batch)) place = batch_row meaning batch (turn_begun place.rest) place
-turn_row meaning (Next (Vfs messages)) place = silent
-turn_row meaning (Next (Deferred tasks)) place = silent
-turn_row meaning (Next (Timer ticket)) place = silent
+turn_row meaning other place = silent

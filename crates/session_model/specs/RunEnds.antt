@@ -7,8 +7,8 @@ use Rattle.ra_config.specs.Config.{ConfigData}
 use Rattle.session_port.specs.Record.{HostCall, given_in, taken_in}
 use Rattle.session_port.specs.declared.command.Command.TheVariants.{Stop}
 use Rattle.session_port.specs.declared.fault.Counter.{Counter}
-use Rattle.session_port.specs.declared.fault.Counter.TheVariants.{Bytes, Files, Jobs, LoaderSettings, Outgoing}
-use Rattle.session_port.specs.declared.fault.Counter.TheVariants.{Revisions, Turns}
+use Rattle.session_port.specs.declared.fault.Counter.TheVariants.{Bytes, Discoveries, Files, Jobs, LoaderSettings}
+use Rattle.session_port.specs.declared.fault.Counter.TheVariants.{Outgoing, Revisions, Turns}
 use Rattle.desk.specs.Meaning.{Meaning}
 use Rattle.session_model.specs.Course.{Course, Stop as CourseStop, takes, stops, waits, exit, client_gone}
 use Rattle.session_model.specs.Course.{bad_frame, bad_message, bytes_brought, session_course}
@@ -82,7 +82,7 @@ needs_of meaning input place = record {
   settings = turns_after input 0;
 }
 
--- so many of a counter were given that with these there would be too many
+-- so many of a counter were given that with these there would be too many. No turn needs a discovery yet
 abbrev pub AreTooMany : Numbers → Numbers → Counter → Type 0
 AreTooMany given needs Turns = 2 ^ 64 ≤ given.turns + needs.turns
 AreTooMany given needs Bytes = ⊥
@@ -92,6 +92,7 @@ AreTooMany given needs Outgoing = number_limit < given.requests + needs.requests
 AreTooMany given needs Files = 2 ^ 32 ≤ given.files + needs.files
 AreTooMany given needs LoaderSettings =
     (2 ^ 64 ≤ given.versions + needs.versions) ⊎ (2 ^ 32 ≤ given.settings + needs.settings)
+AreTooMany given needs Discoveries = ⊥
 
 -- the machine can't take the input, since one more of a counter is needed than there are
 pub record NeedsMore (meaning : Meaning) (place : Place) (input : Input) (counter : Counter) : Type 0 where

@@ -1,6 +1,5 @@
 -- What follows from files that have changed, where some have.
-use Rattle.std.proofs.Common.{◌≡◌, ◌≤◌, ℕ, List, [], ◌∷◌, length, refl, arith, Bool, true, false}
-use Rattle.std.specs.Prelude.{◌==◌}
+use Rattle.std.proofs.Common.{◌≡◌, List, [], ◌∷◌, refl}
 use Rattle.docs_vfs.specs.declared.file_kinds.ChangedFile.{ChangedFile}
 use Rattle.session_port.specs.Working.{Working}
 use Rattle.session_model.specs.Machine.{effects_done, files_followed}

@@ -1,5 +1,5 @@
 -- What a notification tells.
-use Rattle.std.proofs.Common.{◌≡◌, ℕ, List, subst}
+use Rattle.std.proofs.Common.{◌≡◌, subst}
 use Rattle.std.specs.Prelude.{Result}
 use Rattle.lsp_frame.specs.declared.message.Notification.{Notification}
 use Rattle.session_port.specs.Meets.{Meets}

@@ -9,7 +9,7 @@ ghost use Rattle.session_model.specs.State.{columns_in, excludes_in};
 ghost use Rattle.session_model.specs.Timing.{bring_files, brings_files};
 
 use crate::timing::{do_effects, effects_for, renew_timer_if};
-use docs_vfs::{ChangedFile, UrlFault, VfsPath, path_of_url};
+use docs_vfs::{ChangedFile, VfsPath, path_named};
 use notify::{DidChange, DidOpen};
 use plain::{Items, Text};
 use session_model::TurnError;
@@ -58,12 +58,9 @@ pub(crate) fn on_open(
     requires { length document.text < 2 ^ 32 }
     ensures { Meets result (document_opened_at (path_of document.uri) document (record { state = store.old; out = out.old })) store.new out.new }
 {
-    match path_of_url(store.alloc, document.uri.as_str()) {
-        Ok(path) => open_at(store, path, document.version, document.text, out),
-        Err(UrlFault::NoMemory) => Err(TurnError::NoMemory),
-        Err(UrlFault::NotFile | UrlFault::HasHost | UrlFault::NotText) => {
-            log(LogCode::BadPath, document.uri, out)
-        }
+    match path_named(store.alloc, document.uri.as_str())? {
+        Some(path) => open_at(store, path, document.version, document.text, out),
+        None => log(LogCode::BadPath, document.uri, out),
     }
 }
 
@@ -89,12 +86,9 @@ pub(crate) fn on_change(
 ) -> Result<(), TurnError>
     ensures { Meets result (document_changed_at (path_of change.uri) change (record { state = store.old; out = out.old })) store.new out.new }
 {
-    match path_of_url(store.alloc, change.uri.as_str()) {
-        Ok(path) => change_at(store, path, change.version, change.changes, out),
-        Err(UrlFault::NoMemory) => Err(TurnError::NoMemory),
-        Err(UrlFault::NotFile | UrlFault::HasHost | UrlFault::NotText) => {
-            log(LogCode::BadPath, change.uri, out)
-        }
+    match path_named(store.alloc, change.uri.as_str())? {
+        Some(path) => change_at(store, path, change.version, change.changes, out),
+        None => log(LogCode::BadPath, change.uri, out),
     }
 }
 
@@ -109,12 +103,9 @@ fn close_at(store: &mut Store, path: VfsPath, out: &mut TurnOut) -> Result<(), T
 pub(crate) fn on_close(store: &mut Store, uri: Text, out: &mut TurnOut) -> Result<(), TurnError>
     ensures { Meets result (document_closed_at (path_of uri) uri (record { state = store.old; out = out.old })) store.new out.new }
 {
-    match path_of_url(store.alloc, uri.as_str()) {
-        Ok(path) => close_at(store, path, out),
-        Err(UrlFault::NoMemory) => Err(TurnError::NoMemory),
-        Err(UrlFault::NotFile | UrlFault::HasHost | UrlFault::NotText) => {
-            log(LogCode::BadPath, uri, out)
-        }
+    match path_named(store.alloc, uri.as_str())? {
+        Some(path) => close_at(store, path, out),
+        None => log(LogCode::BadPath, uri, out),
     }
 }
 

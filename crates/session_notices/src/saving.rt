@@ -8,7 +8,7 @@ ghost use Rattle.session_model.specs.Machine.{save_noted, saved_at, saved_file};
 ghost use Rattle.session_model.specs.Saving.{asked_by_save, builds_on_save, fetch_saved, is_detached, is_detached_at, is_detached_file, is_manifest, path_saved, rebuilt_on, save_cause, settings_root};
 ghost use Rattle.session_model.specs.State.{State, watched_names};
 
-use docs_vfs::{ChangeKind, SourceRoots, UrlFault, VfsPath, path_of_url};
+use docs_vfs::{ChangeKind, SourceRoots, VfsPath, path_named};
 use plain::Text;
 use project_model::{ProjectWorkspace, WorkspaceKind};
 use ra_config::Config;
@@ -198,11 +198,8 @@ fn save(store: &mut Store, path: VfsPath, out: &mut TurnOut) -> Result<(), TurnE
 pub(crate) fn on_save(store: &mut Store, uri: Text, out: &mut TurnOut) -> Result<(), TurnError>
     ensures { Gives result (saved_at (path_of uri) uri (record { state = store.old; out = out.old })) store.new out.new }
 {
-    match path_of_url(store.alloc, uri.as_str()) {
-        Ok(path) => save(store, path, out),
-        Err(UrlFault::NoMemory) => Err(TurnError::NoMemory),
-        Err(UrlFault::NotFile | UrlFault::HasHost | UrlFault::NotText) => {
-            log(LogCode::BadPath, uri, out)
-        }
+    match path_named(store.alloc, uri.as_str())? {
+        Some(path) => save(store, path, out),
+        None => log(LogCode::BadPath, uri, out),
     }
 }

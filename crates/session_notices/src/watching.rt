@@ -5,7 +5,7 @@ ghost use Rattle.session_port.specs.Meets.{Gives};
 ghost use Rattle.session_model.specs.Machine.{file_changed, files_changed};
 ghost use Rattle.session_model.specs.State.{State};
 
-use docs_vfs::{UrlFault, path_of_url};
+use docs_vfs::path_named;
 use plain::{ByText, Items, Text};
 use session_model::TurnError;
 use session_port::{Command, LogCode, TurnOut};
@@ -17,12 +17,9 @@ use std::alloc::Global;
 fn change_file(alloc: Global, url: Text, out: &mut TurnOut) -> Result<(), TurnError>
     ensures { (state : State) → Gives result (file_changed url (path_of url) (record { state = state; out = out.old })) state out.new }
 {
-    match path_of_url(alloc, url.as_str()) {
-        Ok(path) => order(Command::Invalidate(path), out),
-        Err(UrlFault::NoMemory) => Err(TurnError::NoMemory),
-        Err(UrlFault::NotFile | UrlFault::HasHost | UrlFault::NotText) => {
-            log(LogCode::BadPath, url, out)
-        }
+    match path_named(alloc, url.as_str())? {
+        Some(path) => order(Command::Invalidate(path), out),
+        None => log(LogCode::BadPath, url, out),
     }
 }
 

@@ -1,29 +1,28 @@
 -- An honest host's results.
-use Rattle.std.specs.Prelude.{◌≡◌, ◌<◌, true, List, [], ◌∷◌, map, Option, None, Some}
+use Rattle.std.specs.Prelude.{◌≡◌, ◌<◌, ℕ, Bool, true, false, List, [], ◌∷◌, map, Some, IfSome}
 use Rattle.std.specs.FinMap as maps
 use Rattle.analysis_host.specs.Answers.{Finding}
 use Rattle.analysis_host.specs.SnapshotData.{SnapshotData}
 use Rattle.analysis_host.specs.declared.ask.Ask.{Ask}
-use Rattle.session_port.specs.Jobs.{Jobs, asks_of, first_result, roots_result, if_value, has_workspaces, has_build_data}
-use Rattle.session_port.specs.Jobs.{has_macros, final_of, jobs_after}
-use Rattle.session_port.specs.declared.event.HostEvent.{HostEvent}
 use Rattle.session_port.specs.Events.{batch_in}
+use Rattle.session_port.specs.Jobs.{Jobs, final_of, fits_kind, jobs_after}
+use Rattle.session_port.specs.Kinds.{asks_analysis, asks_of}
+use Rattle.session_port.specs.Results.{result_of}
+use Rattle.session_port.specs.declared.event.HostEvent.{HostEvent}
 use Rattle.session_port.specs.declared.event.TaskMsg.{TaskMsg}
 use Rattle.session_port.specs.declared.job.Job.{Job}
 use Rattle.session_port.specs.declared.job.JobKind.{JobKind}
-use Rattle.session_port.specs.declared.job.JobKind.TheVariants.{Request, ProcMacroSources, FetchWorkspaces}
-use Rattle.session_port.specs.declared.job.JobKind.TheVariants.{FetchBuildData, LoadProcMacros}
 use Rattle.session_port.specs.declared.job.JobResult.{JobResult}
 use Rattle.session_port.specs.declared.job.JobResult.TheVariants.{Value, Fault, Cancelled, NoMemory}
 
 -- a job for which the analysis is asked ends with what its questions come to; a host's job may end with any value of
 -- its kind, and with any fault
+abbrev pub IsEndBy : Bool → JobKind → List Finding → JobResult → Type 0
+IsEndBy true kind findings result = result ≡ result_of kind findings
+IsEndBy false kind findings result = fits_kind kind result ≡ true
+
 abbrev pub IsEndOf : JobKind → List Finding → JobResult → Type 0
-IsEndOf (Request ticket row params) findings result = result ≡ first_result findings
-IsEndOf (ProcMacroSources files) findings result = result ≡ roots_result findings
-IsEndOf (FetchWorkspaces projects detached path force) findings result = if_value has_workspaces result ≡ true
-IsEndOf (FetchBuildData version) findings result = if_value has_build_data result ≡ true
-IsEndOf (LoadProcMacros paths ignored) findings result = if_value has_macros result ≡ true
+IsEndOf kind findings result = IsEndBy (asks_analysis kind) kind findings result
 
 -- what a job's questions come to on its snapshot
 abbrev pub findings_of : (SnapshotData → Ask → Finding) → Job → List Finding
@@ -37,16 +36,16 @@ IsResultOf answer job (Fault code message) = IsEndOf job.kind (findings_of answe
 IsResultOf answer job (Cancelled saw) = job.snapshot.revision < saw
 IsResultOf answer job NoMemory = Unit {0}
 
--- where a message tells of a result, it is one of that job
-abbrev pub IsFinalOf : (SnapshotData → Ask → Finding) → Job → Option JobResult → Type 0
-IsFinalOf answer job None = Unit {0}
-IsFinalOf answer job (Some result) = IsResultOf answer job result
+-- the job with this number is out, and this is a result of it
+pub record IsHonestEnd (answer : SnapshotData → Ask → Finding) (out : Jobs) (number : ℕ) (result : JobResult) : Type 0
+  where
+    pub job : Job
+    pub is_out : maps.get out number ≡ Some job
+    pub is_result : IsResultOf answer job result
 
--- a message names a job out, and brings a result of that job
-pub record IsHonestMessage (answer : SnapshotData → Ask → Finding) (out : Jobs) (message : TaskMsg) : Type 0 where
-  pub job : Job
-  pub is_out : maps.get out message.job ≡ Some job
-  pub is_result : IsFinalOf answer job (final_of message.body)
+-- where a message tells of an end, it is one of a job out
+abbrev pub IsHonestMessage : (SnapshotData → Ask → Finding) → Jobs → TaskMsg → Type 0
+IsHonestMessage answer out message = IfSome (final_of message.body) (IsHonestEnd answer out message.job)
 
 -- so does each message of a batch, at the jobs that the ones before it leave out
 abbrev pub AreHonest : (SnapshotData → Ask → Finding) → Jobs → List TaskMsg → Type 0

@@ -1,3 +1,6 @@
+pub mod Asking
+pub mod Kinds
+pub mod Results
 pub mod Events
 pub mod Honest
 pub mod Jobs

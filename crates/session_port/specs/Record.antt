@@ -9,7 +9,7 @@ use Rattle.session_port.specs.declared.cause.HostError.{HostError}
 use Rattle.session_port.specs.declared.cause.HostError.TheVariants.{Failed, NoMemory}
 use Rattle.session_port.specs.declared.command.Command.{Command}
 use Rattle.session_port.specs.declared.event.HostEvent.{HostEvent}
-use Rattle.session_port.specs.declared.event.HostEvent.TheVariants.{Bytes, Ended, Tasks, Vfs, DeferredTask, Timer}
+use Rattle.session_port.specs.declared.event.HostEvent.TheVariants.{Ended}
 use Rattle.session_port.specs.declared.job.Job.{Job}
 
 -- a record with more entries, if there is a record
@@ -44,12 +44,8 @@ taken_in (took commands ∷ calls) = commands ∷ taken_in calls
 
 -- a fact of what follows an event, which is none where it was the end
 abbrev pub UnlessEnded : HostEvent → Type 0 → Type 0
-UnlessEnded (Bytes bytes) P = P
 UnlessEnded Ended P = Unit {0}
-UnlessEnded (Tasks batch) P = P
-UnlessEnded (Vfs messages) P = P
-UnlessEnded (DeferredTask tasks) P = P
-UnlessEnded (Timer ticket) P = P
+UnlessEnded other P = P
 
 -- the jobs out after an event
 abbrev pub after_event : HostEvent → Jobs → Jobs

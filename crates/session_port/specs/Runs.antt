@@ -2,7 +2,8 @@
 use Rattle.std.specs.Prelude.{◌≡◌, ◌≤◌, ◌^◌, ◌-◌, ℕ, List, [], ◌∷◌, Option, None, Some}
 use Rattle.analysis_host.specs.Answers.{Finding, fault}
 use Rattle.analysis_host.specs.Polls.{HasPolled}
-use Rattle.session_port.specs.Jobs.{final_of, roots_result}
+use Rattle.session_port.specs.Jobs.{final_of}
+use Rattle.session_port.specs.Results.{or_fault}
 use Rattle.session_port.specs.declared.event.TaskMsg.{TaskMsg}
 use Rattle.session_port.specs.declared.job.JobResult.{JobResult}
 use Rattle.session_port.specs.declared.job.JobResult.TheVariants.{Value, Fault, Cancelled, NoMemory}
@@ -38,7 +39,7 @@ AreUncancelled (message ∷ messages) = IsFinal (final_of message.body) IsUncanc
 abbrev pub HasCounted : ℕ → ℕ → Type 0
 HasCounted before now = HasPolled before now × now ≤ 2 ^ 64 - 1
 
--- a check ends without roots at a question: by the fault that it comes to, by a later revision, or where memory runs
+-- a job ends without a value at a question: by the fault that it comes to, by a later revision, or where memory runs
 -- out
 abbrev pub StopsAt : Finding → JobResult → Type 0
 StopsAt finding (Value value) = ⊥
@@ -46,9 +47,9 @@ StopsAt finding (Fault code message) = finding ≡ fault code message
 StopsAt finding (Cancelled saw) = Unit {0}
 StopsAt finding NoMemory = Unit {0}
 
--- so does a check whose questions come to these
-abbrev pub StopsCheck : List Finding → JobResult → Type 0
-StopsCheck findings (Value value) = ⊥
-StopsCheck findings (Fault code message) = roots_result findings ≡ Fault code message
-StopsCheck findings (Cancelled saw) = Unit {0}
-StopsCheck findings NoMemory = Unit {0}
+-- so does a job whose questions come to these, whatever else is made of their answers
+abbrev pub StopsAsking : List Finding → JobResult → Type 0
+StopsAsking findings (Value value) = ⊥
+StopsAsking findings (Fault code message) = (result : JobResult) → or_fault findings result ≡ Fault code message
+StopsAsking findings (Cancelled saw) = Unit {0}
+StopsAsking findings NoMemory = Unit {0}

@@ -1,9 +1,11 @@
 // What a session orders of its host.
 ghost use Rattle.std.specs.Prelude.{◌≡◌};
 
+use crate::copies::copy_of;
 use crate::job::Job;
 use docs_vfs::{FileId, Root, VfsPath};
 use plain::{Copied, Items, Text};
+use project_model::CheckScope;
 use std::alloc::AllocError;
 
 /// What a log line speaks of.
@@ -23,7 +25,7 @@ pub enum LogCode {
     UnexpectedChange,
     /// A document that is closed and was not open. The text is its path.
     OrphanClose,
-    /// A document that was saved and is not open. The text is its path.
+    /// A file that was saved and is not in the table. The text is its path.
     UnknownSave,
     /// A change of which some edit has no place in the text, or would leave too long a one. The text is the path.
     SkippedChange,
@@ -57,6 +59,15 @@ pub enum DeferredTask {
     CheckProcMacroSources(Items<FileId>),
 }
 
+/// What a project is to be discovered for.
+#[derive(Drop)]
+pub enum DiscoverArg {
+    /// A file that describes it.
+    Buildfile(VfsPath),
+    /// A file of it.
+    Path(VfsPath),
+}
+
 /// What a session orders of its host.
 #[derive(Drop)]
 pub enum Command {
@@ -64,9 +75,6 @@ pub enum Command {
     Spawn(Job),
     /// The present revision.
     Revise(u64),
-    /// What was read of this file is out of date: read it anew.
-    Invalidate(VfsPath),
-    Log(LogCode, Text),
     /// Give this task back as an event.
     Defer(DeferredTask),
     /// Read the files of these roots, and watch them if that is asked; what is told of them names this version.
@@ -75,10 +83,42 @@ pub enum Command {
         watch: bool,
         version: u32,
     },
+    /// What was read of this file is out of date: read it anew.
+    Invalidate(VfsPath),
     /// Give an event with this ticket once some time has passed. It takes the place of a timer that was ordered before.
     Timer(u64),
+    /// The checks that may run are these, each with its id and the folder that it is for.
+    SetChecks(Items<(u64, VfsPath)>),
+    /// Run this check anew, on this.
+    RestartCheck {
+        id: u64,
+        scope: CheckScope,
+    },
+    /// End the run of this check.
+    CancelCheck(u64),
+    /// Run tests: those of these names or all, but for those of these names.
+    RunTest {
+        include: Option<Items<Text>>,
+        exclude: Option<Items<Text>>,
+    },
+    /// End the test run.
+    StopTest,
+    /// Find out which project this is of.
+    Discover(DiscoverArg),
+    Log(LogCode, Text),
     /// The session has ended.
     Stop,
+}
+
+impl Clone for DiscoverArg {
+    ghost is_clone = { λ arg copy. copy ≡ arg };
+
+    fn clone(&self) -> Result<DiscoverArg, AllocError> {
+        match self {
+            DiscoverArg::Buildfile(path) => Ok(DiscoverArg::Buildfile(path.clone()?)),
+            DiscoverArg::Path(path) => Ok(DiscoverArg::Path(path.clone()?)),
+        }
+    }
 }
 
 impl Clone for DeferredTask {
@@ -105,8 +145,6 @@ impl Clone for Command {
         match self {
             Command::Spawn(job) => Ok(Command::Spawn(job.clone()?)),
             Command::Revise(revision) => Ok(Command::Revise(*revision)),
-            Command::Invalidate(path) => Ok(Command::Invalidate(path.clone()?)),
-            Command::Log(code, text) => Ok(Command::Log(*code, text.clone()?)),
             Command::Defer(task) => Ok(Command::Defer(task.clone()?)),
             Command::SetLoader {
                 load,
@@ -117,7 +155,21 @@ impl Clone for Command {
                 watch: *watch,
                 version: *version,
             }),
+            Command::Invalidate(path) => Ok(Command::Invalidate(path.clone()?)),
             Command::Timer(ticket) => Ok(Command::Timer(*ticket)),
+            Command::SetChecks(checks) => Ok(Command::SetChecks(checks.clone()?)),
+            Command::RestartCheck { id, scope } => Ok(Command::RestartCheck {
+                id: *id,
+                scope: scope.clone()?,
+            }),
+            Command::CancelCheck(id) => Ok(Command::CancelCheck(*id)),
+            Command::RunTest { include, exclude } => Ok(Command::RunTest {
+                include: copy_of(include)?,
+                exclude: copy_of(exclude)?,
+            }),
+            Command::StopTest => Ok(Command::StopTest),
+            Command::Discover(arg) => Ok(Command::Discover(arg.clone()?)),
+            Command::Log(code, text) => Ok(Command::Log(*code, text.clone()?)),
             Command::Stop => Ok(Command::Stop),
         }
     }

@@ -11,6 +11,8 @@ pub enum Counter {
     Bytes,
     Jobs,
     Revisions,
+    /// The discoveries that are ordered.
+    Discoveries,
     /// The numbers of the session's own requests.
     Outgoing,
     /// The numbers of files.

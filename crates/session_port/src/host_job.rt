@@ -4,7 +4,8 @@ ghost use Rattle.analysis_host.specs.Answers.{Finding};
 ghost use Rattle.analysis_host.specs.SnapshotData.{SnapshotData};
 ghost use Rattle.analysis_host.specs.declared.ask.Ask.{Ask};
 ghost use Rattle.session_port.specs.Honest.{IsResultOf};
-ghost use Rattle.session_port.specs.Jobs.{asks_analysis, fits_kind};
+ghost use Rattle.session_port.specs.Jobs.{fits_kind};
+ghost use Rattle.session_port.specs.Kinds.{asks_analysis};
 ghost use Rattle.session_port.specs.Runs.{IsUncancelled};
 ghost use Rattle.session_port.specs.SmallProject.{IsSmall, small_value};
 
@@ -34,7 +35,6 @@ fn value_of(alloc: Global, kind: &JobKind, workspaces: usize) -> Result<JobValue
     ensures { IfOk result (λ value. small_value kind.now workspaces ≡ Some value) }
 {
     match kind {
-        JobKind::Request { .. } | JobKind::ProcMacroSources { .. } => unreachable!(),
         JobKind::FetchWorkspaces { projects, .. } => Ok(JobValue::Workspaces(each_ok(
             alloc,
             workspaces_of(alloc, projects.as_slice())?,
@@ -44,6 +44,7 @@ fn value_of(alloc: Global, kind: &JobKind, workspaces: usize) -> Result<JobValue
             scripts_of(alloc, workspaces)?,
         )?)),
         JobKind::LoadProcMacros { .. } => Ok(JobValue::ProcMacros(macros_of(alloc))),
+        _ => unreachable!(),
     }
 }
 

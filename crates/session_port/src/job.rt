@@ -1,16 +1,23 @@
 // Jobs, and what they come to.
-ghost use Rattle.std.specs.Prelude.{◌≡◌, IfOk};
-ghost use Rattle.session_port.specs.Jobs.{asks_analysis, fits_kind};
+ghost use Rattle.std.specs.Prelude.{◌≡◌};
+ghost use Rattle.std.specs.List.{list_all};
+ghost use Rattle.plain.specs.Plain.{is_plain};
+ghost use Rattle.session_port.specs.Jobs.{fits_kind, fits_value, has_files, is_sound};
+ghost use Rattle.session_port.specs.Kinds.{kind_of, listed_files};
 
+use crate::copies::copy_of;
+use crate::kinds::ValueKind;
 use analysis_host::GlobalStateSnapshot;
 use docs_vfs::{FileId, VfsPath};
+use lsp_types::Diagnostic;
 use method_table::{PoolClass, RowId};
+use op_board::Pass;
 use plain::{Copied, Items, Json, SharedJson, Text};
 use project_model::{BuildScripts, MacroPath, MacroState, ProjectWorkspace};
 use ra_settings::LinkedProject;
 use std::alloc::AllocError;
 
-/// What a job is to find out: a request's and a check's by the analysis, the others by the host itself.
+/// What a job is to find out: by the analysis, or, from `FetchWorkspaces` on, by the host itself.
 #[derive(Drop)]
 pub enum JobKind {
     /// The answer to the request with this ticket.
@@ -19,12 +26,42 @@ pub enum JobKind {
         row: RowId,
         params: SharedJson,
     },
+    /// What these files add to the answer to the request with this ticket. The parts of a request are numbered from 0.
+    Part {
+        ticket: u64,
+        part: u64,
+        row: RowId,
+        params: SharedJson,
+        files: Items<FileId>,
+    },
+    /// What is wrong in these files, file by file, by this part of the analysis. The generation is that of the batch.
+    Diagnostics {
+        generation: u64,
+        pass: Pass,
+        files: Items<FileId>,
+    },
+    /// The tests of these files.
+    Tests {
+        files: Items<FileId>,
+    },
+    /// Where the root files of the crates are that this file is part of, to know whether there is any.
+    Indexed {
+        file: FileId,
+        path: VfsPath,
+    },
     /// Where the root files of the crates are that these files are part of, file by file.
     ProcMacroSources {
         files: Items<FileId>,
     },
+    /// The same of a file that was saved, to know what is to be checked for it.
+    CheckScope {
+        file: FileId,
+        path: VfsPath,
+    },
+    /// What later questions need is to be found out beforehand.
+    Prime,
     /// The workspaces of these projects and of these files that stand alone; `path` is the file for which they are fetched, and `force`
-    /// says that nothing of an earlier fetch is to be taken.
+    /// says that crate data is built anew even where they are the same as before.
     FetchWorkspaces {
         projects: Items<LinkedProject>,
         detached: Items<VfsPath>,
@@ -55,8 +92,12 @@ pub struct Job {
 /// The value of a job, of the job's kind.
 #[derive(Clone, Drop)]
 pub enum JobValue {
-    /// The result of a request.
+    /// The result of a request, or of a part of one.
     Json(Json),
+    /// What is wrong in files, file by file.
+    Diagnostics(Items<(FileId, Items<Diagnostic>)>),
+    /// The tests of files, each as the client is to read it.
+    Tests(Items<Json>),
     /// Where the root files of crates are.
     Roots(Items<VfsPath>),
     /// What later questions need is found out.
@@ -80,43 +121,86 @@ pub enum JobResult {
 }
 
 impl JobKind {
-    /// Whether the analysis is asked: else the job is the host's own.
-    pub fn asks_analysis(&self) -> bool
-        ensures { result ≡ asks_analysis self.now }
+    /// The files for which its value has lists.
+    pub(crate) fn listed_files(&self) -> &[FileId]
+        ensures { result.now ≡ listed_files self.now }
     {
         match self {
-            JobKind::Request { .. } | JobKind::ProcMacroSources { .. } => true,
-            JobKind::FetchWorkspaces { .. }
-            | JobKind::FetchBuildData { .. }
-            | JobKind::LoadProcMacros { .. } => false,
+            JobKind::Diagnostics { files, .. } => files.as_slice(),
+            _ => &[],
         }
+    }
+}
+
+// Whether there is a list for each of these files, in order, and no other.
+fn has_files(files: &[FileId], lists: &[(FileId, Items<Diagnostic>)]) -> bool
+    ensures { result ≡ has_files files.now lists.now }
+{
+    let mut remaining = files;
+    for list in lists {
+        match remaining.split_first() {
+            Some((file, later)) if file.0 == list.0.0 => remaining = later,
+            _ => return false,
+        }
+    }
+    remaining.is_empty()
+}
+
+// Whether each is plain.
+fn are_plain(values: &[Json]) -> bool
+    ensures { result ≡ list_all is_plain values.now }
+{
+    values.iter().all(|value| value.is_plain())
+}
+
+impl JobValue {
+    /// What it is of.
+    pub fn kind(&self) -> ValueKind
+        ensures { result ≡ kind_of self.now }
+    {
+        match self {
+            JobValue::Json(_) => ValueKind::Json,
+            JobValue::Diagnostics(_) => ValueKind::Diagnostics,
+            JobValue::Tests(_) => ValueKind::Tests,
+            JobValue::Roots(_) => ValueKind::Roots,
+            JobValue::Primed => ValueKind::Primed,
+            JobValue::Workspaces(_) => ValueKind::Workspaces,
+            JobValue::BuildData(_) => ValueKind::BuildData,
+            JobValue::ProcMacros(_) => ValueKind::ProcMacros,
+        }
+    }
+
+    // Whether its JSON is plain, and it has lists for these files alone, in order.
+    fn is_sound(&self, files: &[FileId]) -> bool
+        ensures { result ≡ is_sound files.now self.now }
+    {
+        match self {
+            JobValue::Json(json) => json.is_plain(),
+            JobValue::Tests(values) => are_plain(values.as_slice()),
+            JobValue::Diagnostics(lists) => has_files(files, lists.as_slice()),
+            _ => true,
+        }
+    }
+
+    // Whether a job of this kind may have it.
+    fn fits(&self, kind: &JobKind) -> bool
+        ensures { result ≡ fits_value kind.now self.now }
+    {
+        self.kind().is_same(kind.facts().value) && self.is_sound(kind.listed_files())
     }
 }
 
 impl JobResult {
-    /// Whether a job of this kind may end so: a value is of its kind, and JSON in it is plain.
+    /// Whether a job of this kind may end so: a value is of its kind, JSON in it is plain, and lists of diagnostics are those of its
+    /// files, in order.
     pub fn fits(&self, kind: &JobKind) -> bool
         ensures { result ≡ fits_kind kind.now self.now }
     {
-        let JobResult::Value(value) = self else {
-            return true;
-        };
-        match (kind, value) {
-            (JobKind::Request { .. }, JobValue::Json(json)) => json.is_plain(),
-            (JobKind::ProcMacroSources { .. }, JobValue::Roots(_)) => true,
-            (JobKind::FetchWorkspaces { .. }, JobValue::Workspaces(_)) => true,
-            (JobKind::FetchBuildData { .. }, JobValue::BuildData(_)) => true,
-            (JobKind::LoadProcMacros { .. }, JobValue::ProcMacros(_)) => true,
-            _ => false,
+        match self {
+            JobResult::Value(value) => value.fits(kind),
+            JobResult::Fault { .. } | JobResult::Cancelled { .. } | JobResult::NoMemory => true,
         }
     }
-}
-
-/// A copy of a value, where there is one.
-fn copy_of<T: Copied>(value: &Option<T>) -> Result<Option<T>, AllocError>
-    ensures { IfOk result (λ copy. copy ≡ value.now) }
-{
-    value.clone()
 }
 
 impl Clone for JobKind {
@@ -133,9 +217,43 @@ impl Clone for JobKind {
                 row: *row,
                 params: params.clone()?,
             }),
+            JobKind::Part {
+                ticket,
+                part,
+                row,
+                params,
+                files,
+            } => Ok(JobKind::Part {
+                ticket: *ticket,
+                part: *part,
+                row: *row,
+                params: params.clone()?,
+                files: files.clone()?,
+            }),
+            JobKind::Diagnostics {
+                generation,
+                pass,
+                files,
+            } => Ok(JobKind::Diagnostics {
+                generation: *generation,
+                pass: *pass,
+                files: files.clone()?,
+            }),
+            JobKind::Tests { files } => Ok(JobKind::Tests {
+                files: files.clone()?,
+            }),
+            JobKind::Indexed { file, path } => Ok(JobKind::Indexed {
+                file: *file,
+                path: path.clone()?,
+            }),
             JobKind::ProcMacroSources { files } => Ok(JobKind::ProcMacroSources {
                 files: files.clone()?,
             }),
+            JobKind::CheckScope { file, path } => Ok(JobKind::CheckScope {
+                file: *file,
+                path: path.clone()?,
+            }),
+            JobKind::Prime => Ok(JobKind::Prime),
             JobKind::FetchWorkspaces {
                 projects,
                 detached,

@@ -1,19 +1,54 @@
 // What a job comes to.
-ghost use Rattle.std.specs.Prelude.{◌≡◌, ◌≤◌, ◌<◌, true, None, Some, is_some, IfOk};
+ghost use Rattle.std.specs.Prelude.{◌≡◌, ◌≤◌, ◌<◌, true, None, Some, map, IfOk, IfErr, MatchResult};
+ghost use Rattle.std.specs.List.{AllZip};
+ghost use Rattle.analysis_host.specs.Answers.{answer, IsAnswerTo};
 ghost use Rattle.analysis_host.specs.Polls.{HasPolled};
-ghost use Rattle.session_port.specs.Jobs.{asks_analysis, fits_kind, ticket_of_job};
+ghost use Rattle.session_port.specs.Jobs.{fits_kind};
+ghost use Rattle.session_port.specs.Kinds.{asks_analysis};
 ghost use Rattle.session_port.specs.Honest.{IsResultOf};
-ghost use Rattle.session_port.specs.Runs.{IfCancelled, UnlessNoMemory};
+ghost use Rattle.session_port.specs.Runs.{IfCancelled, StopsAsking, UnlessNoMemory};
 
-use crate::job::{Job, JobKind, JobResult, JobValue};
-use crate::sources::roots_of_all;
-use analysis_host::{Analysis, Answer, Ask, Cancel, Outcome};
-use docs_vfs::FileId;
+use crate::asking::{ask_all, ask_alone, asks_of};
+use crate::job::{Job, JobResult};
+use crate::joining::joined;
+use analysis_host::{Analysis, Answer, Ask, Cancel, GlobalStateSnapshot};
 use plain::Items;
-use std::alloc::AllocError;
+use std::alloc::Global;
 
-/// Runs a job for which the analysis is asked: its result on its snapshot, unless a poll says that it is out of date.
-pub fn run_job<A: Analysis, C: Cancel>(job: &Job, analysis: &A, cancel: &mut C) -> JobResult
+/// The answers to a job's questions, in order, or else how it ends. A job that asks one question stops within it alone.
+fn answers_to<A: Analysis, C: Cancel>(
+    alloc: Global,
+    snapshot: &GlobalStateSnapshot,
+    asks: Items<Ask>,
+    analysis: &A,
+    cancel: &mut C,
+) -> Result<Items<Answer>, JobResult>
+    requires floor { snapshot.now.revision ≤ C.floor cancel.old }
+    requires fresh { C.held cancel.old ≡ None }
+    ensures found { IfOk result (λ answers. map (A.answer snapshot.now) asks ≡ map answer answers) }
+    ensures kinds { IfOk result (AllZip IsAnswerTo asks) }
+    ensures stops { IfErr result (StopsAsking (map (A.answer snapshot.now) asks)) }
+    ensures held { IfErr result (λ end. IfCancelled end (λ saw. C.held cancel.new ≡ Some saw)) }
+    ensures above { IfErr result (λ end. IfCancelled end (λ saw. C.floor cancel.old < saw)) }
+    ensures polled { MatchResult result (λ _. HasPolled (C.polls cancel.old) (C.polls cancel.new)) (λ end. UnlessNoMemory end (HasPolled (C.polls cancel.old) (C.polls cancel.new))) }
+    ensures key { C.key cancel.new ≡ C.key cancel.old }
+    ensures floor_stays { C.floor cancel.new ≡ C.floor cancel.old }
+{
+    match asks.as_slice() {
+        [ask] => ask_alone(alloc, snapshot, ask, analysis, cancel),
+        _ => ask_all(alloc, snapshot, asks, analysis, cancel),
+    }
+}
+
+/// Runs a job for which the analysis is asked: its result on its snapshot, unless a poll says that it is out of date, within a question
+/// or between two of them.
+#[tactic(auto, using(crate::proofs::Questions::value_is, crate::proofs::Questions::end_is, crate::proofs::Questions::end_fits, crate::proofs::Joined::joined_fits))]
+pub fn run_job<A: Analysis, C: Cancel>(
+    alloc: Global,
+    job: &Job,
+    analysis: &A,
+    cancel: &mut C,
+) -> JobResult
     requires asked { asks_analysis job.now.kind ≡ true }
     requires floor { job.now.snapshot.revision ≤ C.floor cancel.old }
     requires fresh { C.held cancel.old ≡ None }
@@ -22,80 +57,21 @@ pub fn run_job<A: Analysis, C: Cancel>(job: &Job, analysis: &A, cancel: &mut C) 
     ensures is { IsResultOf A.answer job.now result }
     ensures held { IfCancelled result (λ saw. C.held cancel.new ≡ Some saw) }
     ensures above { IfCancelled result (λ saw. C.floor cancel.old < saw) }
-    // Its value is of the job's kind, and its JSON is plain.
+    // Its value is of the job's kind, its JSON is plain, and its lists are those of the job's files.
     ensures fits { fits_kind job.now.kind result ≡ true }
 
     ensures polled { UnlessNoMemory result (HasPolled (C.polls cancel.old) (C.polls cancel.new)) }
     ensures key { C.key cancel.new ≡ C.key cancel.old }
     ensures floor_stays { C.floor cancel.new ≡ C.floor cancel.old }
 {
-    match &job.kind {
-        JobKind::Request { .. } => match query(job, analysis, cancel) {
-            Ok(result) => result,
-            Err(AllocError) => JobResult::NoMemory,
-        },
-        JobKind::ProcMacroSources { files } => check(job, files, analysis, cancel),
-        JobKind::FetchWorkspaces { .. }
-        | JobKind::FetchBuildData { .. }
-        | JobKind::LoadProcMacros { .. } => unreachable!(),
-    }
-}
-
-/// Runs a check of the sources of macros, which asks about each of these files.
-fn check<A: Analysis, C: Cancel>(
-    job: &Job,
-    files: &Items<FileId>,
-    analysis: &A,
-    cancel: &mut C,
-) -> JobResult
-    requires kind { job.now.kind ≡ JobKind.ProcMacroSources files.now }
-    requires floor { job.now.snapshot.revision ≤ C.floor cancel.old }
-    requires fresh { C.held cancel.old ≡ None }
-    ensures is { IsResultOf A.answer job.now result }
-    ensures held { IfCancelled result (λ saw. C.held cancel.new ≡ Some saw) }
-    ensures above { IfCancelled result (λ saw. C.floor cancel.old < saw) }
-    ensures fits { fits_kind job.now.kind result ≡ true }
-    ensures polled { UnlessNoMemory result (HasPolled (C.polls cancel.old) (C.polls cancel.new)) }
-    ensures key { C.key cancel.new ≡ C.key cancel.old }
-    ensures floor_stays { C.floor cancel.new ≡ C.floor cancel.old }
-{
-    let Ok(files) = files.clone() else {
+    let Ok(asks) = asks_of(alloc, &job.kind) else {
         return JobResult::NoMemory;
     };
-    match roots_of_all(&job.snapshot, files.into_vec(), analysis, cancel) {
-        Ok(roots) => JobResult::Value(JobValue::Roots(roots)),
+    match answers_to(alloc, &job.snapshot, asks, analysis, cancel) {
+        Ok(answers) => match joined(alloc, &job.kind, answers) {
+            Ok(value) => JobResult::Value(value),
+            Err(_) => JobResult::NoMemory,
+        },
         Err(end) => end,
-    }
-}
-
-/// Asks the one question of a request.
-fn query<A: Analysis, C: Cancel>(
-    job: &Job,
-    analysis: &A,
-    cancel: &mut C,
-) -> Result<JobResult, AllocError>
-    requires asked { is_some (ticket_of_job job.now.kind) ≡ true }
-    requires floor { job.now.snapshot.revision ≤ C.floor cancel.old }
-    requires fresh { C.held cancel.old ≡ None }
-    ensures is { IfOk result (IsResultOf A.answer job.now) }
-    ensures held { IfOk result (λ r. IfCancelled r (λ saw. C.held cancel.new ≡ Some saw)) }
-    ensures above { IfOk result (λ r. IfCancelled r (λ saw. C.floor cancel.old < saw)) }
-    ensures fits { IfOk result (λ r. fits_kind job.now.kind r ≡ true) }
-    ensures polled { IfOk result (λ _. HasPolled (C.polls cancel.old) (C.polls cancel.new)) }
-    ensures key { C.key cancel.new ≡ C.key cancel.old }
-    ensures floor_stays { C.floor cancel.new ≡ C.floor cancel.old }
-{
-    let JobKind::Request { row, params, .. } = &job.kind else {
-        unreachable!();
-    };
-    let ask = Ask::Request {
-        row: *row,
-        params: params.clone()?,
-    };
-    match analysis.query(&job.snapshot, &ask, cancel)? {
-        Outcome::Value(Answer::Json(value)) => Ok(JobResult::Value(JobValue::Json(value))),
-        Outcome::Value(Answer::Roots(_) | Answer::Primed) => unreachable!(),
-        Outcome::Fault { code, message } => Ok(JobResult::Fault { code, message }),
-        Outcome::Cancelled { saw } => Ok(JobResult::Cancelled { saw }),
     }
 }

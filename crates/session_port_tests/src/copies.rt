@@ -1,5 +1,5 @@
 // Copies of what is ordered, and of what a loader brings.
-use crate::fixtures::{commands_of, path};
+use crate::fixtures::{commands_of, news_of, path};
 use expectations::expect;
 use plain::{Bytes, Items};
 use session_port::{LoadedFile, LoaderMsg};
@@ -13,8 +13,12 @@ fn copies<T: Clone + Drop>(value: T) -> bool {
     copy.is_some()
 }
 
-fn are_commands_copied(alloc: Global) -> Option<bool> {
-    Some(copies(commands_of(alloc, "builds")?))
+fn are_commands_copied(alloc: Global, word: &str) -> Option<bool> {
+    Some(copies(commands_of(alloc, word)?))
+}
+
+fn is_news_copied(alloc: Global, word: &str) -> Option<bool> {
+    Some(copies(news_of(alloc, word)?))
 }
 
 fn is_message_copied(alloc: Global) -> Option<bool> {
@@ -27,9 +31,21 @@ fn is_message_copied(alloc: Global) -> Option<bool> {
     Some(copies(LoaderMsg::Loaded { files }))
 }
 
+/// Orders: jobs of each kind, and others.
+const ORDERS: &str =
+    "builds, part, syntax, tests, indexed, scope, prime, check, set checks, restart check, cancel check, run tests, stop tests, discover";
+
+/// What checks, a test run and a discovery tell.
+const NEWS: &str = "checks, tests, discovery";
+
 #[test]
 fn values_are_copied(rt: HostRuntime) -> Result<(), Fail> {
-    expect("commands", are_commands_copied(rt.alloc()) == Some(true))?;
+    for word in ORDERS.split(", ") {
+        expect(word, are_commands_copied(rt.alloc(), word) == Some(true))?;
+    }
+    for word in NEWS.split(", ") {
+        expect(word, is_news_copied(rt.alloc(), word) == Some(true))?;
+    }
     expect(
         "a message of a loader",
         is_message_copied(rt.alloc()) == Some(true),

@@ -1,19 +1,26 @@
 // Jobs, and the commands to do them. Each call answers none where memory runs out.
-ghost use Rattle.std.specs.Prelude.{◌≡◌, [], ◌∷◌, ◌++◌, IfSome};
+ghost use Rattle.std.specs.Prelude.{◌≡◌, [], ◌∷◌, ◌++◌, IfSome, None};
+ghost use Rattle.session_port.specs.Events.{job_of};
 ghost use Rattle.session_port.specs.Record.{AreRising, spawned};
 
 use analysis_host::{GlobalStateSnapshot, RowId, SnapshotParts, Versions, World};
 use docs_vfs::{FileId, VfsPath};
 use file_ids::FileIds;
+use lsp_types::Diagnostic;
 use method_table::PoolClass;
-use plain::{Items, Json, SharedJson};
-use project_model::ProjectWorkspace;
+use op_board::Pass;
+use plain::{Items, Json, SharedJson, Text};
+use project_model::{CheckScope, ProjectWorkspace};
 use ra_config::Config;
 use ra_settings::LinkedProject;
-use session_port::{Command, Job, JobKind, JobResult, JobValue};
+use session_port::{
+    Command, DiscoverArg, DiscoverMsg, FlycheckMsg, HostEvent, Job, JobKind, JobResult, JobValue,
+    TestMsg, TestOutput, TestState,
+};
 use small_project::workspaces_of;
 use std::alloc::Global;
 use std::sync::Arc;
+use text_core::{Position, Range};
 
 pub fn path(alloc: Global, text: &str) -> Option<VfsPath> {
     VfsPath::new(alloc, text).ok()?
@@ -53,6 +60,7 @@ fn snapshot(alloc: Global) -> Option<GlobalStateSnapshot> {
         file_ids: FileIds::new(alloc),
         versions,
         config,
+        check_fixes: Arc::new(alloc, Items::new(alloc)).ok()?,
         proc_macros_loaded: false,
         workspaces,
         workspaces_version: 0,
@@ -69,9 +77,44 @@ fn two_files(alloc: Global) -> Items<FileId> {
     files
 }
 
-/// What a job is to find out: builds; a check of two files, or one of no file; else a request's question.
+/// The params null.
+fn null_params(alloc: Global) -> Option<SharedJson> {
+    SharedJson::new(alloc, Json::null()).ok()
+}
+
+/// Lists of diagnostics of two files.
+fn lists(alloc: Global, pass: Pass) -> JobKind {
+    JobKind::Diagnostics {
+        generation: 1,
+        pass,
+        files: two_files(alloc),
+    }
+}
+
+/// What a job is to find out: builds; a check of two files, or one of no file; what its word says; else a request's question.
 fn kind_of(alloc: Global, word: &str) -> Option<JobKind> {
     match word {
+        "part" => Some(JobKind::Part {
+            ticket: 1,
+            part: 1,
+            row: RowId(0),
+            params: null_params(alloc)?,
+            files: two_files(alloc),
+        }),
+        "syntax" => Some(lists(alloc, Pass::Syntax)),
+        "semantic" => Some(lists(alloc, Pass::Semantic)),
+        "tests" => Some(JobKind::Tests {
+            files: two_files(alloc),
+        }),
+        "indexed" => Some(JobKind::Indexed {
+            file: FileId(0),
+            path: path(alloc, "/a")?,
+        }),
+        "scope" => Some(JobKind::CheckScope {
+            file: FileId(0),
+            path: path(alloc, "/a")?,
+        }),
+        "prime" => Some(JobKind::Prime),
         "check" => Some(JobKind::ProcMacroSources {
             files: two_files(alloc),
         }),
@@ -79,14 +122,11 @@ fn kind_of(alloc: Global, word: &str) -> Option<JobKind> {
             files: Items::new(alloc),
         }),
         "builds" => Some(JobKind::FetchBuildData { version: 1 }),
-        _ => {
-            let params = SharedJson::new(alloc, Json::null()).ok()?;
-            Some(JobKind::Request {
-                ticket: 1,
-                row: RowId(0),
-                params,
-            })
-        }
+        _ => Some(JobKind::Request {
+            ticket: 1,
+            row: RowId(0),
+            params: null_params(alloc)?,
+        }),
     }
 }
 
@@ -135,7 +175,112 @@ fn add_jobs(alloc: Global, commands: &mut Items<Command>, word: &str) -> Option<
     Some(())
 }
 
-/// No command for `nothing`, else the commands to do the jobs 7, a request's, and 9: a request's too for `jobs`, a check for `check`,
+/// An order of checks, of tests or of discoveries.
+fn order_of(alloc: Global, word: &str) -> Option<Command>
+    ensures { IfSome result (λ command. job_of command ≡ None) }
+{
+    match word {
+        "set checks" => {
+            let mut checks = Items::new(alloc);
+            let _ = checks.push((0, path(alloc, "/w")?));
+            Some(Command::SetChecks(checks))
+        }
+        "restart check" => Some(Command::RestartCheck {
+            id: 0,
+            scope: CheckScope::Workspace { saved: None },
+        }),
+        "cancel check" => Some(Command::CancelCheck(0)),
+        "run tests" => Some(Command::RunTest {
+            include: Some(Items::new(alloc)),
+            exclude: None,
+        }),
+        "stop tests" => Some(Command::StopTest),
+        "discover" => Some(Command::Discover(DiscoverArg::Path(path(alloc, "/a")?))),
+        _ => None,
+    }
+}
+
+/// One command alone.
+fn alone(alloc: Global, command: Command) -> Option<Items<Command>>
+    requires { job_of command ≡ None }
+    ensures { IfSome result (λ commands. AreRising 0 (spawned commands)) }
+{
+    let mut commands = Items::new(alloc);
+    match commands.push(command) {
+        Ok(()) => Some(commands),
+        Err(_) => {
+            drop(commands);
+            None
+        }
+    }
+}
+
+/// What is wrong at the beginning of a file.
+fn diagnostic(alloc: Global) -> Option<Diagnostic> {
+    let place = Position {
+        line: 0,
+        character: 0,
+    };
+    Some(Diagnostic {
+        range: Range {
+            start: place,
+            end: place,
+        },
+        severity: Some(1),
+        code: None,
+        source: None,
+        message: Text::from_str(alloc, "a").ok()?,
+        related: Items::new(alloc),
+    })
+}
+
+fn check_message(alloc: Global) -> Option<FlycheckMsg> {
+    Some(FlycheckMsg::AddDiagnostic {
+        id: 0,
+        generation: 1,
+        package: None,
+        path: path(alloc, "/a")?,
+        diagnostic: diagnostic(alloc)?,
+        fix: Some(Json::null()),
+    })
+}
+
+fn test_message(alloc: Global) -> Option<TestMsg> {
+    let (target, name) = Text::from_str(alloc, "a")
+        .ok()
+        .zip(Text::from_str(alloc, "b").ok())?;
+    let state = TestState::Ok;
+    Some(TestMsg {
+        target,
+        output: TestOutput::Test { name, state },
+    })
+}
+
+fn discovery_message(alloc: Global) -> Option<DiscoverMsg> {
+    Some(DiscoverMsg::Finished {
+        project: Json::null(),
+        buildfile: Text::from_str(alloc, "a").ok()?,
+    })
+}
+
+/// The list of one item.
+fn list_of<T: Drop>(alloc: Global, item: T) -> Items<T> {
+    let mut items = Items::new(alloc);
+    let _ = items.push(item);
+    items
+}
+
+/// What checks, a test run or a discovery tell.
+pub fn news_of(alloc: Global, word: &str) -> Option<HostEvent> {
+    match word {
+        "checks" => Some(HostEvent::Flycheck(list_of(alloc, check_message(alloc)?))),
+        "tests" => Some(HostEvent::TestResult(list_of(alloc, test_message(alloc)?))),
+        "discovery" => Some(HostEvent::DiscoverProject(list_of(alloc, discovery_message(alloc)?))),
+        _ => None,
+    }
+}
+
+/// No command for `nothing`, an order of checks, tests or discoveries alone for its word, else the commands to do the jobs 7, a request's, and 9: a request's too for `jobs`, a check for `check`,
 /// and the host's own for `builds`.
 pub fn commands_of(alloc: Global, word: &str) -> Option<Items<Command>>
     ensures { IfSome result (λ commands. AreRising 0 (spawned commands)) }
@@ -143,6 +288,10 @@ pub fn commands_of(alloc: Global, word: &str) -> Option<Items<Command>>
     let mut commands = Items::new(alloc);
     if word == "nothing" {
         return Some(commands);
+    }
+    if let Some(command) = order_of(alloc, word) {
+        drop(commands);
+        return alone(alloc, command);
     }
     match add_jobs(alloc, &mut commands, word) {
         Some(()) => Some(commands),

@@ -3,7 +3,7 @@ use crate::fixtures::job_with;
 use crate::words::{cut, number, result_text};
 use analysis_host::{Cancel, Never};
 use expectations::expect_text;
-use session_peers::NullAnalysis;
+use host_fakes::NullAnalysis;
 use session_port::{Job, run_job};
 use std::alloc::Global;
 use std::test::Fail;
@@ -51,14 +51,14 @@ fn outcome_of(alloc: Global, job: &Job, from: u64) -> &'static str {
         return "none";
     }
     let outcome = if from == 0 {
-        run_job(job, &NullAnalysis(alloc), &mut Never::new())
+        run_job(alloc, job, &NullAnalysis(alloc), &mut Never::new())
     } else {
         let mut third = Third {
             from,
             seen: false,
             polls: 0,
         };
-        run_job(job, &NullAnalysis(alloc), &mut third)
+        run_job(alloc, job, &NullAnalysis(alloc), &mut third)
     };
     let told = result_text(&outcome);
     drop(outcome);
@@ -75,11 +75,19 @@ fn told_of(alloc: Global, word: &str, from: u64) -> &'static str {
     told
 }
 
-/// Kinds of jobs, the polls from which on they are stopped, and what they come to. A check polls once itself. For each file the question
-/// polls once, and the check behind it once more.
+/// Kinds of jobs, the polls from which on they are stopped, and what they come to. Each question polls once; a job that doesn't ask exactly
+/// one polls before the first too, and behind each.
 const JOBS: &str = "request, 0 > null
 request, 1 > cancelled
 request, 2 > null
+part, 0 > null
+syntax, 0 > two lists
+semantic, 0 > two lists
+tests, 0 > tests
+indexed, 0 > roots
+scope, 0 > roots
+prime, 0 > primed
+prime, 1 > cancelled
 check, 0 > roots
 check, 1 > cancelled
 check, 2 > cancelled

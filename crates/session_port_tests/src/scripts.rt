@@ -2,17 +2,17 @@
 // out, a call answers none, or less comes than a test wants.
 ghost use Rattle.session_port.specs.Record.{AreRising, spawned};
 
-use crate::fixtures::{commands_of, end_of};
+use crate::fixtures::{commands_of, end_of, news_of};
 use crate::words::{add, add_calls, add_events, cut, number, numbers, push};
 use expectations::expect_text;
+use host_fakes::{HostileHost, NullAnalysis, ScriptHost, ScriptStep};
 use plain::{Bytes, Items};
-use script_hosts::{HostileHost, ScriptHost, ScriptStep};
-use session_peers::NullAnalysis;
 use session_port::{Command, Host, HostError, HostEvent, TaskBody, TaskMsg};
 use std::alloc::Global;
 use std::test::Fail;
 
-/// `timer` is a timer's event, `end` the end, `bytes` are given, and `message` is that a job has this end.
+/// `timer` is a timer's event, `end` the end, `bytes` are given, `message` is that a job has this end, `begin` that it has begun, and else it
+/// is news of this kind, if it is some.
 fn event_of(alloc: Global, words: &str) -> Option<HostEvent> {
     let (word, rest) = cut(words, " ");
     match word {
@@ -31,7 +31,15 @@ fn event_of(alloc: Global, words: &str) -> Option<HostEvent> {
             });
             Some(HostEvent::Tasks(batch))
         }
-        _ => None,
+        "begin" => {
+            let mut batch = Items::new(alloc);
+            let _ = batch.push(TaskMsg {
+                job: number(rest),
+                body: TaskBody::Begin,
+            });
+            Some(HostEvent::Tasks(batch))
+        }
+        _ => news_of(alloc, word),
     }
 }
 
@@ -146,7 +154,8 @@ fn add_case(
 /// Jobs are finished, by numbers of which some name none. The order is the first call, and so the second event is the third. Job 7 is stopped by
 /// steps of which most give nothing. Job 9 is a check: it is finished as a request's, and not supplied. Job 9 is the host's own: it is not
 /// finished, and gets no end that does not fit it, but it may stop; job 7 is not supplied. The first order fails. The last gives results that it made
-/// up.
+/// up. Each kind of news is given, and each order of checks, tests and discoveries taken. That a job has begun is no script's to say, and leaves
+/// the job out.
 const CASES: &str =
     "script > jobs > 3 4 > bytes ab, finish 9 8 9, finish 9, end, finish 9 7 > 8 > taken > ab|failed|failed|9: null;||ended|7: null;|ended| > 2|event|event|event|event|event|event|
 script > jobs > - > message 7 full, stop 7 0, stop 8 5, stop 7 1, stop 7 2, finish 7 9 > 4 > taken > 7: cancelled;|9: null;|ended|ended| > 2|event|event|event|event|
@@ -154,6 +163,10 @@ script > check > - > supply 9 full, finish 9 7, finish 9 > 3 > taken > 9: roots;
 script > builds > - > finish 9 7, supply 7 json, supply 9 json, supply 9 early, timer, supply 9 builds, supply 9 late > 4 > taken > 7: null;|5|9: build data;|ended| > 2|event|event|event|event|
 script > builds > - > supply 9 late > 2 > taken > 9: cancelled;|ended| > 2|event|event|
 script > nothing > 1 1 > bytes ab, finish 9 8 9, finish 9, end, finish 9 7 > 2 > failed > ab|| > event|event|
+script > set checks > - > checks, tests, begin 9 > 3 > taken > checks|tests|ended| > 1|event|event|event|
+script > restart check > - > discovery > 1 > taken > discovery| > 1|event|
+hostile > builds > - > begin 9, checks, begin 7, message 9 builds > 4 > taken > 9: begun;|checks|7: begun;|9: build data;| > 2|event|event|event|event|
+hostile > run tests > - > tests, discovery > 2 > taken > tests|discovery| > 1|event|event|
 hostile > jobs > - > message 5 json, bytes x, message 7 early > 5 > taken > 5: null;|x|7: cancelled;|ended|ended| > 2|event|event|event|event|event|";
 
 #[test]

@@ -1,7 +1,7 @@
 // Events and calls in words. Where memory runs out, less is told than a test wants.
+use host_fakes::{HostileHost, NullAnalysis, ScriptHost};
+use inline_host::RecordedCall;
 use plain::Items;
-use script_hosts::{HostileHost, ScriptHost};
-use session_peers::{NullAnalysis, RecordedCall};
 use session_port::{Host, HostError, HostEvent, JobResult, JobValue, TaskBody, TaskMsg};
 use std::alloc::Global;
 
@@ -58,6 +58,11 @@ pub fn result_text(outcome: &JobResult) -> &'static str {
         JobResult::Value(JobValue::Json(value)) => {
             if value.is_null() { "null" } else { "value" }
         }
+        JobResult::Value(JobValue::Diagnostics(lists)) => match lists.len() {
+            2 => "two lists",
+            _ => "lists",
+        },
+        JobResult::Value(JobValue::Tests(_)) => "tests",
         JobResult::Value(JobValue::Roots(_)) => "roots",
         JobResult::Value(JobValue::Primed) => "primed",
         JobResult::Value(JobValue::Workspaces(_)) => "workspaces",
@@ -72,10 +77,17 @@ pub fn result_text(outcome: &JobResult) -> &'static str {
 /// Adds results.
 fn add_batch(alloc: Global, text: &mut String, batch: &[TaskMsg]) {
     for message in batch {
-        let TaskBody::Final(outcome) = &message.body;
         add_number(alloc, text, message.job);
         add(text, ": ");
-        add(text, result_text(outcome));
+        add(
+            text,
+            match &message.body {
+                TaskBody::Final(outcome) => result_text(outcome),
+                TaskBody::Begin => "begun",
+                TaskBody::Report(_) => "told",
+                TaskBody::PrimeReport { .. } => "primes",
+            },
+        );
         add(text, ";");
     }
 }
@@ -86,8 +98,11 @@ fn add_given(alloc: Global, text: &mut String, event: &HostEvent) {
         HostEvent::Bytes(bytes) => add_bytes(text, bytes.as_slice()),
         HostEvent::Ended => add(text, "ended"),
         HostEvent::Tasks(batch) => add_batch(alloc, text, batch.as_slice()),
-        HostEvent::Vfs(_) => add(text, "loader"),
         HostEvent::DeferredTask(_) => add(text, "deferred"),
+        HostEvent::Vfs(_) => add(text, "loader"),
+        HostEvent::Flycheck(_) => add(text, "checks"),
+        HostEvent::TestResult(_) => add(text, "tests"),
+        HostEvent::DiscoverProject(_) => add(text, "discovery"),
         HostEvent::Timer(ticket) => add_number(alloc, text, *ticket),
     }
 }

@@ -1,7 +1,7 @@
 // What the client is asked to tell of.
-ghost use Rattle.std.specs.Prelude.{◌≡◌, map, IfOk};
+ghost use Rattle.std.specs.Prelude.{◌≡◌, IfOk};
 ghost use Rattle.session_port.specs.Meets.{Meets};
-ghost use Rattle.session_model.specs.Asking.{watcher_asked, watchers_asked};
+ghost use Rattle.session_model.specs.Asking.{watchers_asked};
 ghost use Rattle.session_model.specs.Machine.{saves_registered, watchers_registered};
 ghost use Rattle.session_model.specs.State.{watched_names};
 
@@ -9,31 +9,11 @@ use notify::{Outgo, Watcher};
 use plain::{Items, NoMemory, Text};
 use project_model::ProjectWorkspace;
 use ra_config::Config;
-use reload::{Watcher as WatchedFiles, watchers};
+use reload::watchers;
 use session_model::{ReqHandler, TurnError};
 use session_port::TurnOut;
 use session_store::{Store, client_watches};
 use std::alloc::Global;
-
-fn watcher_asked(files: WatchedFiles) -> Watcher
-    ensures { result ≡ watcher_asked files }
-{
-    match files {
-        WatchedFiles::Relative { base_uri, pattern } => Watcher::Relative { base_uri, pattern },
-        WatchedFiles::Text(pattern) => Watcher::Text(pattern),
-    }
-}
-
-// What the client is asked to watch, for each of these.
-fn each_asked(alloc: Global, files: Items<WatchedFiles>) -> Result<Items<Watcher>, NoMemory>
-    ensures { IfOk result (λ asked. asked ≡ map watcher_asked files) }
-{
-    let mut asked = Items::new(alloc);
-    for one in files.into_vec() {
-        asked.push(watcher_asked(one))?;
-    }
-    Ok(asked)
-}
 
 // The names of the files that the command which discovers the projects watches.
 fn names_to_watch(alloc: Global, settings: &Config) -> Result<Items<Text>, NoMemory>
@@ -69,8 +49,7 @@ fn files_to_watch(
 ) -> Result<Items<Watcher>, NoMemory>
     ensures { IfOk result (λ asked. asked ≡ watchers_asked settings.now workspaces.now) }
 {
-    let files = watchers(alloc, workspaces, settings.relative_pattern())?;
-    each_asked(alloc, files)
+    watchers(alloc, workspaces, settings.relative_pattern())
 }
 
 // The client is asked to watch the files of the workspaces that are present, where it is the client that watches.

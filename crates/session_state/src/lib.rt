@@ -7,5 +7,5 @@ mod turns;
 
 pub use global_state::GlobalState;
 pub use plain::NoMemory;
-pub use session_model::{Counter, Event, Input, SessionError, TurnError};
+pub use session_model::{Counter, Event, Input, News, SessionError, TurnError};
 pub use session_port::TurnOut;

@@ -41,6 +41,10 @@ fn on_event<A: Analysis>(
         Event::Task(batch) => on_batch(store, batch, analysis, out),
         Event::Vfs(messages) => on_loader(store, messages, out),
         Event::Deferred(tasks) => resume_all(store, tasks, out),
+        Event::News(news) => {
+            drop(news);
+            Ok(())
+        }
         Event::Timer(ticket) => {
             store.workspaces.fire(ticket)?;
             Ok(())

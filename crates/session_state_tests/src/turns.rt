@@ -3,7 +3,7 @@ use crate::asking::{Told, cut};
 use crate::calls::answer_to;
 use crate::events::event_of;
 use crate::words::{fetch_text, shown, words};
-use session_peers::NullAnalysis;
+use host_fakes::NullAnalysis;
 use session_state::{GlobalState, TurnOut};
 use std::alloc::Global;
 

@@ -57,6 +57,12 @@ fn command_words(command: &Command) -> (&'static str, &str) {
         Command::Timer(5) => ("timer 5", ""),
         Command::Timer(_) => ("another timer", ""),
         Command::Defer(_) => ("defer", ""),
+        Command::SetChecks(_) => ("checks", ""),
+        Command::RestartCheck { .. } => ("restart check", ""),
+        Command::CancelCheck(_) => ("cancel check", ""),
+        Command::RunTest { .. } => ("run test", ""),
+        Command::StopTest => ("stop test", ""),
+        Command::Discover(_) => ("discover", ""),
         Command::Stop => ("stop", ""),
     }
 }
@@ -86,6 +92,7 @@ fn fault_name(error: TurnError) -> &'static str {
             Counter::Outgoing => "no more outgoing",
             Counter::Files => "no more files",
             Counter::LoaderSettings => "no more loader settings",
+            Counter::Discoveries => "no more discoveries",
         },
         TurnError::NoMemory => "no more memory",
     }

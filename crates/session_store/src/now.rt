@@ -3,14 +3,16 @@ ghost use Rattle.std.specs.Prelude.{◌≡◌};
 ghost use Rattle.session_model.specs.State.{macros_loaded_in, scene_in};
 
 use analysis_host::{GlobalStateSnapshot, SnapshotParts};
+use plain::Items;
 use session_model::{Client, Present, SessionFiles};
-use std::alloc::AllocError;
+use std::alloc::{AllocError, Global};
 use std::sync::Arc;
 use workspaces::Workspaces;
 
 /// The parts of a session that a snapshot shows, lent.
 #[derive(Clone, Copy)]
 pub(crate) struct Now<'a> {
+    pub(crate) alloc: Global,
     pub(crate) client: &'a Client,
     pub(crate) files: &'a SessionFiles,
     pub(crate) workspaces: &'a Workspaces,
@@ -31,6 +33,7 @@ impl<'a> Present for Now<'a> {
             world: self.files.world()?,
             file_ids: self.files.file_ids()?,
             versions: self.files.versions()?,
+            check_fixes: Arc::new(self.alloc, Items::new(self.alloc))?,
             config: Arc::try_clone(self.client.settings())?,
             proc_macros_loaded: are_macros_loaded(self.client, self.workspaces),
             workspaces: self.workspaces.share_present()?,

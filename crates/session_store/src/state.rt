@@ -145,6 +145,7 @@ impl Store {
         ensures { IfOk result (λ snapshot. snapshot ≡ snapshot_of self.now) }
     {
         let now = Now {
+            alloc: self.alloc,
             client: &self.client,
             files: &self.files,
             workspaces: &self.workspaces,
@@ -166,6 +167,7 @@ impl Store {
         ensures { Meets result (at_desk (requested (meaning_of A.decodes A.answer) (scene_of self.old) request) (record { state = self.old; out = out.old })) self.new out.new }
     {
         let now = Now {
+            alloc: self.alloc,
             client: &self.client,
             files: &self.files,
             workspaces: &self.workspaces,
@@ -184,6 +186,7 @@ impl Store {
         ensures ends { IfOk result (λ end. end ≡ work_ended message self.old.desk.jobs) }
     {
         let now = Now {
+            alloc: self.alloc,
             client: &self.client,
             files: &self.files,
             workspaces: &self.workspaces,

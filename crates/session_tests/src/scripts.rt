@@ -4,12 +4,11 @@ ghost use Rattle.std.specs.FinMap as map;
 
 use analysis_host::Analysis;
 use docs_vfs::VfsPath;
+use host_fakes::{MemorySink, ScriptHost, ScriptStep};
 use lsp_frame::FrameReader;
 use plain::{Bytes, Items};
 use ra_config::Config;
-use script_hosts::{ScriptHost, ScriptStep};
 use session::{SessionError, main_loop_from};
-use session_peers::MemorySink;
 use session_port::{Host, HostEvent, LoadedFile, LoaderMsg, LoadingProgress, Sink};
 use small_analysis::SmallAnalysis;
 use std::alloc::Global;

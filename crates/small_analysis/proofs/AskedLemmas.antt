@@ -22,14 +22,14 @@ at_place m place x q =
     map.get-insert nat_cmp_total m place x q ∙ ap (λ b. cond b (Some x) (map.get m q)) (unsigned_tied q place)
 
 -- what is asked for stays so
-asked_more : (asked : Places) (place q : ℕ) → is_asked asked q ≡ true → is_asked (map.insert asked place tt) q ≡ true
+pub asked_more : (asked : Places) (place q : ℕ) → is_asked asked q ≡ true → is_asked (map.insert asked place tt) q ≡ true
 asked_more asked place q is = ap is_some (at_place asked place tt q) ∙ by_place (q == place)
   where
     by_place : (b : Bool) → is_some (cond b (Some tt) (map.get asked q)) ≡ true
     by_place true = refl
     by_place false = is
 
-asked_here : (asked : Places) (place : ℕ) → is_asked (map.insert asked place tt) place ≡ true
+pub asked_here : (asked : Places) (place : ℕ) → is_asked (map.insert asked place tt) place ≡ true
 asked_here asked place = ap is_some (at_place asked place tt place) ∙ same (place == place) (eqb-refl place)
   where
     same : (b : Bool) → b ≡ true → is_some (cond b (Some tt) (map.get asked place)) ≡ true

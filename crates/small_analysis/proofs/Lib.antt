@@ -6,3 +6,4 @@ pub mod MatchLemmas
 pub mod NameLaws
 pub mod RowLaws
 pub mod RunLemmas
+pub mod UnmatchedLemmas

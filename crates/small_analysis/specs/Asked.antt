@@ -20,7 +20,8 @@ IsAskedNear text asked place = (near : ℕ) → bracket_near text place ≡ Some
 
 -- the bracket near a position is asked for
 abbrev pub IsAsked : PositionEncoding → List ℕ → Places → Position → Type 0
-IsAsked encoding text asked position = (place : ℕ) → place_in encoding text position ≡ Some place → IsAskedNear text asked place
+IsAsked encoding text asked position = (place : ℕ) → place_in encoding text position ≡ Some place
+    → IsAskedNear text asked place
 
 -- each bracket that is asked for has the partner that it has among all
 abbrev pub KeepsAsked : Places → map.FinMap nat_cmp Bracket → map.FinMap nat_cmp Bracket → Type 0
@@ -34,7 +35,11 @@ abbrev pub closed_asked : Places → Bracket → Brackets → List Bracket → B
 closed_asked asked here brackets [] = brackets
 closed_asked asked here brackets (top ∷ below) =
     if closes top.byte here.byte
-    then record { openers = below; partners = with_partner asked (with_partner asked brackets.partners top.place here) here.place top }
+    then record {
+      openers = below;
+      partners =
+          with_partner asked (with_partner asked brackets.partners top.place here) here.place top;
+    }
     else brackets
 
 -- one byte more, where the partners are kept that are asked for

@@ -1,5 +1,6 @@
 -- Brackets of a text, and which of them match: `()`, `[]` and `{}`, by a stack over the whole text.
-use Rattle.std.specs.Prelude.{◌≡◌, ◌<◌, ◌⊎◌, ℕ, zero, suc, ◌==◌, ◌&&◌, ◌||◌, Bool, true, List, [], ◌∷◌, length, slice_index, if◌then◌else◌, Option, Some, None, option_and_then}
+use Rattle.std.specs.Prelude.{◌≡◌, ◌<◌, ◌⊎◌, ℕ, zero, suc, ◌==◌, ◌&&◌, ◌||◌, Bool, true, List, [], ◌∷◌, length}
+use Rattle.std.specs.Prelude.{slice_index, if◌then◌else◌, Option, Some, None, option_and_then}
 use Rattle.std.specs.FinMap as map
 use Rattle.std.specs.Ordering.{nat_cmp}
 use Rattle.small_analysis.specs.declared.brackets.Bracket.{Bracket}
@@ -57,10 +58,11 @@ pub record IsPair (opener closer : Bracket) : Type 0 where
   pub kind : closes opener.byte closer.byte ≡ true
 
 -- a place and its partner: a bracket of the text, whose partner is the one at the place
-pub record AreMatched (text : List ℕ) (partners : map.FinMap nat_cmp Bracket) (place : ℕ) (partner : Bracket) : Type 0 where
-  pub there : partner ≡ located text partner.place
-  pub back : map.get partners partner.place ≡ Some (located text place)
-  pub pair : IsPair (located text place) partner ⊎ IsPair partner (located text place)
+pub record AreMatched (text : List ℕ) (partners : map.FinMap nat_cmp Bracket) (place : ℕ) (partner : Bracket) : Type 0
+  where
+    pub there : partner ≡ located text partner.place
+    pub back : map.get partners partner.place ≡ Some (located text place)
+    pub pair : IsPair (located text place) partner ⊎ IsPair partner (located text place)
 
 abbrev pub IsMatching : List ℕ → map.FinMap nat_cmp Bracket → Type 0
 IsMatching text partners =

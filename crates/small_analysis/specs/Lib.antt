@@ -5,4 +5,7 @@ pub mod Asked
 pub mod Matches
 pub mod Params
 pub mod Roots
+pub mod Unmatched
+pub mod Defined
+pub mod Findings
 pub mod Small

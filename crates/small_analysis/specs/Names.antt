@@ -1,5 +1,6 @@
 -- Names of a text.
-use Rattle.std.specs.Prelude.{◌≡◌, ◌<◌, ◌≤◌, ℕ, ◌+◌, ◌-◌, ◌==◌, ◌||◌, Bool, true, false, not, List, [], ◌∷◌, length, take, drop, slice_index, slice_range, if◌then◌else◌, Option, Some, None}
+use Rattle.std.specs.Prelude.{◌≡◌, ◌<◌, ◌≤◌, ℕ, ◌+◌, ◌-◌, ◌==◌, ◌||◌, Bool, true, false, not, List, [], ◌∷◌, length}
+use Rattle.std.specs.Prelude.{take, drop, slice_index, slice_range, if◌then◌else◌, Option, Some, None}
 use Rattle.std.specs.List.{prefix_len, suffix_len}
 use Rattle.std.specs.Char.{is_ascii_alphanumeric, is_ascii_digit}
 

@@ -5,7 +5,8 @@ use Rattle.serde_json.specs.Data.{Data, null, boolean, string, object, put, memb
 use Rattle.analysis_host.specs.Answers.{Finding, answer}
 use Rattle.analysis_host.specs.SnapshotData.{SnapshotData, encoding_of}
 use Rattle.analysis_host.specs.declared.ask.Ask.{Ask}
-use Rattle.analysis_host.specs.declared.ask.Ask.TheVariants.{Request, CratesOf, Prime}
+use Rattle.analysis_host.specs.declared.ask.Ask.TheVariants.{Request, Part, Syntax, Semantic, Tests as TestsOf}
+use Rattle.analysis_host.specs.declared.ask.Ask.TheVariants.{CratesOf, Prime}
 use Rattle.analysis_host.specs.declared.ask.Answer.TheVariants.{Json, Primed}
 use Rattle.analysis_host.specs.declared.ask.Outcome.{Outcome}
 use Rattle.analysis_host.specs.declared.ask.Outcome.TheVariants.{Value, Fault, Cancelled}
@@ -15,8 +16,9 @@ use Rattle.method_table.specs.declared.class.Class.{Class}
 use Rattle.method_table.specs.declared.class.Class.TheVariants.{OnLoop, Formatting, Identity}
 use Rattle.method_table.specs.declared.named.TheConstants.{HOVER, MATCHING_BRACE}
 use Rattle.method_table.specs.declared.row_id.RowId.{RowId}
-use Rattle.protocol_values.specs.Values.{list_value, position_value}
+use Rattle.lsp_types.specs.Values.{list_value, position_value}
 use Rattle.requests.specs.Files.{in_text, malformed, refusal, text_of}
+use Rattle.small_analysis.specs.Findings.{semantic_of, syntax_of, tests_of}
 use Rattle.small_analysis.specs.Matches.{all_matched}
 use Rattle.small_analysis.specs.Names.{name_at}
 use Rattle.small_analysis.specs.Params.{HoverData, BraceData, hover_params, brace_params}
@@ -33,7 +35,8 @@ is_hover row = row.0 == HOVER.0
 abbrev pub is_matching_brace : RowId → Bool
 is_matching_brace row = row.0 == MATCHING_BRACE.0
 
--- hover's params are a document's URL and a position, matchingBrace's a URL and positions; every other row's may be anything
+-- hover's params are a document's URL and a position, matchingBrace's a URL and positions; every other row's may be
+-- anything
 abbrev pub small_decodes : RowId → Data → Bool
 small_decodes row params =
     if is_hover row then is_some (hover_params params)
@@ -65,10 +68,11 @@ braces_in encoding positions text = braces_at (all_matched encoding text positio
 
 abbrev pub braces_of : SnapshotData → Option BraceData → Finding
 braces_of snapshot None = malformed
-braces_of snapshot (Some braces) = in_text (braces_in (encoding_of snapshot) braces.positions) (text_of snapshot braces.uri)
+braces_of snapshot (Some braces) = in_text (braces_in (encoding_of snapshot) braces.positions)
+    (text_of snapshot braces.uri)
 
--- what a row of a class is answered where nothing is known: an identity row its params; a row of the session's own turn and one of the
--- formatting workers null; any other its default
+-- what a row of a class is answered where nothing is known: an identity row its params; a row of the session's own turn
+-- and one of the formatting workers null; any other its default
 abbrev pub class_value : RowId → Data → Class → Data
 class_value row params Identity = params
 class_value row params OnLoop = null
@@ -85,22 +89,29 @@ plain_answer value = if is_plain value then answer (Json value) else malformed
 abbrev pub row_answer : SnapshotData → RowId → Data → Finding
 row_answer snapshot row params =
     if is_hover row then hover_of snapshot (hover_params params)
-    else (if is_matching_brace row then braces_of snapshot (brace_params params) else plain_answer (row_value row params))
+    else (if is_matching_brace row then braces_of snapshot (brace_params params) else plain_answer
+    (row_value row params))
 
--- params that can't be read are malformed
+-- params that aren't plain, or that can't be read, are malformed
 abbrev pub request_answer : SnapshotData → RowId → Data → Finding
-request_answer snapshot row params = if small_decodes row params then row_answer snapshot row params else malformed
+request_answer snapshot row params = if is_plain params && small_decodes row params then row_answer snapshot row params
+    else malformed
 
--- nothing has to be found out beforehand
+-- no row is answered in parts: a part of one is answered as the whole. Nothing has to be found out beforehand
 abbrev pub small_answer : SnapshotData → Ask → Finding
 small_answer snapshot (Request row params) = request_answer snapshot row params
+small_answer snapshot (Part row params files) = request_answer snapshot row params
+small_answer snapshot (Syntax file) = syntax_of snapshot file
+small_answer snapshot (Semantic file) = semantic_of snapshot file
+small_answer snapshot (TestsOf file) = tests_of snapshot file
 small_answer snapshot (CratesOf file) = crates_of snapshot file
 small_answer snapshot Prime = answer Primed
 
 -- a row answers plain params by a value of them, whatever the snapshot
 abbrev pub IsAnsweredBy : RowId → (Data → Data) → Type 0
 IsAnsweredBy row value =
-    (snapshot : SnapshotData) (params : Data) → is_plain params ≡ true → small_answer snapshot (Request row params) ≡ answer (Json (value params))
+    (snapshot : SnapshotData) (params : Data) → is_plain params ≡ true
+    → small_answer snapshot (Request row params) ≡ answer (Json (value params))
 
 -- the number that stopped a query
 abbrev pub stopped_by : Outcome → Option ℕ
@@ -110,4 +121,9 @@ stopped_by (Cancelled saw) = Some saw
 
 -- what a server with this analysis says of itself
 abbrev pub small_info : ServerInfo
-small_info = record { name = codes "ra_serve"; version = codes "1"; capabilities = put (codes "hoverProvider") (boolean true) no_members }
+small_info = record {
+  name = codes "ra_serve";
+  version = codes "1";
+  capabilities =
+      put (codes "hoverProvider") (boolean true) no_members;
+}

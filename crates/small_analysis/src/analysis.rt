@@ -4,19 +4,22 @@ ghost use Rattle.analysis_host.specs.Answers.{Answers, IsOutcomeOf, IsPlainOutco
 ghost use Rattle.analysis_host.specs.Polls.{Counts, HasPolled};
 ghost use Rattle.small_analysis.specs.Small.{class_value, is_hover, is_matching_brace, plain_answer, request_answer, row_value, small_answer, small_decodes, small_info, stopped_by};
 
+use crate::findings::{semantic_of, syntax_of, tests_of};
 use crate::hover::hover_of;
 use crate::matching_brace::braces_of;
 use crate::roots::crates_of;
 use analysis_host::{
     Analysis, Answer, Ask, Cancel, GlobalStateSnapshot, Outcome, RowId, ServerInfo,
 };
+use lsp_types::{has_positions, position_of, uri_of};
 use method_table::{Class, HOVER, MATCHING_BRACE, class_of, default_of};
 use plain::Json;
-use requests::{has_positions, malformed, position_of, uri_of};
+use requests::malformed;
 use std::alloc::{AllocError, Global};
 
 /// An analysis that answers hover by the name under the position, matchingBrace by the brackets that match, and every
-/// other row by what it is answered where nothing is known. Each file with a text belongs to all crates whose root files exist.
+/// other row by what it is answered where nothing is known. It finds brackets without a partner and names of functions
+/// that come twice. Each file with a text belongs to all crates whose root files exist, and has no tests.
 #[derive(Drop)]
 pub struct SmallAnalysis {
     alloc: Global,
@@ -75,7 +78,9 @@ fn request_answer(
     ensures answers { IfOk result (Answers (request_answer snapshot.now row params.now) None) }
     ensures plain { IfOk result IsPlainOutcome }
 {
-    if is_hover(row) {
+    if !params.is_plain() {
+        malformed(alloc)
+    } else if is_hover(row) {
         hover_of(alloc, snapshot, params)
     } else if is_matching_brace(row) {
         braces_of(alloc, snapshot, params)
@@ -90,7 +95,12 @@ fn answer(alloc: Global, snapshot: &GlobalStateSnapshot, ask: &Ask) -> Result<Ou
     ensures kind { IfOk result (IsOutcomeOf ask.now) }
 {
     match ask {
-        Ask::Request { row, params } => request_answer(alloc, snapshot, *row, params.as_json()),
+        Ask::Request { row, params } | Ask::Part { row, params, .. } => {
+            request_answer(alloc, snapshot, *row, params.as_json())
+        }
+        Ask::Syntax(file) => syntax_of(alloc, snapshot, *file),
+        Ask::Semantic(file) => semantic_of(alloc, snapshot, *file),
+        Ask::Tests(file) => tests_of(alloc, snapshot, *file),
         Ask::CratesOf(file) => crates_of(alloc, snapshot, *file),
         Ask::Prime => Ok(Outcome::Value(Answer::Primed)),
     }

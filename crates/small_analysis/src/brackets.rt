@@ -104,7 +104,7 @@ pub(crate) fn partners_of(
     Ok(partners)
 }
 
-fn is_bracket_at(text: &[u8], place: usize) -> bool
+pub(crate) fn is_bracket_at(text: &[u8], place: usize) -> bool
     ensures { result ≡ is_bracket_at text.now place }
 {
     match text.get(place) {

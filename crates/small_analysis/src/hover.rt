@@ -10,8 +10,9 @@ ghost use Rattle.small_analysis.specs.Small.{hover_value, hover_in, hover_of};
 use crate::names::name_at;
 use crate::offsets::place_in;
 use analysis_host::{Answer, GlobalStateSnapshot, Outcome};
+use lsp_types::{position_of, uri_of};
 use plain::{Json, Members, Text};
-use requests::{malformed, nothing, position_of, refusal, text_of, uri_of};
+use requests::{malformed, nothing, refusal, text_of};
 use std::alloc::{AllocError, Global};
 use text_core::{Position, PositionEncoding, TextIndex};
 

@@ -8,9 +8,9 @@ ghost use Rattle.small_analysis.specs.Small.{braces_in, braces_of};
 
 use crate::matches::all_matched;
 use analysis_host::{Answer, GlobalStateSnapshot, Outcome};
+use lsp_types::{list_json, positions_of, uri_of};
 use plain::{Json, Text};
-use protocol_values::list_json;
-use requests::{malformed, nothing, positions_of, refusal, text_of, uri_of};
+use requests::{malformed, nothing, refusal, text_of};
 use std::alloc::{AllocError, Global};
 use text_core::{Position, PositionEncoding, TextIndex};
 

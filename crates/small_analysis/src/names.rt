@@ -94,7 +94,7 @@ fn words_from(rest: &[u8]) -> usize
 }
 
 /// Where the word bytes begin that end at a place.
-fn run_start(text: &[u8], offset: usize) -> usize
+pub(crate) fn run_start(text: &[u8], offset: usize) -> usize
     requires { offset ≤ length text.now }
     ensures value { result ≡ run_start text.now offset }
     ensures within { result ≤ offset }
@@ -103,7 +103,7 @@ fn run_start(text: &[u8], offset: usize) -> usize
 }
 
 /// Where the word bytes end that begin at a place.
-fn run_end(text: &[u8], offset: usize) -> usize
+pub(crate) fn run_end(text: &[u8], offset: usize) -> usize
     requires { offset ≤ length text.now }
     ensures value { result ≡ run_end text.now offset }
     ensures after { offset ≤ result }

@@ -6,7 +6,7 @@ ghost use Rattle.text_core.specs.Same.{position_told, range_told};
 use crate::change::{CompletionEdit, ContentChange, TextEdit};
 use crate::line_endings::LineEndings;
 use crate::position::{OffsetFault, Position, PositionEncoding, Range, WideEncoding};
-use plain::{Copied, Told};
+use plain::{Copied, DecidableEq};
 
 impl Copied for WideEncoding {
     ghost copies = { λ x y h. Prim.search rules };
@@ -44,10 +44,10 @@ impl Copied for CompletionEdit {
     ghost copies = { λ x y h. Prim.search rules };
 }
 
-impl Told for Position {
-    ghost tells = { position_told };
+impl DecidableEq for Position {
+    ghost decides = { position_told };
 }
 
-impl Told for Range {
-    ghost tells = { range_told };
+impl DecidableEq for Range {
+    ghost decides = { range_told };
 }

@@ -3,14 +3,14 @@ use crate::frames::{has_no_messages, tell_faults};
 use crate::hashes::{is_keyword, is_method};
 use crate::texts::{are_apart, becomes, has_lines, shares_index};
 use crate::values::{
-    are_grown, are_members, is_plain, is_shared, stay, stays_by_number, stays_by_text,
+    are_grown, are_members, go_in_order, is_plain, is_shared, stays_by_number, stays_by_text,
 };
 use expectations::expect;
 use std::alloc::Global;
 use std::test::Fail;
 
 /// What is called, in words.
-const CALLS: &str = "bytes stay as room is made
+const CALLS: &str = "bytes go in order
 bytes grow
 members
 a plain value
@@ -30,7 +30,7 @@ the hash of a method";
 /// Whether a call gives its answer.
 fn ends_well(alloc: Global, call: &str) -> Option<bool> {
     match call {
-        "bytes stay as room is made" => stay(alloc),
+        "bytes go in order" => go_in_order(alloc),
         "bytes grow" => are_grown(alloc),
         "members" => are_members(alloc),
         "a plain value" => is_plain(alloc, "[1]"),

@@ -1,16 +1,38 @@
 // Bytes, JSON and maps: calls that end well where memory is left.
 use crate::calls::{is_written, json, text};
-use plain::{Buffered, ByNumber, ByText, Bytes, Json, Members, Plain, SharedJson, Text};
+use piece_buffer::PieceBuffer;
+use plain::{ByNumber, ByText, Bytes, Json, Members, Plain, SharedJson, Text};
 use std::alloc::Global;
 
-/// Whether bytes stay as room is made for more.
-pub fn stay(alloc: Global) -> Option<bool> {
-    let mut bytes = Buffered::with_capacity(alloc, 4).ok()?;
-    let are_fed = bytes.feed(b"abc").is_ok();
-    let is_made = bytes.reserve(100).is_ok();
-    let found = are_fed && is_made && bytes.as_slice() == b"abc".as_slice();
-    drop(bytes);
-    Some(found)
+/// Puts a piece at the end of a buffer, and says whether there was memory for it.
+fn is_fed(alloc: Global, buffer: &mut PieceBuffer, piece: &[u8]) -> bool {
+    match Bytes::from_slice(alloc, piece) {
+        Ok(piece) => buffer.feed(piece).is_ok(),
+        Err(_) => false,
+    }
+}
+
+/// Whether the next so many bytes that a buffer gives are these.
+fn gives(buffer: &mut PieceBuffer, count: usize, want: &[u8]) -> bool {
+    if count > buffer.len() {
+        return false;
+    }
+    match buffer.give(count) {
+        Ok(piece) => piece.as_slice() == want,
+        Err(_) => false,
+    }
+}
+
+/// Whether bytes go in order, those that are copied and those that are moved.
+pub fn go_in_order(alloc: Global) -> Option<bool> {
+    let mut buffer = PieceBuffer::new(alloc);
+    let is_moved = is_fed(alloc, &mut buffer, b"abc") && gives(&mut buffer, 3, b"abc");
+    let is_copied = is_fed(alloc, &mut buffer, b"defg") && gives(&mut buffer, 3, b"def");
+    buffer.compact();
+    let is_joined = is_fed(alloc, &mut buffer, b"hi") && gives(&mut buffer, 3, b"ghi");
+    let is_done = buffer.is_empty();
+    drop(buffer);
+    Some(is_moved && is_copied && is_joined && is_done)
 }
 
 /// Whether bytes that grew are what was put.

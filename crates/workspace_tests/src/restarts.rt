@@ -1,10 +1,12 @@
 // The checks that restart for a saved file.
 use crate::made::{add, all_agree, copies, cut, numbers, path_at, push, workspaces};
-use check_restarts::{CheckScope, Restart, check_restarts};
+use check_restarts::check_restarts;
 use docs_vfs::{FileId, VfsPath};
 use expectations::expect;
 use plain::Items;
-use project_model::{CrateData, CrateInfo, MacroState, ProjectWorkspace, target_spec_for_file};
+use project_model::{
+    CheckScope, CrateData, CrateInfo, MacroState, ProjectWorkspace, Restart, target_spec_for_file,
+};
 use std::alloc::Global;
 use std::fmt::Write;
 use std::test::Fail;

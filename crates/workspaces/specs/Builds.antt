@@ -1,10 +1,10 @@
 -- How runs of build data are asked for, start and end.
+use Prim.Native.Nat.{zero, suc}
 use Rattle.std.specs.Prelude.{ℕ, Bool, false, if◌then◌else◌, List, [], ◌∷◌, codes, Option, None, Some, option_map}
 use Rattle.std.specs.Prelude.{Result, Ok, Err}
 use Rattle.op_board.specs.Queue.{starts, after_start}
 use Rattle.op_board.specs.QueueRuns.{queue_step}
 use Rattle.op_board.specs.QueueRuns.QueueAct.{Requests, Ends}
-use Rattle.project_model.specs.declared.workspace.ProjectWorkspace.{ProjectWorkspace}
 use Rattle.reload.specs.Switch.{BuildRuns}
 use Rattle.workspaces.specs.Fetches.{unforced, ask_fetch}
 use Rattle.workspaces.specs.Workspaces.{Builds, Workspaces}
@@ -12,16 +12,17 @@ use Rattle.workspaces.specs.Workspaces.{Builds, Workspaces}
 abbrev pub ask_build : List ℕ → Builds → Builds
 ask_build cause b = record b { queue = queue_step (Requests (cause, tt)) b.queue }
 
--- the version that a run is started on, where one is to start; else as before
+-- the number that a run is started on, where one is to start; else as before
 abbrev pub starts_on : ℕ → ℕ → Option (List ℕ × Unit {0}) → ℕ
-starts_on version before None = before
-starts_on version before (Some request) = version
+starts_on now before None = before
+starts_on now before (Some request) = now
 
--- after the run that is to start, if there is one, was handed out, on workspaces of this version
-abbrev pub after_build_start : ℕ → Builds → Builds
-after_build_start version b = record {
+-- after the run that is to start, if there is one, was handed out, on so many workspaces of this version
+abbrev pub after_build_start : ℕ → ℕ → Builds → Builds
+after_build_start version count b = record {
   queue = after_start b.queue;
   version = starts_on version b.version (starts b.queue);
+  count = starts_on count b.count (starts b.queue);
 }
 
 -- the version that the run is on that is to start; none starts while a fetch is in progress
@@ -29,28 +30,28 @@ abbrev pub build_to_start : Bool → ℕ → Builds → Option ℕ
 build_to_start fetching version b = if fetching then None
     else option_map (λ (request : List ℕ × Unit {0}). version) (starts b.queue)
 
-abbrev pub start_build : Bool → ℕ → Builds → Builds
-start_build fetching version b = if fetching then b else after_build_start version b
+abbrev pub start_build : Bool → ℕ → ℕ → Builds → Builds
+start_build fetching version count b = if fetching then b else after_build_start version count b
 
--- one run for each workspace, in order; the error stands for those that are missing
-abbrev pub one_each : List ℕ → List ProjectWorkspace → BuildRuns → BuildRuns
-one_each error [] runs = []
-one_each error (workspace ∷ rest) [] = Err error ∷ one_each error rest []
-one_each error (workspace ∷ rest) (run ∷ runs) = run ∷ one_each error rest runs
+-- so many runs, in order; the error stands for those that are missing
+abbrev pub one_each : List ℕ → ℕ → BuildRuns → BuildRuns
+one_each error zero runs = []
+one_each error (suc more) [] = Err error ∷ one_each error more []
+one_each error (suc more) (run ∷ runs) = run ∷ one_each error more runs
 
 abbrev pub missing : List ℕ
 missing = codes "missing"
 
--- a run that failed as a whole is that error for each workspace
-abbrev pub runs_of : Result BuildRuns (List ℕ) → List ProjectWorkspace → BuildRuns
-runs_of (Ok runs) present = one_each missing present runs
-runs_of (Err error) present = one_each error present []
+-- one run for each of so many workspaces; a run that failed as a whole is that error for each
+abbrev pub runs_of : Result BuildRuns (List ℕ) → ℕ → BuildRuns
+runs_of (Ok runs) count = one_each missing count runs
+runs_of (Err error) count = one_each error count []
 
--- what a run made is kept with the version that it was on
-abbrev pub end_build : Result BuildRuns (List ℕ) → List ProjectWorkspace → Builds → Builds
-end_build result present b = record b {
+-- what a run made of each workspace that it was started on is kept with the version that it was on
+abbrev pub end_build : Result BuildRuns (List ℕ) → Builds → Builds
+end_build result b = record b {
   queue = queue_step
-      (Ends (record { version = b.version; runs = runs_of result present })) b.queue;
+      (Ends (record { version = b.version; runs = runs_of result b.count })) b.queue;
 }
 
 -- a saved file asks for build data where what it depends on changed

@@ -1,7 +1,9 @@
 -- How loads of macros are asked for, start and end.
 use Rattle.std.specs.Prelude.{ℕ, Bool, false, if◌then◌else◌, List, [], ◌∷◌, ◌++◌, map, Option, None, Some, option_map}
 use Rattle.std.specs.Prelude.{unwrap_or, Result, Ok, Err, is_ok}
+use Rattle.std.specs.Borrow.{Bor}
 use Rattle.std.specs.FinMap as by_key
+use Rattle.std.specs.Option.{option_copied}
 use Rattle.std.specs.List.{enumerate_from}
 use Rattle.std.specs.Ordering.{nat_cmp}
 use Rattle.op_board.specs.Queue.{starts, after_start}
@@ -54,6 +56,10 @@ state_or_missing told = unwrap_or told (Failed missing)
 -- of several entries for one crate the first holds
 abbrev pub first_told : List (ℕ × MacroState) → ℕ → Option MacroState
 first_told entries number = by_key.find nat_cmp number entries
+
+-- the same, where the entries are lent
+abbrev pub found_in : by_key.FinMap nat_cmp (Bor MacroState) → ℕ → Option MacroState
+found_in rows number = option_copied (by_key.get rows number)
 
 abbrev pub numbered : (ℕ → Option MacroState) → ℕ → ℕ × MacroState
 numbered told number = (number, state_or_missing (told number))

@@ -3,7 +3,6 @@ use Rattle.std.specs.Prelude.{◌≡◌, ℕ, ◌+◌, Bool, true, List, [], ◌
 use Rattle.project_model.specs.declared.build.MacroPath.{MacroPath}
 use Rattle.project_model.specs.declared.crates.CrateData.{CrateData}
 use Rattle.project_model.specs.declared.crates.MacroState.{MacroState}
-use Rattle.project_model.specs.declared.workspace.ProjectWorkspace.{ProjectWorkspace}
 use Rattle.reload.specs.Switch.{BuildRuns}
 use Rattle.workspaces.specs.Builds.{ask_build, build_to_start, start_build, end_build}
 use Rattle.workspaces.specs.Loads.{ask_load, load_to_start, start_load, end_load}
@@ -11,15 +10,15 @@ use Rattle.workspaces.specs.Workspaces.{Builds, no_builds, Loads, no_loads}
 
 pub data BuildAct : Type 0 where
   AsksBuild : List ℕ → BuildAct
-  -- whether a fetch is in progress, and the version of the workspaces
-  StartsBuild : Bool → ℕ → BuildAct
-  -- what was made, and the workspaces
-  EndsBuild : Result BuildRuns (List ℕ) → List ProjectWorkspace → BuildAct
+  -- whether a fetch is in progress, the version of the workspaces, and how many there are
+  StartsBuild : Bool → ℕ → ℕ → BuildAct
+  -- what was made
+  EndsBuild : Result BuildRuns (List ℕ) → BuildAct
 
 abbrev pub build_step : BuildAct → Builds → Builds
 build_step (AsksBuild cause) b = ask_build cause b
-build_step (StartsBuild fetching version) b = start_build fetching version b
-build_step (EndsBuild result present) b = end_build result present b
+build_step (StartsBuild fetching version count) b = start_build fetching version count b
+build_step (EndsBuild result) b = end_build result b
 
 abbrev pub builds_after : List BuildAct → Builds
 builds_after [] = no_builds
@@ -28,26 +27,33 @@ builds_after (act ∷ before) = build_step act (builds_after before)
 -- a run of build data ends only where one is in progress
 abbrev pub IsBuildRun : List BuildAct → Type 0
 IsBuildRun [] = Unit {0}
-IsBuildRun (EndsBuild result present ∷ before) = ((builds_after before).queue.in_progress ≡ true) × IsBuildRun before
+IsBuildRun (EndsBuild result ∷ before) = ((builds_after before).queue.in_progress ≡ true) × IsBuildRun before
 IsBuildRun (act ∷ before) = IsBuildRun before
 
 -- the versions on which runs were started, the last one first
 abbrev pub builds_started : List BuildAct → List ℕ
 builds_started [] = []
-builds_started (StartsBuild fetching version ∷ before) =
+builds_started (StartsBuild fetching version count ∷ before) =
     option_to_list (build_to_start fetching version (builds_after before)) ++ builds_started before
 builds_started (act ∷ before) = builds_started before
 
 -- how many of them ended
 abbrev pub builds_ended : List BuildAct → ℕ
 builds_ended [] = 0
-builds_ended (EndsBuild result present ∷ before) = builds_ended before + 1
+builds_ended (EndsBuild result ∷ before) = builds_ended before + 1
 builds_ended (act ∷ before) = builds_ended before
 
--- the version of the last one that was started
+-- how many workspaces they were started on, the last one first
+abbrev pub counts_started : List BuildAct → List ℕ
+counts_started [] = []
+counts_started (StartsBuild fetching version count ∷ before) =
+    option_to_list (build_to_start fetching count (builds_after before)) ++ counts_started before
+counts_started (act ∷ before) = counts_started before
+
+-- the number of the last one that was started
 abbrev pub last_started : List ℕ → ℕ
 last_started [] = 0
-last_started (version ∷ before) = version
+last_started (last ∷ before) = last
 
 pub data LoadAct : Type 0 where
   AsksLoad : List ℕ → CrateData → List (List (ℕ × MacroPath)) → LoadAct

@@ -22,8 +22,9 @@ pub record Fetches : Type 0 where
 -- runs of build data
 pub record Builds : Type 0 where
   pub queue : Queue (Unit {0}) BuildOutput
-  -- the version of the workspaces on which one was started last
+  -- the version of the workspaces on which one was started last, and how many there were
   pub version : ℕ
+  pub count : ℕ
 
 -- loads of the macros of crates, each of which succeeded or not
 pub record Loads : Type 0 where
@@ -54,7 +55,7 @@ abbrev pub no_fetches : Fetches
 no_fetches = record { queue = new_queue; forced = false; waiting = None }
 
 abbrev pub no_builds : Builds
-no_builds = record { queue = new_queue; version = 0 }
+no_builds = record { queue = new_queue; version = 0; count = 0 }
 
 abbrev pub no_loads : Loads
 no_loads = record { queue = new_queue; waiting = None }
@@ -85,6 +86,7 @@ IsOf present version output = (output.version ≤ version)
 -- build data was run on workspaces that were present
 pub record HasBuilt (builds : Builds) (present : List ProjectWorkspace) (version : ℕ) : Type 0 where
   pub started : builds.version ≤ version
+  pub counted : builds.version ≡ version → builds.count ≡ length present
   pub ended : MatchOption builds.queue.last (Unit {0}) (IsOf present version)
 
 -- no fetch waits for a timer, and none of the three is in progress

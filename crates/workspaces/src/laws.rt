@@ -1,5 +1,5 @@
 // What the calls come to.
-ghost use Rattle.std.specs.Prelude.{◌≡◌, ◌≢◌, ◌⊎◌, ℕ, ◌+◌, Bool, true, false, List, ◌++◌, Some, None, Result, length, map};
+ghost use Rattle.std.specs.Prelude.{◌≡◌, ◌≢◌, ◌⊎◌, ℕ, ◌+◌, Bool, true, false, List, ◌++◌, Some, None, Result, length, map, option_map};
 ghost use Rattle.op_board.specs.QueueRuns.{running};
 ghost use Rattle.project_model.specs.declared.crates.MacroState.{MacroState};
 ghost use Rattle.project_model.specs.declared.workspace.ProjectWorkspace.{ProjectWorkspace};
@@ -10,7 +10,7 @@ ghost use Rattle.workspaces.specs.FetchRuns.{FetchAct, fetches_after, IsFetchRun
 ghost use Rattle.workspaces.specs.FetchRuns.{last_forced};
 ghost use Rattle.workspaces.specs.Fetches.{fetch_to_start, start_fetch, end_fetch, starts_forced, fire};
 ghost use Rattle.workspaces.specs.Loads.{load_to_start, macros_of};
-ghost use Rattle.workspaces.specs.QueueRuns.{BuildAct, builds_after, IsBuildRun, builds_started, builds_ended, last_started, LoadAct, loads_after, IsLoadRun};
+ghost use Rattle.workspaces.specs.QueueRuns.{BuildAct, builds_after, IsBuildRun, builds_started, counts_started, builds_ended, last_started, LoadAct, loads_after, IsLoadRun};
 ghost use Rattle.workspaces.specs.QueueRuns.{loads_started, loads_ended};
 ghost use Rattle.workspaces.specs.Switching.{was_forced, version_built, decided};
 ghost use Rattle.workspaces.specs.Workspaces.{Builds, Fetches, Loads, Workspaces};
@@ -50,11 +50,13 @@ pub fn fetches_come_first()
     ensures load { (l : Loads) → load_to_start true l ≡ None }
 {}
 
-/// What a run of build data made is kept with the version on which it was started, and build data of another version of the
-/// workspaces than the present one is not joined to them.
+/// What a run of build data made is kept with the version on which it was started, one entry for each workspace that there
+/// was then, and build data of another version of the workspaces than the present one is not joined to them.
 pub fn old_build_data_is_not_joined()
-    ensures kept { (run : List BuildAct) (made : Result BuildRuns (List ℕ)) (present : List ProjectWorkspace)
-        → version_built (end_build made present (builds_after run)).queue.last ≡ last_started (builds_started run) }
+    ensures kept { (run : List BuildAct) (made : Result BuildRuns (List ℕ))
+        → version_built (end_build made (builds_after run)).queue.last ≡ last_started (builds_started run) }
+    ensures counted { (run : List BuildAct) (made : Result BuildRuns (List ℕ))
+        → option_map (λ output. length output.runs) (end_build made (builds_after run)).queue.last ≡ Some (last_started (counts_started run)) }
     ensures with_builds { (discover build_scripts : Bool) (w : Workspaces) (made : List ProjectWorkspace) → decided discover build_scripts w ≡ Join made
         → (output : BuildOutput) × (w.builds.queue.last ≡ Some output) × (output.version ≡ w.version) × (made ≡ with_builds output.runs w.present) }
 {
@@ -64,6 +66,6 @@ pub fn old_build_data_is_not_joined()
 /// What is kept of a run of build data has one run for each workspace, and of a load of macros one state for each crate
 /// that was listed, in order.
 pub fn each_has_one_entry()
-    ensures runs { (given : Result BuildRuns (List ℕ)) (present : List ProjectWorkspace) → length (runs_of given present) ≡ length present }
+    ensures runs { (given : Result BuildRuns (List ℕ)) (count : ℕ) → length (runs_of given count) ≡ count }
     ensures macros { (told : Result (List (ℕ × MacroState)) (List ℕ)) (listed : List ℕ) → map (λ entry. entry.0) (macros_of told listed) ≡ listed }
 {}

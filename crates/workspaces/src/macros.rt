@@ -1,10 +1,9 @@
 //! What became of the macros of each crate that was listed.
-ghost use Rattle.std.specs.Prelude.{◌≡◌, ◌<◌, ◌^◌, ◌++◌, length, map, Some, IfOk, OnOk};
-ghost use Rattle.std.specs.FinMap as by_key;
+ghost use Rattle.std.specs.Prelude.{◌≡◌, ℕ, ◌<◌, ◌^◌, ◌++◌, length, map, Some, IfOk, OnOk};
 ghost use Rattle.std.specs.Option.{option_copied};
 ghost use Rattle.project_model.specs.declared.build.MacroPath.{MacroPath};
 ghost use Rattle.project_model.specs.declared.crates.MacroState.TheVariants.{Failed};
-ghost use Rattle.workspaces.specs.Loads.{listed_in, state_or_missing, numbered, macros_of, all_in, unloaded, without_macros};
+ghost use Rattle.workspaces.specs.Loads.{found_in, listed_in, state_or_missing, first_told, numbered, macros_of, all_in, unloaded, without_macros};
 
 use plain::{ByNumber, Items, NoMemory, Text};
 use project_model::{CrateData, CrateInfo, MacroPath, MacroState};
@@ -34,16 +33,26 @@ pub(crate) fn listed_in(
 }
 
 /// What was told of each crate, by its number; of several entries for one crate the first.
-fn by_number(alloc: Global, entries: &[(u32, MacroState)]) -> Result<ByNumber<MacroState>, NoMemory>
-    ensures { IfOk result (λ rows. rows ≡ by_key.from_entries entries.now) }
+fn by_number<'a>(
+    alloc: Global,
+    entries: &'a [(u32, MacroState)],
+) -> Result<ByNumber<&'a MacroState>, NoMemory>
+    ensures { IfOk result (λ rows. (number : ℕ) → found_in rows number ≡ first_told entries.now number) }
 {
     let mut rows = ByNumber::new(alloc);
-    let mut rest = entries;
-    while let Some((last, front)) = rest.split_last() {
-        rows.insert(last.0 as u64, last.1.clone()?)?;
-        rest = front;
+    for entry in entries {
+        rows.insert_new(entry.0 as u64, &entry.1)?;
     }
     Ok(rows)
+}
+
+fn found_in<'a>(rows: &ByNumber<&'a MacroState>, number: u64) -> Option<&'a MacroState>
+    ensures { option_copied result ≡ found_in rows.now number }
+{
+    match rows.get(number) {
+        Some(state) => Some(*state),
+        None => None,
+    }
 }
 
 fn state_or_missing(alloc: Global, told: Option<&MacroState>) -> Result<MacroState, NoMemory>
@@ -57,14 +66,17 @@ fn state_or_missing(alloc: Global, told: Option<&MacroState>) -> Result<MacroSta
 
 fn told_each(
     alloc: Global,
-    rows: &ByNumber<MacroState>,
+    rows: &ByNumber<&MacroState>,
     listed: &[u32],
 ) -> Result<Items<(u32, MacroState)>, NoMemory>
-    ensures { IfOk result (λ macros. macros ≡ map (numbered (by_key.get rows.now)) listed.now) }
+    ensures { IfOk result (λ macros. macros ≡ map (numbered (found_in rows.now)) listed.now) }
 {
     let mut macros = Items::new(alloc);
     for number in listed {
-        macros.push((*number, state_or_missing(alloc, rows.get(*number as u64))?))?;
+        macros.push((
+            *number,
+            state_or_missing(alloc, found_in(rows, *number as u64))?,
+        ))?;
     }
     Ok(macros)
 }

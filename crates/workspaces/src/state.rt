@@ -30,8 +30,9 @@ pub struct Workspaces {
     /// The fetch that waits for a timer.
     planned: Option<WaitingFetch>,
     builds: OpQueue<(), BuildOutput>,
-    /// The version of the workspaces on which build data was started last.
+    /// The version of the workspaces on which build data was started last, and how many there were.
     build_version: u64,
+    build_count: usize,
     loads: OpQueue<LoadRequest, bool>,
     /// The crate data of the load in progress.
     loading: Option<WaitingCrates>,
@@ -55,6 +56,7 @@ impl Drop for Workspaces {
             planned: _,
             builds: _,
             build_version: _,
+            build_count: _,
             loads: _,
             loading: _,
             present: _,
@@ -98,7 +100,7 @@ impl Model for Workspaces {
 
     ghost view = { λ w. record {
       fetches = record { queue = w.fetches; forced = w.forced; waiting = w.planned };
-      builds = record { queue = w.builds; version = w.build_version };
+      builds = record { queue = w.builds; version = w.build_version; count = w.build_count };
       loads = record { queue = w.loads; waiting = w.loading };
       present = arc_value w.present;
       version = w.version;
@@ -109,7 +111,7 @@ impl Model for Workspaces {
       build_deps_changed = w.build_deps_changed;
     } };
 
-    ghost invariant = { λ w. HasBuilt (record { queue = w.builds; version = w.build_version }) (arc_value w.present) w.version };
+    ghost invariant = { λ w. HasBuilt (record { queue = w.builds; version = w.build_version; count = w.build_count }) (arc_value w.present) w.version };
 }
 
 impl Workspaces {
@@ -131,6 +133,7 @@ impl Workspaces {
             planned: None,
             builds: OpQueue::new(),
             build_version: 0,
+            build_count: 0,
             loads: OpQueue::new(),
             loading: None,
             present: Arc::new(alloc, Items::new(alloc))?,

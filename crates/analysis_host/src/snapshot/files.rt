@@ -9,9 +9,11 @@ ghost use Rattle.analysis_host.specs.SnapshotFiles.{IsFile, IsLineIndexOf, besid
 use crate::proto_fault::ProtoFault;
 use crate::snapshot::GlobalStateSnapshot;
 use crate::text_entry::TextEntry;
-use docs_vfs::{EmptySegments, FileExcluded, FileId, UrlFault, VfsPath, path_of_url, url_of_path};
+use docs_vfs::{
+    EmptySegments, FileExcluded, FileId, UrlFault, VfsPath, path_named, path_of_url, url_of_path,
+};
 use plain::{NoMemory, Text};
-use std::alloc::{AllocError, Global};
+use std::alloc::Global;
 use text_core::{LineIndex, TextIndex};
 
 /// Whether there is an entry, of a file that isn't excluded.
@@ -197,10 +199,9 @@ impl GlobalStateSnapshot {
     pub fn url_file_version(&self, alloc: Global, url: &str) -> Result<Option<i32>, NoMemory>
         ensures { IfOk result (λ version. version ≡ named_version self.now (path_of url.now)) }
     {
-        match path_of_url(alloc, url) {
-            Ok(path) => Ok(self.path_version(&path)),
-            Err(UrlFault::NoMemory) => Err(AllocError),
-            Err(UrlFault::NotFile | UrlFault::HasHost | UrlFault::NotText) => Ok(None),
+        match path_named(alloc, url)? {
+            Some(path) => Ok(self.path_version(&path)),
+            None => Ok(None),
         }
     }
 

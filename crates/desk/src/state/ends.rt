@@ -1,11 +1,11 @@
 // What the messages of jobs end of the session's own work.
 ghost use Rattle.std.specs.Prelude.{◌≡◌, IfOk};
-ghost use Rattle.desk.specs.WorkEnds.{build_end, check_end, fetch_end, load_end, value_or_reason, work_end_of};
+ghost use Rattle.desk.specs.WorkEnds.{build_end, check_end, end_in, fetch_end, load_end, value_or_reason, work_end_of};
 
 use docs_vfs::VfsPath;
 use plain::{Items, NoMemory, Text};
 use project_model::{BuildScripts, MacroState, ProjectWorkspace};
-use session_port::{JobKind, JobResult, JobValue};
+use session_port::{JobGroup, JobKind, JobResult, JobValue};
 use std::alloc::Global;
 
 /// What a fetch of workspaces came to: each workspace, found or not; or why there are none at all.
@@ -81,6 +81,22 @@ fn check_end(came: Result<JobValue, Text>) -> Option<WorkEnd>
     }
 }
 
+// What a job of this group ends that came to this.
+fn end_in(group: JobGroup, came: Result<JobValue, Text>) -> Option<WorkEnd>
+    ensures { result ≡ end_in group came }
+{
+    match group {
+        JobGroup::Fetches => fetch_end(came),
+        JobGroup::Builds => build_end(came),
+        JobGroup::Loads => load_end(came),
+        JobGroup::SourceChecks => check_end(came),
+        _ => {
+            drop(came);
+            None
+        }
+    }
+}
+
 // What a job of this kind ends that came to this.
 pub(super) fn work_end(
     alloc: Global,
@@ -90,14 +106,5 @@ pub(super) fn work_end(
     ensures { IfOk result (λ end. end ≡ work_end_of kind.now outcome) }
 {
     let came = value_or_reason(alloc, outcome)?;
-    match kind {
-        JobKind::Request { .. } => {
-            drop(came);
-            Ok(None)
-        }
-        JobKind::ProcMacroSources { .. } => Ok(check_end(came)),
-        JobKind::FetchWorkspaces { .. } => Ok(fetch_end(came)),
-        JobKind::FetchBuildData { .. } => Ok(build_end(came)),
-        JobKind::LoadProcMacros { .. } => Ok(load_end(came)),
-    }
+    Ok(end_in(kind.facts().group, came))
 }

@@ -56,9 +56,7 @@ fn answer_now<A: Analysis>(
     match analysis.query(snapshot, &ask, &mut never)? {
         Outcome::Value(Answer::Json(value)) => Ok(response_with(id, value)),
         Outcome::Fault { code, message } => Ok(fault_reply(id, code, message)),
-        Outcome::Value(Answer::Roots(_) | Answer::Primed) | Outcome::Cancelled { .. } => {
-            unreachable!()
-        }
+        Outcome::Value(_) | Outcome::Cancelled { .. } => unreachable!(),
     }
 }
 

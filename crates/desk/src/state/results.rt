@@ -1,18 +1,20 @@
 // Messages of jobs.
-ghost use Rattle.std.specs.Prelude.{◌≡◌, true, decimal, IfOk, IfSome, MatchOption, None, Result, Some};
+ghost use Rattle.std.specs.Prelude.{◌≡◌, true, decimal, IfOk, IfSome, MatchOption, None, Result, Some, option_copied};
 ghost use Rattle.std.specs.FinMap as map;
 ghost use Rattle.method_table.specs.Rows.{class_of};
-ghost use Rattle.session_port.specs.Jobs.{fits_job, fits_kind, fitting_job, plain_result, ticket_of_job};
+ghost use Rattle.session_port.specs.Jobs.{final_of, fits_kind, fitting_job, plain_result};
+ghost use Rattle.session_port.specs.Kinds.{ticket_of_job};
 ghost use Rattle.lsp_frame.specs.Pending.{id_of};
 ghost use Rattle.session_port.specs.Meets.{Meets, Gives};
 ghost use Rattle.session_port.specs.Working.{Working, logged};
 ghost use Rattle.session_port.specs.Written.{Written};
 ghost use Rattle.session_port.specs.declared.fault.Counter.{Counter};
 ghost use Rattle.desk.specs.Desk.{Desk as DeskData, waiting_for};
-ghost use Rattle.desk.specs.Meaning.{meaning_of};
+ghost use Rattle.desk.specs.Meaning.{meaning_of, Meaning};
 ghost use Rattle.desk.specs.Replies.{stopped_reply};
-ghost use Rattle.desk.specs.Steps.{result_taken, delivered, stopped, responded};
-ghost use Rattle.desk.specs.WorkEnds.{work_end_of, work_ended};
+ghost use Rattle.desk.specs.Scene.{Scene};
+ghost use Rattle.desk.specs.Steps.{result_taken, delivered, stopped, stopped_for, responded};
+ghost use Rattle.desk.specs.WorkEnds.{ended_message, work_end_of, work_ended};
 
 use crate::replies::{finished_reply, stopped_reply};
 use crate::scene::Present;
@@ -20,7 +22,7 @@ use crate::state::Desk;
 use crate::state::ends::{WorkEnd, work_end};
 use analysis_host::{Analysis, RowId};
 use method_table::{class_of, retries};
-use plain::Text;
+use plain::{SharedJson, Text};
 use session_port::{Job, JobKind, JobResult, LogCode, TaskBody, TaskMsg, TurnError, TurnOut};
 
 // The same answer, of what ends none of the session's own work.
@@ -53,8 +55,30 @@ impl Desk {
         self.reply(response, out)
     }
 
-    // A job stopped whose request waits: it is refused, or taken as one that is read now, under the ticket that it has.
-    #[tactic(auto, unfolding(crate::specs::Steps::stopped))]
+    // The job of a request that waits has stopped, whose snapshot had this revision: the request is refused, or taken as one that is read
+    // now, under the ticket that it has.
+    #[tactic(auto, unfolding(crate::specs::Steps::stopped_for))]
+    fn take_again<P: Present, A: Analysis>(
+        &mut self,
+        scene: &P,
+        revision: u64,
+        ticket: u64,
+        row: RowId,
+        params: SharedJson,
+        analysis: &A,
+        out: &mut TurnOut,
+    ) -> Result<(), TurnError>
+        ensures { Meets result (stopped_for (meaning_of A.decodes A.answer) (P.scene scene.now) revision (Some (record { ticket = ticket; row = row; params = params })) (record { state = self.old; out = out.old })) self.new out.new }
+    {
+        if revision < scene.revision() && !retries(row) {
+            drop(params);
+            return self.refuse_stopped(ticket, row, out);
+        }
+        self.on_class(scene, ticket, row, params, analysis, out)
+    }
+
+    // A job stopped whose request waits.
+    #[tactic(auto, unfolding(crate::specs::Steps::stopped_for))]
     fn on_stopped<P: Present, A: Analysis>(
         &mut self,
         scene: &P,
@@ -65,19 +89,23 @@ impl Desk {
         ensures { Meets result (stopped (meaning_of A.decodes A.answer) (P.scene scene.now) job.snapshot.revision job.kind (record { state = self.old; out = out.old })) self.new out.new }
     {
         let Job { kind, snapshot, .. } = job;
-        let is_old = snapshot.revision() < scene.revision();
+        let revision = snapshot.revision();
         drop(snapshot);
         match kind {
             JobKind::Request {
                 ticket,
                 row,
                 params,
+            } => self.take_again(scene, revision, ticket, row, params, analysis, out),
+            JobKind::Part {
+                ticket,
+                part: _part,
+                row,
+                params,
+                files,
             } => {
-                if is_old && !retries(row) {
-                    drop(params);
-                    return self.refuse_stopped(ticket, row, out);
-                }
-                self.on_class(scene, ticket, row, params, analysis, out)
+                drop(files);
+                self.take_again(scene, revision, ticket, row, params, analysis, out)
             }
             kind => {
                 drop(kind);
@@ -122,7 +150,7 @@ impl Desk {
     }
 
     // What a job came to that is off: the result of its request, or the end of the session's own work.
-    #[tactic(auto, unfolding(crate::specs::Steps::delivered))]
+    #[tactic(auto, using(session_port::proofs::Facts::plain_fits, crate::proofs::Slots::ticket_of_slot, crate::proofs::Slots::slot_ends_nothing), unfolding(crate::specs::Steps::delivered))]
     fn take_result<P: Present, A: Analysis>(
         &mut self,
         scene: &P,
@@ -135,13 +163,12 @@ impl Desk {
         ensures meets { Meets result (delivered (meaning_of A.decodes A.answer) (P.scene scene.now) (waiting_for job self.old) job outcome (record { state = self.old; out = out.old })) self.new out.new }
         ensures ends { IfOk result (λ end. end ≡ work_end_of job.kind outcome) }
     {
-        let JobKind::Request { ticket, .. } = &job.kind else {
+        let Some(slot) = job.kind.facts().slot else {
             let end = work_end(self.alloc, &job.kind, outcome);
             drop(job);
             return Ok(end?);
         };
-        let ticket = *ticket;
-        ending_nothing(self.deliver(scene, ticket, job, outcome, analysis, out))
+        ending_nothing(self.deliver(scene, slot.ticket, job, outcome, analysis, out))
     }
 
     // A message of a job that fits none.
@@ -152,21 +179,67 @@ impl Desk {
         self.log(LogCode::StrangeResult, text, out)
     }
 
-    // Takes the job off that a message fits, where it fits one.
-    fn take_fitting(&mut self, message: &TaskMsg) -> Option<Job>
-        ensures value { result ≡ fitting_job message.now self.old.jobs }
-        ensures fits_job { IfSome result (λ job. fits_job job message.now.body ≡ true) }
-        ensures state { MatchOption result (self.new ≡ self.old) (λ _. self.new ≡ record self.old { jobs = map.remove self.old.jobs message.now.job }) }
+    // Takes the job with this number off that this end fits, where it fits one.
+    fn take_ended(&mut self, number: u64, outcome: &JobResult) -> Option<Job>
+        ensures value { result ≡ fitting_job (ended_message number outcome.now) self.old.jobs }
+        ensures fits { IfSome result (λ job. fits_kind job.kind outcome.now ≡ true) }
+        ensures state { MatchOption result (self.new ≡ self.old) (λ _. self.new ≡ record self.old { jobs = map.remove self.old.jobs number }) }
     {
-        let job = self.jobs.get(message.job)?;
-        if !message.body.fits(job) {
+        let job = self.jobs.get(number)?;
+        if !outcome.fits(&job.kind) {
             return None;
         }
-        self.jobs.remove(message.job)
+        self.jobs.remove(number)
+    }
+
+    // An end of a job, and what it ends of the session's own work.
+    #[tactic(auto, unfolding(crate::specs::Steps::job_ended, crate::specs::Steps::brought))]
+    fn on_end<P: Present, A: Analysis>(
+        &mut self,
+        scene: &P,
+        number: u64,
+        outcome: JobResult,
+        analysis: &A,
+        out: &mut TurnOut,
+    ) -> Result<Option<WorkEnd>, TurnError>
+        ensures meets { Meets result (result_taken (meaning_of A.decodes A.answer) (P.scene scene.now) (ended_message number outcome) (record { state = self.old; out = out.old })) self.new out.new }
+        ensures ends { IfOk result (λ end. end ≡ work_ended (ended_message number outcome) self.old.jobs) }
+    {
+        match self.take_ended(number, &outcome) {
+            None => {
+                drop(outcome);
+                self.on_strange(number, out)?;
+                Ok(None)
+            }
+            Some(job) => self.take_result(scene, job, outcome, analysis, out),
+        }
+    }
+
+    // The job out that a message fits, if it fits one.
+    fn fitting(&self, message: &TaskMsg) -> Option<&Job>
+        ensures { option_copied result ≡ fitting_job message.now self.now.jobs }
+    {
+        let job = self.jobs.get(message.job)?;
+        if message.body.fits(job) {
+            Some(job)
+        } else {
+            None
+        }
+    }
+
+    // A message of a job that goes on: it is strange where it fits none.
+    #[tactic(auto, unfolding(crate::specs::Steps::job_ended, crate::specs::Steps::brought))]
+    fn on_going(&mut self, message: &TaskMsg, out: &mut TurnOut) -> Result<(), TurnError>
+        requires { final_of message.now.body ≡ None }
+        ensures { (meaning : Meaning) (scene : Scene) → Meets result (result_taken meaning scene message.now (record { state = self.old; out = out.old })) self.new out.new }
+    {
+        if self.fitting(message).is_some() {
+            return Ok(());
+        }
+        self.on_strange(message.job, out)
     }
 
     /// A message of a job, and what it ends of the session's own work: where it fits a job that is out. After an `Err` the desk is spent.
-    #[tactic(auto, unfolding(crate::specs::Steps::job_ended, crate::specs::Steps::brought))]
     pub fn on_task<P: Present, A: Analysis>(
         &mut self,
         scene: &P,
@@ -177,14 +250,15 @@ impl Desk {
         ensures meets { Meets result (result_taken (meaning_of A.decodes A.answer) (P.scene scene.now) message (record { state = self.old; out = out.old })) self.new out.new }
         ensures ends { IfOk result (λ end. end ≡ work_ended message self.old.jobs) }
     {
-        match self.take_fitting(&message) {
-            None => {
-                self.on_strange(message.job, out)?;
-                Ok(None)
-            }
-            Some(job) => {
-                let TaskBody::Final(outcome) = message.body;
-                self.take_result(scene, job, outcome, analysis, out)
+        match message {
+            TaskMsg {
+                job: number,
+                body: TaskBody::Final(outcome),
+            } => self.on_end(scene, number, outcome, analysis, out),
+            going => {
+                let told = self.on_going(&going, out);
+                drop(going);
+                ending_nothing(told)
             }
         }
     }

@@ -1,6 +1,6 @@
-use inbox::{Entry, HostEnd, ReaderEnd, WorkerEnd, open_inbox};
+use host_fakes::MemorySource;
+use inbox::{Entry, HostEnd, ReadOut, ReaderEnd, Refusal, WorkerEnd, open_inbox};
 use plain::{Bytes, Items};
-use session_peers::MemorySource;
 use std::alloc::Global;
 use std::sync::Wait;
 use std::test::Fail;
@@ -23,27 +23,29 @@ fn take<R: Wait>(rt: &R, host: &mut HostEnd) -> Option<Entry> {
     host.take(rt)
 }
 
+fn wait<R: Wait>(rt: &R, host: &mut HostEnd) -> Entry {
+    host.wait(rt)
+}
+
 fn worker(host: &mut HostEnd) -> Result<WorkerEnd, Fail> {
     Ok(host.worker()?)
 }
 
-fn report<R: Wait>(rt: &R, end: &mut WorkerEnd, number: u64) -> bool {
-    end.report(rt, number).is_ok()
+fn report<R: Wait>(rt: &R, end: &mut WorkerEnd, number: u64) {
+    end.report_surely(rt, number);
 }
 
 fn source(alloc: Global, bytes: &[u8]) -> Result<MemorySource, Fail> {
     Ok(MemorySource::new(alloc, Bytes::from_slice(alloc, bytes)?, Items::new(alloc)))
 }
 
-// Reports each number of a worker, and says whether each found memory.
+// Reports each number of a worker.
 fn report_all<R: Wait>(rt: R, mut end: WorkerEnd, worker: u64) -> bool
 where
     R: Drop,
 {
     for number in 0..EACH {
-        if !report(&rt, &mut end, worker % WORKERS * EACH + number) {
-            return false;
-        }
+        report(&rt, &mut end, worker % WORKERS * EACH + number);
     }
     true
 }
@@ -86,13 +88,9 @@ fn a_million_entries_of_eight_threads_are_taken_once_each(rt: HostRuntime) -> Re
         if left == 0 {
             break;
         }
-        match take(&rt, &mut host) {
-            Some(Entry::Done(number)) => {
-                is_each_once = is_each_once && note(&mut seen, number);
-                left -= 1;
-            }
-            Some(_) => {}
-            None => thread::yield_now(),
+        if let Entry::Done(number) = wait(&rt, &mut host) {
+            is_each_once = is_each_once && note(&mut seen, number);
+            left -= 1;
         }
     }
     for worker in workers {
@@ -114,14 +112,16 @@ fn the_first_entry_tells_the_source(rt: HostRuntime) -> Result<(), Fail> {
     Ok(())
 }
 
-// The bytes and the last entry that a reader posts of a source.
+// The bytes and the last entry that a reader posts of a source, and how many bytes it says that it posted.
 fn read<R: Wait>(
     rt: &R,
     alloc: Global,
     source: MemorySource,
-) -> Result<(Vec<u8>, Option<Entry>), Fail> {
+) -> Result<(Vec<u8>, Option<Entry>, u64), Fail> {
     let (mut host, reader) = open_inbox(rt, alloc, &source)?;
-    let _reader = reader.read_all(rt, alloc, source);
+    let refusal = Refusal::new(alloc)?;
+    let ReadOut { end, posted, .. } = reader.read_all(rt, alloc, source, &refusal);
+    drop(end);
     let mut bytes = Vec::new(alloc);
     let mut last = None;
     for _ in 0..100 {
@@ -131,7 +131,7 @@ fn read<R: Wait>(
             None => break,
         }
     }
-    Ok((bytes, last))
+    Ok((bytes, last, posted))
 }
 
 #[test]
@@ -139,12 +139,13 @@ fn a_reader_posts_all_bytes_and_then_the_end(rt: HostRuntime) -> Result<(), Fail
     let alloc = rt.alloc();
     for length in [0, 1, 65_536, 65_537, 200_000] {
         let text = Bytes::from_vec(vec![in alloc; b'x'; length]?);
-        let (bytes, last) = read(
+        let (bytes, last, posted) = read(
             &rt,
             alloc,
             MemorySource::new(alloc, text, Items::new(alloc)),
         )?;
         assert_eq!(rt; bytes.len(), length);
+        assert_eq!(rt; posted, length as u64);
         assert!(rt; matches!(last, Some(Entry::Ended)), "{length}");
     }
     Ok(())
@@ -156,8 +157,9 @@ fn a_reader_posts_a_failure_last(rt: HostRuntime) -> Result<(), Fail> {
     let mut fails = Items::new(alloc);
     fails.push(2)?;
     let source = MemorySource::new(alloc, Bytes::from_vec(vec![in alloc; 7; 70_000]?), fails);
-    let (bytes, last) = read(&rt, alloc, source)?;
+    let (bytes, last, posted) = read(&rt, alloc, source)?;
     assert_eq!(rt; bytes.len(), 65_536);
+    assert_eq!(rt; posted, 65_536);
     assert!(rt; matches!(last, Some(Entry::Failed(_))));
     Ok(())
 }

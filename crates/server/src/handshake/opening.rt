@@ -154,9 +154,12 @@ fn take_event<H: Host<A>, A: Analysis>(talk: &mut Talk, host: &mut H) -> Result<
         HostEvent::Ended => Err(SessionError::ClientExited),
         HostEvent::Tasks(_) => Ok(()),
         HostEvent::Vfs(_) => Ok(()),
+        HostEvent::Flycheck(_) => Ok(()),
+        HostEvent::TestResult(_) => Ok(()),
+        HostEvent::DiscoverProject(_) => Ok(()),
         HostEvent::DeferredTask(_) => Ok(()),
         HostEvent::Timer(_) => Ok(()),
-        HostEvent::Bytes(bytes) => feed(&mut talk.reader, &bytes),
+        HostEvent::Bytes(bytes) => feed(&mut talk.reader, bytes),
     }
 }
 

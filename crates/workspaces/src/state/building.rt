@@ -1,5 +1,5 @@
 // Runs of build data.
-ghost use Rattle.std.specs.Prelude.{◌≡◌, true, is_some, IfOk, OnOk, OnErr};
+ghost use Rattle.std.specs.Prelude.{◌≡◌, true, length, is_some, IfOk, OnOk, OnErr};
 ghost use Rattle.std.specs.Option.{option_copied};
 ghost use Rattle.reload.specs.Errors.{build_error};
 ghost use Rattle.workspaces.specs.Builds.{ask_build, build_to_start, start_build, end_build, rebuild, rebuild_macros, reload};
@@ -81,7 +81,7 @@ impl Workspaces {
     /// of the workspaces that it is on.
     pub fn start_build(&mut self) -> Option<u64>
         ensures value { result ≡ build_to_start self.old.fetches.queue.in_progress self.old.version self.old.builds }
-        ensures after { self.new ≡ record self.old { builds = start_build self.old.fetches.queue.in_progress self.old.version self.old.builds } }
+        ensures after { self.new ≡ record self.old { builds = start_build self.old.fetches.queue.in_progress self.old.version (length self.old.present) self.old.builds } }
     {
         if self.fetches.op_in_progress() {
             return None;
@@ -90,22 +90,23 @@ impl Workspaces {
             None => None,
             Some(_) => {
                 self.build_version = self.version;
+                self.build_count = self.present.len();
                 Some(self.version)
             }
         }
     }
 
-    /// Keeps what the run of build data in progress made of each present workspace, or why it failed as a whole. A
-    /// switch is wanted.
+    /// Keeps what the run of build data in progress made of each workspace that it was started on, or why it failed as a
+    /// whole. A switch is wanted.
     pub fn end_build(
         &mut self,
         made: Result<Items<Result<BuildScripts, Text>>, Text>,
     ) -> Result<(), NoMemory>
         requires { self.old.builds.queue.in_progress ≡ true }
-        ensures ok { OnOk result (self.new ≡ record self.old { builds = end_build made self.old.present self.old.builds; switch_wanted = true }) }
+        ensures ok { OnOk result (self.new ≡ record self.old { builds = end_build made self.old.builds; switch_wanted = true }) }
         ensures err { OnErr result (self.new ≡ self.old) }
     {
-        let runs = runs_of(self.alloc, made, self.present.as_slice())?;
+        let runs = runs_of(self.alloc, made, self.build_count)?;
         self.builds.op_completed(BuildOutput {
             version: self.build_version,
             runs,

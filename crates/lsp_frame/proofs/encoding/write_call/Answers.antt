@@ -14,7 +14,7 @@ write_some-requires c = c.params_json.ensures.writable c.requires
 
 pub returns-clause-text : goal.returns-clause-text
 returns-clause-text c =
-    call_written c.args.into.now.items _ _ _ c.args.method (params_data c.args.params)
-    (c.in_ok-write_value.ensures.text ∙ ap (λ d. c.args.into.now.items ++ (codes "\"jsonrpc\":\"2.0\",\"method\":" ++ compact_text d)) c.from_text.ensures)
-    (c.in_ok-write_some.ensures.text ∙ ap (λ o. c.write_value.new.into.items ++ some_text (codes ",\"params\":") o) c.params_json.ensures.value)
-    c.in_ok-extend_from_slice.ensures.items
+    call_written c.args.into.now _ _ _ c.args.method (params_data c.args.params)
+    (c.in_ok-write_value.ensures.text ∙ ap (λ d. c.args.into.now ++ (codes "\"jsonrpc\":\"2.0\",\"method\":" ++ compact_text d)) c.from_text.ensures)
+    (c.in_ok-write_some.ensures.text ∙ ap (λ o. c.write_value.new.into ++ some_text (codes ",\"params\":") o) c.params_json.ensures.value)
+    c.in_ok-extend_from_slice.ensures

@@ -21,11 +21,11 @@ pub returns-clause-text : goal.returns-clause-text
 returns-clause-text c =
     let e = c.args.error in
     let code : to_z w32 (of_z w32 e.code) ≡ e.code = grind (arith, to_z-of_z) in
-    fault_written c.args.into.now.items _ _ _ _ e.message (number (of_integer e.code)) e.extra
-    (c.in_ok-write_value.ensures.text ∙ ap (λ d. c.args.into.now.items ++ (codes "{\"code\":" ++ compact_text d)) (c.from_i32.ensures.value ∙ ap (λ z. number (of_integer z)) code))
+    fault_written c.args.into.now _ _ _ _ e.message (number (of_integer e.code)) e.extra
+    (c.in_ok-write_value.ensures.text ∙ ap (λ d. c.args.into.now ++ (codes "{\"code\":" ++ compact_text d)) (c.from_i32.ensures.value ∙ ap (λ z. number (of_integer z)) code))
     c.in_ok-write_some.ensures.text
-    (c.in_ok-write_value-2.ensures.text ∙ ap (λ d. c.write_some.new.into.items ++ (codes ",\"message\":" ++ compact_text d)) c.from_text.ensures)
-    c.in_ok-extend_from_slice.ensures.items
+    (c.in_ok-write_value-2.ensures.text ∙ ap (λ d. c.write_some.new.into ++ (codes ",\"message\":" ++ compact_text d)) c.from_text.ensures)
+    c.in_ok-extend_from_slice.ensures
 
 pub returns-clause-exact : goal.returns-clause-exact
 returns-clause-exact c =

@@ -6,7 +6,7 @@ pub returns-clause-text : goal.returns-clause-text
 unfolding data_of
 returns-clause-text c =
     let n = c.args.notification in
-    notice_written c.args.into.now.items _ _ n.method (params_data n.params) c.in_ok-extend_from_slice.ensures.items c.in_ok-write_call.ensures.text
+    notice_written c.args.into.now _ _ n.method (params_data n.params) c.in_ok-extend_from_slice.ensures c.in_ok-write_call.ensures.text
 
 pub returns-clause-exact : goal.returns-clause-exact
 unfolding data_of

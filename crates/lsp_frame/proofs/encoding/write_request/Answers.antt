@@ -6,8 +6,8 @@ pub returns-clause-text : goal.returns-clause-text
 unfolding data_of
 returns-clause-text c =
     let r = c.args.request in
-    asking_written c.args.into.now.items _ _ _ r.method (id_data r.id) (params_data r.params)
-    c.in_ok-write_id.ensures.text c.in_ok-extend_from_slice.ensures.items c.in_ok-write_call.ensures.text
+    asking_written c.args.into.now _ _ _ r.method (id_data r.id) (params_data r.params)
+    c.in_ok-write_id.ensures.text c.in_ok-extend_from_slice.ensures c.in_ok-write_call.ensures.text
 
 pub returns-clause-exact : goal.returns-clause-exact
 unfolding data_of

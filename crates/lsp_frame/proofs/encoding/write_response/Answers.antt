@@ -7,10 +7,10 @@ pub returns-clause-text : goal.returns-clause-text
 unfolding data_of
 returns-clause-text c =
     let r = c.args.response in
-    reply_written c.args.into.now.items _ _ _ _ _ _ (optional_id_data r.id) r.result (option_map error_data r.error)
-    c.in_ok-extend_from_slice.ensures.items c.in_ok-write_first_error.ensures.text
+    reply_written c.args.into.now _ _ _ _ _ _ (optional_id_data r.id) r.result (option_map error_data r.error)
+    c.in_ok-extend_from_slice.ensures c.in_ok-write_first_error.ensures.text
     c.in_ok-write_optional_id.ensures.text
-    c.in_ok-extend_from_slice-2.ensures.items c.in_ok-write_some.ensures.text c.in_ok-extend_from_slice-3.ensures.items
+    c.in_ok-extend_from_slice-2.ensures c.in_ok-write_some.ensures.text c.in_ok-extend_from_slice-3.ensures
 
 pub returns-clause-exact : goal.returns-clause-exact
 unfolding data_of

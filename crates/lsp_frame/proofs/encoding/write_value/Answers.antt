@@ -25,7 +25,7 @@ returns-clause-exact c =
 pub returns-clause-text : goal.returns-clause-text
 returns-clause-text c =
     let is = c.in_ok-text.ensures.text (ap has_float c.as_value.ensures ∙ c.requires.no_float) ∙ ap compact_text c.as_value.ensures in
-    c.in_ok-extend_from_slice-2.ensures.items
-    ∙ ap (λ s. s ++ c.deref.result.now) c.in_ok-extend_from_slice.ensures.items
-    ∙ append_assoc c.args.into.now.items c.args.before.now c.deref.result.now
-    ∙ ap (λ s. c.args.into.now.items ++ (c.args.before.now ++ s)) (c.deref.ensures.value ∙ is)
+    c.in_ok-push.ensures
+    ∙ ap (λ s. s ++ c.in_ok-text.text.items) c.in_ok-extend_from_slice.ensures
+    ∙ append_assoc c.args.into.now c.args.before.now c.in_ok-text.text.items
+    ∙ ap (λ s. c.args.into.now ++ (c.args.before.now ++ s)) is

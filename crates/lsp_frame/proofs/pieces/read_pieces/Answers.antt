@@ -18,7 +18,7 @@ pub loop-piece-preserved : goal.loop-piece-preserved
 loop-piece-preserved c =
     let end = rw c.in_default.is at c.in_ok-fault.ensures.end in
     record {
-      follows = Follows-piece _ _ _ _ _ _ _ _ _ _ c.loop-piece-test.true c.piece-item.is c.deref.ensures.value c.loop-piece.invariant.sound c.in_ok-feed.ensures.ok
+      follows = Follows-piece _ _ _ _ _ _ _ _ _ _ c.loop-piece-test.true c.piece-item.is c.deref.ensures.value c.loop-piece.invariant.sound c.in_ok-feed.ensures
           c.in_ok-fault.ensures.reading c.in_ok-fault.ensures.counted c.loop-piece.invariant.follows;
       sound = end.1;
       waits = end.0;
@@ -26,7 +26,7 @@ loop-piece-preserved c =
 
 pub returns-in-Some : goal.returns-in-Some
 returns-in-Some c =
-    let follows = Follows-piece _ _ _ _ c.take_messages.new.reader _ _ _ _ _ c.loop-piece-test.true c.piece-item.is c.deref.ensures.value c.loop-piece.invariant.sound c.in_ok-feed.ensures.ok
+    let follows = Follows-piece _ _ _ _ c.take_messages.new.reader _ _ _ _ _ c.loop-piece-test.true c.piece-item.is c.deref.ensures.value c.loop-piece.invariant.sound c.in_ok-feed.ensures
     c.in_ok-fault.ensures.reading c.in_ok-fault.ensures.counted c.loop-piece.invariant.follows in
     Follows-fault _ c.take_messages.new.reader _ _ _ (rw c.in-Some.is at c.in_ok-fault.ensures.end) follows
 

@@ -1,6 +1,6 @@
 use Rattle.std.proofs.Common.{rules, ap, ◌∙◌}
 use Rattle.plain.proofs.Stable.{sorted_by_key}
-use Rattle.op_board.specs.declared.diagnostic.Diagnostic.{Diagnostic}
+use Rattle.lsp_types.specs.declared.diagnostic.Diagnostic.{Diagnostic}
 use Rattle.op_board.specs.Diagnostics.{in_order}
 use Rattle.op_board.proofs.RangeOrder.{range_total}
 use Rattle.op_board.proofs.diagnostic.sort.Goals as goal

@@ -1,17 +1,28 @@
-use Rattle.std.proofs.Common.{ℕ, List, sym, ap, ◌∙◌}
+use Rattle.std.proofs.Common.{◌++◌, ◌∷◌, [], take, sym, ap, ◌∙◌}
+use Rattle.std.specs.Cmp.{nat_cmp_total}
 use Rattle.std.specs.FinMap as by_key
+use Rattle.std.specs.Option.{option_copied}
 use Rattle.std.specs.Ordering.{nat_cmp}
-use Rattle.project_model.specs.declared.build.MacroPath.{MacroPath}
-use Rattle.reload.proofs.Pushed.{cut_last}
+use Rattle.std.proofs.lemmas.List.{take_more, take_all}
+use Rattle.plain.proofs.Mapped.{first-more}
 use Rattle.reload.proofs.macro_paths.by_index.Goals as goal
 
-pub loop-last-preserved : goal.loop-last-preserved
-loop-last-preserved c =
-    let kept = c.loop-last.invariant in
-    let last = c.in-Some.last.now in
-    let parts = cut_last c.args.built.now c.loop-last.rest.now c.in-Some.front.now last kept.1 c.in-Some.ensures.cases.0 in (
-      c.in_ok-insert.ensures.ok ∙ ap (λ path. by_key.insert c.loop-last.rows last.0 path) c.in_ok-clone.ensures.cases
-          ∙ ap (λ rows. by_key.insert rows last.0 last.1) kept.0
-          ∙ ap (λ (es : List (ℕ × MacroPath)). by_key.from_entries {R = nat_cmp} es) (sym parts.0),
-      parts.1,
-    )
+pub loop-entry-init : goal.loop-entry-init
+loop-entry-init c = λ index.
+    ap (λ m. option_copied (by_key.get m index)) c.new-rows.ensures ∙ ap option_copied (by_key.get-empty nat_cmp index)
+
+pub loop-entry-preserved : goal.loop-entry-preserved
+loop-entry-preserved c = λ index.
+    let at = c.loop-entry.entry-index in
+    let built = c.args.built.now in
+    let entry = c.entry-item.result in
+    let before = take at built in
+    let more = take_more built at entry c.loop-entry-test.true ∙ ap (λ y. before ++ y ∷ []) (sym c.entry-item.is) in
+    first-more nat_cmp_total by_key.nat_cmp-IsAntisymmetric c.loop-entry.rows c.insert_new.new.self before entry.0 _ c.in_ok-insert_new.ensures.ok
+    c.loop-entry.invariant index
+    ∙ ap (by_key.find nat_cmp index) (sym more)
+
+pub returns : goal.returns
+returns c = λ index.
+    c.loop-entry.invariant index
+    ∙ ap (by_key.find nat_cmp index) (take_all c.loop-entry.entry-index c.args.built.now c.loop-entry-test.false)

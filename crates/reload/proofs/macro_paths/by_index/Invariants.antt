@@ -1,11 +1,9 @@
-use Rattle.std.proofs.Common.{◌≡◌, length, drop, take}
+use Rattle.std.proofs.Common.{◌≡◌, ℕ, take}
 use Rattle.std.specs.FinMap as by_key
+use Rattle.std.specs.Ordering.{nat_cmp}
+use Rattle.reload.specs.Graph.{found_in}
 use Rattle.reload.proofs.macro_paths.by_index.Given as goal
 
--- the rows are those of the entries behind the rest
-abbrev pub invariant-loop-last : goal.invariant-loop-last
-invariant-loop-last l =
-    (l.rows ≡ by_key.from_entries (drop (length l.rest) l.built)) × (l.rest ≡ take (length l.rest) l.built)
-
-abbrev pub decreases-loop-last : goal.decreases-loop-last
-decreases-loop-last l = length l.rest
+-- what is found is the first among the entries so far
+abbrev pub invariant-loop-entry : goal.invariant-loop-entry
+invariant-loop-entry l = (index : ℕ) → found_in l.rows index ≡ by_key.find nat_cmp index (take l.entry-index l.built)

@@ -1,8 +1,8 @@
-use Rattle.std.proofs.Common.{◌≡◌, ◌++◌, drop}
+use Rattle.std.proofs.Common.{◌≡◌, ◌-◌, ◌++◌}
 use Rattle.std.specs.Vec.Iter.{into_iter_items}
 use Rattle.workspaces.specs.Builds.{one_each}
 use Rattle.workspaces.proofs.runs.one_each.Given as goal
 
-abbrev pub invariant-loop-workspace : goal.invariant-loop-workspace
-invariant-loop-workspace l =
-    l.list ++ one_each l.error (drop l._workspace-index l.present) (into_iter_items l.given) ≡ one_each l.error l.present l.fn.runs
+-- what is made so far, and what is still to be made of the rest
+abbrev pub invariant-loop : goal.invariant-loop
+invariant-loop l = l.list ++ one_each l.error (l.count - l.counter) (into_iter_items l.given) ≡ one_each l.error l.count l.fn.runs

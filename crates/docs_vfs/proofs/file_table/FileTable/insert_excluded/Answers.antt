@@ -1,6 +1,6 @@
 use Rattle.std.proofs.Common.{Ok, sym, ap, subst, ◌∙◌, arith}
 use Rattle.docs_vfs.specs.Files.{Files, mark_in, put_in}
-use Rattle.docs_vfs.specs.declared.file_kinds.Kept.TheVariants.{Excluded}
+use Rattle.docs_vfs.specs.declared.file_kinds.RowState.TheVariants.{Excluded}
 use Rattle.docs_vfs.specs.FileLaws.{IsNumbered}
 use Rattle.docs_vfs.proofs.TableLemmas.{lent, stays_same, mark_made, mark_numbered, mark_first}
 use Rattle.docs_vfs.proofs.file_table.FileTable.insert_excluded.Goals.{in-None+in_ok-put_new-in-None, in-Some+in_ok-mark_row-in-Some}

@@ -7,5 +7,5 @@ pub invariant_of-self-2 : goal.invariant_of-self-2
 invariant_of-self-2 c =
     let place = ap (λ (r : Reader). r.place) c.self.view_is in
     let held = ap (λ (r : Reader). length r.held) c.self.view_is in
-    let fits : c.self.inside.place + length c.self.inside.held + length c.args.bytes.now < 2 ^ 64 = omega (arith, c.requires, place, held) in
-    rw c.in_ok-feed.ensures.ok (IsKept-more _ _ c.args.bytes.now _ _ _ c.if-self.false fits c.self.invariant)
+    let fits : c.self.inside.place + length c.self.inside.held + length c.args.bytes < 2 ^ 64 = omega (arith, c.requires, place, held) in
+    rw c.in_ok-feed.ensures.ok (IsKept-more _ _ c.args.bytes _ _ _ c.if-self.false fits c.self.invariant)

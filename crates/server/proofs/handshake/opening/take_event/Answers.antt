@@ -4,10 +4,12 @@ use Rattle.session_port.specs.Record.{after_event}
 use Rattle.session_port.specs.declared.fault.Counter.TheVariants.{Turns}
 use Rattle.session_laws.specs.SessionError.TheVariants.{Exhausted}
 use Rattle.session_port.specs.declared.event.HostEvent.TheVariants.{Bytes, Tasks, Ended, Vfs, DeferredTask, Timer}
+use Rattle.session_port.specs.declared.event.HostEvent.TheVariants.{Flycheck, TestResult, DiscoverProject}
+use Rattle.session_laws.specs.News.TheVariants as news
 use Rattle.session_laws.proofs.Courses.{course-event, course-waits}
 use Rattle.server.proofs.Folds.{telling-events, telling-same}
 use Rattle.server.proofs.Idle.{batch-none}
-use Rattle.server.proofs.Stretches.{advances-feed, breaks-here, goes-deferred, goes-loader, goes-tasks, goes-timer}
+use Rattle.server.proofs.Stretches.{advances-feed, breaks-here, goes-deferred, goes-loader, goes-news, goes-tasks, goes-timer}
 use Rattle.server.proofs.handshake.opening.take_event.Goals as goal
 
 pub returns-then-talk-clause-event : goal.returns-then-talk-clause-event
@@ -52,6 +54,30 @@ returns-in-Vfs-clause-event g c =
     let room : c.args.talk.now.events < 2 ^ 64 - 1 = omega arith in
     λ setup turns. goes-loader setup c.args.talk.now _ _ c.requires.waits c.requires.sound c.requires.in_step c.requires.fits room c.in-Vfs.field-0 _ refl
     (telling-events (Vfs c.in-Vfs.field-0 ∷ []) _ _ (grind (arith, common_steps, h)) refl)
+
+pub returns-in-Flycheck-clause-event : goal.returns-in-Flycheck-clause-event
+returns-in-Flycheck-clause-event g c =
+    let h = c.in-Ok.ensures in
+    let room : c.args.talk.now.events < 2 ^ 64 - 1 = omega arith in
+    λ setup turns. goes-news setup c.args.talk.now _ _ c.requires.waits c.requires.sound c.requires.in_step c.requires.fits room
+    (news.Flycheck c.in-Flycheck.field-0) _ refl
+    (telling-events (Flycheck c.in-Flycheck.field-0 ∷ []) _ _ (grind (arith, common_steps, h)) refl)
+
+pub returns-in-TestResult-clause-event : goal.returns-in-TestResult-clause-event
+returns-in-TestResult-clause-event g c =
+    let h = c.in-Ok.ensures in
+    let room : c.args.talk.now.events < 2 ^ 64 - 1 = omega arith in
+    λ setup turns. goes-news setup c.args.talk.now _ _ c.requires.waits c.requires.sound c.requires.in_step c.requires.fits room
+    (news.TestResult c.in-TestResult.field-0) _ refl
+    (telling-events (TestResult c.in-TestResult.field-0 ∷ []) _ _ (grind (arith, common_steps, h)) refl)
+
+pub returns-in-DiscoverProject-clause-event : goal.returns-in-DiscoverProject-clause-event
+returns-in-DiscoverProject-clause-event g c =
+    let h = c.in-Ok.ensures in
+    let room : c.args.talk.now.events < 2 ^ 64 - 1 = omega arith in
+    λ setup turns. goes-news setup c.args.talk.now _ _ c.requires.waits c.requires.sound c.requires.in_step c.requires.fits room
+    (news.DiscoverProject c.in-DiscoverProject.field-0) _ refl
+    (telling-events (DiscoverProject c.in-DiscoverProject.field-0 ∷ []) _ _ (grind (arith, common_steps, h)) refl)
 
 pub returns-in-DeferredTask-clause-idle : goal.returns-in-DeferredTask-clause-idle
 returns-in-DeferredTask-clause-idle g c = c.in-Ok.ensures.out ∙ (λ i. after_event (c.in-DeferredTask.is i) (c.requires.idle i))

@@ -1,0 +1,4 @@
+pub mod Memory
+pub mod Null
+pub mod Codes
+pub mod Script

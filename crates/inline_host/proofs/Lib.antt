@@ -1,0 +1,5 @@
+pub mod Answering
+pub mod Pieces
+pub mod FirstPieces
+pub mod Fitting
+pub mod Rising

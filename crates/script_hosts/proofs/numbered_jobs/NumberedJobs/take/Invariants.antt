@@ -1,9 +1,0 @@
-use Rattle.std.proofs.Common.{◌≡◌, drop}
-use Rattle.session_port.specs.Record.{after_order, last_number, spawned}
-use Rattle.script_hosts.proofs.numbered_jobs.NumberedJobs.take.Given as goal
-
-abbrev pub invariant-loop-command : goal.invariant-loop-command
-invariant-loop-command l = record {
-  out : after_order (drop l.command-index l.commands) l.self.out ≡ after_order l.commands l.fn.self.out;
-  handed : last_number l.self.handed (spawned (drop l.command-index l.commands)) ≡ last_number l.fn.self.handed (spawned l.commands);
-}

@@ -1,7 +1,0 @@
-use Rattle.std.proofs.Common.{drop}
-use Rattle.script_hosts.specs.Script.{left_out}
-use Rattle.script_hosts.proofs.Scripts.{Continues}
-use Rattle.script_hosts.proofs.script.results_at.Given as goal
-
-abbrev pub invariant-loop-number : goal.invariant-loop-number
-invariant-loop-number g l = Continues g.A.Analysis.answer l.numbers l.out l.batch.items (drop l.number-index l.numbers) (left_out l.out l.done)

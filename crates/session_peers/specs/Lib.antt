@@ -1,9 +1,0 @@
-pub mod Calls
-pub mod Codes
-pub mod Coming
-pub mod Framed
-pub mod Inline
-pub mod Memory
-pub mod Null
-pub mod Orders
-pub mod Results
