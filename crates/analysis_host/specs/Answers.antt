@@ -11,12 +11,12 @@ use Rattle.analysis_host.specs.declared.ask.Outcome.{Outcome}
 use Rattle.analysis_host.specs.declared.ask.Outcome.TheVariants.{Value, Fault, Cancelled}
 
 -- an answer, or why there is none
-pub data Finding : Type 0 where
-  answer : Answer → Finding
-  fault : Option ℤ → List ℕ → Finding
+pub data OutcomeSpec : Type 0 where
+  answer : Answer → OutcomeSpec
+  fault : Option ℤ → List ℕ → OutcomeSpec
 
 -- a query says what the question comes to, or that the number held was seen
-abbrev pub Answers : Finding → Option ℕ → Outcome → Type 0
+abbrev pub Answers : OutcomeSpec → Option ℕ → Outcome → Type 0
 Answers finding held (Value value) = finding ≡ answer value
 Answers finding held (Fault code message) = finding ≡ fault code message
 Answers finding held (Cancelled saw) = held ≡ Some saw

@@ -2,7 +2,7 @@
 ghost use Rattle.std.specs.Prelude.{◌≡◌, ◌≤◌, Bool, true, None, IfOk, OnOk};
 ghost use Rattle.plain.specs.Plain.{is_plain};
 ghost use Rattle.serde_json.specs.Data.{Data, object};
-ghost use Rattle.analysis_host.specs.Answers.{Finding, Answers, IsOutcomeOf};
+ghost use Rattle.analysis_host.specs.Answers.{OutcomeSpec, Answers, IsOutcomeOf};
 ghost use Rattle.analysis_host.specs.Polls.{HasPolled};
 ghost use Rattle.analysis_host.specs.SnapshotData.{SnapshotData};
 ghost use Rattle.analysis_host.specs.declared.ask.Ask.{Ask};
@@ -24,7 +24,7 @@ pub trait Analysis: Drop {
     ghost decodes: { RowId → Data → Bool };
 
     /// What a question on a snapshot comes to.
-    ghost answer: { SnapshotData → Ask → Finding };
+    ghost answer: { SnapshotData → Ask → OutcomeSpec };
 
     /// What the server says of itself.
     ghost server_info: { ServerInfo };
@@ -47,7 +47,7 @@ pub trait Analysis: Drop {
         cancel: &mut C,
     ) -> Result<Outcome, AllocError>
         requires floor { snapshot.now.revision ≤ C.floor cancel.old }
-        requires fresh { C.held cancel.old ≡ None }
+        requires usable { C.held cancel.old ≡ None }
 
         // The answer or the fault of this question; cancelled only with the number that a poll of this call gave.
         ensures answers { IfOk result (Answers (answer snapshot.now ask.now) (C.held cancel.new)) }

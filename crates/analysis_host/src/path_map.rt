@@ -6,7 +6,7 @@ ghost use Rattle.shared_map.specs.Costs.{IsQuick};
 
 use crate::text_entry::TextEntry;
 use docs_vfs::VfsPath;
-use plain::Copied;
+use plain::ExactClone;
 use shared_map::{SharedMap, Steps};
 use std::alloc::{AllocError, Global};
 use std::marker::Model;
@@ -69,7 +69,7 @@ impl<V> PathMap<V> {
         steps: &mut Steps<L>,
     ) -> Result<PathMap<V>, AllocError>
     where
-        V: Copied + Drop,
+        V: ExactClone + Drop,
         ensures ok { IfOk result (λ new. new ≡ set_in_map self.now path value) }
         ensures cost { IsQuick (map.len self.now) steps.old steps.new }
     {
@@ -97,7 +97,7 @@ impl<V> PathMap<V> {
         steps: &mut Steps<L>,
     ) -> Result<(), AllocError>
     where
-        V: Copied + Drop,
+        V: ExactClone + Drop,
         ensures ok { OnOk result (self.new ≡ set_in_map self.old path value) }
         ensures err { OnErr result (self.new ≡ map.empty) }
         ensures cost { IsQuick (map.len self.old) steps.old steps.new }
@@ -118,6 +118,6 @@ impl<V: Drop> Clone for PathMap<V> {
     }
 }
 
-impl<V: Drop> Copied for PathMap<V> {
+impl<V: Drop> ExactClone for PathMap<V> {
     ghost copies = { λ x y h. h };
 }

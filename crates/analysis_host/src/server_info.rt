@@ -3,7 +3,7 @@ ghost use Rattle.std.specs.Prelude.{◌≡◌, IfOk};
 ghost use Rattle.serde_json.specs.Data.{no_members};
 ghost use Rattle.analysis_host.specs.declared.server_info.ServerInfo.{ServerInfo as InfoData};
 
-use plain::{Members, Text};
+use plain::{JsonObject, Text};
 use std::alloc::{AllocError, Global};
 
 /// What a server says of itself to a client that begins (LSP 3.17, InitializeResult).
@@ -13,7 +13,7 @@ pub struct ServerInfo {
     pub version: Text,
     /// What it can do beside what the session announces: the members of an object, as `hoverProvider`. Where one has a
     /// name that the session announces, as `positionEncoding`, the session's stays.
-    pub capabilities: Members,
+    pub capabilities: JsonObject,
 }
 
 impl ServerInfo {
@@ -25,7 +25,7 @@ impl ServerInfo {
         Ok(ServerInfo {
             name: Text::from_str(alloc, name)?,
             version: Text::from_str(alloc, version)?,
-            capabilities: Members::new(alloc),
+            capabilities: JsonObject::new(alloc),
         })
     }
 }

@@ -10,7 +10,7 @@ use crate::world::World;
 use docs_vfs::{SourceRoots, VfsPath};
 use file_ids::FileIds;
 use op_board::CheckFix;
-use plain::{Copied, Items, NoMemory};
+use plain::{ExactClone, Items, NoMemory};
 use project_model::{
     CrateData, PackageSpecifier, ProjectWorkspace, TargetSpec,
     all_workspace_dependencies_for_package, target_spec_for_file,
@@ -198,6 +198,6 @@ impl Clone for GlobalStateSnapshot {
     }
 }
 
-impl Copied for GlobalStateSnapshot {
+impl ExactClone for GlobalStateSnapshot {
     ghost copies = { λ x y h. h };
 }

@@ -2,7 +2,7 @@
 ghost use Rattle.std.specs.Prelude.{◌≡◌};
 ghost use Rattle.std.proofs.Common.{rules};
 
-use plain::Copied;
+use plain::ExactClone;
 use text_core::{LineEndings, SharedText};
 
 /// A file's text, and how its lines ended before it was normalised. Its clones share the text and the index of its lines.
@@ -21,6 +21,6 @@ impl Drop for TextEntry {
     }
 }
 
-impl Copied for TextEntry {
+impl ExactClone for TextEntry {
     ghost copies = { λ x y h. Prim.search rules };
 }

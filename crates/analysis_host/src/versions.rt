@@ -5,7 +5,7 @@ ghost use Rattle.analysis_host.specs.Versions.{with_version};
 
 use crate::path_map::PathMap;
 use docs_vfs::VfsPath;
-use plain::Copied;
+use plain::ExactClone;
 use shared_map::Steps;
 use std::alloc::{AllocError, Global};
 use std::marker::{Brand, Model};
@@ -104,6 +104,6 @@ impl Clone for Versions {
     }
 }
 
-impl Copied for Versions {
+impl ExactClone for Versions {
     ghost copies = { λ x y h. h };
 }

@@ -12,7 +12,7 @@ use crate::host::{Change, FileChange};
 use crate::path_map::TextTree;
 use crate::text_entry::TextEntry;
 use docs_vfs::{SourceRoots, VfsPath};
-use plain::{Copied, Items};
+use plain::{ExactClone, Items};
 use project_model::CrateData;
 use shared_map::Steps;
 use std::alloc::{AllocError, Global};
@@ -222,6 +222,6 @@ impl Clone for World {
     }
 }
 
-impl Copied for World {
+impl ExactClone for World {
     ghost copies = { λ x y h. h };
 }

@@ -12,7 +12,7 @@ use Rattle.session_port.specs.declared.command.Command.{Command}
 use Rattle.session_port.specs.declared.command.Command.TheVariants.{Log}
 use Rattle.session_port.specs.declared.command.LogCode.{LogCode}
 use Rattle.session_port.specs.declared.command.LogCode.TheVariants.{UnknownResponse, SettingsError, BadPath}
-use Rattle.session_port.specs.Working.{Working, written, logged}
+use Rattle.session_port.specs.TurnState.{TurnState, written, logged}
 use Rattle.session_port.specs.declared.fault.Counter.{Counter}
 use Rattle.session_port.specs.declared.fault.Counter.TheVariants.{Outgoing as OutgoingNumbers}
 use Rattle.notify.specs.Writing.{outgo_body}
@@ -39,25 +39,25 @@ notification_of message = NotificationMessage
     (record { method = (outgo_body message).0; params = (outgo_body message).1 })
 
 -- a request is written with the next number, and waits, unless all numbers were given
-unfoldable pub asked_for : Outgo → ReqHandler → Working Client → Result (Working Client) Counter
+unfoldable pub asked_for : Outgo → ReqHandler → TurnState Client → Result (TurnState Client) Counter
 asked_for message handler w =
     if w.state.asked.given == number_limit then Err OutgoingNumbers
     else Ok (written (request_at w.state.asked.given message) (record w { state = after_asking handler w.state }))
 
 -- ---- answers
 
-abbrev pub logged_if : {S : Type 0} → LogCode → Option (List ℕ) → Working S → Working S
+abbrev pub logged_if : {S : Type 0} → LogCode → Option (List ℕ) → TurnState S → TurnState S
 logged_if code None w = w
 logged_if code (Some text) w = logged code text w
 
 -- what is written and logged for an answer, by what is to follow it
-unfoldable pub followed : Option ReqHandler → Response → Working Client → Working Client
+unfoldable pub followed : Option ReqHandler → Response → TurnState Client → TurnState Client
 followed None response w = logged UnknownResponse (id_text response.id) w
 followed (Some Ignore) response w = w
 followed (Some Settings) response w = logged_if SettingsError (fault_in response) w
 followed (Some OpenLogs) response w = if chooses response then written (notification_of OpenLogsMessage) w else w
 
-unfoldable pub answered : Response → Working Client → Working Client
+unfoldable pub answered : Response → TurnState Client → TurnState Client
 answered response w = record (followed (follows response.id w.state.asked) response w)
     { state = after_answer response w.state }
 
@@ -71,7 +71,7 @@ abbrev pub misses : List (List ℕ) → List Command
 misses urls = map (Log BadPath) (filter names_none urls)
 
 -- the removed ones are logged first
-unfoldable pub folders_changed : List (List ℕ) → List (List ℕ) → Working Client → Working Client
+unfoldable pub folders_changed : List (List ℕ) → List (List ℕ) → TurnState Client → TurnState Client
 folders_changed added removed w = record {
   state = after_folders added removed w.state;
   out = record w.out { commands = w.out.commands ++ misses removed ++ misses added };

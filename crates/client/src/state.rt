@@ -4,14 +4,14 @@ ghost use Rattle.std.specs.Arc.{arc_value};
 ghost use Rattle.notify.specs.Writing.{HoldsPlain};
 ghost use Rattle.layered_settings.specs.Change.{passed_over};
 ghost use Rattle.lsp_frame.specs.Outgoing.{number_limit};
-ghost use Rattle.session_port.specs.Meets.{Meets};
+ghost use Rattle.session_port.specs.Refines.{Refines};
 ghost use Rattle.session_port.specs.declared.fault.TurnError.TheVariants.{Exhausted, NoMemory as OutOfMemory};
 ghost use Rattle.session_port.specs.declared.fault.Counter.TheVariants.{Outgoing as OutgoingNumbers};
 ghost use Rattle.client.specs.Client.{new_client, new_client_at};
 ghost use Rattle.client.specs.Folds.{after_asking, after_change};
 ghost use Rattle.client.specs.Steps.{asked_for, notification_of};
 ghost use Rattle.client.specs.Texts.{errors_told};
-ghost use Rattle.session_port.specs.Working.{written};
+ghost use Rattle.session_port.specs.TurnState.{written};
 
 mod answering;
 mod folders;
@@ -122,8 +122,8 @@ impl Client {
         }
     }
 
-    /// Sends a request of the session's own. After an `Err` the client is spent.
-    #[tactic(auto, unfolding(crate::specs::Steps::asked_for, session_port::specs::Working::written))]
+    /// Sends a request of the session's own. After an `Err` the client is poisoned.
+    #[tactic(auto, unfolding(crate::specs::Steps::asked_for, session_port::specs::TurnState::written))]
     pub fn ask(
         &mut self,
         message: Outgo,
@@ -131,7 +131,7 @@ impl Client {
         out: &mut TurnOut,
     ) -> Result<(), TurnError>
         requires { HoldsPlain message }
-        ensures { Meets result (asked_for message then (record { state = self.old; out = out.old })) self.new out.new }
+        ensures { Refines result (asked_for message then (record { state = self.old; out = out.old })) self.new out.new }
     {
         let (method, params) = outgo_body(self.alloc, message)?;
         let number = self.register(then)?;
@@ -144,7 +144,7 @@ impl Client {
     }
 
     /// Sends a notification.
-    #[tactic(auto, unfolding(session_port::specs::Working::written))]
+    #[tactic(auto, unfolding(session_port::specs::TurnState::written))]
     pub fn tell(&self, message: Outgo, out: &mut TurnOut) -> Result<(), NoMemory>
         requires { HoldsPlain message }
         ensures { OnOk result (written (notification_of message) (record { state = self.now; out = out.old }) ≡ record { state = self.now; out = out.new }) }

@@ -7,8 +7,8 @@ use Rattle.lsp_frame.specs.declared.message.Request.{Request}
 use Rattle.lsp_frame.specs.Pending.{Pending, IsAbove, Registers, completed, id_of, is_pending, registered}
 use Rattle.lsp_frame.proofs.InStep.{ticket_of-is, waits-completed}
 use Rattle.lsp_frame.specs.declared.message.RequestId.{RequestId}
-use Rattle.session_port.specs.Meets.{Meets, Gives}
-use Rattle.session_port.specs.Working.{Working, replied}
+use Rattle.session_port.specs.Refines.{Refines, RefinesTotal}
+use Rattle.session_port.specs.TurnState.{TurnState, replied}
 use Rattle.session_port.specs.declared.fault.Counter.{Counter}
 use Rattle.session_port.specs.declared.fault.TurnError.{TurnError}
 use Rattle.session_port.specs.Written.{Written}
@@ -33,11 +33,11 @@ requested_again meaning scene r state new out other registers others =
 pub refused_again : {T : Type 0} (meaning : Meaning) (scene : Scene) (r : Request) (state mid new : Desk) (out out_now : Written) (ticket : ℕ)
     (result : Result T TurnError)
     → Registers state.turns r.id state.pending mid.pending (AlreadyPending ticket) → mid ≡ record state { pending = mid.pending }
-    → ((id : RequestId) → id_of ticket mid.pending ≡ Some id → Gives result (replied (already_pending id) (record { state = mid; out = out })) new out_now)
-    → Meets result (requested meaning scene r (record { state = state; out = out })) new out_now
+    → ((id : RequestId) → id_of ticket mid.pending ≡ Some id → RefinesTotal result (replied (already_pending id) (record { state = mid; out = out })) new out_now)
+    → Refines result (requested meaning scene r (record { state = state; out = out })) new out_now
 refused_again meaning scene r state mid new out out_now ticket result registers others refused =
     let waits : id_of ticket mid.pending ≡ Some r.id = ap (id_of ticket) registers.1 ∙ ticket_of-is ticket r.id state.pending registers.0 in
-    subst (λ (m : Result (Working Desk) Counter). Meets result m new out_now) (sym (requested_again meaning scene r state mid out ticket registers others))
+    subst (λ (m : Result (TurnState Desk) Counter). Refines result m new out_now) (sym (requested_again meaning scene r state mid out ticket registers others))
     (refused r.id waits)
 
 -- and one whose id is new

@@ -12,5 +12,5 @@ abbrev pub desk_code : Coded Job → Coded Desk
 desk_code job =
     code_by ((ℕ × ℕ) × (Pending × (Jobs × Bool)))
     (coded× (coded× coded_ℕ coded_ℕ) (coded× pending_code (coded× (map.code coded_ℕ job) coded_bool)))
-    (λ d. ((d.turns, d.handed), (d.pending, (d.jobs, d.shutdown))))
-    (λ p. record { turns = p.0.0; handed = p.0.1; pending = p.1.0; jobs = p.1.1.0; shutdown = p.1.1.1 }) (λ _. refl)
+    (λ d. ((d.turns, d.last_job), (d.pending, (d.jobs, d.shutdown))))
+    (λ p. record { turns = p.0.0; last_job = p.0.1; pending = p.1.0; jobs = p.1.1.0; shutdown = p.1.1.1 }) (λ _. refl)

@@ -15,17 +15,17 @@ pub record Desk : Type 0 where
   -- the jobs that were handed over and have not ended
   pub jobs : Jobs
   -- how many jobs were handed over
-  pub handed : ℕ
+  pub last_job : ℕ
   -- `shutdown` was requested
   pub shutdown : Bool
 
 -- the desk before any turn, where so many turns were counted and so many jobs handed over
 abbrev pub new_desk_at : ℕ → ℕ → Desk
-new_desk_at turns handed = record {
+new_desk_at turns last_job = record {
   turns = turns;
   pending = none_pending;
   jobs = map.empty;
-  handed = handed;
+  last_job = last_job;
   shutdown = false;
 }
 

@@ -73,7 +73,7 @@ abbrev pub desk_past : TaskMsg → Reaction → Desk → Desk
 desk_past message done desk = record desk {
   pending = closed_by (responses_of done) desk.pending;
   jobs = jobs_after message desk.jobs;
-  handed = desk.handed + length done.jobs;
+  last_job = desk.last_job + length done.jobs;
 }
 
 -- ---- what is promised

@@ -30,7 +30,7 @@ use Rattle.session_port.specs.Written.{responses_in}
 use Rattle.desk.specs.Desk.{Desk, waiting_for}
 use Rattle.desk.specs.Meaning.{Meaning, can_read}
 use Rattle.desk.specs.Replies.{already_pending, shut_already, unknown_request, invalid_params, canceled_by_client}
-use Rattle.desk.specs.Replies.{stopped_reply, finding_reply, finished_reply}
+use Rattle.desk.specs.Replies.{outdated_reply, finding_reply, finished_reply}
 use Rattle.desk.specs.Scene.{Scene}
 
 -- what a turn does for requests: the responses and the reports of their parts, in the order in which they are written,
@@ -53,9 +53,9 @@ reactions_joined a b = record { messages = a.messages ++ b.messages; jobs = a.jo
 
 -- one job for the request with this ticket, behind so many that were handed over
 abbrev pub hands_over : ℕ → SnapshotData → PoolClass → ℕ → RowId → Data → Reaction
-hands_over handed snapshot class ticket row params = record {
+hands_over last_job snapshot class ticket row params = record {
   messages = [];
-  jobs = (record { number = handed + 1; class = class; kind = RequestJob ticket row params; snapshot = snapshot }) ∷ [];
+  jobs = (record { number = last_job + 1; class = class; kind = RequestJob ticket row params; snapshot = snapshot }) ∷ [];
 }
 
 -- this is done where the params can be read
@@ -69,23 +69,23 @@ state_row id (Some request) = says (response_with id null)
 
 -- a request of a row, by what is planned for it, where so many jobs were handed over
 abbrev pub planned_row : Meaning → Scene → ℕ → Plan → ℕ → RequestId → RowId → Data → Reaction
-planned_row meaning scene handed plans.Shutdown ticket id row params = state_row id (request_of row params)
-planned_row meaning scene handed plans.Refuse ticket id row params = says (shut_already id)
-planned_row meaning scene handed plans.Unknown ticket id row params = says (unknown_request id)
-planned_row meaning scene handed plans.Default ticket id row params = says (response_with id (default_of row))
-planned_row meaning scene handed plans.Identity ticket id row params =
+planned_row meaning scene last_job plans.Shutdown ticket id row params = state_row id (request_of row params)
+planned_row meaning scene last_job plans.Refuse ticket id row params = says (shut_already id)
+planned_row meaning scene last_job plans.Unknown ticket id row params = says (unknown_request id)
+planned_row meaning scene last_job plans.Default ticket id row params = says (response_with id (default_of row))
+planned_row meaning scene last_job plans.Identity ticket id row params =
     if_read (can_read meaning row params) id (says (response_with id params))
-planned_row meaning scene handed plans.State ticket id row params = state_row id (request_of row params)
-planned_row meaning scene handed plans.OnLoop ticket id row params =
+planned_row meaning scene last_job plans.State ticket id row params = state_row id (request_of row params)
+planned_row meaning scene last_job plans.OnLoop ticket id row params =
     if_read (can_read meaning row params) id
     (says (finding_reply id (meaning.answer scene.snapshot (RequestAsk row params))))
-planned_row meaning scene handed (plans.Job class) ticket id row params =
-    if_read (can_read meaning row params) id (hands_over handed scene.snapshot class ticket row params)
+planned_row meaning scene last_job (plans.Job class) ticket id row params =
+    if_read (can_read meaning row params) id (hands_over last_job scene.snapshot class ticket row params)
 
 -- a request of a row
 abbrev pub class_row : Meaning → Scene → Desk → ℕ → RequestId → RowId → Data → Reaction
 class_row meaning scene desk ticket id row params =
-    planned_row meaning scene desk.handed (plan (Some row) scene.loading scene.incomplete desk.shutdown) ticket id row
+    planned_row meaning scene desk.last_job (plan (Some row) scene.loading scene.incomplete desk.shutdown) ticket id row
     params
 
 -- a request that isn't `shutdown`
@@ -117,16 +117,16 @@ cancel_row id desk = if is_pending id desk.pending then says (canceled_by_client
 abbrev pub stopped_for_row : Meaning → Scene → Desk → RequestId → ℕ → Option AskedFor → Reaction
 stopped_for_row meaning scene desk id revision None = silent
 stopped_for_row meaning scene desk id revision (Some r) =
-    if ltb revision scene.snapshot.revision && not (retries r.row) then says (stopped_reply (class_of r.row) id)
+    if ltb revision scene.snapshot.revision && not (retries r.row) then says (outdated_reply (class_of r.row) id)
     else class_row meaning scene desk r.ticket id r.row r.params
 
-abbrev pub stopped_row : Meaning → Scene → Desk → RequestId → ℕ → JobKind → Reaction
-stopped_row meaning scene desk id revision kind = stopped_for_row meaning scene desk id revision (asked_for kind)
+abbrev pub outdated_row : Meaning → Scene → Desk → RequestId → ℕ → JobKind → Reaction
+outdated_row meaning scene desk id revision kind = stopped_for_row meaning scene desk id revision (asked_for kind)
 
 -- a result, of a request that is pending
 abbrev pub result_row : Meaning → Scene → Desk → Option Response → RequestId → Job → Reaction
 result_row meaning scene desk (Some response) id job = says response
-result_row meaning scene desk None id job = stopped_row meaning scene desk id job.snapshot.revision job.kind
+result_row meaning scene desk None id job = outdated_row meaning scene desk id job.snapshot.revision job.kind
 
 abbrev pub ticket_row : Meaning → Scene → Desk → Option RequestId → Job → JobResult → Reaction
 ticket_row meaning scene desk None job result = silent

@@ -3,7 +3,7 @@ use Rattle.std.specs.Prelude.{ℕ, ℤ, negsuc, true, List, codes, Option, None,
 use Rattle.serde_json.specs.Data.{Data, boolean, object, member, no_members}
 use Rattle.lsp_frame.specs.declared.message.RequestId.{RequestId}
 use Rattle.lsp_frame.specs.declared.message.Response.{Response}
-use Rattle.analysis_host.specs.Answers.{Finding, answer, fault}
+use Rattle.analysis_host.specs.Answers.{OutcomeSpec, answer, fault}
 use Rattle.analysis_host.specs.declared.ask.Answer.{Answer}
 use Rattle.analysis_host.specs.declared.ask.Answer.TheVariants.{Json as JsonAnswer}
 use Rattle.dispatch.specs.Responses.{response_with, refusal, fault_code}
@@ -55,9 +55,9 @@ server_cancelled id = record {
 }
 
 -- why a request is refused whose job stopped for a later revision
-abbrev pub stopped_reply : Class → RequestId → Response
-stopped_reply DocumentDiagnostic id = server_cancelled id
-stopped_reply other id = content_modified id
+abbrev pub outdated_reply : Class → RequestId → Response
+outdated_reply DocumentDiagnostic id = server_cancelled id
+outdated_reply other id = content_modified id
 
 abbrev pub fault_reply : RequestId → Option ℤ → List ℕ → Response
 fault_reply id code message = refusal id (fault_code code) message
@@ -77,7 +77,7 @@ answer_reply id (JsonAnswer value) = response_with id value
 answer_reply id other = no_answer id
 
 -- what a question comes to
-abbrev pub finding_reply : RequestId → Finding → Response
+abbrev pub finding_reply : RequestId → OutcomeSpec → Response
 finding_reply id (answer value) = answer_reply id value
 finding_reply id (fault code message) = fault_reply id code message
 

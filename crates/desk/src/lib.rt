@@ -8,8 +8,8 @@ mod state;
 
 pub use plain::NoMemory;
 pub use replies::{
-    already_pending, canceled_by_client, fault_reply, finished_reply, invalid_params, shut_already,
-    stopped_reply, unknown_request,
+    already_pending, canceled_by_client, fault_reply, finished_reply, invalid_params,
+    outdated_reply, shut_already, unknown_request,
 };
 pub use scene::Present;
 pub use state::{BuildEnd, Desk, FetchEnd, LoadEnd, WorkEnd};

@@ -3,12 +3,12 @@ ghost use Rattle.std.specs.Prelude.{◌≡◌, true, IfOk, IfSome};
 ghost use Rattle.lsp_frame.specs.Written.{AreWritable};
 ghost use Rattle.lsp_frame.specs.declared.message.Message.TheVariants.{Response as ResponseMessage};
 ghost use Rattle.session_port.specs.Jobs.{plain_result};
-ghost use Rattle.desk.specs.Replies.{already_pending, shut_already, unknown_request, invalid_params, canceled_by_client, content_modified, retrigger_request, server_cancelled, stopped_reply, fault_reply, finished_reply};
+ghost use Rattle.desk.specs.Replies.{already_pending, shut_already, unknown_request, invalid_params, canceled_by_client, content_modified, retrigger_request, server_cancelled, outdated_reply, fault_reply, finished_reply};
 
 use dispatch::{fault_code, refusal, response_with};
 use lsp_frame::{RequestId, Response, ResponseError};
 use method_table::Class;
-use plain::{Json, Members, Text};
+use plain::{Json, JsonObject, Text};
 use session_port::{JobResult, JobValue};
 use std::alloc::{AllocError, Global};
 
@@ -70,7 +70,7 @@ fn content_modified(alloc: Global, id: RequestId) -> Result<Response, AllocError
 fn retrigger_request(alloc: Global) -> Result<Json, AllocError>
     ensures { IfOk result (λ json. json ≡ retrigger_request) }
 {
-    let mut members = Members::new(alloc);
+    let mut members = JsonObject::new(alloc);
     members.put(alloc, "retriggerRequest", Json::from_bool(true))?;
     Ok(members.into_json())
 }
@@ -94,8 +94,8 @@ fn server_cancelled(alloc: Global, id: RequestId) -> Result<Response, AllocError
 }
 
 /// The answer to a request whose job stopped for a later revision, and that isn't tried again.
-pub fn stopped_reply(alloc: Global, class: Class, id: RequestId) -> Result<Response, AllocError>
-    ensures value { IfOk result (λ response. response ≡ stopped_reply class id) }
+pub fn outdated_reply(alloc: Global, class: Class, id: RequestId) -> Result<Response, AllocError>
+    ensures value { IfOk result (λ response. response ≡ outdated_reply class id) }
     ensures writable { IfOk result (λ response. AreWritable (ResponseMessage response)) }
 {
     match class {

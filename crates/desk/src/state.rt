@@ -2,8 +2,8 @@
 ghost use Rattle.std.specs.Prelude.{◌≡◌, ◌+◌, IfOk, OnOk, MatchResult, drop};
 ghost use Rattle.std.specs.FinMap as map;
 ghost use Rattle.session_port.specs.Record.{after_order};
-ghost use Rattle.session_port.specs.Meets.{Meets, Gives};
-ghost use Rattle.session_port.specs.Working.{next_number, replied, ordered, logged};
+ghost use Rattle.session_port.specs.Refines.{Refines, RefinesTotal};
+ghost use Rattle.session_port.specs.TurnState.{next_number, replied, ordered, logged};
 ghost use Rattle.session_port.specs.declared.fault.TurnError.TheVariants.{Exhausted};
 ghost use Rattle.desk.specs.Desk.{new_desk, new_desk_at};
 ghost use Rattle.desk.specs.Steps.{counted, jobs_kept, responded};
@@ -30,7 +30,7 @@ pub struct Desk {
     turns: u64,
     pending: Incoming,
     jobs: ByNumber<Job>,
-    handed: u64,
+    last_job: u64,
     shutdown: bool,
 }
 
@@ -41,7 +41,7 @@ impl Drop for Desk {
             turns: _,
             pending: _,
             jobs: _,
-            handed: _,
+            last_job: _,
             shutdown: _,
         } = self;
     }
@@ -58,7 +58,7 @@ impl Model for Desk {
 
     ghost coded = { desk_code job.the_row.coded };
 
-    ghost view = { λ d. record { turns = d.turns; pending = d.pending; jobs = d.jobs; handed = d.handed; shutdown = d.shutdown } };
+    ghost view = { λ d. record { turns = d.turns; pending = d.pending; jobs = d.jobs; last_job = d.last_job; shutdown = d.shutdown } };
 
     ghost invariant = { λ d. IsAbove (d.turns + 1) d.pending };
 }
@@ -111,15 +111,15 @@ impl Desk {
 
     /// The same, where so many turns were counted and so many jobs handed over.
     #[tactic(auto, using(lsp_frame::proofs::Above::none_above))]
-    pub fn new_at(alloc: Global, turns: u64, handed: u64) -> Self
-        ensures { result ≡ new_desk_at turns handed }
+    pub fn new_at(alloc: Global, turns: u64, last_job: u64) -> Self
+        ensures { result ≡ new_desk_at turns last_job }
     {
         Desk {
             alloc,
             turns,
             pending: Incoming::new(alloc),
             jobs: ByNumber::new(alloc),
-            handed,
+            last_job,
             shutdown: false,
         }
     }
@@ -132,17 +132,17 @@ impl Desk {
     }
 
     /// How many jobs were handed over.
-    pub fn handed(&self) -> u64
-        ensures { result ≡ self.now.handed }
+    pub fn last_job(&self) -> u64
+        ensures { result ≡ self.now.last_job }
     {
-        self.handed
+        self.last_job
     }
 
-    /// The turn is counted. After an `Err` the desk is spent.
+    /// The turn is counted. After an `Err` the desk is poisoned.
     #[tactic(auto, using(lsp_frame::proofs::Above::counted_above, lsp_frame::proofs::Above::later_above), unfolding(crate::specs::Steps::counted))]
     pub fn count(&mut self, out: &mut TurnOut) -> Result<(), TurnError>
         ensures above { OnOk result (IsAbove self.new.turns self.new.pending) }
-        ensures meets { Meets result (counted (record { state = self.old; out = out.old })) self.new out.new }
+        ensures meets { Refines result (counted (record { state = self.old; out = out.old })) self.new out.new }
     {
         self.turns = next_number(self.turns, Counter::Turns)?;
         Ok(())
@@ -151,7 +151,7 @@ impl Desk {
     /// The jobs that this turn hands over, behind so many commands, are out.
     #[tactic(auto, unfolding(crate::specs::Steps::jobs_kept))]
     pub fn keep_jobs(&mut self, before: usize, out: &mut TurnOut) -> Result<(), TurnError>
-        ensures { Gives result (jobs_kept before (record { state = self.old; out = out.old })) self.new out.new }
+        ensures { RefinesTotal result (jobs_kept before (record { state = self.old; out = out.old })) self.new out.new }
     {
         put_jobs(&mut self.jobs, behind(out.commands(), before))?;
         Ok(())
@@ -160,27 +160,27 @@ impl Desk {
 
 // What is written and ordered.
 impl Desk {
-    #[tactic(auto, unfolding(session_port::specs::Working::ordered))]
+    #[tactic(auto, unfolding(session_port::specs::TurnState::ordered))]
     fn order(&mut self, command: Command, out: &mut TurnOut) -> Result<(), TurnError>
-        ensures gives { Gives result (ordered command (record { state = self.old; out = out.old })) self.new out.new }
+        ensures gives { RefinesTotal result (ordered command (record { state = self.old; out = out.old })) self.new out.new }
         ensures same { self.new ≡ self.old }
     {
         out.order(command)?;
         Ok(())
     }
 
-    #[tactic(auto, unfolding(session_port::specs::Working::logged))]
+    #[tactic(auto, unfolding(session_port::specs::TurnState::logged))]
     fn log(&mut self, code: LogCode, text: Text, out: &mut TurnOut) -> Result<(), TurnError>
-        ensures gives { Gives result (logged code text (record { state = self.old; out = out.old })) self.new out.new }
+        ensures gives { RefinesTotal result (logged code text (record { state = self.old; out = out.old })) self.new out.new }
         ensures same { self.new ≡ self.old }
     {
         self.order(Command::Log(code, text), out)
     }
 
-    #[tactic(auto, unfolding(session_port::specs::Working::replied))]
+    #[tactic(auto, unfolding(session_port::specs::TurnState::replied))]
     fn reply(&mut self, response: Response, out: &mut TurnOut) -> Result<(), TurnError>
         requires { AreWritable (ResponseMessage response) }
-        ensures { Gives result (replied response (record { state = self.old; out = out.old })) self.new out.new }
+        ensures { RefinesTotal result (replied response (record { state = self.old; out = out.old })) self.new out.new }
     {
         out.reply(response)?;
         Ok(())

@@ -45,13 +45,13 @@ none-some x e = absurd cc
 
 -- a desk of these parts
 abbrev pub desk_of : ℕ → Pending → Jobs → ℕ → Desk
-desk_of turns p js handed = record { turns = turns; pending = p; jobs = js; handed = handed; shutdown = false }
+desk_of turns p js last_job = record { turns = turns; pending = p; jobs = js; last_job = last_job; shutdown = false }
 
 abbrev pub SoundOf : ℕ → Pending → Jobs → ℕ → ℕ → Type 0
-SoundOf turns p js handed revision = Sound (desk_of turns p js handed) revision
+SoundOf turns p js last_job revision = Sound (desk_of turns p js last_job) revision
 
 -- that `shutdown` was requested changes nothing of it
-pub sound-parts : (desk : Desk) (revision : ℕ) → Sound desk revision → SoundOf desk.turns desk.pending desk.jobs desk.handed revision
+pub sound-parts : (desk : Desk) (revision : ℕ) → Sound desk revision → SoundOf desk.turns desk.pending desk.jobs desk.last_job revision
 sound-parts desk revision s = record {
   distinct = s.distinct;
   tickets = s.tickets;
@@ -61,7 +61,7 @@ sound-parts desk revision s = record {
   held = s.held;
 }
 
-pub sound-whole : (desk : Desk) (revision : ℕ) → SoundOf desk.turns desk.pending desk.jobs desk.handed revision → Sound desk revision
+pub sound-whole : (desk : Desk) (revision : ℕ) → SoundOf desk.turns desk.pending desk.jobs desk.last_job revision → Sound desk revision
 sound-whole desk revision s = record {
   distinct = s.distinct;
   tickets = s.tickets;
@@ -72,10 +72,10 @@ sound-whole desk revision s = record {
 }
 
 -- later turns, more jobs that were handed over, and a later revision
-pub sound-later : (turns turns_now : ℕ) (p : Pending) (js : Jobs) (handed handed_now revision revision_now : ℕ) → turns ≤ turns_now → handed ≤ handed_now
+pub sound-later : (turns turns_now : ℕ) (p : Pending) (js : Jobs) (last_job handed_now revision revision_now : ℕ) → turns ≤ turns_now → last_job ≤ handed_now
     → revision ≤ revision_now
-    → SoundOf turns p js handed revision → SoundOf turns_now p js handed_now revision_now
-sound-later turns turns_now p js handed handed_now revision revision_now more given rises s = record {
+    → SoundOf turns p js last_job revision → SoundOf turns_now p js handed_now revision_now
+sound-later turns turns_now p js last_job handed_now revision revision_now more given rises s = record {
   distinct = s.distinct;
   tickets = λ t id is. let h = s.tickets t id is in omega (arith, more);
   numbers = λ n job is. let h = s.numbers n job is in omega (arith, given);
@@ -85,12 +85,12 @@ sound-later turns turns_now p js handed handed_now revision revision_now more gi
 }
 
 -- a turn went by
-pub sound-next : (turns : ℕ) (p : Pending) (js : Jobs) (handed revision : ℕ) → SoundOf turns p js handed revision
-    → SoundOf (turns + 1) p js (handed + 0) revision
-sound-next turns p js handed revision s = sound-later turns (turns + 1) p js handed (handed + 0) revision revision (omega arith) (omega arith) (omega arith) s
+pub sound-next : (turns : ℕ) (p : Pending) (js : Jobs) (last_job revision : ℕ) → SoundOf turns p js last_job revision
+    → SoundOf (turns + 1) p js (last_job + 0) revision
+sound-next turns p js last_job revision s = sound-later turns (turns + 1) p js last_job (last_job + 0) revision revision (omega arith) (omega arith) (omega arith) s
 
-pub sound-stays : (turns : ℕ) (p : Pending) (js : Jobs) (handed revision : ℕ) → SoundOf turns p js handed revision → SoundOf turns p js (handed + 0) revision
-sound-stays turns p js handed revision s = sound-later turns turns p js handed (handed + 0) revision revision (omega arith) (omega arith) (omega arith) s
+pub sound-stays : (turns : ℕ) (p : Pending) (js : Jobs) (last_job revision : ℕ) → SoundOf turns p js last_job revision → SoundOf turns p js (last_job + 0) revision
+sound-stays turns p js last_job revision s = sound-later turns turns p js last_job (last_job + 0) revision revision (omega arith) (omega arith) (omega arith) s
 
 -- no request of the next turn's number waits
 ticket-free : (turns : ℕ) (p : Pending) (o : Option RequestId) → map.get p (turns + 1) ≡ o
@@ -116,9 +116,9 @@ abbrev pub WaitsNowhere : Pending → Job → Type 0
 WaitsNowhere p job = (ticket : ℕ) → ticket_of_job job.kind ≡ Some ticket → id_of ticket p ≡ None
 
 -- a job came back whose request does not wait
-sound-off : (turns : ℕ) (p : Pending) (js : Jobs) (handed revision n : ℕ) (found : Job) → map.get js n ≡ Some found → WaitsNowhere p found
-    → SoundOf turns p js handed revision → SoundOf turns p (map.remove js n) handed revision
-sound-off turns p js handed revision n found is none s = record {
+sound-off : (turns : ℕ) (p : Pending) (js : Jobs) (last_job revision n : ℕ) (found : Job) → map.get js n ≡ Some found → WaitsNowhere p found
+    → SoundOf turns p js last_job revision → SoundOf turns p (map.remove js n) last_job revision
+sound-off turns p js last_job revision n found is none s = record {
   distinct = s.distinct;
   tickets = s.tickets;
   numbers = λ m job there. s.numbers m job (still-out n m js job there);
@@ -128,11 +128,11 @@ sound-off turns p js handed revision n found is none s = record {
 }
 
 -- a job came back, and its request is closed
-sound-without : (turns : ℕ) (p : Pending) (js : Jobs) (handed revision n t : ℕ) (found : Job) (id : RequestId) → map.get js n ≡ Some found
+sound-without : (turns : ℕ) (p : Pending) (js : Jobs) (last_job revision n t : ℕ) (found : Job) (id : RequestId) → map.get js n ≡ Some found
     → ticket_of_job found.kind ≡ Some t → id_of t p ≡ Some id
-    → SoundOf turns p js handed revision → SoundOf turns (completed t p) (map.remove js n) handed revision
+    → SoundOf turns p js last_job revision → SoundOf turns (completed t p) (map.remove js n) last_job revision
 unfolding completed
-sound-without turns p js handed revision n t found id is its waits s = record {
+sound-without turns p js last_job revision n t found id is its waits s = record {
   distinct = completed-distinct t p s.distinct;
   tickets = λ u i there. s.tickets u i (still u i there).1;
   numbers = λ m job there. s.numbers m job (still-out n m js job there);
@@ -149,35 +149,35 @@ sound-without turns p js handed revision n t found id is its waits s = record {
         (λ elsewhere. (elsewhere, sym (get-remove_other by_number_total by_number_same p t u elsewhere) ∙ there))
 
 -- a request was read, and its job handed over
-sound-request : (turns : ℕ) (p : Pending) (js : Jobs) (handed revision : ℕ) (id : RequestId) (job : Job) → is_pending id p ≡ false
+sound-request : (turns : ℕ) (p : Pending) (js : Jobs) (last_job revision : ℕ) (id : RequestId) (job : Job) → is_pending id p ≡ false
     → slot_of job.kind ≡ Some (slot_at (turns + 1) 0) → job.snapshot.revision ≤ revision
-    → SoundOf turns p js handed revision → SoundOf (turns + 1) (registered (turns + 1) id p) (map.insert js (handed + 1) job) (handed + 1) revision
+    → SoundOf turns p js last_job revision → SoundOf (turns + 1) (registered (turns + 1) id p) (map.insert js (last_job + 1) job) (last_job + 1) revision
 unfolding registered
-sound-request turns p js handed revision id job new slot no_later s = record {
+sound-request turns p js last_job revision id job new slot no_later s = record {
   distinct = registered-distinct (turns + 1) id p free s.distinct;
   tickets = λ t i waits. by_key by_number_total by_number_same t (turns + 1)
       (λ same. omega arith)
       (λ other. let h = s.tickets t i (sym (get-insert_other by_number_total by_number_same p (turns + 1) id t other) ∙ waits) in omega arith);
-  numbers = λ n j there. by_key by_number_total by_number_same n (handed + 1)
+  numbers = λ n j there. by_key by_number_total by_number_same n (last_job + 1)
       (λ same. omega arith)
       (λ other. let h = s.numbers n j (was n j other there) in omega arith);
-  below = λ n j t there is_for. by_key by_number_total by_number_same n (handed + 1)
+  below = λ n j t there is_for. by_key by_number_total by_number_same n (last_job + 1)
       (λ same. let e : t ≡ turns + 1 = its_ticket n j t same there is_for in omega arith)
       (λ other. let h = s.below n j t (was n j other there) is_for in omega arith);
-  revisions = λ n j t there is_for. by_key by_number_total by_number_same n (handed + 1)
+  revisions = λ n j t there is_for. by_key by_number_total by_number_same n (last_job + 1)
       (λ same. subst (λ (k : Job). k.snapshot.revision ≤ revision) (it_is n j same there) no_later)
       (λ other. s.revisions n j t (was n j other there) is_for);
   held = λ t i waits. by_key by_number_total by_number_same t (turns + 1)
       (λ same. subst (λ o. IsHeld t (parts_left o) now) (sym waits) (same-held t (turns + 1) (0 ∷ []) now same
-      (held-first (turns + 1) handed job js slot
+      (held-first (turns + 1) last_job job js slot
       (λ n j there is_for. let h = s.below n j (turns + 1) there is_for in absurd (omega arith)))))
       (λ other. let was_waiting : map.get p t ≡ Some i = sym (get-insert_other by_number_total by_number_same p (turns + 1) id t other) ∙ waits in
       same-left t i p (registered (turns + 1) id p) now was_waiting waits
-      (held-beside t (parts_left (id_of t p)) handed job js s.numbers (λ e. other (some-same t (turns + 1) (sym e ∙ its))) (s.held t i was_waiting)));
+      (held-beside t (parts_left (id_of t p)) last_job job js s.numbers (λ e. other (some-same t (turns + 1) (sym e ∙ its))) (s.held t i was_waiting)));
 }
   where
     now : Jobs
-    now = map.insert js (handed + 1) job
+    now = map.insert js (last_job + 1) job
 
     its : ticket_of_job job.kind ≡ Some (turns + 1)
     its = slot-ticket job.kind (turns + 1) 0 slot
@@ -188,20 +188,20 @@ sound-request turns p js handed revision id job new slot no_later s = record {
     free : ticket_with id p ≡ None
     free = id-free (ticket_with id p) new
 
-    was : (n : ℕ) (j : Job) → n ≢ handed + 1 → map.get now n ≡ Some j → map.get js n ≡ Some j
-    was n j other there = was-out handed job js n j other there
+    was : (n : ℕ) (j : Job) → n ≢ last_job + 1 → map.get now n ≡ Some j → map.get js n ≡ Some j
+    was n j other there = was-out last_job job js n j other there
 
-    it_is : (n : ℕ) (j : Job) → n ≡ handed + 1 → map.get now n ≡ Some j → job ≡ j
-    it_is n j same there = new-out handed job js n j same there
+    it_is : (n : ℕ) (j : Job) → n ≡ last_job + 1 → map.get now n ≡ Some j → job ≡ j
+    it_is n j same there = new-out last_job job js n j same there
 
-    its_ticket : (n : ℕ) (j : Job) (t : ℕ) → n ≡ handed + 1 → map.get now n ≡ Some j → ticket_of_job j.kind ≡ Some t → t ≡ turns + 1
+    its_ticket : (n : ℕ) (j : Job) (t : ℕ) → n ≡ last_job + 1 → map.get now n ≡ Some j → ticket_of_job j.kind ≡ Some t → t ≡ turns + 1
     its_ticket n j t same there is_for = some-same t (turns + 1) (sym is_for ∙ ap (λ (k : Job). ticket_of_job k.kind) (sym (it_is n j same there)) ∙ its)
 
 -- a request is closed, and its job stays out
-sound-shut : (turns : ℕ) (p : Pending) (js : Jobs) (handed revision t : ℕ) (id : RequestId) → id_of t p ≡ Some id → SoundOf turns p js handed revision
-    → SoundOf turns (completed t p) js handed revision
+sound-shut : (turns : ℕ) (p : Pending) (js : Jobs) (last_job revision t : ℕ) (id : RequestId) → id_of t p ≡ Some id → SoundOf turns p js last_job revision
+    → SoundOf turns (completed t p) js last_job revision
 unfolding completed
-sound-shut turns p js handed revision t id waits s = record {
+sound-shut turns p js last_job revision t id waits s = record {
   distinct = completed-distinct t p s.distinct;
   tickets = λ u i there. s.tickets u i (still u i there);
   numbers = s.numbers;
@@ -215,80 +215,80 @@ sound-shut turns p js handed revision t id waits s = record {
         (λ same. none-some i (sym (get-remove_same by_number_total by_number_same p t) ∙ ap (map.get (map.remove p t)) (sym same) ∙ there))
         (λ elsewhere. sym (get-remove_other by_number_total by_number_same p t u elsewhere) ∙ there)
 
-closed-cases : (turns : ℕ) (p : Pending) (js : Jobs) (handed revision : ℕ) (id : RequestId) (o : Option ℕ) → ticket_with id p ≡ o
-    → SoundOf turns p js handed revision → SoundOf turns (closed_at o p) js handed revision
-closed-cases turns p js handed revision id None is s = s
-closed-cases turns p js handed revision id (Some t) is s = sound-shut turns p js handed revision t id (ticket_of-is t id p is) s
+closed-cases : (turns : ℕ) (p : Pending) (js : Jobs) (last_job revision : ℕ) (id : RequestId) (o : Option ℕ) → ticket_with id p ≡ o
+    → SoundOf turns p js last_job revision → SoundOf turns (closed_at o p) js last_job revision
+closed-cases turns p js last_job revision id None is s = s
+closed-cases turns p js last_job revision id (Some t) is s = sound-shut turns p js last_job revision t id (ticket_of-is t id p is) s
 
 -- a request is closed by its id, and its job stays out
-sound-closed : (turns : ℕ) (p : Pending) (js : Jobs) (handed revision : ℕ) (id : RequestId) → SoundOf turns p js handed revision
-    → SoundOf turns (closed id p) js handed revision
+sound-closed : (turns : ℕ) (p : Pending) (js : Jobs) (last_job revision : ℕ) (id : RequestId) → SoundOf turns p js last_job revision
+    → SoundOf turns (closed id p) js last_job revision
 unfolding closed
-sound-closed turns p js handed revision id s = closed-cases turns p js handed revision id (ticket_with id p) refl s
+sound-closed turns p js last_job revision id s = closed-cases turns p js last_job revision id (ticket_with id p) refl s
 
 -- a job came back, and another one is handed over for its request
-sound-again : (turns : ℕ) (p : Pending) (js : Jobs) (handed revision n ticket : ℕ) (found job : Job) → map.get js n ≡ Some found
+sound-again : (turns : ℕ) (p : Pending) (js : Jobs) (last_job revision n ticket : ℕ) (found job : Job) → map.get js n ≡ Some found
     → ticket_of_job found.kind ≡ Some ticket → slot_of job.kind ≡ Some (slot_at ticket 0) → job.snapshot.revision ≤ revision
-    → SoundOf turns p js handed revision → SoundOf turns p (map.insert (map.remove js n) (handed + 1) job) (handed + 1) revision
-sound-again turns p js handed revision n ticket found job is was_for slot no_later s = record {
+    → SoundOf turns p js last_job revision → SoundOf turns p (map.insert (map.remove js n) (last_job + 1) job) (last_job + 1) revision
+sound-again turns p js last_job revision n ticket found job is was_for slot no_later s = record {
   distinct = s.distinct;
   tickets = s.tickets;
-  numbers = λ m j there. by_key by_number_total by_number_same m (handed + 1)
+  numbers = λ m j there. by_key by_number_total by_number_same m (last_job + 1)
       (λ same. omega arith)
       (λ other. let h = s.numbers m j (was m j other there) in omega arith);
-  below = λ m j t there is_for. by_key by_number_total by_number_same m (handed + 1)
+  below = λ m j t there is_for. by_key by_number_total by_number_same m (last_job + 1)
       (λ same. s.below n found t is (was_for ∙ ap Some (sym (its_ticket m j t same there is_for))))
       (λ other. s.below m j t (was m j other there) is_for);
-  revisions = λ m j t there is_for. by_key by_number_total by_number_same m (handed + 1)
+  revisions = λ m j t there is_for. by_key by_number_total by_number_same m (last_job + 1)
       (λ same. subst (λ (k : Job). k.snapshot.revision ≤ revision) (it_is m j same there) no_later)
       (λ other. s.revisions m j t (was m j other there) is_for);
   held = λ t id waits. by_key by_number_total by_number_same t ticket
       (λ same.
       let h = same-held ticket t (parts_left (id_of t p)) js (sym same) (s.held t id waits) in
       same-held t ticket (parts_left (id_of t p)) now same
-      (held-again ticket 0 (parts_left (id_of t p)) handed n found job js s.numbers is
+      (held-again ticket 0 (parts_left (id_of t p)) last_job n found job js s.numbers is
       (is-first ticket n found js is was_for (subst (λ o. IsHeld ticket (parts_left o) js) waits h)) slot h))
-      (λ other. held-beside t (parts_left (id_of t p)) handed job (map.remove js n) (λ m j there. s.numbers m j (still-out n m js j there))
+      (λ other. held-beside t (parts_left (id_of t p)) last_job job (map.remove js n) (λ m j there. s.numbers m j (still-out n m js j there))
       (λ e. other (some-same t ticket (sym e ∙ its)))
       (held-without t n (parts_left (id_of t p)) found js is (λ e. other (some-same t ticket (sym e ∙ was_for))) (s.held t id waits)));
 }
   where
     now : Jobs
-    now = map.insert (map.remove js n) (handed + 1) job
+    now = map.insert (map.remove js n) (last_job + 1) job
 
     its : ticket_of_job job.kind ≡ Some ticket
     its = slot-ticket job.kind ticket 0 slot
 
-    was : (m : ℕ) (j : Job) → m ≢ handed + 1 → map.get now m ≡ Some j → map.get js m ≡ Some j
-    was m j other there = still-out n m js j (was-out handed job (map.remove js n) m j other there)
+    was : (m : ℕ) (j : Job) → m ≢ last_job + 1 → map.get now m ≡ Some j → map.get js m ≡ Some j
+    was m j other there = still-out n m js j (was-out last_job job (map.remove js n) m j other there)
 
-    it_is : (m : ℕ) (j : Job) → m ≡ handed + 1 → map.get now m ≡ Some j → job ≡ j
-    it_is m j same there = new-out handed job (map.remove js n) m j same there
+    it_is : (m : ℕ) (j : Job) → m ≡ last_job + 1 → map.get now m ≡ Some j → job ≡ j
+    it_is m j same there = new-out last_job job (map.remove js n) m j same there
 
-    its_ticket : (m : ℕ) (j : Job) (t : ℕ) → m ≡ handed + 1 → map.get now m ≡ Some j → ticket_of_job j.kind ≡ Some t → t ≡ ticket
+    its_ticket : (m : ℕ) (j : Job) (t : ℕ) → m ≡ last_job + 1 → map.get now m ≡ Some j → ticket_of_job j.kind ≡ Some t → t ≡ ticket
     its_ticket m j t same there is_for = some-same t ticket (sym is_for ∙ ap (λ (k : Job). ticket_of_job k.kind) (sym (it_is m j same there)) ∙ its)
 
 -- a job that is for no request is handed over
-pub sound-beside : (turns : ℕ) (p : Pending) (js : Jobs) (handed revision : ℕ) (job : Job) → ticket_of_job job.kind ≡ None → SoundOf turns p js handed revision
-    → SoundOf turns p (map.insert js (handed + 1) job) (handed + 1) revision
-sound-beside turns p js handed revision job none s = record {
+pub sound-beside : (turns : ℕ) (p : Pending) (js : Jobs) (last_job revision : ℕ) (job : Job) → ticket_of_job job.kind ≡ None → SoundOf turns p js last_job revision
+    → SoundOf turns p (map.insert js (last_job + 1) job) (last_job + 1) revision
+sound-beside turns p js last_job revision job none s = record {
   distinct = s.distinct;
   tickets = s.tickets;
-  numbers = λ n j there. by_key by_number_total by_number_same n (handed + 1)
+  numbers = λ n j there. by_key by_number_total by_number_same n (last_job + 1)
       (λ same. omega arith)
       (λ other. let h = s.numbers n j (was n j other there) in omega arith);
-  below = λ n j t there is_for. by_key by_number_total by_number_same n (handed + 1) (λ same. not_its n j t same there is_for)
+  below = λ n j t there is_for. by_key by_number_total by_number_same n (last_job + 1) (λ same. not_its n j t same there is_for)
       (λ other. s.below n j t (was n j other there) is_for);
-  revisions = λ n j t there is_for. by_key by_number_total by_number_same n (handed + 1) (λ same. not_its n j t same there is_for)
+  revisions = λ n j t there is_for. by_key by_number_total by_number_same n (last_job + 1) (λ same. not_its n j t same there is_for)
       (λ other. s.revisions n j t (was n j other there) is_for);
-  held = λ t id waits. held-beside t (parts_left (id_of t p)) handed job js s.numbers (λ its. none-some t (sym none ∙ its)) (s.held t id waits);
+  held = λ t id waits. held-beside t (parts_left (id_of t p)) last_job job js s.numbers (λ its. none-some t (sym none ∙ its)) (s.held t id waits);
 }
   where
-    was : (n : ℕ) (j : Job) → n ≢ handed + 1 → map.get (map.insert js (handed + 1) job) n ≡ Some j → map.get js n ≡ Some j
-    was n j other there = was-out handed job js n j other there
+    was : (n : ℕ) (j : Job) → n ≢ last_job + 1 → map.get (map.insert js (last_job + 1) job) n ≡ Some j → map.get js n ≡ Some j
+    was n j other there = was-out last_job job js n j other there
 
-    not_its : {P : Type 0} (n : ℕ) (j : Job) (t : ℕ) → n ≡ handed + 1 → map.get (map.insert js (handed + 1) job) n ≡ Some j → ticket_of_job j.kind ≡ Some t → P
-    not_its n j t same there is_for = none-some t (sym none ∙ ap (λ (k : Job). ticket_of_job k.kind) (new-out handed job js n j same there) ∙ is_for)
+    not_its : {P : Type 0} (n : ℕ) (j : Job) (t : ℕ) → n ≡ last_job + 1 → map.get (map.insert js (last_job + 1) job) n ≡ Some j → ticket_of_job j.kind ≡ Some t → P
+    not_its n j t same there is_for = none-some t (sym none ∙ ap (λ (k : Job). ticket_of_job k.kind) (new-out last_job job js n j same there) ∙ is_for)
 
 -- at the beginning nothing waits and no job is out
 pub sound-new : (revision : ℕ) → Sound new_desk revision
@@ -317,13 +317,13 @@ waits-by-id p ticket id is = is_pending-found ticket id p is
 
 -- what a row leaves is sound, and each response answers one request
 pub record Keeps (ticket : ℕ) (request : Option Request) (turns : ℕ) (desk : Desk) (jobs : Jobs) (revision : ℕ) (done : Reaction) : Type 0 where
-  pub sound : SoundOf turns (pending_after ticket request (responses_of done) desk.pending) (with_jobs done.jobs jobs) (desk.handed + length done.jobs) revision
+  pub sound : SoundOf turns (pending_after ticket request (responses_of done) desk.pending) (with_jobs done.jobs jobs) (desk.last_job + length done.jobs) revision
   pub once : AnswersOnce ticket request (responses_of done) desk.pending
 
 -- a request that was answered at once does not wait
-said-sound : (turns : ℕ) (p : Pending) (js : Jobs) (handed revision : ℕ) (id : RequestId) → is_pending id p ≡ false → SoundOf turns p js handed revision
-    → SoundOf (turns + 1) (closed id (registered (turns + 1) id p)) js (handed + 0) revision
-said-sound turns p js handed revision id new s =
+said-sound : (turns : ℕ) (p : Pending) (js : Jobs) (last_job revision : ℕ) (id : RequestId) → is_pending id p ≡ false → SoundOf turns p js last_job revision
+    → SoundOf (turns + 1) (closed id (registered (turns + 1) id p)) js (last_job + 0) revision
+said-sound turns p js last_job revision id new s =
     rw (closed-registered (turns + 1) id p (ticket-free turns p (map.get p (turns + 1)) refl s.tickets) (id-free (ticket_with id p) new) s.distinct)
     (sound-next _ _ _ _ _ s)
 
@@ -332,8 +332,8 @@ registered-waits p ticket id = is_pending-found ticket id (registered ticket id 
 
 -- the job that is handed over for a ticket
 abbrev pub job_for : Scene → ℕ → PoolClass → ℕ → RowId → Data → Job
-job_for scene handed class ticket row_id params = record {
-  number = handed + 1;
+job_for scene last_job class ticket row_id params = record {
+  number = last_job + 1;
   class = class;
   kind = RequestJob ticket row_id params;
   snapshot =
@@ -341,23 +341,23 @@ job_for scene handed class ticket row_id params = record {
 }
 
 new-kept : (scene : Scene) (r : Request) (desk : Desk) (done : Reaction) → is_pending r.id desk.pending ≡ false
-    → Reacts scene desk.handed (desk.turns + 1) r.id done
-    → SoundOf desk.turns desk.pending desk.jobs desk.handed scene.snapshot.revision
+    → Reacts scene desk.last_job (desk.turns + 1) r.id done
+    → SoundOf desk.turns desk.pending desk.jobs desk.last_job scene.snapshot.revision
     → Keeps (desk.turns + 1) (Some r) (desk.turns + 1) desk desk.jobs scene.snapshot.revision done
 new-kept scene r desk done new (inl (response, is, says_it)) s =
     subst (Keeps (desk.turns + 1) (Some r) (desk.turns + 1) desk desk.jobs scene.snapshot.revision) (sym says_it) (record {
-      sound = rw (new, is) (said-sound desk.turns desk.pending desk.jobs desk.handed scene.snapshot.revision r.id new s);
+      sound = rw (new, is) (said-sound desk.turns desk.pending desk.jobs desk.last_job scene.snapshot.revision r.id new s);
       once = rw new (r.id, is, registered-waits desk.pending (desk.turns + 1) r.id, tt);
     })
 new-kept scene r desk done new (inr (class, row_id, params, hands)) s =
     subst (Keeps (desk.turns + 1) (Some r) (desk.turns + 1) desk desk.jobs scene.snapshot.revision) (sym hands) (record {
-      sound = rw new (sound-request desk.turns desk.pending desk.jobs desk.handed scene.snapshot.revision r.id
-          (job_for scene desk.handed class (desk.turns + 1) row_id params) new refl (omega arith) s);
+      sound = rw new (sound-request desk.turns desk.pending desk.jobs desk.last_job scene.snapshot.revision r.id
+          (job_for scene desk.last_job class (desk.turns + 1) row_id params) new refl (omega arith) s);
       once = rw new tt;
     })
 
 request-cases : (meaning : Meaning) (scene : Scene) (r : Request) (desk : Desk) (b : Bool) → is_pending r.id desk.pending ≡ b
-    → SoundOf desk.turns desk.pending desk.jobs desk.handed scene.snapshot.revision
+    → SoundOf desk.turns desk.pending desk.jobs desk.last_job scene.snapshot.revision
     → Keeps (desk.turns + 1) (Some r) (desk.turns + 1) desk desk.jobs scene.snapshot.revision
     (if b then says (already_pending r.id) else new_row meaning scene desk (desk.turns + 1) r)
 request-cases meaning scene r desk true h s = record { sound = rw h (sound-next _ _ _ _ _ s); once = rw h refl }
@@ -373,7 +373,7 @@ request-kept meaning scene r desk s = request-cases meaning scene r desk (is_pen
 pub idle-kept : (ticket turns : ℕ) (desk : Desk) (revision : ℕ) → desk.turns ≤ turns → Sound desk revision
     → Keeps ticket None turns desk desk.jobs revision silent
 idle-kept ticket turns desk revision more s = record {
-  sound = sound-later desk.turns turns desk.pending desk.jobs desk.handed (desk.handed + 0) revision revision more (omega arith) (omega arith)
+  sound = sound-later desk.turns turns desk.pending desk.jobs desk.last_job (desk.last_job + 0) revision revision more (omega arith) (omega arith)
       (sound-parts desk revision s);
   once = tt;
 }
@@ -381,7 +381,7 @@ idle-kept ticket turns desk revision more s = record {
 cancel-cases : (id : RequestId) (desk : Desk) (revision : ℕ) (b : Bool) → is_pending id desk.pending ≡ b → Sound desk revision
     → Keeps (desk.turns + 1) None (desk.turns + 1) desk desk.jobs revision (if b then says (canceled_by_client id) else silent)
 cancel-cases id desk revision true waits s = record {
-  sound = sound-next _ _ _ _ _ (sound-closed desk.turns desk.pending desk.jobs desk.handed revision id (sound-parts desk revision s));
+  sound = sound-next _ _ _ _ _ (sound-closed desk.turns desk.pending desk.jobs desk.last_job revision id (sound-parts desk revision s));
   once = (id, refl, waits, tt);
 }
 cancel-cases id desk revision false waits s = idle-kept (desk.turns + 1) (desk.turns + 1) desk revision (omega arith) s
@@ -417,13 +417,13 @@ without-later first n (j ∷ js) out early late =
 
 -- within a batch: the desk is sound with the jobs that it hands over; those of earlier turns have numbers up to the first, these have later ones
 pub record Batching (first : ℕ) (desk : Desk) (js : List Job) (revision : ℕ) : Type 0 where
-  pub sound : SoundOf desk.turns desk.pending (with_jobs js desk.jobs) desk.handed revision
+  pub sound : SoundOf desk.turns desk.pending (with_jobs js desk.jobs) desk.last_job revision
   pub early : (n : ℕ) (job : Job) → map.get desk.jobs n ≡ Some job → n ≤ first
   pub late : AreAbove first js
-  pub given : first ≤ desk.handed
+  pub given : first ≤ desk.last_job
 
 -- before its first message
-pub batching-begins : (desk : Desk) (revision : ℕ) → Sound desk revision → Batching desk.handed desk [] revision
+pub batching-begins : (desk : Desk) (revision : ℕ) → Sound desk revision → Batching desk.last_job desk [] revision
 batching-begins desk revision s = record { sound = sound-parts desk revision s; early = s.numbers; late = tt; given = omega arith }
 
 abbrev pub Going : ℕ → Desk → List Job → ℕ → TaskMsg → Reaction → Type 0
@@ -435,8 +435,8 @@ going-none : (first : ℕ) (desk : Desk) (js : List Job) (revision : ℕ) (messa
     → Batching first desk js revision → Going first desk js revision message silent
 going-none first desk js revision message same b = (
   record {
-    sound = subst (λ xs. SoundOf desk.turns desk.pending (with_jobs xs (jobs_after message desk.jobs)) (desk.handed + 0) revision) (sym (append-nil js))
-        (subst (λ out. SoundOf desk.turns desk.pending (with_jobs js out) (desk.handed + 0) revision) (sym same) (sound-stays _ _ _ _ _ b.sound));
+    sound = subst (λ xs. SoundOf desk.turns desk.pending (with_jobs xs (jobs_after message desk.jobs)) (desk.last_job + 0) revision) (sym (append-nil js))
+        (subst (λ out. SoundOf desk.turns desk.pending (with_jobs js out) (desk.last_job + 0) revision) (sym same) (sound-stays _ _ _ _ _ b.sound));
     early = λ n job there. b.early n job (ap (λ out. map.get out n) (sym same) ∙ there);
     late = subst (AreAbove first) (sym (append-nil js)) b.late;
     given = let g = b.given in omega arith;
@@ -476,9 +476,9 @@ going-off : (first : ℕ) (desk : Desk) (js : List Job) (revision : ℕ) (messag
     → Took first desk js revision message found → Going first desk js revision message silent
 going-off first desk js revision message found none t = (
   record {
-    sound = subst (λ xs. SoundOf desk.turns desk.pending (with_jobs xs (jobs_after message desk.jobs)) (desk.handed + 0) revision) (sym (append-nil js))
-        (subst (λ out. SoundOf desk.turns desk.pending out (desk.handed + 0) revision) (sym t.left)
-        (sound-stays _ _ _ _ _ (sound-off desk.turns desk.pending (with_jobs js desk.jobs) desk.handed revision message.job found t.is_there none
+    sound = subst (λ xs. SoundOf desk.turns desk.pending (with_jobs xs (jobs_after message desk.jobs)) (desk.last_job + 0) revision) (sym (append-nil js))
+        (subst (λ out. SoundOf desk.turns desk.pending out (desk.last_job + 0) revision) (sym t.left)
+        (sound-stays _ _ _ _ _ (sound-off desk.turns desk.pending (with_jobs js desk.jobs) desk.last_job revision message.job found t.is_there none
         t.before.sound)));
     early = early-on first desk js revision message found t;
     late = subst (AreAbove first) (sym (append-nil js)) t.before.late;
@@ -493,12 +493,12 @@ going-said : (first : ℕ) (desk : Desk) (js : List Job) (revision : ℕ) (messa
     → response.id ≡ Some id → Took first desk js revision message found → Going first desk js revision message (says response)
 going-said first desk js revision message found ticket id response its waits is t = (
   record {
-    sound = subst (λ xs. SoundOf desk.turns (closed_with response.id desk.pending) (with_jobs xs (jobs_after message desk.jobs)) (desk.handed + 0) revision)
+    sound = subst (λ xs. SoundOf desk.turns (closed_with response.id desk.pending) (with_jobs xs (jobs_after message desk.jobs)) (desk.last_job + 0) revision)
         (sym (append-nil js))
-        (subst (λ q. SoundOf desk.turns q (with_jobs js (jobs_after message desk.jobs)) (desk.handed + 0) revision)
+        (subst (λ q. SoundOf desk.turns q (with_jobs js (jobs_after message desk.jobs)) (desk.last_job + 0) revision)
         (sym (ap (λ o. closed_with o desk.pending) is ∙ sym (completed-closed ticket id desk.pending t.before.sound.distinct waits)))
-        (subst (λ out. SoundOf desk.turns (completed ticket desk.pending) out (desk.handed + 0) revision) (sym t.left)
-        (sound-stays _ _ _ _ _ (sound-without desk.turns desk.pending (with_jobs js desk.jobs) desk.handed revision message.job ticket found id t.is_there its
+        (subst (λ out. SoundOf desk.turns (completed ticket desk.pending) out (desk.last_job + 0) revision) (sym t.left)
+        (sound-stays _ _ _ _ _ (sound-without desk.turns desk.pending (with_jobs js desk.jobs) desk.last_job revision message.job ticket found id t.is_there its
         waits t.before.sound))));
     early = early-on first desk js revision message found t;
     late = subst (AreAbove first) (sym (append-nil js)) t.before.late;
@@ -511,12 +511,12 @@ going-said first desk js revision message found ticket id response its waits is 
 going-again : (first : ℕ) (scene : Scene) (desk : Desk) (js : List Job) (message : TaskMsg) (found : Job) (ticket : ℕ) (class : PoolClass) (row_id : RowId)
     (params : Data) → ticket_of_job found.kind ≡ Some ticket
     → Took first desk js scene.snapshot.revision message found
-    → Going first desk js scene.snapshot.revision message (hands_over desk.handed scene.snapshot class ticket row_id params)
+    → Going first desk js scene.snapshot.revision message (hands_over desk.last_job scene.snapshot class ticket row_id params)
 going-again first scene desk js message found ticket class row_id params its t = (
   record {
-    sound = subst (λ out. SoundOf desk.turns desk.pending out (desk.handed + 1) scene.snapshot.revision)
-        (sym (with_jobs-append js (job ∷ []) (jobs_after message desk.jobs) ∙ ap (λ out. map.insert out (desk.handed + 1) job) t.left))
-        (sound-again desk.turns desk.pending (with_jobs js desk.jobs) desk.handed scene.snapshot.revision message.job ticket found job t.is_there its refl
+    sound = subst (λ out. SoundOf desk.turns desk.pending out (desk.last_job + 1) scene.snapshot.revision)
+        (sym (with_jobs-append js (job ∷ []) (jobs_after message desk.jobs) ∙ ap (λ out. map.insert out (desk.last_job + 1) job) t.left))
+        (sound-again desk.turns desk.pending (with_jobs js desk.jobs) desk.last_job scene.snapshot.revision message.job ticket found job t.is_there its refl
         (omega arith) t.before.sound);
     early = early-on first desk js scene.snapshot.revision message found t;
     late = above-append first js _ t.before.late (let g = t.before.given in omega arith, tt);
@@ -526,11 +526,11 @@ going-again first scene desk js message found ticket class row_id params its t =
 )
   where
     job : Job
-    job = job_for scene desk.handed class ticket row_id params
+    job = job_for scene desk.last_job class ticket row_id params
 
 going-reacts : (first : ℕ) (scene : Scene) (desk : Desk) (js : List Job) (message : TaskMsg) (found : Job) (ticket : ℕ) (id : RequestId) (done : Reaction)
     → ticket_of_job found.kind ≡ Some ticket → id_of ticket desk.pending ≡ Some id
-    → Reacts scene desk.handed ticket id done → Took first desk js scene.snapshot.revision message found
+    → Reacts scene desk.last_job ticket id done → Took first desk js scene.snapshot.revision message found
     → Going first desk js scene.snapshot.revision message done
 going-reacts first scene desk js message found ticket id done its waits (inl (response, is, says_it)) t =
     subst (Going first desk js scene.snapshot.revision message) (sym says_it)
@@ -608,25 +608,25 @@ pub message-sound : (meaning : Meaning) (scene : Scene) (desk : Desk) (message :
     → KeepsSound (desk.turns + 1) None (message_row meaning scene desk message) (jobs_after message desk.jobs) desk scene.snapshot.revision
 message-sound meaning scene desk message s =
     let done = message_row meaning scene desk message in
-    let going : Going desk.handed desk [] scene.snapshot.revision message done =
-    message-going meaning desk.handed scene desk [] message (batching-begins desk scene.snapshot.revision s) in
+    let going : Going desk.last_job desk [] scene.snapshot.revision message done =
+    message-going meaning desk.last_job scene desk [] message (batching-begins desk scene.snapshot.revision s) in
     keeps-whole (desk.turns + 1) None done (jobs_after message desk.jobs) desk scene.snapshot.revision
     (record { sound = sound-later desk.turns (desk.turns + 1) _ _ _ _ _ _ (omega arith) (omega arith) (omega arith) going.0.sound; once = going.1 })
 
 -- ---- one request
 
 new-cases : (meaning : Meaning) (scene : Scene) (desk : Desk) (ticket : ℕ) (r : Request) (b : Bool) → b ≡ false
-    → Reacts scene desk.handed ticket r.id (if b then says (already_pending r.id) else new_row meaning scene desk ticket r)
+    → Reacts scene desk.last_job ticket r.id (if b then says (already_pending r.id) else new_row meaning scene desk ticket r)
 new-cases meaning scene desk ticket r true new = absurd cc
 new-cases meaning scene desk ticket r false new = new-reacts meaning scene desk ticket r
 
 pub request-reacts : (meaning : Meaning) (scene : Scene) (desk : Desk) (ticket : ℕ) (r : Request) → is_pending r.id desk.pending ≡ false
-    → Reacts scene desk.handed ticket r.id (request_row meaning scene desk ticket r)
+    → Reacts scene desk.last_job ticket r.id (request_row meaning scene desk ticket r)
 request-reacts meaning scene desk ticket r new = new-cases meaning scene desk ticket r (is_pending r.id desk.pending) new
 
 pub message-reacts : (meaning : Meaning) (scene : Scene) (desk : Desk) (message : TaskMsg) (job : Job) (ticket : ℕ) (id : RequestId)
     → fitting_job message desk.jobs ≡ Some job → ticket_of_job job.kind ≡ Some ticket → id_of ticket desk.pending ≡ Some id
-    → Reacts scene desk.handed ticket id (message_row meaning scene desk message)
+    → Reacts scene desk.last_job ticket id (message_row meaning scene desk message)
 message-reacts meaning scene desk message job ticket id is its waits =
     let slot = ticket-slot job.kind ticket its in
     let k = ends-of_slot job (slot_at ticket slot.0) message.body slot.1 (fit-fits message.body (map.get desk.jobs message.job) job is) in
@@ -634,7 +634,7 @@ message-reacts meaning scene desk message job ticket id is its waits =
     let row : message_row meaning scene desk message ≡ ticket_row meaning scene desk (Some id) job k.0 =
     ap (λ o. fitting_row meaning scene desk o message) is ∙ ap (λ o. final_row meaning scene desk o job) k.1
     ∙ ap (λ o. ticket_row meaning scene desk o job k.0) there in
-    subst (Reacts scene desk.handed ticket id) (sym row) (result-reacts meaning scene desk ticket id job k.0 (finished_reply id k.0) refl its)
+    subst (Reacts scene desk.last_job ticket id) (sym row) (result-reacts meaning scene desk ticket id job k.0 (finished_reply id k.0) refl its)
 
 -- ---- one part
 

@@ -44,34 +44,34 @@ either-numbered given false x y p q = q
 -- what answers a request, or hands over a job for it
 reacts-numbered : (scene : Scene) (given ticket : ℕ) (id : RequestId) (done : Reaction) → Reacts scene given ticket id done → AreNumbered given done.jobs
 reacts-numbered scene given ticket id done (inl (response, is, said)) = subst (λ (d : Reaction). AreNumbered given d.jobs) (sym said) tt
-reacts-numbered scene given ticket id done (inr (class, row_id, params, handed)) = subst (λ (d : Reaction). AreNumbered given d.jobs) (sym handed) (refl, tt)
+reacts-numbered scene given ticket id done (inr (class, row_id, params, last_job)) = subst (λ (d : Reaction). AreNumbered given d.jobs) (sym last_job) (refl, tt)
 
 pub request-numbered : (meaning : Meaning) (scene : Scene) (desk : Desk) (ticket : ℕ) (r : Request)
-    → AreNumbered desk.handed (request_row meaning scene desk ticket r).jobs
+    → AreNumbered desk.last_job (request_row meaning scene desk ticket r).jobs
 request-numbered meaning scene desk ticket r =
-    either-numbered desk.handed (is_pending r.id desk.pending) _ _ tt
-    (reacts-numbered scene desk.handed ticket r.id (new_row meaning scene desk ticket r) (new-reacts meaning scene desk ticket r))
+    either-numbered desk.last_job (is_pending r.id desk.pending) _ _ tt
+    (reacts-numbered scene desk.last_job ticket r.id (new_row meaning scene desk ticket r) (new-reacts meaning scene desk ticket r))
 
-pub cancel-numbered : (id : RequestId) (desk : Desk) → AreNumbered desk.handed (cancel_row id desk).jobs
-cancel-numbered id desk = either-numbered desk.handed (is_pending id desk.pending) (says (canceled_by_client id)) silent tt tt
+pub cancel-numbered : (id : RequestId) (desk : Desk) → AreNumbered desk.last_job (cancel_row id desk).jobs
+cancel-numbered id desk = either-numbered desk.last_job (is_pending id desk.pending) (says (canceled_by_client id)) silent tt tt
 
 ticket-numbered : (meaning : Meaning) (scene : Scene) (desk : Desk) (o : Option RequestId) (job : Job) (result : JobResult) → waiting_for job desk ≡ o
-    → AreNumbered desk.handed (ticket_row meaning scene desk o job result).jobs
+    → AreNumbered desk.last_job (ticket_row meaning scene desk o job result).jobs
 ticket-numbered meaning scene desk None job result waits = tt
 ticket-numbered meaning scene desk (Some id) job result waits =
     let t = has-ticket job desk id waits in
-    reacts-numbered scene desk.handed t.ticket id _ (result-reacts meaning scene desk t.ticket id job result (finished_reply id result) refl t.its)
+    reacts-numbered scene desk.last_job t.ticket id _ (result-reacts meaning scene desk t.ticket id job result (finished_reply id result) refl t.its)
 
 final-numbered : (meaning : Meaning) (scene : Scene) (desk : Desk) (o : Option JobResult) (job : Job)
-    → AreNumbered desk.handed (final_row meaning scene desk o job).jobs
+    → AreNumbered desk.last_job (final_row meaning scene desk o job).jobs
 final-numbered meaning scene desk None job = tt
 final-numbered meaning scene desk (Some result) job = ticket-numbered meaning scene desk (waiting_for job desk) job result refl
 
 fitting-numbered : (meaning : Meaning) (scene : Scene) (desk : Desk) (o : Option Job) (message : TaskMsg)
-    → AreNumbered desk.handed (fitting_row meaning scene desk o message).jobs
+    → AreNumbered desk.last_job (fitting_row meaning scene desk o message).jobs
 fitting-numbered meaning scene desk None message = tt
 fitting-numbered meaning scene desk (Some job) message = final-numbered meaning scene desk (final_of message.body) job
 
 pub message-numbered : (meaning : Meaning) (scene : Scene) (desk : Desk) (message : TaskMsg)
-    → AreNumbered desk.handed (message_row meaning scene desk message).jobs
+    → AreNumbered desk.last_job (message_row meaning scene desk message).jobs
 message-numbered meaning scene desk message = fitting-numbered meaning scene desk (fitting_job message desk.jobs) message

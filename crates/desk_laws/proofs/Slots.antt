@@ -35,7 +35,7 @@ only-left part other left = All-contains (λ k. k ≡ part) (part ∷ []) other 
 
 -- jobs out have numbers up to this one
 abbrev pub AreLow : ℕ → Jobs → Type 0
-AreLow handed js = (n : ℕ) (job : Job) → map.get js n ≡ Some job → n ≤ handed
+AreLow last_job js = (n : ℕ) (job : Job) → map.get js n ≡ Some job → n ≤ last_job
 
 -- what is out without a job was out before
 pub still-out : (n m : ℕ) (js : Jobs) (job : Job) → map.get (map.remove js n) m ≡ Some job → map.get js m ≡ Some job
@@ -44,15 +44,15 @@ still-out n m js job there = by_key by_number_total by_number_same m n
     (λ elsewhere. sym (get-remove_other by_number_total by_number_same js n m elsewhere) ∙ there)
 
 -- what is out with one more job is this job, or was out before
-pub new-out : (handed : ℕ) (job : Job) (js : Jobs) (n : ℕ) (found : Job) → n ≡ handed + 1 → map.get (map.insert js (handed + 1) job) n ≡ Some found
+pub new-out : (last_job : ℕ) (job : Job) (js : Jobs) (n : ℕ) (found : Job) → n ≡ last_job + 1 → map.get (map.insert js (last_job + 1) job) n ≡ Some found
     → job ≡ found
-new-out handed job js n found same there =
-    some-same job found (sym (get-insert_same by_number_total by_number_same js (handed + 1) job) ∙ ap (map.get (map.insert js (handed + 1) job)) (sym same)
+new-out last_job job js n found same there =
+    some-same job found (sym (get-insert_same by_number_total by_number_same js (last_job + 1) job) ∙ ap (map.get (map.insert js (last_job + 1) job)) (sym same)
     ∙ there)
 
-pub was-out : (handed : ℕ) (job : Job) (js : Jobs) (n : ℕ) (found : Job) → n ≢ handed + 1 → map.get (map.insert js (handed + 1) job) n ≡ Some found
+pub was-out : (last_job : ℕ) (job : Job) (js : Jobs) (n : ℕ) (found : Job) → n ≢ last_job + 1 → map.get (map.insert js (last_job + 1) job) n ≡ Some found
     → map.get js n ≡ Some found
-was-out handed job js n found other there = sym (get-insert_other by_number_total by_number_same js (handed + 1) job n other) ∙ there
+was-out last_job job js n found other there = sym (get-insert_other by_number_total by_number_same js (last_job + 1) job n other) ∙ there
 
 -- ---- one job for a slot
 
@@ -69,30 +69,30 @@ one-without slot n found js is apart h = record {
 }
 
 -- a job of another slot, or of none, was handed over
-one-beside : (slot : Slot) (handed : ℕ) (job : Job) (js : Jobs) → AreLow handed js → slot_of job.kind ≢ Some slot → HasOneJob slot js
-    → HasOneJob slot (map.insert js (handed + 1) job)
-one-beside slot handed job js low apart h = record {
+one-beside : (slot : Slot) (last_job : ℕ) (job : Job) (js : Jobs) → AreLow last_job js → slot_of job.kind ≢ Some slot → HasOneJob slot js
+    → HasOneJob slot (map.insert js (last_job + 1) job)
+one-beside slot last_job job js low apart h = record {
   number = h.number;
   job = h.job;
-  is_out = let le = low h.number h.job h.is_out in get-insert_other by_number_total by_number_same js (handed + 1) job h.number (λ same. omega arith)
+  is_out = let le = low h.number h.job h.is_out in get-insert_other by_number_total by_number_same js (last_job + 1) job h.number (λ same. omega arith)
       ∙ h.is_out;
   holds = h.holds;
-  only = λ other holder there is_for. by_key by_number_total by_number_same other (handed + 1)
-      (λ same. absurd (apart (ap (λ (j : Job). slot_of j.kind) (new-out handed job js other holder same there) ∙ is_for)))
-      (λ elsewhere. h.only other holder (was-out handed job js other holder elsewhere there) is_for);
+  only = λ other holder there is_for. by_key by_number_total by_number_same other (last_job + 1)
+      (λ same. absurd (apart (ap (λ (j : Job). slot_of j.kind) (new-out last_job job js other holder same there) ∙ is_for)))
+      (λ elsewhere. h.only other holder (was-out last_job job js other holder elsewhere there) is_for);
 }
 
 -- a job was handed over for a slot of which none was out
-one-new : (slot : Slot) (handed : ℕ) (job : Job) (js : Jobs) → slot_of job.kind ≡ Some slot
+one-new : (slot : Slot) (last_job : ℕ) (job : Job) (js : Jobs) → slot_of job.kind ≡ Some slot
     → ((n : ℕ) (found : Job) → map.get js n ≡ Some found → slot_of found.kind ≢ Some slot)
-    → HasOneJob slot (map.insert js (handed + 1) job)
-one-new slot handed job js its none = record {
-  number = handed + 1;
+    → HasOneJob slot (map.insert js (last_job + 1) job)
+one-new slot last_job job js its none = record {
+  number = last_job + 1;
   job = job;
-  is_out = get-insert_same by_number_total by_number_same js (handed + 1) job;
+  is_out = get-insert_same by_number_total by_number_same js (last_job + 1) job;
   holds = its;
-  only = λ other holder there is_for. by_key by_number_total by_number_same other (handed + 1) (λ same. same)
-      (λ elsewhere. absurd (none other holder (was-out handed job js other holder elsewhere there) is_for));
+  only = λ other holder there is_for. by_key by_number_total by_number_same other (last_job + 1) (λ same. same)
+      (λ elsewhere. absurd (none other holder (was-out last_job job js other holder elsewhere there) is_for));
 }
 
 -- ---- the jobs of a request
@@ -108,49 +108,49 @@ held-without ticket n parts found js is apart h = record {
 }
 
 -- a job of another request, or of none, was handed over
-pub held-beside : (ticket : ℕ) (parts : List ℕ) (handed : ℕ) (job : Job) (js : Jobs) → AreLow handed js → ticket_of_job job.kind ≢ Some ticket
-    → IsHeld ticket parts js → IsHeld ticket parts (map.insert js (handed + 1) job)
-held-beside ticket parts handed job js low apart h = record {
+pub held-beside : (ticket : ℕ) (parts : List ℕ) (last_job : ℕ) (job : Job) (js : Jobs) → AreLow last_job js → ticket_of_job job.kind ≢ Some ticket
+    → IsHeld ticket parts js → IsHeld ticket parts (map.insert js (last_job + 1) job)
+held-beside ticket parts last_job job js low apart h = record {
   part = h.part;
   is_left = h.is_left;
-  each = λ part left. one-beside (slot_at ticket part) handed job js low (λ its. apart (slot-ticket job.kind ticket part its)) (h.each part left);
-  no_other = λ n found part there its. by_key by_number_total by_number_same n (handed + 1)
-      (λ same. absurd (apart (slot-ticket job.kind ticket part (ap (λ (j : Job). slot_of j.kind) (new-out handed job js n found same there) ∙ its))))
-      (λ elsewhere. h.no_other n found part (was-out handed job js n found elsewhere there) its);
+  each = λ part left. one-beside (slot_at ticket part) last_job job js low (λ its. apart (slot-ticket job.kind ticket part its)) (h.each part left);
+  no_other = λ n found part there its. by_key by_number_total by_number_same n (last_job + 1)
+      (λ same. absurd (apart (slot-ticket job.kind ticket part (ap (λ (j : Job). slot_of j.kind) (new-out last_job job js n found same there) ∙ its))))
+      (λ elsewhere. h.no_other n found part (was-out last_job job js n found elsewhere there) its);
 }
 
 -- a job was handed over for the one part of a request of which none was out
-pub held-first : (ticket handed : ℕ) (job : Job) (js : Jobs) → slot_of job.kind ≡ Some (slot_at ticket 0)
+pub held-first : (ticket last_job : ℕ) (job : Job) (js : Jobs) → slot_of job.kind ≡ Some (slot_at ticket 0)
     → ((n : ℕ) (found : Job) → map.get js n ≡ Some found → ticket_of_job found.kind ≢ Some ticket)
-    → IsHeld ticket (0 ∷ []) (map.insert js (handed + 1) job)
-held-first ticket handed job js its none = record {
+    → IsHeld ticket (0 ∷ []) (map.insert js (last_job + 1) job)
+held-first ticket last_job job js its none = record {
   part = 0;
   is_left = one-left 0;
-  each = λ part left. subst (λ k. HasOneJob (slot_at ticket k) (map.insert js (handed + 1) job)) (sym (only-left 0 part left))
-      (one-new (slot_at ticket 0) handed job js its (λ n found there is_for. none n found there (slot-ticket found.kind ticket 0 is_for)));
-  no_other = λ n found part there is_for. by_key by_number_total by_number_same n (handed + 1)
+  each = λ part left. subst (λ k. HasOneJob (slot_at ticket k) (map.insert js (last_job + 1) job)) (sym (only-left 0 part left))
+      (one-new (slot_at ticket 0) last_job job js its (λ n found there is_for. none n found there (slot-ticket found.kind ticket 0 is_for)));
+  no_other = λ n found part there is_for. by_key by_number_total by_number_same n (last_job + 1)
       (λ same. subst (Contains (0 ∷ [])) (same-part ticket 0 part
-      (sym its ∙ ap (λ (j : Job). slot_of j.kind) (new-out handed job js n found same there) ∙ is_for)) (one-left 0))
-      (λ elsewhere. absurd (none n found (was-out handed job js n found elsewhere there) (slot-ticket found.kind ticket part is_for)));
+      (sym its ∙ ap (λ (j : Job). slot_of j.kind) (new-out last_job job js n found same there) ∙ is_for)) (one-left 0))
+      (λ elsewhere. absurd (none n found (was-out last_job job js n found elsewhere there) (slot-ticket found.kind ticket part is_for)));
 }
 
 -- a job came back, and another one was handed over for its slot
-pub held-again : (ticket part : ℕ) (parts : List ℕ) (handed n : ℕ) (found job : Job) (js : Jobs) → AreLow handed js → map.get js n ≡ Some found
+pub held-again : (ticket part : ℕ) (parts : List ℕ) (last_job n : ℕ) (found job : Job) (js : Jobs) → AreLow last_job js → map.get js n ≡ Some found
     → slot_of found.kind ≡ Some (slot_at ticket part)
-    → slot_of job.kind ≡ Some (slot_at ticket part) → IsHeld ticket parts js → IsHeld ticket parts (map.insert (map.remove js n) (handed + 1) job)
-held-again ticket part parts handed n found job js low is was_for its h = record {
+    → slot_of job.kind ≡ Some (slot_at ticket part) → IsHeld ticket parts js → IsHeld ticket parts (map.insert (map.remove js n) (last_job + 1) job)
+held-again ticket part parts last_job n found job js low is was_for its h = record {
   part = h.part;
   is_left = h.is_left;
   each = λ k k_left. by_key by_number_total by_number_same k part
-      (λ same. subst (λ p. HasOneJob (slot_at ticket p) (map.insert (map.remove js n) (handed + 1) job)) (sym same)
-      (one-new (slot_at ticket part) handed job (map.remove js n) its gone))
-      (λ other. one-beside (slot_at ticket k) handed job (map.remove js n) (λ m j there. low m j (still-out n m js j there))
+      (λ same. subst (λ p. HasOneJob (slot_at ticket p) (map.insert (map.remove js n) (last_job + 1) job)) (sym same)
+      (one-new (slot_at ticket part) last_job job (map.remove js n) its gone))
+      (λ other. one-beside (slot_at ticket k) last_job job (map.remove js n) (λ m j there. low m j (still-out n m js j there))
       (λ e. other (sym (same-part ticket part k (sym its ∙ e))))
       (one-without (slot_at ticket k) n found js is (λ e. other (sym (same-part ticket part k (sym was_for ∙ e)))) (h.each k k_left)));
-  no_other = λ m j k there is_for. by_key by_number_total by_number_same m (handed + 1)
+  no_other = λ m j k there is_for. by_key by_number_total by_number_same m (last_job + 1)
       (λ same. subst (Contains parts) (same-part ticket part k
-      (sym its ∙ ap (λ (x : Job). slot_of x.kind) (new-out handed job (map.remove js n) m j same there) ∙ is_for)) left)
-      (λ elsewhere. h.no_other m j k (still-out n m js j (was-out handed job (map.remove js n) m j elsewhere there)) is_for);
+      (sym its ∙ ap (λ (x : Job). slot_of x.kind) (new-out last_job job (map.remove js n) m j same there) ∙ is_for)) left)
+      (λ elsewhere. h.no_other m j k (still-out n m js j (was-out last_job job (map.remove js n) m j elsewhere there)) is_for);
 }
   where
     left : Contains parts part

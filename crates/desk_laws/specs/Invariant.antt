@@ -18,7 +18,7 @@ use Rattle.desk.specs.Reactions.{Reaction, responses_of}
 pub record Sound (desk : Desk) (revision : ℕ) : Type 0 where
   pub distinct : AreDistinct desk.pending
   pub tickets : (ticket : ℕ) (id : RequestId) → id_of ticket desk.pending ≡ Some id → ticket ≤ desk.turns
-  pub numbers : (n : ℕ) (job : Job) → map.get desk.jobs n ≡ Some job → n ≤ desk.handed
+  pub numbers : (n : ℕ) (job : Job) → map.get desk.jobs n ≡ Some job → n ≤ desk.last_job
   pub below : (n : ℕ) (job : Job) (ticket : ℕ) → map.get desk.jobs n ≡ Some job → ticket_of_job job.kind ≡ Some ticket
       → ticket ≤ desk.turns
   pub revisions : (n : ℕ) (job : Job) (ticket : ℕ) → map.get desk.jobs n ≡ Some job
@@ -33,7 +33,7 @@ desk_then turns request done jobs desk = record {
   turns = turns;
   pending = pending_after turns request (responses_of done) desk.pending;
   jobs = with_jobs done.jobs jobs;
-  handed = desk.handed + length done.jobs;
+  last_job = desk.last_job + length done.jobs;
   shutdown = shutdown_after request (responses_of done) desk.shutdown;
 }
 

@@ -4,5 +4,5 @@ use Rattle.session_port.specs.declared.job.Job.{Job}
 
 -- jobs with the next numbers, after so many that were given
 abbrev pub AreNumbered : ℕ → List Job → Type 0
-AreNumbered handed [] = Unit {0}
-AreNumbered handed (job ∷ jobs) = (job.number ≡ handed + 1) × AreNumbered (handed + 1) jobs
+AreNumbered last_job [] = Unit {0}
+AreNumbered last_job (job ∷ jobs) = (job.number ≡ last_job + 1) × AreNumbered (last_job + 1) jobs

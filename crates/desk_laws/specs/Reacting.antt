@@ -10,7 +10,7 @@ use Rattle.desk.specs.Scene.{Scene}
 
 -- one response to this id, or one job for this ticket on the present snapshot, behind so many that were handed over
 abbrev pub Reacts : Scene → ℕ → ℕ → RequestId → Reaction → Type 0
-Reacts scene handed ticket id done =
+Reacts scene last_job ticket id done =
     ((response : Response) × (response.id ≡ Some id) × (done ≡ says response))
     ⊎ ((class : PoolClass) × (row : RowId) × (params : Data)
-    × (done ≡ hands_over handed scene.snapshot class ticket row params))
+    × (done ≡ hands_over last_job scene.snapshot class ticket row params))

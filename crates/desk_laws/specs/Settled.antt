@@ -9,7 +9,7 @@ use Rattle.session_port.specs.declared.command.Command.TheVariants.{Defer, Spawn
 use Rattle.session_port.specs.declared.command.DeferredTask.{DeferredTask}
 use Rattle.session_port.specs.declared.command.LogCode.{LogCode}
 use Rattle.session_port.specs.declared.job.Job.{Job}
-use Rattle.session_port.specs.Working.{Working}
+use Rattle.session_port.specs.TurnState.{TurnState}
 use Rattle.desk.specs.Desk.{Desk}
 use Rattle.desk.specs.Folds.{asked_among, pending_after, shutdown_after}
 use Rattle.desk.specs.Reactions.{Reaction, responses_of}
@@ -23,7 +23,7 @@ pub record PassesOver (number_of : Command → Option ℕ) : Type 0 where
 -- between these two these messages were written and no other, and these jobs handed over, and this request, if any, was
 -- read by the turn that is counted. These jobs
 -- of earlier turns are out, nothing was ordered but jobs, log lines and tasks that are put off, and the turns stay
-pub record Settled (request : Option Request) (w v : Working Desk) (done : Reaction) (jobs : Jobs) : Type 0 where
+pub record Settled (request : Option Request) (w v : TurnState Desk) (done : Reaction) (jobs : Jobs) : Type 0 where
   pub written : v.out.messages ≡ w.out.messages ++ done.messages
   pub spawns : spawned v.out.commands ≡ spawned w.out.commands ++ done.jobs
   -- each of the jobs is for a request
@@ -33,5 +33,5 @@ pub record Settled (request : Option Request) (w v : Working Desk) (done : React
   pub turns : v.state.turns ≡ w.state.turns
   pub pending : v.state.pending ≡ pending_after w.state.turns request (responses_of done) w.state.pending
   pub out : v.state.jobs ≡ jobs
-  pub handed : v.state.handed ≡ w.state.handed + length done.jobs
+  pub last_job : v.state.last_job ≡ w.state.last_job + length done.jobs
   pub shutdown : v.state.shutdown ≡ shutdown_after request (responses_of done) w.state.shutdown

@@ -7,7 +7,7 @@ ghost use Rattle.session_port.specs.Jobs.{jobs_after, fitting_job};
 ghost use Rattle.session_port.specs.Kinds.{ticket_of_job};
 ghost use Rattle.session_port.specs.declared.event.TaskMsg.{TaskMsg};
 ghost use Rattle.session_port.specs.declared.job.Job.{Job};
-ghost use Rattle.session_port.specs.Working.{Working};
+ghost use Rattle.session_port.specs.TurnState.{TurnState};
 ghost use Rattle.desk.specs.Desk.{Desk, new_desk};
 ghost use Rattle.desk.specs.Folds.{AreHeld};
 ghost use Rattle.desk.specs.Meaning.{Meaning};
@@ -21,20 +21,20 @@ ghost use Rattle.desk_laws.specs.Settled.{Settled};
 
 /// What the desk does with a request, with a cancelled one and with a message of a job is its row of the reply table.
 pub fn steps_are_rows()
-    ensures requests { (meaning : Meaning) (scene : Scene) (r : Request) (w : Working Desk)
+    ensures requests { (meaning : Meaning) (scene : Scene) (r : Request) (w : TurnState Desk)
         → IfOk (requested meaning scene r w) (λ v. Settled (Some r) w v (request_row meaning scene w.state w.state.turns r) w.state.jobs) }
-    ensures cancels { (id : RequestId) (w : Working Desk) → Settled None w (cancelled id w) (cancel_row id w.state) w.state.jobs }
-    ensures messages { (meaning : Meaning) (scene : Scene) (message : TaskMsg) (w : Working Desk)
+    ensures cancels { (id : RequestId) (w : TurnState Desk) → Settled None w (cancelled id w) (cancel_row id w.state) w.state.jobs }
+    ensures messages { (meaning : Meaning) (scene : Scene) (message : TaskMsg) (w : TurnState Desk)
         → IfOk (result_taken meaning scene message w) (λ v. Settled None w v (message_row meaning scene w.state message) (jobs_after message w.state.jobs)) }
 {}
 
 /// A new request, and the message of a job whose request waits, get one response, or one job is handed over for them.
 pub fn rows_answer_or_hand_over()
     ensures requests { (meaning : Meaning) (scene : Scene) (desk : Desk) (ticket : ℕ) (r : Request) → is_pending r.id desk.pending ≡ false
-        → Reacts scene desk.handed ticket r.id (request_row meaning scene desk ticket r) }
+        → Reacts scene desk.last_job ticket r.id (request_row meaning scene desk ticket r) }
     ensures messages { (meaning : Meaning) (scene : Scene) (desk : Desk) (message : TaskMsg) (job : Job) (ticket : ℕ) (id : RequestId)
         → fitting_job message desk.jobs ≡ Some job → ticket_of_job job.kind ≡ Some ticket → id_of ticket desk.pending ≡ Some id
-        → Reacts scene desk.handed ticket id (message_row meaning scene desk message) }
+        → Reacts scene desk.last_job ticket id (message_row meaning scene desk message) }
 {}
 
 /// Each request that waits is held by exactly one job out for each of its parts that is not reported: so it

@@ -13,7 +13,7 @@ use Rattle.docs_vfs.specs.declared.file_kinds.RowState.{RowState}
 use Rattle.docs_vfs.specs.declared.file_kinds.RowState.TheVariants.{Nothing, Excluded}
 use Rattle.docs_vfs.specs.declared.file_kinds.TableFault.{TableFault}
 use Rattle.docs_vfs.specs.declared.file_kinds.TableFault.TheVariants.{Full}
-use Rattle.docs_vfs.specs.Files.{Files, kept_in, kept_at, contents_of, contents_at, is_marked, kept_of, same_contents, number_in, put_at, put_in, set_in, mark_in, and_then}
+use Rattle.docs_vfs.specs.Files.{Files, kept_in, kept_at, contents_of, contents_at, is_marked, kept_of, same_contents, number_in, put_at, put_in, set_in, mark_in, table_then}
 use Rattle.docs_vfs.specs.FileLaws.{number_at, IsNumbered}
 use Rattle.docs_vfs.specs.FileRuns.{Call, set_or, mark_or, after, add_name, named}
 use Rattle.docs_vfs.specs.FileRuns.Call.{Sets, Marks, Takes}
@@ -81,8 +81,8 @@ no_row (Some row) none = absurd (none-some row.file (sym none))
 -- a path without a number, put into a full table and into one that isn't
 full_put : (t : Files) (path : List ℕ) (kept : RowState) → number_at t path ≡ None → nat_le 4294967295 (t.first + length t.paths) ≡ true → put_in t path kept ≡ Err Full
 full_put t path kept none full =
-    ap (λ o. and_then (number_in t path o) (λ n. Ok (put_at n.0 n.1 path kept))) (no_row (map.get t.rows path) none)
-    ∙ ap (λ r. and_then r (λ n. Ok (put_at n.0 n.1 path kept))) (cond-true _ _ _ full)
+    ap (λ o. table_then (number_in t path o) (λ n. Ok (put_at n.0 n.1 path kept))) (no_row (map.get t.rows path) none)
+    ∙ ap (λ r. table_then r (λ n. Ok (put_at n.0 n.1 path kept))) (cond-true _ _ _ full)
 
 record Named (t : Files) (path : List ℕ) (u : Files) : Type 0 where
   first : u.first ≡ t.first
@@ -93,7 +93,7 @@ refused t path kept numbered e (Some row) has is = add_known t path row.file num
 refused t path kept numbered e None has is =
     ⊎_elim
     (λ full. add_full t path full)
-    (λ room. absurd (err_is_not_ok e _ (sym is ∙ ap (λ o. and_then (number_in t path o) (λ n. Ok (put_at n.0 n.1 path kept))) has ∙ ap (λ r. and_then r (λ n. Ok (put_at n.0 n.1 path kept))) (cond-false _ _ _ room))))
+    (λ room. absurd (err_is_not_ok e _ (sym is ∙ ap (λ o. table_then (number_in t path o) (λ n. Ok (put_at n.0 n.1 path kept))) has ∙ ap (λ r. table_then r (λ n. Ok (put_at n.0 n.1 path kept))) (cond-false _ _ _ room))))
     (cases_Bool (nat_le 4294967295 (t.first + length t.paths)))
 
 put_named : (t : Files) (path : List ℕ) (kept : RowState) → IsNumbered t → (r : Result Files TableFault) → put_in t path kept ≡ r → Named t path (mark_or t r)
@@ -129,7 +129,7 @@ full_row : (o : Option FileRow) → (is_marked (kept_in o) || same_contents (con
 full_row None apart = absurd (true≢false apart)
 full_row (Some row) apart = refl
 
-set_or_put : (t : Files) (r : Result Files TableFault) → set_or t (and_then r (λ u. Ok (u, true))) ≡ mark_or t r
+set_or_put : (t : Files) (r : Result Files TableFault) → set_or t (table_then r (λ u. Ok (u, true))) ≡ mark_or t r
 set_or_put t (Ok u) = refl
 set_or_put t (Err e) = refl
 

@@ -15,7 +15,7 @@ use Rattle.docs_vfs.specs.declared.file_kinds.RowState.{RowState}
 use Rattle.docs_vfs.specs.declared.file_kinds.RowState.TheVariants.{Nothing, Contents, Excluded}
 use Rattle.docs_vfs.specs.declared.file_kinds.TableFault.{TableFault}
 use Rattle.docs_vfs.specs.Paths.{path_cmp}
-use Rattle.docs_vfs.specs.Files.{Files, kept_in, kept_at, contents_of, contents_at, is_marked, kept_of, same_contents, number_in, next_file, before_of, put_at, put_in, set_in, mark_in, and_then}
+use Rattle.docs_vfs.specs.Files.{Files, kept_in, kept_at, contents_of, contents_at, is_marked, kept_of, same_contents, number_in, next_file, before_of, put_at, put_in, set_in, mark_in, table_then}
 use Rattle.docs_vfs.specs.FileLaws.{Keeps, number_at, taken, taken_at, KeepsTaken}
 
 pub same_path : (q k : List ℕ) → eq_by_cmp path_cmp q k ≡ bytes_eq q k
@@ -39,11 +39,11 @@ abbrev PutIf : Files → List ℕ → RowState → Result Files TableFault → T
 PutIf t path kept (Ok u) = Put t path kept u
 PutIf t path kept (Err e) = Unit {0}
 
-put_by : (t : Files) (path : List ℕ) (kept : RowState) (o : Option FileRow) → map.get t.rows path ≡ o → PutIf t path kept (and_then (number_in t path o) (λ n. Ok (put_at n.0 n.1 path kept)))
+put_by : (t : Files) (path : List ℕ) (kept : RowState) (o : Option FileRow) → map.get t.rows path ≡ o → PutIf t path kept (table_then (number_in t path o) (λ n. Ok (put_at n.0 n.1 path kept)))
 put_by t path kept (Some row) is =
     record { file = row.file; rows = refl; before = refl; first = refl; number = inl (ap (option_map (λ (r : FileRow). r.file)) is, refl) }
 put_by t path kept None is =
-    cond_both (nat_le 4294967295 (t.first + length t.paths)) _ _ (λ r. PutIf t path kept (and_then r (λ n. Ok (put_at n.0 n.1 path kept)))) (λ _. tt)
+    cond_both (nat_le 4294967295 (t.first + length t.paths)) _ _ (λ r. PutIf t path kept (table_then r (λ n. Ok (put_at n.0 n.1 path kept)))) (λ _. tt)
     (λ _. record { file = next_file t; rows = refl; before = refl; first = refl; number = inr (ap (option_map (λ (r : FileRow). r.file)) is, refl, refl) })
 
 pub put_is : (t : Files) (path : List ℕ) (kept : RowState) (u : Files) → put_in t path kept ≡ Ok u → Put t path kept u
@@ -137,7 +137,7 @@ SetIf t path contents (Ok pair) =
 SetIf t path contents (Err e) = Unit {0}
 
 set_by : (t : Files) (path : List ℕ) (contents : Option (List ℕ)) (r : Result Files TableFault) → PutIf t path (kept_of contents) r
-    → (is_marked (kept_at t path) || same_contents (contents_at t path) contents) ≡ false → SetIf t path contents (and_then r (λ u. Ok (u, true)))
+    → (is_marked (kept_at t path) || same_contents (contents_at t path) contents) ≡ false → SetIf t path contents (table_then r (λ u. Ok (u, true)))
 set_by t path contents (Ok u) put changes = inr (refl, put, changes)
 set_by t path contents (Err e) put changes = tt
 

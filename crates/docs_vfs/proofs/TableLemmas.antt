@@ -16,7 +16,7 @@ use Rattle.docs_vfs.specs.declared.file_kinds.RowState.TheVariants.{Contents, Ex
 use Rattle.docs_vfs.specs.declared.file_kinds.TableFault.{TableFault}
 use Rattle.docs_vfs.specs.declared.file_kinds.TableFault.TheVariants.{Full}
 use Rattle.docs_vfs.specs.Paths.{path_cmp}
-use Rattle.docs_vfs.specs.Files.{Files, kept_in, contents_of, contents_at, is_marked, kept_of, same_contents, id_by, id_in, file_id_of, is_full, next_file, number_in, before_of, put_at, put_in, and_then, set_in, add_in, mark_in, set_row, add_row, mark_row}
+use Rattle.docs_vfs.specs.Files.{Files, kept_in, contents_of, contents_at, is_marked, kept_of, same_contents, id_by, id_in, file_id_of, is_full, next_file, number_in, before_of, put_at, put_in, table_then, set_in, add_in, mark_in, set_row, add_row, mark_row}
 use Rattle.docs_vfs.specs.FileLaws.{IsNumbered}
 use Rattle.docs_vfs.proofs.PutLemmas.{itself, one_path, same_path, put_is, set_is, mark_is}
 use Rattle.docs_vfs.proofs.NumberLaws.{put_numbers}
@@ -84,10 +84,10 @@ mark_numbered t u path numbered is =
 -- the calls, by the row of the path
 
 abbrev with_kept : List ℕ → RowState → Result (Files × FileId) TableFault → Result Files TableFault
-with_kept path kept n = and_then n (λ m. Ok (put_at m.0 m.1 path kept))
+with_kept path kept n = table_then n (λ m. Ok (put_at m.0 m.1 path kept))
 
 abbrev as_change : Result Files TableFault → Result (Files × Bool) TableFault
-as_change r = and_then r (λ u. Ok (u, true))
+as_change r = table_then r (λ u. Ok (u, true))
 
 abbrev put_by_row : Files → List ℕ → RowState → Option FileRow → Result Files TableFault
 put_by_row t path kept o = with_kept path kept (number_in t path o)

@@ -115,9 +115,9 @@ before_of before path was = if is_some (map.get before path) then before else ma
 abbrev pub was_of : FileRow → FileWas
 was_of row = record { file = row.file; contents = contents_of row.kept }
 
-abbrev pub and_then : {A B : Type 0} → Result A TableFault → (A → Result B TableFault) → Result B TableFault
-and_then (Ok x) next = next x
-and_then (Err e) next = Err e
+abbrev pub table_then : {A B : Type 0} → Result A TableFault → (A → Result B TableFault) → Result B TableFault
+table_then (Ok x) next = next x
+table_then (Err e) next = Err e
 
 -- the table that keeps this of a path with this number
 abbrev pub put_at : Files → FileId → List ℕ → RowState → Files
@@ -129,13 +129,13 @@ put_at t file path kept =
 
 -- the table that keeps this of a path
 abbrev pub put_in : Files → List ℕ → RowState → Result Files TableFault
-put_in t path kept = and_then (with_number t path) (λ n. Ok (put_at n.0 n.1 path kept))
+put_in t path kept = table_then (with_number t path) (λ n. Ok (put_at n.0 n.1 path kept))
 
 -- the table with these contents at a path, and whether that is a change
 abbrev pub set_in : Files → List ℕ → Option (List ℕ) → Result (Files × Bool) TableFault
 set_in t path contents =
     if is_marked (kept_at t path) || same_contents (contents_at t path) contents then Ok (t, false)
-    else and_then (put_in t path (kept_of contents)) (λ u. Ok (u, true))
+    else table_then (put_in t path (kept_of contents)) (λ u. Ok (u, true))
 
 -- the same of a path that has neither contents nor a mark; any other stays as it is
 abbrev pub add_in : Files → List ℕ → Option (List ℕ) → Result (Files × Bool) TableFault
@@ -167,14 +167,14 @@ FailsAs Full expected old new = (expected ≡ Err Full) × (new ≡ old)
 FailsAs NoMemory expected old new = new ≡ old
 
 -- the call made the expected table
-abbrev pub Meets : {A : Type 0} → Result A TableFault → Result Files TableFault → Files → Files → Type 0
-Meets (Ok x) expected old new = expected ≡ Ok new
-Meets (Err e) expected old new = FailsAs e expected old new
+abbrev pub TableRefines : {A : Type 0} → Result A TableFault → Result Files TableFault → Files → Files → Type 0
+TableRefines (Ok x) expected old new = expected ≡ Ok new
+TableRefines (Err e) expected old new = FailsAs e expected old new
 
 -- the call made the expected table, and answered the expected value
-abbrev pub Gives : {A : Type 0} → Result A TableFault → Result (Files × A) TableFault → Files → Files → Type 0
-Gives (Ok x) expected old new = expected ≡ Ok (new, x)
-Gives (Err e) expected old new = FailsAs e expected old new
+abbrev pub TableRefinesTotal : {A : Type 0} → Result A TableFault → Result (Files × A) TableFault → Files → Files → Type 0
+TableRefinesTotal (Ok x) expected old new = expected ≡ Ok (new, x)
+TableRefinesTotal (Err e) expected old new = FailsAs e expected old new
 
 -- whether a call changed contents
 abbrev pub changed_of : Result Replaced TableFault → Result Bool TableFault

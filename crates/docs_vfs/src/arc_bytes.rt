@@ -1,6 +1,6 @@
 ghost use Rattle.std.specs.Prelude.{◌≡◌, IfOk};
 
-use plain::{Bytes, Copied};
+use plain::{Bytes, ExactClone};
 use std::alloc::{AllocError, Global};
 use std::marker::Model;
 use std::sync::Arc;
@@ -52,6 +52,6 @@ impl Clone for ArcBytes {
     }
 }
 
-impl Copied for ArcBytes {
+impl ExactClone for ArcBytes {
     ghost copies = { λ x y h. h };
 }

@@ -4,14 +4,14 @@ ghost use Rattle.docs_vfs.specs.Kinds.{is_created_or_deleted};
 
 use crate::path::VfsPath;
 use crate::shared_bytes::SharedBytes;
-use plain::Copied;
+use plain::ExactClone;
 use std::alloc::{AllocError, AllocFailed};
 
 /// The number of a path in a table of files.
 #[derive(Clone, Copy, Debug, PartialEq, Eq, PartialOrd, Ord, Hash)]
 pub struct FileId(pub u32);
 
-impl Copied for FileId {
+impl ExactClone for FileId {
     ghost copies = { λ x y h. Prim.search rules };
 }
 
@@ -22,7 +22,7 @@ pub enum FileExcluded {
     No,
 }
 
-impl Copied for FileExcluded {
+impl ExactClone for FileExcluded {
     ghost copies = { λ x y h. Prim.search rules };
 }
 

@@ -2,7 +2,7 @@ ghost use Rattle.std.specs.Prelude.{◌≡◌, ◌++◌, ◌∷◌, [], ◌+◌,
 ghost use Rattle.std.specs.Option.{option_copied};
 ghost use Rattle.std.specs.FinMap as map;
 ghost use Rattle.std.specs.List.{filter_map};
-ghost use Rattle.docs_vfs.specs.Files.{new_files, contents_of, kept_of, kept_in, is_marked, contents_at, same_contents, was_of, before_of, set_row, add_row, mark_row, put_in, set_in, add_in, mark_in, path_at, exists_in, id_by, file_id_of, kind_between, change_of, changes, changed_of, next_file, is_full, Meets, Gives};
+ghost use Rattle.docs_vfs.specs.Files.{new_files, contents_of, kept_of, kept_in, is_marked, contents_at, same_contents, was_of, before_of, set_row, add_row, mark_row, put_in, set_in, add_in, mark_in, path_at, exists_in, id_by, file_id_of, kind_between, change_of, changes, changed_of, next_file, is_full, TableRefines, TableRefinesTotal};
 ghost use Rattle.docs_vfs.specs.FileLaws.{IsNumbered, IsDifference};
 ghost use Rattle.docs_vfs.specs.declared.file_kinds.TableFault.TheVariants.{Full};
 
@@ -406,7 +406,7 @@ impl FileTable {
     #[tactic(auto, using(crate::proofs::TableLemmas::parts))]
     fn put_new(&mut self, path: &VfsPath, kept: RowState) -> Result<FileId, TableFault>
         requires { map.get self.old.rows path.now ≡ None }
-        ensures put { Meets result (put_in self.old path.now kept) self.old self.new }
+        ensures put { TableRefines result (put_in self.old path.now kept) self.old self.new }
         ensures row { IfOk result (λ file. map.get self.new.rows path.now ≡ Some (record { file = file; kept = kept })) }
     {
         let file = self.next_number()?;
@@ -428,7 +428,7 @@ impl FileTable {
         contents: Option<SharedBytes>,
     ) -> Result<Replaced, TableFault>
         requires { map.get self.old.rows path.now ≡ None }
-        ensures set { Gives (changed_of result) (set_in self.old path.now contents) self.old self.new }
+        ensures set { TableRefinesTotal (changed_of result) (set_in self.old path.now contents) self.old self.new }
         ensures before { IfOk result (λ r. r.before ≡ file_id_of self.old path.now) }
         ensures after { IfOk result (λ r. r.after ≡ file_id_of self.new path.now) }
     {
@@ -450,7 +450,7 @@ impl FileTable {
         path: VfsPath,
         contents: Option<Bytes>,
     ) -> Result<bool, TableFault>
-        ensures { Gives result (set_in self.old path contents) self.old self.new }
+        ensures { TableRefinesTotal result (set_in self.old path contents) self.old self.new }
     {
         let contents = match contents {
             Some(bytes) => Some(SharedBytes::new(self.alloc, bytes)?),
@@ -465,7 +465,7 @@ impl FileTable {
         path: VfsPath,
         contents: Option<SharedBytes>,
     ) -> Result<bool, TableFault>
-        ensures { Gives result (set_in self.old path contents) self.old self.new }
+        ensures { TableRefinesTotal result (set_in self.old path contents) self.old self.new }
     {
         Ok(self.replace_shared(&path, contents)?.changed)
     }
@@ -477,7 +477,7 @@ impl FileTable {
         path: &VfsPath,
         contents: Option<SharedBytes>,
     ) -> Result<Replaced, TableFault>
-        ensures set { Gives (changed_of result) (set_in self.old path.now contents) self.old self.new }
+        ensures set { TableRefinesTotal (changed_of result) (set_in self.old path.now contents) self.old self.new }
         ensures before { IfOk result (λ r. r.before ≡ file_id_of self.old path.now) }
         ensures after { IfOk result (λ r. r.after ≡ file_id_of self.new path.now) }
     {
@@ -494,7 +494,7 @@ impl FileTable {
         path: &VfsPath,
         contents: Option<SharedBytes>,
     ) -> Result<Replaced, TableFault>
-        ensures set { Gives (changed_of result) (add_in self.old path.now contents) self.old self.new }
+        ensures set { TableRefinesTotal (changed_of result) (add_in self.old path.now contents) self.old self.new }
         ensures before { IfOk result (λ r. r.before ≡ file_id_of self.old path.now) }
         ensures after { IfOk result (λ r. r.after ≡ file_id_of self.new path.now) }
     {
@@ -507,7 +507,7 @@ impl FileTable {
     /// Marks a path as excluded for good, and drops its contents.
     #[tactic(auto, using(crate::proofs::TableLemmas::parts))]
     pub fn insert_excluded(&mut self, path: VfsPath) -> Result<(), TableFault>
-        ensures { Meets result (mark_in self.old path) self.old self.new }
+        ensures { TableRefines result (mark_in self.old path) self.old self.new }
     {
         match self.rows.get_mut(&path) {
             None => {

@@ -9,7 +9,7 @@ ghost use Rattle.docs_vfs.specs.Documents.{Documents};
 
 use crate::by_path::ByPath;
 use crate::path::VfsPath;
-use plain::{Copied, Text};
+use plain::{ExactClone, Text};
 use std::alloc::{AllocError, Global};
 use std::collections::btree_map::Keys;
 use std::marker::Model;
@@ -40,7 +40,7 @@ impl Clone for DocumentData {
     }
 }
 
-impl Copied for DocumentData {
+impl ExactClone for DocumentData {
     ghost copies = { λ x y h. h };
 }
 
@@ -162,6 +162,6 @@ impl Clone for MemDocs {
     }
 }
 
-impl Copied for MemDocs {
+impl ExactClone for MemDocs {
     ghost copies = { λ x y h. h };
 }

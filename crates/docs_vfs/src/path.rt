@@ -13,7 +13,7 @@ use crate::path_text::{begins_with_folder_text, cut_at_last_slash, extension_tex
 use crate::relative::{
     EmptySegments, front_text, is_name_text, parent_text, push_segment, walk_from,
 };
-use plain::{Copied, DecidableEq, TextKey};
+use plain::{DecidableEq, ExactClone, TextKey};
 use std::alloc::{AllocError, Global};
 use std::cmp::Ordering;
 use std::hash::{Hash, Hasher};
@@ -200,7 +200,7 @@ impl Clone for VfsPath {
     }
 }
 
-impl Copied for VfsPath {
+impl ExactClone for VfsPath {
     ghost copies = { λ x y h. h };
 }
 

@@ -4,7 +4,7 @@ ghost use Rattle.std.specs.Str.{is_utf8};
 ghost use Rattle.docs_vfs.specs.Held.{held_bytes};
 
 use crate::arc_bytes::ArcBytes;
-use plain::{ArcText, Bytes, Copied, Text};
+use plain::{ArcText, Bytes, ExactClone, Text};
 use std::alloc::{AllocError, Global};
 use std::marker::Model;
 use text_core::SharedText;
@@ -111,6 +111,6 @@ impl Clone for SharedBytes {
     }
 }
 
-impl Copied for SharedBytes {
+impl ExactClone for SharedBytes {
     ghost copies = { λ x y h. h };
 }

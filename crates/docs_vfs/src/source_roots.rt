@@ -8,7 +8,7 @@ ghost use Rattle.docs_vfs.specs.Roots.{most_roots, first_greatest, root_length, 
 use crate::includes::Includes;
 use crate::path::VfsPath;
 use crate::relative::folder_above;
-use plain::{Copied, Items, NoMemory};
+use plain::{ExactClone, Items, NoMemory};
 use std::alloc::Global;
 use std::marker::Model;
 use std::sync::Arc;
@@ -42,7 +42,7 @@ impl Clone for Root {
     }
 }
 
-impl Copied for Root {
+impl ExactClone for Root {
     ghost copies = { λ x y h. h };
 }
 
@@ -288,6 +288,6 @@ impl Clone for SourceRoots {
     }
 }
 
-impl Copied for SourceRoots {
+impl ExactClone for SourceRoots {
     ghost copies = { λ x y h. h };
 }

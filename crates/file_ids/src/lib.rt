@@ -7,7 +7,7 @@ ghost use Rattle.shared_map.specs.AsMap.{set_in_map};
 ghost use Rattle.file_ids.specs.Numbers.{IsFree, number_of, file_of, path_of, with_number, without_number};
 
 use docs_vfs::{FileExcluded, FileId, VfsPath};
-use plain::{Copied, NoMemory};
+use plain::{ExactClone, NoMemory};
 use shared_map::{SharedMap, Steps};
 use std::alloc::Global;
 use std::marker::{Brand, Model};
@@ -185,6 +185,6 @@ impl Clone for FileIds {
     }
 }
 
-impl Copied for FileIds {
+impl ExactClone for FileIds {
     ghost copies = { λ x y h. h };
 }

@@ -2,7 +2,7 @@
 use crate::calls::{one, text_of};
 use crate::forms::most;
 use docs_vfs::FileId;
-use op_board::{CheckFix, DiagnosticCollection, Pass};
+use op_board::{CheckFix, DiagnosticCollection, NativePass};
 use plain::{Json, SharedJson};
 use std::alloc::Global;
 
@@ -38,7 +38,9 @@ pub fn are_copied(alloc: Global) -> Option<bool> {
 fn give(board: &mut DiagnosticCollection, alloc: Global) -> Option<()> {
     let found = most(alloc)?;
     let lists = one(alloc, (FileId(5), one(alloc, found)));
-    board.set_native_diagnostics(Pass::Syntax, 1, lists).ok()
+    board
+        .set_native_diagnostics(NativePass::Syntax, 1, lists)
+        .ok()
 }
 
 /// Adds a diagnostic of a check, with a fix.

@@ -3,9 +3,9 @@ use crate::answers::answers;
 use crate::board::{are_copied, is_told};
 use crate::tables::{are_texts, opens, sets_number, takes_contents};
 use analysis_host::{AssistKind, assist_kind};
-use expectations::expect;
 use std::alloc::Global;
 use std::test::Fail;
+use test_support::expect;
 
 /// What is called, in words.
 const CALLS: &str = "documents that are open

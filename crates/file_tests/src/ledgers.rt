@@ -3,13 +3,13 @@ ghost use Rattle.std.specs.Prelude.{◌≡◌, ◌<◌};
 
 use crate::calls::{add, change_with, cut, entry_of, path_at};
 use analysis_host::{AnalysisHost, TextTree};
-use expectations::expect;
 use shared_map::Steps;
 use std::alloc::Global;
 use std::marker::Brand;
 use std::mem;
 use std::sync::ledger::{Blank, Ledger};
 use std::test::Fail;
+use test_support::expect;
 
 /// The table with a text at a path, or with none there where the text is `-`.
 fn with_text<L: Ledger>(

@@ -4,11 +4,11 @@ ghost use Rattle.notify.specs.Writing.{HoldsPlain};
 
 use crate::calls::{add, cut, json, text_of};
 use crate::forms::form;
-use expectations::expect;
 use notify::{MessageKind, Outgo, ProgressValue, TestReport, is_request, outgo_body};
 use plain::{Items, Json, Text};
 use std::alloc::Global;
 use std::test::Fail;
+use test_support::expect;
 
 /// `q` for a request and `n` for a notification.
 fn letter(message: &Outgo) -> &'static str {

@@ -7,7 +7,7 @@ use Rattle.std.specs.Option.{option_map, option_to_list, unwrap_or}
 use Rattle.std.specs.Cmp.{nat_cmp_total, unsigned_tied}
 use Rattle.std.specs.Ordering.{nat_cmp, eq_by_cmp}
 use Rattle.std.proofs.lemmas.Bool.{eqb-true, ltb-true}
-use Rattle.analysis_host.specs.Answers.{Finding}
+use Rattle.analysis_host.specs.Answers.{OutcomeSpec}
 use Rattle.analysis_host.specs.SnapshotData.{SnapshotData}
 use Rattle.analysis_host.specs.declared.ask.Ask.{Ask}
 use Rattle.session_port.specs.Honest.{AreHonest, IsEndBy, IsHonest, IsResultOf, findings_of}
@@ -97,7 +97,7 @@ asked_is number out job is = by_job (map.get out number) is
         by_kind true is = is
         by_kind false is = absurd cc
 
-module _ (answer : SnapshotData → Ask → Finding) where
+module _ (answer : SnapshotData → Ask → OutcomeSpec) where
   -- results of the numbers that are left make the results of all
   abbrev pub Continues : List ℕ → Jobs → List TaskMsg → List ℕ → Jobs → Type 0
   Continues numbers out batch others left = (rest : List TaskMsg) → AllZip (FinishesAt answer) (named others left) rest → AllZip (FinishesAt answer) (named numbers out) (batch ++ rest)
@@ -129,7 +129,7 @@ module _ (answer : SnapshotData → Ask → Finding) where
   honest_stop (Some job) out number saw is sees = (record { job = job; is_out = is; is_result = ltb-true _ _ sees }, tt)
 
   -- a job of the host's own may end with each result that fits it, and with a revision that is later
-  own_end : (b : Bool) (kind : JobKind) (findings : List Finding) (result : JobResult) → b ≡ false → fits_kind kind result ≡ true → IsEndBy b kind findings result
+  own_end : (b : Bool) (kind : JobKind) (findings : List OutcomeSpec) (result : JobResult) → b ≡ false → fits_kind kind result ≡ true → IsEndBy b kind findings result
   own_end true kind findings result own fit = absurd cc
   own_end false kind findings result own fit = fit
 

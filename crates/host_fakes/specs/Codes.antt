@@ -20,12 +20,12 @@ abbrev pub script_code : Coded Job → Coded ScriptStep → Coded HostCall → C
 script_code job step call =
     code_by ((Jobs × ℕ) × ((List ScriptStep × PlanData) × List HostCall))
     (coded× (jobs_code job) (coded× (coded× (coded_list step) plan_code) (coded_list call)))
-    (λ h. ((h.out, h.handed), ((h.steps, h.plan), h.calls)))
-    (λ p. record { out = p.0.0; handed = p.0.1; steps = p.1.0.0; plan = p.1.0.1; calls = p.1.1 }) (λ _. refl)
+    (λ h. ((h.out, h.last_job), ((h.steps, h.plan), h.calls)))
+    (λ p. record { out = p.0.0; last_job = p.0.1; steps = p.1.0.0; plan = p.1.0.1; calls = p.1.1 }) (λ _. refl)
 
 abbrev pub hostile_code : Coded Job → Coded HostEvent → Coded HostCall → Coded HostileData
 hostile_code job event call =
     code_by ((Jobs × ℕ) × (List HostEvent × List HostCall))
     (coded× (jobs_code job) (coded× (coded_list event) (coded_list call)))
-    (λ h. ((h.out, h.handed), (h.events, h.calls)))
-    (λ p. record { out = p.0.0; handed = p.0.1; events = p.1.0; calls = p.1.1 }) (λ _. refl)
+    (λ h. ((h.out, h.last_job), (h.events, h.calls)))
+    (λ p. record { out = p.0.0; last_job = p.0.1; events = p.1.0; calls = p.1.1 }) (λ _. refl)

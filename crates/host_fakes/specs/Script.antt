@@ -1,11 +1,11 @@
 -- What a script comes to.
 use Rattle.std.specs.Prelude.{◌≡◌, ℕ, ◌++◌, Bool, true, false, not, nat_lt, ◌&&◌, List, [], ◌∷◌, Option, None, Some}
-use Rattle.std.specs.Prelude.{option_and_then, if◌then◌else◌}
+use Rattle.std.specs.Prelude.{option_and_then, if◌then◌else◌, cond, length, ◌==◌}
 use Rattle.std.specs.FinMap as map
 use Rattle.std.specs.Ordering.{nat_cmp}
 use Rattle.std.specs.List.{AllZip}
 use Rattle.std.specs.Option.{option_map, option_to_list, unwrap_or}
-use Rattle.analysis_host.specs.Answers.{Finding}
+use Rattle.analysis_host.specs.Answers.{OutcomeSpec}
 use Rattle.analysis_host.specs.SnapshotData.{SnapshotData}
 use Rattle.analysis_host.specs.declared.ask.Ask.{Ask}
 use Rattle.session_port.specs.Honest.{IsResultOf}
@@ -94,26 +94,26 @@ next_event [] = (Ended, [])
 next_event (first ∷ events) = (first, events)
 
 -- a message with the result of a run that nothing stopped, of its job's kind, whose JSON is plain
-pub record FinishesAt (answer : SnapshotData → Ask → Finding) (entry : ℕ × Job) (message : TaskMsg) : Type 0 where
+pub record FinishesAt (answer : SnapshotData → Ask → OutcomeSpec) (entry : ℕ × Job) (message : TaskMsg) : Type 0 where
   pub number : message.job ≡ entry.0
   pub result : IsFinal (final_of message.body) (IsResultOf answer entry.1)
   pub fits : fits_job entry.1 message.body ≡ true
   pub uncancelled : IsFinal (final_of message.body) IsUncancelled
 
-abbrev pub IsGift : (SnapshotData → Ask → Finding) → Gift → HostEvent → Type 0
+abbrev pub IsGift : (SnapshotData → Ask → OutcomeSpec) → Gift → HostEvent → Type 0
 IsGift answer (event given) coming = coming ≡ given
 IsGift answer (results entries) coming = (batch : List TaskMsg) × (coming ≡ Tasks batch)
     × AllZip (FinishesAt answer) entries batch
 
 -- what a step gave, if anything
-abbrev pub IsGiven : (SnapshotData → Ask → Finding) → Option Gift → Option HostEvent → Type 0
+abbrev pub IsGiven : (SnapshotData → Ask → OutcomeSpec) → Option Gift → Option HostEvent → Type 0
 IsGiven answer None None = Unit {0}
 IsGiven answer None (Some coming) = ⊥
 IsGiven answer (Some gift) None = ⊥
 IsGiven answer (Some gift) (Some coming) = IsGift answer gift coming
 
 -- the event is the first that the script gives, and the steps after it are left
-pub record IsNext (answer : SnapshotData → Ask → Finding) (next : Gift × List ScriptStep) (coming : HostEvent)
+pub record IsNext (answer : SnapshotData → Ask → OutcomeSpec) (next : Gift × List ScriptStep) (coming : HostEvent)
     (left : List ScriptStep) : Type 0 where
   pub gift : IsGift answer next.0 coming
   pub rest : left ≡ next.1
@@ -121,20 +121,31 @@ pub record IsNext (answer : SnapshotData → Ask → Finding) (next : Gift × Li
 -- the jobs out and the last number handed over, the steps left, the calls, and which of them are to fail
 pub record ScriptData : Type 0 where
   pub out : Jobs
-  pub handed : ℕ
+  pub last_job : ℕ
   pub steps : List ScriptStep
   pub calls : List HostCall
   pub plan : PlanData
 
 abbrev pub new_script : List ScriptStep → List ℕ → ScriptData
-new_script steps fails = record { out = map.empty; handed = 0; steps = steps; calls = []; plan = no_calls fails }
+new_script steps fails = record { out = map.empty; last_job = 0; steps = steps; calls = []; plan = no_calls fails }
 
 -- the jobs out and the last number handed over, the events left, and the calls
 pub record HostileData : Type 0 where
   pub out : Jobs
-  pub handed : ℕ
+  pub last_job : ℕ
   pub events : List HostEvent
   pub calls : List HostCall
 
 abbrev pub new_hostile : List HostEvent → HostileData
-new_hostile events = record { out = map.empty; handed = 0; events = events; calls = [] }
+new_hostile events = record { out = map.empty; last_job = 0; events = events; calls = [] }
+
+abbrev pub is_end : HostEvent → Bool
+is_end Ended = true
+is_end other = false
+
+-- events without the ends that stand behind all others
+abbrev pub without_ends : List HostEvent → List HostEvent
+without_ends [] = []
+without_ends (first ∷ later) =
+    let rest = without_ends later in
+    cond (is_end first && (length rest == 0)) [] (first ∷ rest)

@@ -8,7 +8,7 @@ use analysis_host::Analysis;
 use inline_host::{NumberedJobs, RecordedCall};
 use plain::Items;
 use session_port::{Command, Host, HostError, HostEvent};
-use std::alloc::Global;
+use std::alloc::{AllocError, Global};
 use std::marker::Model;
 
 /// Gives its events as they are, made-up results too, and then the end. It keeps a record, and never fails.
@@ -40,7 +40,7 @@ impl Model for HostileHost {
 
     ghost coded = { hostile_code job.the_row.coded event.the_row.coded (call_code event.the_row.coded command.the_row.coded) };
 
-    ghost view = { λ h. record { out = h.jobs.out; handed = h.jobs.handed; events = h.events; calls = h.calls } };
+    ghost view = { λ h. record { out = h.jobs.out; last_job = h.jobs.last_job; events = h.events; calls = h.calls } };
 }
 
 impl HostileHost {
@@ -54,6 +54,16 @@ impl HostileHost {
         }
     }
 
+    // A copy of what it gives next.
+    fn copy_of_next(&self) -> Result<HostEvent, AllocError>
+        ensures { IfOk result (λ event. event ≡ (next_event self.now.events).0) }
+    {
+        match self.events.first() {
+            Some(event) => event.clone(),
+            None => Ok(HostEvent::Ended),
+        }
+    }
+
     /// The calls so far.
     pub fn calls(&self) -> &[RecordedCall]
         ensures { result.now ≡ self.now.calls }
@@ -63,11 +73,14 @@ impl HostileHost {
 }
 
 impl<A: Analysis> Host<A> for HostileHost {
-    ghost use Rattle.std.specs.Prelude.{false, Some};
+    ghost use Rattle.std.specs.Prelude.{false, Some, List, ◌++◌};
+    ghost use Rattle.session_port.specs.Record.{given_in};
+    ghost use Rattle.session_port.specs.declared.event.HostEvent.{HostEvent as EventData};
+    ghost use Rattle.host_fakes.specs.Script.{without_ends};
 
     ghost out = { λ h. h.out };
 
-    ghost handed = { λ h. h.handed };
+    ghost last_job = { λ h. h.last_job };
 
     ghost honest = { λ _. false };
 
@@ -75,32 +88,42 @@ impl<A: Analysis> Host<A> for HostileHost {
 
     ghost calls = { λ h. Some h.calls };
 
-    ghost spent = { λ _. false };
+    ghost poisoned = { λ _. false };
+
+    /// The events that it was made of, but for the ends behind them.
+    ghost Origin = { List EventData };
+
+    ghost origin = { λ h. without_ends (given_in h.calls ++ h.events) };
 
     fn next(&mut self) -> Result<HostEvent, HostError>
         ensures out { self.new.out ≡ after_given result self.old.out }
-        ensures handed { self.new.handed ≡ self.old.handed }
+        ensures last_job { self.new.last_job ≡ self.old.last_job }
         ensures calls { Some self.new.calls
             ≡ after_ok result (λ event. added (Some self.old.calls) (gave event)) (Some self.old.calls) }
+        ensures origin_stays { without_ends (given_in self.new.calls ++ self.new.events)
+            ≡ without_ends (given_in self.old.calls ++ self.old.events) }
         ensures cause { HasCause 0 0 result }
 
         // The next of its events.
         ensures next { IfOk result (λ event. next_event self.old.events ≡ (event, self.new.events)) }
         ensures memory { IfErr result (λ e. e ≡ HostError.NoMemory) }
     {
+        let kept = self.copy_of_next()?;
+        self.calls.push(RecordedCall::of_event(kept))?;
         let event = self.events.take_first().unwrap_or(HostEvent::Ended);
-        self.calls.push(RecordedCall::of_event(event.clone()?))?;
         self.jobs.let_go(&event);
         Ok(event)
     }
 
     fn order(&mut self, commands: Items<Command>) -> Result<(), HostError>
-        requires rising { AreRising self.old.handed (spawned commands) }
+        requires rising { AreRising self.old.last_job (spawned commands) }
         ensures out { IfOk result (λ _. self.new.out ≡ after_order commands self.old.out) }
-        ensures handed { IfOk result (λ _. self.new.handed
-            ≡ last_number self.old.handed (spawned commands)) }
+        ensures last_job { IfOk result (λ _. self.new.last_job
+            ≡ last_number self.old.last_job (spawned commands)) }
         ensures calls { Some self.new.calls
             ≡ after_ok result (λ _. added (Some self.old.calls) (took commands)) (Some self.old.calls) }
+        ensures origin_stays { without_ends (given_in self.new.calls ++ self.new.events)
+            ≡ without_ends (given_in self.old.calls ++ self.old.events) }
         ensures cause { HasCause 0 0 result }
 
         ensures events { self.new.events ≡ self.old.events }

@@ -58,7 +58,7 @@ impl Sink for MemorySink {
 
     ghost faults = { λ s. s.plan.faults };
 
-    ghost spent = { λ _. false };
+    ghost poisoned = { λ _. false };
 
     fn put_turn(&mut self, bytes: &[u8]) -> Result<(), HostError>
         ensures turns { Some self.new.turns

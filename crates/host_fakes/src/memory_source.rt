@@ -65,7 +65,7 @@ impl Source for MemorySource {
 
     ghost faults = { λ s. s.plan.faults };
 
-    ghost spent = { λ _. false };
+    ghost poisoned = { λ _. false };
 
     fn read_piece(&mut self, max: usize) -> Result<Option<Bytes>, HostError>
         requires { 1 ≤ max }

@@ -1,13 +1,14 @@
 // A list that is given away from its front.
 ghost use Rattle.std.specs.Prelude.{◌≡◌, ◌++◌, [], IfNone, option_to_list};
+ghost use Rattle.std.specs.Slice.{IsItemAt};
 
 use plain::Items;
+use std::collections::VecDeque;
 use std::marker::Model;
-use std::vec;
 
 /// Items that are taken one by one, in order.
 pub(crate) struct Queue<T> {
-    items: vec::IntoIter<T>,
+    items: VecDeque<T>,
 }
 
 impl<T: Drop> Drop for Queue<T> {
@@ -18,11 +19,10 @@ impl<T: Drop> Drop for Queue<T> {
 
 impl<T> Model for Queue<T> {
     ghost use Rattle.std.specs.Prelude.{List};
-    ghost use Rattle.std.specs.Vec.Iter.{into_iter_items};
 
     ghost Value = { List T };
 
-    ghost view = { λ q. into_iter_items q.items };
+    ghost view = { λ q. q.items.items };
 }
 
 impl<T> Queue<T> {
@@ -30,14 +30,21 @@ impl<T> Queue<T> {
         ensures { result ≡ items }
     {
         Queue {
-            items: items.into_vec().into_iter(),
+            items: VecDeque::from_vec(items.into_vec()),
         }
+    }
+
+    pub fn first(&self) -> Option<&T>
+        ensures item { IsItemAt self.now 0 result }
+        ensures none { IfNone result (self.now ≡ []) }
+    {
+        self.items.front()
     }
 
     pub fn take_first(&mut self) -> Option<T>
         ensures first { self.old ≡ option_to_list result ++ self.new }
         ensures none { IfNone result (self.new ≡ []) }
     {
-        self.items.next()
+        self.items.pop_front()
     }
 }

@@ -51,7 +51,7 @@ impl<'a, A> Model for ScriptHost<'a, A> {
 
     ghost coded = { script_code job.the_row.coded step.the_row.coded (call_code event.the_row.coded command.the_row.coded) };
 
-    ghost view = { λ h. record { out = h.jobs.out; handed = h.jobs.handed; steps = h.steps; calls = h.calls; plan = h.plan } };
+    ghost view = { λ h. record { out = h.jobs.out; last_job = h.jobs.last_job; steps = h.steps; calls = h.calls; plan = h.plan } };
 }
 
 impl<'a, A: Analysis> ScriptHost<'a, A> {
@@ -86,7 +86,7 @@ impl<'a, A: Analysis> ScriptHost<'a, A> {
 impl<'a, A: Analysis> Host<A> for ScriptHost<'a, A> {
     ghost out = { λ h. h.out };
 
-    ghost handed = { λ h. h.handed };
+    ghost last_job = { λ h. h.last_job };
 
     ghost honest = { λ _. true };
 
@@ -94,12 +94,14 @@ impl<'a, A: Analysis> Host<A> for ScriptHost<'a, A> {
 
     ghost calls = { λ h. Some h.calls };
 
-    ghost spent = { λ _. false };
+    ghost poisoned = { λ _. false };
+
+    ghost origin = { λ _. tt };
 
     fn next(&mut self) -> Result<HostEvent, HostError>
-        ensures fresh { IfOk result (λ event. UnlessEnded event (false ≡ false)) }
+        ensures usable { IfOk result (λ event. UnlessEnded event (false ≡ false)) }
         ensures out { self.new.out ≡ after_given result self.old.out }
-        ensures handed { self.new.handed ≡ self.old.handed }
+        ensures last_job { self.new.last_job ≡ self.old.last_job }
         ensures honest { IfOk result (λ event. IsTrue true → IsHonest A.answer self.old.out event) }
         ensures calls { Some self.new.calls
             ≡ after_ok result (λ event. added (Some self.old.calls) (gave event)) (Some self.old.calls) }
@@ -123,11 +125,11 @@ impl<'a, A: Analysis> Host<A> for ScriptHost<'a, A> {
     }
 
     fn order(&mut self, commands: Items<Command>) -> Result<(), HostError>
-        requires rising { AreRising self.old.handed (spawned commands) }
-        ensures fresh { IfOk result (λ _. false ≡ false) }
+        requires rising { AreRising self.old.last_job (spawned commands) }
+        ensures usable { IfOk result (λ _. false ≡ false) }
         ensures out { IfOk result (λ _. self.new.out ≡ after_order commands self.old.out) }
-        ensures handed { IfOk result (λ _. self.new.handed
-            ≡ last_number self.old.handed (spawned commands)) }
+        ensures last_job { IfOk result (λ _. self.new.last_job
+            ≡ last_number self.old.last_job (spawned commands)) }
         ensures calls { Some self.new.calls
             ≡ after_ok result (λ _. added (Some self.old.calls) (took commands)) (Some self.old.calls) }
         ensures cause { HasCause self.old.plan.faults self.new.plan.faults result }
@@ -135,7 +137,7 @@ impl<'a, A: Analysis> Host<A> for ScriptHost<'a, A> {
         ensures steps { self.new.steps ≡ self.old.steps }
         ensures fails { (result ≡ Err HostError.Failed) ↔ IsFailing self.old.plan }
         ensures kept { IsErrOf result HostError.Failed → (self.new.out ≡ self.old.out)
-            × (self.new.handed ≡ self.old.handed) }
+            × (self.new.last_job ≡ self.old.last_job) }
         ensures plan { self.new.plan ≡ after_call result self.old.plan }
     {
         if self.plan.count() {

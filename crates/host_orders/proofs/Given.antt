@@ -1,8 +1,8 @@
 -- What was given and what is kept are what was ordered.
 use Rattle.std.proofs.Common.{◌≡◌, ℕ, List, [], ◌∷◌, ◌++◌, Option, None, Some, refl, sym, ap, ◌∙◌, append_assoc, append-nil}
 use Rattle.std.specs.Prelude.{option_to_list}
-use Rattle.host_orders.specs.declared.kept.Kept.{Kept}
-use Rattle.host_orders.specs.declared.kept.Kept.TheVariants.{Loader, Deferred, Timer}
+use Rattle.host_orders.specs.declared.due_reply.DueReply.{DueReply}
+use Rattle.host_orders.specs.declared.due_reply.DueReply.TheVariants.{Loader, Deferred, Timer}
 use Rattle.host_orders.specs.HostOrders.{HostOrders, next, after_next}
 use Rattle.host_orders.specs.Runs.{Act, kept_after, given, versions_in, tasks_in, versions_set, tasks_deferred}
 use Rattle.host_orders.specs.Runs.Act.{SetsLoader, Defers, SetsTimer, Gives}
@@ -11,13 +11,13 @@ module _ {D : Type 0} where
   abbrev pub of_three : List ℕ → List D → Option ℕ → HostOrders D
   of_three loaders deferred timer = record { loaders = loaders; deferred = deferred; timer = timer }
 
-  versions_in-append : (xs ys : List (Kept D)) → versions_in (xs ++ ys) ≡ versions_in xs ++ versions_in ys
+  versions_in-append : (xs ys : List (DueReply D)) → versions_in (xs ++ ys) ≡ versions_in xs ++ versions_in ys
   versions_in-append [] ys = refl
   versions_in-append (Loader version ∷ xs) ys = ap (λ l. version ∷ l) (versions_in-append xs ys)
   versions_in-append (Deferred tasks ∷ xs) ys = versions_in-append xs ys
   versions_in-append (Timer ticket ∷ xs) ys = versions_in-append xs ys
 
-  tasks_in-append : (xs ys : List (Kept D)) → tasks_in (xs ++ ys) ≡ tasks_in xs ++ tasks_in ys
+  tasks_in-append : (xs ys : List (DueReply D)) → tasks_in (xs ++ ys) ≡ tasks_in xs ++ tasks_in ys
   tasks_in-append [] ys = refl
   tasks_in-append (Loader version ∷ xs) ys = tasks_in-append xs ys
   tasks_in-append (Deferred tasks ∷ xs) ys =

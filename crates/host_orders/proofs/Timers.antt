@@ -1,8 +1,8 @@
 -- The timer that is kept is the newest, if none was given since it was set.
 use Rattle.std.proofs.Common.{◌≡◌, ℕ, ◌≤◌, List, [], ◌∷◌, ◌++◌, length, length-append, Option, None, Some, refl, sym, ap, subst, ◌∙◌, ◌↔◌, append-nil, arith}
 use Rattle.std.specs.Prelude.{option_to_list}
-use Rattle.host_orders.specs.declared.kept.Kept.{Kept}
-use Rattle.host_orders.specs.declared.kept.Kept.TheVariants.{Loader, Deferred, Timer}
+use Rattle.host_orders.specs.declared.due_reply.DueReply.{DueReply}
+use Rattle.host_orders.specs.declared.due_reply.DueReply.TheVariants.{Loader, Deferred, Timer}
 use Rattle.host_orders.specs.HostOrders.{next, after_next}
 use Rattle.host_orders.specs.Runs.{Act, kept_after, given, tickets_in, HasNoTimer, IsNewestTimer}
 use Rattle.host_orders.specs.Runs.Act.{SetsLoader, Defers, SetsTimer, Gives}
@@ -12,7 +12,7 @@ inside : (x y : ℕ) → Some x ≡ Some y → x ≡ y
 inside x y e = cc
 
 module _ {D : Type 0} where
-  tickets_in-append : (xs ys : List (Kept D)) → tickets_in (xs ++ ys) ≡ tickets_in xs ++ tickets_in ys
+  tickets_in-append : (xs ys : List (DueReply D)) → tickets_in (xs ++ ys) ≡ tickets_in xs ++ tickets_in ys
   tickets_in-append [] ys = refl
   tickets_in-append (Loader version ∷ xs) ys = tickets_in-append xs ys
   tickets_in-append (Deferred tasks ∷ xs) ys = tickets_in-append xs ys

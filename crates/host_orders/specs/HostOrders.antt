@@ -1,8 +1,8 @@
 -- What a host keeps of a turn's orders until it gives their answers.
 use Rattle.std.specs.Prelude.{ℕ, List, [], ◌∷◌, ◌++◌, drop, slice_get, Option, None, Some, option_map}
 use Rattle.std.specs.Option.{option_or}
-use Rattle.host_orders.specs.declared.kept.Kept.{Kept}
-use Rattle.host_orders.specs.declared.kept.Kept.TheVariants.{Loader, Deferred, Timer}
+use Rattle.host_orders.specs.declared.due_reply.DueReply.{DueReply}
+use Rattle.host_orders.specs.declared.due_reply.DueReply.TheVariants.{Loader, Deferred, Timer}
 
 pub record HostOrders (D : Type 0) : Type 0 where
   -- the versions of the settings of a loader
@@ -30,13 +30,13 @@ batch [] = None
 batch (x ∷ rest) = Some (x ∷ rest)
 
 -- the oldest settings of a loader, else all tasks, else the timer
-abbrev pub next : {D : Type 0} → HostOrders D → Option (Kept D)
+abbrev pub next : {D : Type 0} → HostOrders D → Option (DueReply D)
 next o =
     option_or (option_map Loader (slice_get o.loaders 0))
     (option_or (option_map Deferred (batch o.deferred))
     (option_map Timer o.timer))
 
-abbrev pub without : {D : Type 0} → Option (Kept D) → HostOrders D → HostOrders D
+abbrev pub without : {D : Type 0} → Option (DueReply D) → HostOrders D → HostOrders D
 without None o = o
 without (Some (Loader version)) o = record o { loaders = drop 1 o.loaders }
 without (Some (Deferred tasks)) o = record o { deferred = [] }

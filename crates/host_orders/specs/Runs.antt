@@ -1,7 +1,7 @@
 -- Runs of the calls: what was ordered and what was given, told by the calls alone. A run has its last act first.
 use Rattle.std.specs.Prelude.{◌≡◌, ℕ, List, [], ◌∷◌, ◌++◌, Some, slice_get, option_to_list}
-use Rattle.host_orders.specs.declared.kept.Kept.{Kept}
-use Rattle.host_orders.specs.declared.kept.Kept.TheVariants.{Loader, Deferred, Timer}
+use Rattle.host_orders.specs.declared.due_reply.DueReply.{DueReply}
+use Rattle.host_orders.specs.declared.due_reply.DueReply.TheVariants.{Loader, Deferred, Timer}
 use Rattle.host_orders.specs.HostOrders.{HostOrders, none_kept, set_loader, defer, set_timer, next, after_next}
 
 pub data Act (D : Type 0) : Type 0 where
@@ -23,24 +23,24 @@ kept_after [] = none_kept
 kept_after (act ∷ before) = step act (kept_after before)
 
 -- what was given, in order
-abbrev pub given : {D : Type 0} → List (Act D) → List (Kept D)
+abbrev pub given : {D : Type 0} → List (Act D) → List (DueReply D)
 given [] = []
 given (Gives ∷ before) = given before ++ option_to_list (next (kept_after before))
 given (act ∷ before) = given before
 
-abbrev pub versions_in : {D : Type 0} → List (Kept D) → List ℕ
+abbrev pub versions_in : {D : Type 0} → List (DueReply D) → List ℕ
 versions_in [] = []
 versions_in (Loader version ∷ rest) = version ∷ versions_in rest
 versions_in (Deferred tasks ∷ rest) = versions_in rest
 versions_in (Timer ticket ∷ rest) = versions_in rest
 
-abbrev pub tasks_in : {D : Type 0} → List (Kept D) → List D
+abbrev pub tasks_in : {D : Type 0} → List (DueReply D) → List D
 tasks_in [] = []
 tasks_in (Loader version ∷ rest) = tasks_in rest
 tasks_in (Deferred tasks ∷ rest) = tasks ++ tasks_in rest
 tasks_in (Timer ticket ∷ rest) = tasks_in rest
 
-abbrev pub tickets_in : {D : Type 0} → List (Kept D) → List ℕ
+abbrev pub tickets_in : {D : Type 0} → List (DueReply D) → List ℕ
 tickets_in [] = []
 tickets_in (Loader version ∷ rest) = tickets_in rest
 tickets_in (Deferred tasks ∷ rest) = tickets_in rest
@@ -72,7 +72,7 @@ pub record IsNewestTimer {D : Type 0} (ticket : ℕ) (run : List (Act D)) : Type
   pub waits : tickets_in (given run) ≡ tickets_in (given before)
 
 -- what is given is the oldest of the versions that are kept, all of the tasks, or the timer
-abbrev pub IsDue : {D : Type 0} → Kept D → HostOrders D → Type 0
+abbrev pub IsDue : {D : Type 0} → DueReply D → HostOrders D → Type 0
 IsDue (Loader version) o = slice_get o.loaders 0 ≡ Some version
 IsDue (Deferred tasks) o = o.deferred ≡ tasks
 IsDue (Timer ticket) o = o.timer ≡ Some ticket

@@ -1,7 +1,7 @@
 ghost use Rattle.std.specs.Prelude.{◌≡◌, [], drop, slice_get, OnOk, OnErr};
 ghost use Rattle.host_orders.specs.HostOrders.{none_kept, set_loader, defer, set_timer, batch, next, after_next};
 
-use crate::kept::Kept;
+use crate::due_reply::DueReply;
 use plain::{Items, NoMemory};
 use std::alloc::Global;
 use std::marker::Model;
@@ -76,17 +76,17 @@ impl<D: Drop> HostOrders<D> {
     }
 
     /// Gives what is next: the oldest settings of a loader, else all tasks, else the timer.
-    pub fn next(&mut self) -> Option<Kept<D>>
+    pub fn next(&mut self) -> Option<DueReply<D>>
         ensures value { result ≡ next self.old }
         ensures after { self.new ≡ after_next self.old }
     {
         if let Some(version) = take_first(&mut self.loaders) {
-            return Some(Kept::Loader(version));
+            return Some(DueReply::Loader(version));
         }
         if let Some(tasks) = take_batch(&mut self.deferred, self.alloc) {
-            return Some(Kept::Deferred(tasks));
+            return Some(DueReply::Deferred(tasks));
         }
-        Some(Kept::Timer(self.timer.take()?))
+        Some(DueReply::Timer(self.timer.take()?))
     }
 }
 

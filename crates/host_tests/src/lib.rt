@@ -2,6 +2,6 @@
 #![tactic(auto)]
 
 #[cfg(test)]
-mod inbox_tests;
+mod atomic_revision_tests;
 #[cfg(test)]
-mod revision_word_tests;
+mod inbox_tests;

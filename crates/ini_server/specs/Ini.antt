@@ -3,7 +3,7 @@ use Rattle.std.specs.Prelude.{ℕ, ◌-◌, ◌==◌, ◌||◌, ◌&&◌, Bool, 
 use Rattle.std.specs.Char.{is_ascii_whitespace}
 use Rattle.std.specs.List.{after_first, before_first, position_or_len, prefix_len, suffix_len}
 use Rattle.serde_json.specs.Data.{Data, null, boolean, string, object, put, member, no_members}
-use Rattle.analysis_host.specs.Answers.{Finding, answer}
+use Rattle.analysis_host.specs.Answers.{OutcomeSpec, answer}
 use Rattle.analysis_host.specs.SnapshotData.{SnapshotData, encoding_of}
 use Rattle.analysis_host.specs.declared.ask.Ask.{Ask}
 use Rattle.analysis_host.specs.declared.ask.Ask.TheVariants.{Request, Part, Syntax, Semantic, Tests as TestsOf, CratesOf, Prime}
@@ -78,17 +78,17 @@ contents None = null
 contents (Some value) = object (member (codes "contents") (string value) no_members)
 
 -- hover on a line, by where it begins and where the position stands
-abbrev pub hover_at : List ℕ → Result (ℕ × ℕ) OffsetFault → Finding
+abbrev pub hover_at : List ℕ → Result (ℕ × ℕ) OffsetFault → OutcomeSpec
 hover_at line (Err fault) = refusal (codes "Invalid offset")
 hover_at line (Ok places) = answer (Json (contents (value_at line (places.1 - places.0))))
 
 -- hover at a position of a text, by what a column counts
-abbrev pub hover_in : PositionEncoding → Position → List ℕ → Finding
+abbrev pub hover_in : PositionEncoding → Position → List ℕ → OutcomeSpec
 hover_in encoding position text =
     hover_at (line_text text position.line) (range_of encoding text (record { start = front_of position; end = position }))
 
 -- hover at a position of a URL
-abbrev pub hover_of : SnapshotData → Option (List ℕ) → Option Position → Finding
+abbrev pub hover_of : SnapshotData → Option (List ℕ) → Option Position → OutcomeSpec
 hover_of snapshot (Some uri) (Some position) = in_text (hover_in (encoding_of snapshot) position) (text_of snapshot uri)
 hover_of snapshot (Some uri) None = malformed
 hover_of snapshot None position = malformed
@@ -103,12 +103,12 @@ abbrev pub ini_decodes : RowId → Data → Bool
 ini_decodes row params = if is_hover row then is_some (uri_of params) && is_some (position_of params) else true
 
 -- every other row answers its default
-abbrev pub ini_request : SnapshotData → RowId → Data → Finding
+abbrev pub ini_request : SnapshotData → RowId → Data → OutcomeSpec
 ini_request snapshot row params =
     if is_hover row then hover_of snapshot (uri_of params) (position_of params) else answer (Json (default_of row))
 
 -- nothing is wrong, and there are no tests and no crates
-abbrev pub ini_answer : SnapshotData → Ask → Finding
+abbrev pub ini_answer : SnapshotData → Ask → OutcomeSpec
 ini_answer snapshot (Request row params) = ini_request snapshot row params
 ini_answer snapshot (Part row params files) = ini_request snapshot row params
 ini_answer snapshot (Syntax file) = answer (Diagnostics [])

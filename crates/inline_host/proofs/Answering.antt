@@ -1,12 +1,12 @@
 -- The answers to orders, and what else may come.
 use Rattle.std.proofs.Common.{◌≡◌, false, ap, refl, sym, ◌∙◌}
 use Rattle.std.specs.Prelude.{Option, None, Some, option_map, Result, Ok, Err, IfOk}
-use Rattle.analysis_host.specs.Answers.{Finding}
+use Rattle.analysis_host.specs.Answers.{OutcomeSpec}
 use Rattle.analysis_host.specs.SnapshotData.{SnapshotData}
 use Rattle.analysis_host.specs.declared.ask.Ask.{Ask}
 use Rattle.host_orders.specs.HostOrders.{next}
-use Rattle.host_orders.specs.declared.kept.Kept.{Kept}
-use Rattle.host_orders.specs.declared.kept.Kept.TheVariants.{Loader, Deferred, Timer as KeptTimer}
+use Rattle.host_orders.specs.declared.due_reply.DueReply.{DueReply}
+use Rattle.host_orders.specs.declared.due_reply.DueReply.TheVariants.{Loader, Deferred, Timer as DueTimer}
 use Rattle.inline_host.specs.Coming.{Comes, source_before}
 use Rattle.inline_host.specs.Framed.{FramedData}
 use Rattle.inline_host.specs.Orders.{Orders, answer_of, next_answer}
@@ -19,17 +19,17 @@ use Rattle.session_port.specs.declared.event.HostEvent.TheVariants.{Bytes, Ended
 use Rattle.session_port.specs.declared.event.HostEvent.TheVariants.{Flycheck, TestResult, DiscoverProject, Timer}
 
 -- no order is answered by news
-answer-news : (kept : Kept DeferredTask) → is_news (answer_of kept) ≡ false
+answer-news : (due : DueReply DeferredTask) → is_news (answer_of due) ≡ false
 answer-news (Loader version) = refl
 answer-news (Deferred tasks) = refl
-answer-news (KeptTimer ticket) = refl
+answer-news (DueTimer ticket) = refl
 
-due-news : (kept : Option (Kept DeferredTask)) (event : HostEvent) → option_map answer_of kept ≡ Some event → is_news event ≡ false
+due-news : (due : Option (DueReply DeferredTask)) (event : HostEvent) → option_map answer_of due ≡ Some event → is_news event ≡ false
 due-news None event is = absurd cc
-due-news (Some kept) event is = let same : answer_of kept ≡ event = cc in sym (ap is_news same) ∙ answer-news kept
+due-news (Some due) event is = let same : answer_of due ≡ event = cc in sym (ap is_news same) ∙ answer-news due
 
 -- so none comes
-coming-news : (answer : SnapshotData → Ask → Finding) (out : Jobs) (orders : Orders) (before source : FramedData) (event : HostEvent)
+coming-news : (answer : SnapshotData → Ask → OutcomeSpec) (out : Jobs) (orders : Orders) (before source : FramedData) (event : HostEvent)
     → Comes answer out orders before source event → is_news event ≡ false
 coming-news answer out orders before source (Bytes piece) comes = refl
 coming-news answer out orders before source Ended comes = refl
@@ -41,7 +41,7 @@ coming-news answer out orders before source (TestResult messages) comes = due-ne
 coming-news answer out orders before source (DiscoverProject messages) comes = due-news (next orders) (DiscoverProject messages) comes.due
 coming-news answer out orders before source (Timer ticket) comes = refl
 
-pub result-news : (answer : SnapshotData → Ask → Finding) (out : Jobs) (orders : Orders) (before after : FramedData) (result : Result HostEvent HostError)
+pub result-news : (answer : SnapshotData → Ask → OutcomeSpec) (out : Jobs) (orders : Orders) (before after : FramedData) (result : Result HostEvent HostError)
     → IfOk result (λ event. Comes answer out orders before (source_before event after) event) → IfOk result (λ event. is_news event ≡ false)
 result-news answer out orders before after (Err e) comes = tt
 result-news answer out orders before after (Ok event) comes = coming-news answer out orders before (source_before event after) event comes

@@ -4,7 +4,7 @@ use Rattle.std.specs.Prelude.{Option, None, Some, Result, Ok, Err, IfOk}
 use Rattle.std.specs.FinMap as map
 use Rattle.std.proofs.Math.Seq.{drop-append_seam}
 use Rattle.std.proofs.lemmas.List.{append-nil, nil_from_length, take_all, take-append-drop, take-append-le}
-use Rattle.analysis_host.specs.Answers.{Finding}
+use Rattle.analysis_host.specs.Answers.{OutcomeSpec}
 use Rattle.analysis_host.specs.SnapshotData.{SnapshotData}
 use Rattle.analysis_host.specs.declared.ask.Ask.{Ask}
 use Rattle.lsp_frame.proofs.Cuts.{cut_bounds, cut_more, need_more_bound}
@@ -107,7 +107,7 @@ gives_bytes old new out orders before source piece same_out same_orders same_hel
       unread = λ shown. sym new_left ∙ ap (λ s. s.left) (comes.unread (λ needs. shown (ap cut_of (sym same_held) ∙ needs))) ∙ same_left;
     }
 
-pub event_bytes : (answer : SnapshotData → Ask → Finding) (event : HostEvent) (piece : List ℕ) (old new : InlineData) (out : Jobs) (orders : Orders) (before source : FramedData)
+pub event_bytes : (answer : SnapshotData → Ask → OutcomeSpec) (event : HostEvent) (piece : List ℕ) (old new : InlineData) (out : Jobs) (orders : Orders) (before source : FramedData)
     → event ≡ Bytes piece → out ≡ old.out → orders ≡ old.orders → before.held ≡ old.held → before.left ≡ old.left → framed_waiting source ≡ framed_waiting before
     → (source_after event source).held ≡ new.held → (source_after event source).left ≡ new.left → new.orders ≡ orders_after event orders
     → Comes answer out orders before source event → GivesBytes old new piece
@@ -116,7 +116,7 @@ event_bytes answer event piece old new out orders before source is same_out same
     (new_orders ∙ ap (λ e. orders_after e orders) is) (subst (Comes answer out orders before source) is comes)
 
 -- the same of what a call answers, given the source after it
-pub result_bytes : (answer : SnapshotData → Ask → Finding) (result : Result HostEvent HostError) (old new : InlineData) (out : Jobs) (orders : Orders)
+pub result_bytes : (answer : SnapshotData → Ask → OutcomeSpec) (result : Result HostEvent HostError) (old new : InlineData) (out : Jobs) (orders : Orders)
     (before after : FramedData) → out ≡ old.out → orders ≡ old.orders → before.held ≡ old.held → before.left ≡ old.left → after.held ≡ new.held → after.left ≡ new.left
     → IfOk result (λ event. framed_waiting (source_before event after) ≡ framed_waiting before) → IfOk result (λ event. new.orders ≡ orders_after event orders)
     → IfOk result (λ event. Comes answer out orders before (source_before event after) event)

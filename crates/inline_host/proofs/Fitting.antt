@@ -2,7 +2,7 @@
 use Rattle.std.proofs.Common.{◌≡◌, ℕ, true, refl, ap, ◌∙◌}
 use Rattle.std.specs.Prelude.{Option, None, Some, is_some, IfSome, option_and_then, if◌then◌else◌}
 use Rattle.std.specs.FinMap as map
-use Rattle.analysis_host.specs.Answers.{Finding}
+use Rattle.analysis_host.specs.Answers.{OutcomeSpec}
 use Rattle.analysis_host.specs.SnapshotData.{SnapshotData}
 use Rattle.analysis_host.specs.declared.ask.Ask.{Ask}
 use Rattle.session_port.specs.Honest.{IsHonestEnd, IsResultOf}
@@ -26,7 +26,7 @@ after_fitting message out job is fit ends =
     ∙ ap (λ b. if b then map.remove out message.job else out) ends
 
 -- an end that is a job's, which is out, is honest
-pub honest_end : (answer : SnapshotData → Ask → Finding) (out : Jobs) (number : ℕ) (job : Job) (end : Option JobResult)
+pub honest_end : (answer : SnapshotData → Ask → OutcomeSpec) (out : Jobs) (number : ℕ) (job : Job) (end : Option JobResult)
     → map.get out number ≡ Some job → IsFinal end (IsResultOf answer job) → IfSome end (IsHonestEnd answer out number)
 honest_end answer out number job None there is = absurd is
 honest_end answer out number job (Some result) there is = record { job = job; is_out = there; is_result = is }

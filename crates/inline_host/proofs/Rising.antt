@@ -9,7 +9,7 @@ use Rattle.std.specs.FinMap as map
 use Rattle.std.specs.FinMap.Entries.{by_order}
 use Rattle.std.proofs.lemmas.Bool.{ne_eqb, eqb-true}
 use Rattle.std.proofs.lemmas.List.{append-nil, nil_from_length}
-use Rattle.analysis_host.specs.Answers.{Finding}
+use Rattle.analysis_host.specs.Answers.{OutcomeSpec}
 use Rattle.analysis_host.specs.SnapshotData.{SnapshotData}
 use Rattle.analysis_host.specs.declared.ask.Ask.{Ask}
 use Rattle.session_port.specs.Honest.{IsHonestMessage, AreHonest}
@@ -109,7 +109,7 @@ none_out (job ∷ jobs) rising is = absurd (has_none (sym (get_first 0 job jobs 
     has_none : Some job ≡ None → ⊥
     has_none e = cc
 
-module _ (answer : SnapshotData → Ask → Finding) where
+module _ (answer : SnapshotData → Ask → OutcomeSpec) where
   -- a result of the first job names it
   out_first : (low : ℕ) (job : Job) (jobs : List Job) (message : TaskMsg) → AreRising low (job ∷ jobs) → Finishes answer job message
       → map.get (with_jobs (job ∷ jobs) map.empty) message.job ≡ Some job

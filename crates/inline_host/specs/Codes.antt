@@ -45,15 +45,15 @@ inline_code job task call =
     (coded× (coded× (jobs_code job) (orders_code task))
     (coded× (coded× (coded_list coded_ℕ) (coded_option (coded_list coded_ℕ)))
     (coded× (coded× coded_ℕ coded_bool) (coded_option (coded_list call)))))
-    (λ h. (((h.out, h.handed), h.orders), ((h.held, h.left), ((h.faults, h.spent), h.calls))))
+    (λ h. (((h.out, h.last_job), h.orders), ((h.held, h.left), ((h.faults, h.poisoned), h.calls))))
     (λ p. record {
       out = p.0.0.0;
-      handed = p.0.0.1;
+      last_job = p.0.0.1;
       orders = p.0.1;
       held = p.1.0.0;
       left = p.1.0.1;
       faults =
           p.1.1.0.0;
-      spent = p.1.1.0.1;
+      poisoned = p.1.1.0.1;
       calls = p.1.1.1;
     }) (λ _. refl)

@@ -3,7 +3,7 @@
 use Rattle.std.specs.Prelude.{◌≡◌, ◌≢◌, ◌<◌, ◌≤◌, ◌++◌, ℕ, List, [], map, length, take, drop, None, Some}
 use Rattle.std.specs.List.{AllZip}
 use Rattle.std.specs.FinMap as map
-use Rattle.analysis_host.specs.Answers.{Finding}
+use Rattle.analysis_host.specs.Answers.{OutcomeSpec}
 use Rattle.analysis_host.specs.SnapshotData.{SnapshotData}
 use Rattle.analysis_host.specs.declared.ask.Ask.{Ask}
 use Rattle.host_orders.specs.HostOrders.{after_next}
@@ -40,7 +40,7 @@ pub record ComesAsEnd (out : Jobs) (orders : Orders) (source : FramedData) : Typ
   pub dry : IsDry source.left
 
 -- some job is out, these are the results of all that are, nothing stopped any, and nothing was read
-pub record ComesAsResults (answer : SnapshotData → Ask → Finding) (out : Jobs) (before source : FramedData)
+pub record ComesAsResults (answer : SnapshotData → Ask → OutcomeSpec) (out : Jobs) (before source : FramedData)
     (batch : List TaskMsg) : Type 0 where
   pub busy : out ≢ map.empty
   pub honest : AreHonest answer out batch
@@ -56,7 +56,7 @@ pub record ComesAsAnswer (out : Jobs) (orders : Orders) (before source : FramedD
   pub due : next_answer orders ≡ Some event
   pub unread : source ≡ before
 
-abbrev pub Comes : (SnapshotData → Ask → Finding) → Jobs → Orders → FramedData → FramedData → HostEvent → Type 0
+abbrev pub Comes : (SnapshotData → Ask → OutcomeSpec) → Jobs → Orders → FramedData → FramedData → HostEvent → Type 0
 Comes answer out orders before source (Bytes piece) = ComesAsBytes out orders before source piece
 Comes answer out orders before source Ended = ComesAsEnd out orders source
 Comes answer out orders before source (Tasks batch) = ComesAsResults answer out before source batch

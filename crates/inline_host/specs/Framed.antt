@@ -9,12 +9,12 @@ use Rattle.inline_host.specs.declared.framed_source.NextPiece.{NextPiece}
 use Rattle.inline_host.specs.declared.framed_source.NextPiece.TheVariants.{EndsAt, Lacks}
 
 -- the bytes that were read and not given, those that the source has left, if it tells, how often it has failed, and
--- whether it is spent
+-- whether it is poisoned
 pub record FramedData : Type 0 where
   pub held : List ℕ
   pub left : Option (List ℕ)
   pub faults : ℕ
-  pub spent : Bool
+  pub poisoned : Bool
 
 -- the bytes not given yet
 abbrev pub waiting : FramedData → Option (List ℕ)

@@ -16,16 +16,16 @@ use Rattle.session_port.specs.declared.event.TaskMsg.{TaskMsg}
 
 -- the jobs out and the last number handed over, the other orders that are not answered, the bytes that were read and
 -- not given, those that the source has left, if it tells, the calls, if they are kept, how often the source has failed,
--- and whether it is spent
+-- and whether it is poisoned
 pub record InlineData : Type 0 where
   pub out : Jobs
-  pub handed : ℕ
+  pub last_job : ℕ
   pub orders : Orders
   pub held : List ℕ
   pub left : Option (List ℕ)
   pub calls : Option (List HostCall)
   pub faults : ℕ
-  pub spent : Bool
+  pub poisoned : Bool
 
 -- the bytes not given yet, if the source tells
 abbrev pub waiting : InlineData → Option (List ℕ)
@@ -37,17 +37,17 @@ started keep = if keep then Some [] else None
 
 -- the host before any call, on a source that has so much left and has failed so often
 abbrev pub new_inline : Option (List ℕ) → ℕ → Bool → Bool → InlineData
-new_inline left faults spent keep =
+new_inline left faults poisoned keep =
     record {
       out = map.empty;
-      handed = 0;
+      last_job = 0;
       orders = none_kept;
       held = [];
       left = left;
       calls = started keep;
       faults =
           faults;
-      spent = spent;
+      poisoned = poisoned;
     }
 
 -- nothing is left

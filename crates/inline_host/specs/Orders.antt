@@ -1,8 +1,8 @@
 -- The orders that a host keeps until it gives their answers, and what it gives.
 use Rattle.std.specs.Prelude.{ℕ, List, [], ◌∷◌, Option, None, option_map}
 use Rattle.host_orders.specs.HostOrders.{HostOrders, set_loader, defer, set_timer, next}
-use Rattle.host_orders.specs.declared.kept.Kept.{Kept}
-use Rattle.host_orders.specs.declared.kept.Kept.TheVariants.{Loader, Deferred, Timer as KeptTimer}
+use Rattle.host_orders.specs.declared.due_reply.DueReply.{DueReply}
+use Rattle.host_orders.specs.declared.due_reply.DueReply.TheVariants.{Loader, Deferred, Timer as DueTimer}
 use Rattle.session_port.specs.declared.command.Command.{Command}
 use Rattle.session_port.specs.declared.command.Command.TheVariants.{Defer, SetLoader, Timer as OrderTimer}
 use Rattle.session_port.specs.declared.command.DeferredTask.{DeferredTask}
@@ -32,10 +32,10 @@ abbrev pub finished : ℕ → LoaderMsg
 finished version = Progress 0 Finished None version
 
 -- one event for each setting of a loader, one for all tasks, one for the timer
-abbrev pub answer_of : Kept DeferredTask → HostEvent
+abbrev pub answer_of : DueReply DeferredTask → HostEvent
 answer_of (Loader version) = Vfs (finished version ∷ [])
 answer_of (Deferred tasks) = DeferredTasks tasks
-answer_of (KeptTimer ticket) = Timer ticket
+answer_of (DueTimer ticket) = Timer ticket
 
 -- the answer that is due, if an order is kept
 abbrev pub next_answer : Orders → Option HostEvent

@@ -1,6 +1,6 @@
 -- The jobs that a host holds, and their results.
 use Rattle.std.specs.Prelude.{◌≡◌, ℕ, true, false, length}
-use Rattle.analysis_host.specs.Answers.{Finding}
+use Rattle.analysis_host.specs.Answers.{OutcomeSpec}
 use Rattle.analysis_host.specs.SnapshotData.{SnapshotData}
 use Rattle.analysis_host.specs.declared.ask.Ask.{Ask}
 use Rattle.session_port.specs.Jobs.{Jobs, final_of, fits_job}
@@ -14,7 +14,7 @@ use Rattle.session_port.specs.declared.job.Job.{Job}
 -- the jobs out, and the number of the last one that came
 pub record JobsData : Type 0 where
   pub out : Jobs
-  pub handed : ℕ
+  pub last_job : ℕ
 
 -- a message of a job of the host's own says what it comes to for a project of which nothing is known but where it lies
 abbrev pub IsOfProject : Job → TaskMsg → Type 0
@@ -22,7 +22,7 @@ IsOfProject job message = asks_analysis job.kind ≡ false
     → IsFinal (final_of message.body) (IsSmall job.kind (length job.snapshot.workspaces))
 
 -- a message with a result of that job, of its kind, which nothing stopped, and whose JSON is plain
-pub record Finishes (answer : SnapshotData → Ask → Finding) (job : Job) (message : TaskMsg) : Type 0 where
+pub record Finishes (answer : SnapshotData → Ask → OutcomeSpec) (job : Job) (message : TaskMsg) : Type 0 where
   pub number : message.job ≡ job.number
   pub result : IsFinal (final_of message.body) (IsResultOf answer job)
   pub uncancelled : IsFinal (final_of message.body) IsUncancelled

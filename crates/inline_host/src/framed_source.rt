@@ -53,7 +53,7 @@ impl<S: Source> Model for FramedSource<S> {
 
     ghost Value = { FramedData };
 
-    ghost view = { λ s. record { held = s.held; left = before_piece s.pending (S.left s.source); faults = S.faults s.source; spent = S.spent s.source } };
+    ghost view = { λ s. record { held = s.held; left = before_piece s.pending (S.left s.source); faults = S.faults s.source; poisoned = S.poisoned s.source } };
 }
 
 /// Reads a piece where none is pending, and says whether one is pending now.
@@ -62,8 +62,8 @@ fn fill<S: Source>(
     source: &mut S,
     pending: &mut PieceBuffer,
 ) -> Result<bool, HostError>
-    requires fresh { S.spent source.old ≡ false }
-    ensures fresh { IfOk result (λ _. S.spent source.new ≡ false) }
+    requires usable { S.poisoned source.old ≡ false }
+    ensures usable { IfOk result (λ _. S.poisoned source.new ≡ false) }
     ensures left { before_piece pending.new (S.left source.new) ≡ before_piece pending.old (S.left source.old) }
     ensures more { IfOk result (λ more. IsTrue more ↔ (0 < length pending.new)) }
     ensures dry { IfOk result (λ more. more ≡ false → IsDry (before_piece pending.new (S.left source.new))) }
@@ -109,7 +109,7 @@ fn take_pending(
 impl<S: Source> FramedSource<S> {
     pub fn new(alloc: Global, source: S) -> Self
         ensures { result
-            ≡ record { held = []; left = S.left source; faults = S.faults source; spent = S.spent source } }
+            ≡ record { held = []; left = S.left source; faults = S.faults source; poisoned = S.poisoned source } }
     {
         FramedSource {
             alloc,
@@ -147,9 +147,9 @@ impl<S: Source> FramedSource<S> {
 
     /// Takes in more bytes, at most as many as are lacking where some are held, and says whether there were more.
     fn read_more(&mut self, lacking: usize) -> Result<bool, HostError>
-        requires fresh { self.old.spent ≡ false }
+        requires usable { self.old.poisoned ≡ false }
         requires some { 0 < lacking }
-        ensures fresh { IfOk result (λ _. self.new.spent ≡ false) }
+        ensures usable { IfOk result (λ _. self.new.poisoned ≡ false) }
         ensures more { IfOk result (IsRead self.old self.new) }
         ensures held { OnErr result (self.new.held ≡ self.old.held) }
         ensures left { OnErr result (self.new.left ≡ self.old.left) }
@@ -186,10 +186,10 @@ impl<S: Source> FramedSource<S> {
 
     /// Reads until it is known where the next piece ends, which is with all that is held where the source has ended.
     fn read_on(&mut self, lacking: usize) -> Result<usize, HostError>
-        requires fresh { self.old.spent ≡ false }
+        requires usable { self.old.poisoned ≡ false }
         requires needs { cut_of self.old.held ≡ NeedMore }
         requires some { 0 < lacking }
-        ensures fresh { IfOk result (λ _. self.new.spent ≡ false) }
+        ensures usable { IfOk result (λ _. self.new.poisoned ≡ false) }
         ensures waiting { waiting self.new ≡ waiting self.old }
         ensures end { IfOk result (EndsPiece self.new) }
         ensures within { IfOk result (λ end. end ≤ length self.new.held) }
@@ -210,8 +210,8 @@ impl<S: Source> FramedSource<S> {
     /// Where the next piece ends. It reads only where the bytes held don't show it. All that is held may be nothing,
     /// at the end.
     pub fn next_end(&mut self) -> Result<usize, HostError>
-        requires fresh { self.old.spent ≡ false }
-        ensures fresh { IfOk result (λ _. self.new.spent ≡ false) }
+        requires usable { self.old.poisoned ≡ false }
+        ensures usable { IfOk result (λ _. self.new.poisoned ≡ false) }
         ensures waiting { waiting self.new ≡ waiting self.old }
         ensures unread { cut_of self.old.held ≢ NeedMore → self.new ≡ self.old }
         ensures end { IfOk result (EndsPiece self.new) }

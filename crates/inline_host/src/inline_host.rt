@@ -58,7 +58,7 @@ impl<'a, S: Source, A> Model for InlineHost<'a, S, A> {
 
     ghost coded = { inline_code job.the_row.coded task.the_row.coded (call_code event.the_row.coded command.the_row.coded) };
 
-    ghost view = { λ h. record { out = h.jobs.out; handed = h.jobs.handed; orders = h.orders; held = h.source.held; left = h.source.left; calls = h.calls; faults = h.source.faults; spent = h.source.spent } };
+    ghost view = { λ h. record { out = h.jobs.out; last_job = h.jobs.last_job; orders = h.orders; held = h.source.held; left = h.source.left; calls = h.calls; faults = h.source.faults; poisoned = h.source.poisoned } };
 }
 
 /// Gives an event, which it records before.
@@ -109,8 +109,8 @@ fn coming<S: Source, A: Analysis>(
     calls: &mut Option<Items<RecordedCall>>,
     analysis: &A,
 ) -> Result<HostEvent, HostError>
-    requires fresh { source.old.spent ≡ false }
-    ensures fresh { IfOk result (λ _. source.new.spent ≡ false) }
+    requires usable { source.old.poisoned ≡ false }
+    ensures usable { IfOk result (λ _. source.new.poisoned ≡ false) }
     ensures waiting { IfOk result (λ event. framed_waiting (source_before event source.new)
         ≡ framed_waiting source.old) }
     ensures kept { OnErr result (framed_waiting source.new ≡ framed_waiting source.old) }
@@ -141,7 +141,7 @@ fn coming<S: Source, A: Analysis>(
 impl<'a, S: Source, A: Analysis> InlineHost<'a, S, A> {
     /// A host that keeps a record of what it gives and takes if `keep` says so.
     pub fn new(alloc: Global, source: S, analysis: &'a A, keep: bool) -> Self
-        ensures { result ≡ new_inline (S.left source) (S.faults source) (S.spent source) keep }
+        ensures { result ≡ new_inline (S.left source) (S.faults source) (S.poisoned source) keep }
     {
         InlineHost {
             alloc,
@@ -164,7 +164,7 @@ impl<'a, S: Source, A: Analysis> InlineHost<'a, S, A> {
 impl<'a, S: Source, A: Analysis> Host<A> for InlineHost<'a, S, A> {
     ghost out = { λ h. h.out };
 
-    ghost handed = { λ h. h.handed };
+    ghost last_job = { λ h. h.last_job };
 
     ghost honest = { λ _. true };
 
@@ -172,13 +172,15 @@ impl<'a, S: Source, A: Analysis> Host<A> for InlineHost<'a, S, A> {
 
     ghost calls = { λ h. h.calls };
 
-    ghost spent = { λ h. h.spent };
+    ghost poisoned = { λ h. h.poisoned };
+
+    ghost origin = { λ _. tt };
 
     fn next(&mut self) -> Result<HostEvent, HostError>
-        requires fresh { self.old.spent ≡ false }
-        ensures fresh { IfOk result (λ event. UnlessEnded event (self.new.spent ≡ false)) }
+        requires usable { self.old.poisoned ≡ false }
+        ensures usable { IfOk result (λ event. UnlessEnded event (self.new.poisoned ≡ false)) }
         ensures out { self.new.out ≡ after_given result self.old.out }
-        ensures handed { self.new.handed ≡ self.old.handed }
+        ensures last_job { self.new.last_job ≡ self.old.last_job }
         ensures honest { IfOk result (λ event. IsTrue true → IsHonest A.answer self.old.out event) }
         ensures calls { self.new.calls
             ≡ after_ok result (λ event. added self.old.calls (gave event)) self.old.calls }
@@ -194,7 +196,7 @@ impl<'a, S: Source, A: Analysis> Host<A> for InlineHost<'a, S, A> {
         // It checks nothing, runs no tests and discovers nothing.
         ensures news { IfOk result (λ event. is_news event ≡ false) }
         // It may be called again after the end too.
-        ensures fresh_at_end { IfOk result (λ _. self.new.spent ≡ false) }
+        ensures usable_at_end { IfOk result (λ _. self.new.poisoned ≡ false) }
         ensures kept { OnErr result (waiting self.new ≡ waiting self.old) }
         ensures failed { result ≡ Err HostError.Failed → ReadsNow self.old }
     {
@@ -209,12 +211,12 @@ impl<'a, S: Source, A: Analysis> Host<A> for InlineHost<'a, S, A> {
     }
 
     fn order(&mut self, commands: Items<Command>) -> Result<(), HostError>
-        requires fresh { self.old.spent ≡ false }
-        requires rising { AreRising self.old.handed (spawned commands) }
-        ensures fresh { IfOk result (λ _. self.new.spent ≡ false) }
+        requires usable { self.old.poisoned ≡ false }
+        requires rising { AreRising self.old.last_job (spawned commands) }
+        ensures usable { IfOk result (λ _. self.new.poisoned ≡ false) }
         ensures out { IfOk result (λ _. self.new.out ≡ after_order commands self.old.out) }
-        ensures handed { IfOk result (λ _. self.new.handed
-            ≡ last_number self.old.handed (spawned commands)) }
+        ensures last_job { IfOk result (λ _. self.new.last_job
+            ≡ last_number self.old.last_job (spawned commands)) }
         ensures calls { self.new.calls
             ≡ after_ok result (λ _. added self.old.calls (took commands)) self.old.calls }
         ensures cause { HasCause self.old.faults self.new.faults result }

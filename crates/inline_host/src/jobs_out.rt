@@ -18,12 +18,15 @@ use std::marker::Model;
 /// The jobs out, which came in the order of their numbers.
 pub(crate) struct JobsOut {
     jobs: Vec<Job>,
-    handed: u64,
+    last_job: u64,
 }
 
 impl Drop for JobsOut {
     fn drop(self) {
-        let JobsOut { jobs: _, handed: _ } = self;
+        let JobsOut {
+            jobs: _,
+            last_job: _,
+        } = self;
     }
 }
 
@@ -39,11 +42,11 @@ impl Model for JobsOut {
     ghost Value = { JobsData };
 
     ghost coded = { code_by (Jobs × ℕ) (coded× (map.code coded_ℕ job.the_row.coded) coded_ℕ)
-        (λ j. (j.out, j.handed)) (λ p. record { out = p.0; handed = p.1 }) (λ _. refl) };
+        (λ j. (j.out, j.last_job)) (λ p. record { out = p.0; last_job = p.1 }) (λ _. refl) };
 
-    ghost view = { λ j. record { out = with_jobs j.jobs.items map.empty; handed = j.handed } };
+    ghost view = { λ j. record { out = with_jobs j.jobs.items map.empty; last_job = j.last_job } };
 
-    ghost invariant = { λ j. AreRising 0 j.jobs.items × (last_number 0 j.jobs.items ≤ j.handed) };
+    ghost invariant = { λ j. AreRising 0 j.jobs.items × (last_number 0 j.jobs.items ≤ j.last_job) };
 }
 
 /// The results of some jobs, in their order.
@@ -66,11 +69,11 @@ fn results_of<A: Analysis>(
 
 impl JobsOut {
     pub fn new(alloc: Global) -> Self
-        ensures { result ≡ record { out = map.empty; handed = 0 } }
+        ensures { result ≡ record { out = map.empty; last_job = 0 } }
     {
         JobsOut {
             jobs: Vec::new(alloc),
-            handed: 0,
+            last_job: 0,
         }
     }
 
@@ -88,23 +91,23 @@ impl JobsOut {
     }
 
     fn push(&mut self, job: Job) -> Result<(), AllocError>
-        requires { self.old.handed < job.number }
+        requires { self.old.last_job < job.number }
         ensures ok { OnOk result (self.new
-            ≡ record { out = map.insert self.old.out job.number job; handed = job.number }) }
+            ≡ record { out = map.insert self.old.out job.number job; last_job = job.number }) }
         ensures err { OnErr result (self.new ≡ self.old) }
     {
         let number = job.number;
         self.jobs.push(job)?;
-        self.handed = number;
+        self.last_job = number;
         Ok(())
     }
 
     /// Takes the jobs that commands hand over.
     pub fn take(&mut self, commands: Items<Command>) -> Result<(), AllocError>
-        requires { AreRising self.old.handed (spawned commands) }
+        requires { AreRising self.old.last_job (spawned commands) }
         ensures out { OnOk result (self.new.out ≡ after_order commands self.old.out) }
-        ensures handed { OnOk result (self.new.handed
-            ≡ last_number self.old.handed (spawned commands)) }
+        ensures last_job { OnOk result (self.new.last_job
+            ≡ last_number self.old.last_job (spawned commands)) }
     {
         for command in commands.into_vec() {
             match command {
@@ -117,10 +120,10 @@ impl JobsOut {
 
     /// Takes copies of the jobs that commands hand over, which share their params and snapshots.
     pub fn take_copies(&mut self, commands: &[Command]) -> Result<(), AllocError>
-        requires { AreRising self.old.handed (spawned commands.now) }
+        requires { AreRising self.old.last_job (spawned commands.now) }
         ensures out { OnOk result (self.new.out ≡ after_order commands.now self.old.out) }
-        ensures handed { OnOk result (self.new.handed
-            ≡ last_number self.old.handed (spawned commands.now)) }
+        ensures last_job { OnOk result (self.new.last_job
+            ≡ last_number self.old.last_job (spawned commands.now)) }
     {
         for command in commands {
             if let Command::Spawn(job) = command {

@@ -11,12 +11,15 @@ use std::alloc::{AllocError, Global};
 /// The jobs out by their numbers, and the number of the last one that came.
 pub struct NumberedJobs {
     pub out: ByNumber<Job>,
-    pub handed: u64,
+    pub last_job: u64,
 }
 
 impl Drop for NumberedJobs {
     fn drop(self) {
-        let NumberedJobs { out: _, handed: _ } = self;
+        let NumberedJobs {
+            out: _,
+            last_job: _,
+        } = self;
     }
 }
 
@@ -43,11 +46,11 @@ fn end_jobs(out: &mut ByNumber<Job>, batch: &[TaskMsg])
 
 impl NumberedJobs {
     pub fn new(alloc: Global) -> Self
-        ensures { result ≡ record { out = map.empty; handed = 0 } }
+        ensures { result ≡ record { out = map.empty; last_job = 0 } }
     {
         NumberedJobs {
             out: ByNumber::new(alloc),
-            handed: 0,
+            last_job: 0,
         }
     }
 
@@ -63,19 +66,19 @@ impl NumberedJobs {
     /// Takes a job.
     pub fn push(&mut self, job: Job) -> Result<(), AllocError>
         ensures { OnOk result (self.new
-            ≡ record { out = map.insert self.old.out job.number job; handed = job.number }) }
+            ≡ record { out = map.insert self.old.out job.number job; last_job = job.number }) }
     {
         let number = job.number;
         self.out.insert(number, job)?;
-        self.handed = number;
+        self.last_job = number;
         Ok(())
     }
 
     /// Takes copies of the jobs that commands hand over, which share their params and snapshots.
     pub fn take(&mut self, commands: &[Command]) -> Result<(), AllocError>
         ensures out { OnOk result (self.new.out ≡ after_order commands.now self.old.out) }
-        ensures handed { OnOk result (self.new.handed
-            ≡ last_number self.old.handed (spawned commands.now)) }
+        ensures last_job { OnOk result (self.new.last_job
+            ≡ last_number self.old.last_job (spawned commands.now)) }
     {
         for command in commands {
             if let Command::Spawn(job) = command {

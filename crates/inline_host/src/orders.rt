@@ -3,7 +3,7 @@ ghost use Rattle.std.specs.Prelude.{◌≡◌, [], ◌∷◌, None, IfOk, OnOk};
 ghost use Rattle.host_orders.specs.HostOrders.{after_next};
 ghost use Rattle.inline_host.specs.Orders.{after_command, after_commands, answer_of, finished, next_answer};
 
-use host_orders::{HostOrders, Kept};
+use host_orders::{DueReply, HostOrders};
 use plain::{Items, NoMemory};
 use session_port::{Command, DeferredTask, HostEvent, LoaderMsg, LoadingProgress};
 use std::alloc::Global;
@@ -47,13 +47,13 @@ fn finished(alloc: Global, version: u32) -> Result<Items<LoaderMsg>, NoMemory>
     Ok(messages)
 }
 
-fn answer_of(alloc: Global, kept: Kept<DeferredTask>) -> Result<HostEvent, NoMemory>
-    ensures { IfOk result (λ event. event ≡ answer_of kept) }
+fn answer_of(alloc: Global, due: DueReply<DeferredTask>) -> Result<HostEvent, NoMemory>
+    ensures { IfOk result (λ event. event ≡ answer_of due) }
 {
-    match kept {
-        Kept::Loader(version) => Ok(HostEvent::Vfs(finished(alloc, version)?)),
-        Kept::Deferred(tasks) => Ok(HostEvent::DeferredTask(tasks)),
-        Kept::Timer(ticket) => Ok(HostEvent::Timer(ticket)),
+    match due {
+        DueReply::Loader(version) => Ok(HostEvent::Vfs(finished(alloc, version)?)),
+        DueReply::Deferred(tasks) => Ok(HostEvent::DeferredTask(tasks)),
+        DueReply::Timer(ticket) => Ok(HostEvent::Timer(ticket)),
     }
 }
 
@@ -67,7 +67,7 @@ pub fn next_answer(
     ensures none { IfOk result (λ event. event ≡ None → orders.new ≡ orders.old) }
 {
     match orders.next() {
-        Some(kept) => Ok(Some(answer_of(alloc, kept)?)),
+        Some(due) => Ok(Some(answer_of(alloc, due)?)),
         None => Ok(None),
     }
 }

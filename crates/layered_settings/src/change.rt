@@ -8,7 +8,7 @@ ghost use Rattle.layered_settings.specs.Change.{after, over, passed_over, errors
 
 use crate::settings::{Files, Parents, Settings, SettingsParts};
 use docs_vfs::VfsPath;
-use plain::{ByNumber, Items, Json, Members, Text};
+use plain::{ByNumber, Items, Json, JsonObject, Text};
 use ra_settings::{ConfigError, Layer, ReadLayer, Reason, Source, toml_tree};
 use std::alloc::{AllocError, Global};
 
@@ -101,7 +101,7 @@ fn tree_in(alloc: Global, text: &Option<Text>) -> Result<Option<Json>, AllocErro
 {
     match text {
         Some(text) => toml_tree(alloc, text.as_str()),
-        None => Ok(Some(Members::new(alloc).into_json())),
+        None => Ok(Some(JsonObject::new(alloc).into_json())),
     }
 }
 

@@ -1,7 +1,7 @@
 // A layer that maps share.
 ghost use Rattle.std.specs.Prelude.{◌≡◌, IfOk};
 
-use plain::Copied;
+use plain::ExactClone;
 use ra_settings::Layer;
 use std::alloc::{AllocError, Global};
 use std::marker::Model;
@@ -56,6 +56,6 @@ impl Clone for SharedLayer {
     }
 }
 
-impl Copied for SharedLayer {
+impl ExactClone for SharedLayer {
     ghost copies = { λ x y h. h };
 }

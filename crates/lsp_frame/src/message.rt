@@ -1,5 +1,5 @@
 // The messages of JSON-RPC, as contracts see them too.
-use plain::{Copied, Json, Text};
+use plain::{ExactClone, Json, Text};
 use std::cmp::Ordering;
 
 /// The id of a request.
@@ -87,37 +87,37 @@ pub enum Message {
     Response(Response),
 }
 
-impl Copied for RequestId {
+impl ExactClone for RequestId {
     ghost use Rattle.std.proofs.Common.{rules};
 
     ghost copies = { λ x y h. Prim.search rules };
 }
 
-impl Copied for Request {
+impl ExactClone for Request {
     ghost use Rattle.std.proofs.Common.{rules};
 
     ghost copies = { λ x y h. Prim.search rules };
 }
 
-impl Copied for Notification {
+impl ExactClone for Notification {
     ghost use Rattle.std.proofs.Common.{rules};
 
     ghost copies = { λ x y h. Prim.search rules };
 }
 
-impl Copied for ResponseError {
+impl ExactClone for ResponseError {
     ghost use Rattle.std.proofs.Common.{rules};
 
     ghost copies = { λ x y h. Prim.search rules };
 }
 
-impl Copied for Response {
+impl ExactClone for Response {
     ghost use Rattle.std.proofs.Common.{rules};
 
     ghost copies = { λ x y h. Prim.search rules };
 }
 
-impl Copied for Message {
+impl ExactClone for Message {
     ghost use Rattle.std.proofs.Common.{rules};
 
     ghost copies = { λ x y h. Prim.search rules };

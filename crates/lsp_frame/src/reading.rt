@@ -4,7 +4,7 @@ ghost use Rattle.std.specs.Result.{result_ok};
 ghost use Rattle.lsp_frame.specs.Rules.{message_of, members_message, id_of, optional_id, error_object, optional_error, error_of, params_of, call_of, response_of};
 
 use crate::message::{Message, Notification, Request, RequestId, Response, ResponseError};
-use plain::{Json, Members, Text};
+use plain::{Json, JsonObject, Text};
 use std::alloc::{AllocError, Global};
 
 /// A body that is no message.
@@ -26,7 +26,7 @@ pub fn read_body(alloc: Global, bytes: &[u8]) -> Result<Option<Message>, AllocEr
 }
 
 /// The message that an object is, or none. It takes no memory.
-pub fn message_from(mut members: Members) -> Option<Message>
+pub fn message_from(mut members: JsonObject) -> Option<Message>
     ensures { result ≡ members_message members }
 {
     let method = members.take_value("method");
@@ -38,7 +38,7 @@ pub fn message_from(mut members: Members) -> Option<Message>
     }
 }
 
-fn call_from(method: Text, id: Option<Json>, members: Members) -> Option<Message>
+fn call_from(method: Text, id: Option<Json>, members: JsonObject) -> Option<Message>
     ensures { result ≡ call_of method id members }
 {
     let params = params_from(members);
@@ -51,7 +51,7 @@ fn call_from(method: Text, id: Option<Json>, members: Members) -> Option<Message
     }
 }
 
-fn params_from(mut members: Members) -> Json
+fn params_from(mut members: JsonObject) -> Json
     ensures { result ≡ params_of members }
 {
     match members.take_value("params") {
@@ -60,7 +60,7 @@ fn params_from(mut members: Members) -> Json
     }
 }
 
-fn response_from(id: Json, mut members: Members) -> Option<Message>
+fn response_from(id: Json, mut members: JsonObject) -> Option<Message>
     ensures { result ≡ response_of id members }
 {
     let id = optional_id_from(id).ok()?;
@@ -105,7 +105,7 @@ fn error_from(json: Option<Json>) -> Result<Option<ResponseError>, NoMessage>
     }
 }
 
-fn error_object_from(mut members: Members) -> Option<ResponseError>
+fn error_object_from(mut members: JsonObject) -> Option<ResponseError>
     ensures { result ≡ error_object members }
 {
     let code = members.take_value("code")?.as_i32()?;

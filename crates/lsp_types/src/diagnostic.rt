@@ -3,7 +3,7 @@ ghost use Rattle.std.specs.Prelude.{◌≡◌};
 ghost use Rattle.lsp_types.specs.Diagnostics.{same_position, same_range};
 
 use docs_vfs::VfsPath;
-use plain::{Copied, DecidableEq, Items, Text, copy};
+use plain::{DecidableEq, ExactClone, Items, Text, copy};
 use std::alloc::AllocError;
 use text_core::{Position, Range};
 
@@ -59,7 +59,7 @@ impl Clone for Related {
     }
 }
 
-impl Copied for Related {
+impl ExactClone for Related {
     ghost copies = { λ x y h. h };
 }
 
@@ -78,7 +78,7 @@ impl Clone for Diagnostic {
     }
 }
 
-impl Copied for Diagnostic {
+impl ExactClone for Diagnostic {
     ghost copies = { λ x y h. h };
 }
 

@@ -7,14 +7,14 @@ use crate::diagnostic::{Diagnostic, Related};
 use crate::members::{put_some, text_json};
 use crate::to_json::{ToJson, list_json};
 use docs_vfs::{VfsPath, url_of_path};
-use plain::{Json, Members, NoMemory};
+use plain::{Json, JsonObject, NoMemory};
 use std::alloc::Global;
 use text_core::Range;
 
 fn location_json(alloc: Global, path: &VfsPath, range: &Range) -> Result<Json, NoMemory>
     ensures { IfOk result (λ json. json ≡ location_value path.now range.now) }
 {
-    let mut members = Members::new(alloc);
+    let mut members = JsonObject::new(alloc);
     members.put(alloc, "uri", Json::from_text(url_of_path(alloc, path)?))?;
     members.put(alloc, "range", range.to_json(alloc)?)?;
     Ok(members.into_json())
@@ -26,7 +26,7 @@ impl ToJson for Related {
     ghost shallow = { related_shallow };
 
     fn to_json(&self, alloc: Global) -> Result<Json, NoMemory> {
-        let mut members = Members::new(alloc);
+        let mut members = JsonObject::new(alloc);
         members.put(
             alloc,
             "location",
@@ -61,7 +61,7 @@ impl ToJson for Diagnostic {
     ghost shallow = { diagnostic_shallow };
 
     fn to_json(&self, alloc: Global) -> Result<Json, NoMemory> {
-        let mut members = Members::new(alloc);
+        let mut members = JsonObject::new(alloc);
         members.put(alloc, "range", self.range.to_json(alloc)?)?;
         put_some(
             &mut members,

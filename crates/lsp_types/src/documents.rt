@@ -2,10 +2,10 @@
 ghost use Rattle.std.specs.Prelude.{◌≡◌};
 ghost use Rattle.lsp_types.specs.Documents.{document_members, take_uri, take_document_uri};
 
-use plain::{Json, Members, Text};
+use plain::{Json, JsonObject, Text};
 
 /// The members of the document that params name.
-pub fn document_members(params: Json) -> Option<Members>
+pub fn document_members(params: Json) -> Option<JsonObject>
     ensures { result ≡ document_members params }
 {
     params

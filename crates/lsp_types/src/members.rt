@@ -3,12 +3,12 @@ ghost use Rattle.std.specs.Prelude.{◌≡◌, IfOk, OnOk, option_map};
 ghost use Rattle.serde_json.specs.Data.{string};
 ghost use Rattle.lsp_types.specs.Values.{put_some};
 
-use plain::{Json, Members, NoMemory, Text};
+use plain::{Json, JsonObject, NoMemory, Text};
 use std::alloc::Global;
 
 /// Puts a value at a key, if there is one.
 pub fn put_some(
-    members: &mut Members,
+    members: &mut JsonObject,
     alloc: Global,
     key: &str,
     value: Option<Json>,

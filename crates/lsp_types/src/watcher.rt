@@ -4,7 +4,7 @@ ghost use Rattle.lsp_types.specs.Values.{pattern_value, relative_value, watcher_
 ghost use Rattle.lsp_types.specs.Shallow.{watcher_shallow};
 
 use crate::to_json::ToJson;
-use plain::{Json, Members, NoMemory, Text};
+use plain::{Json, JsonObject, NoMemory, Text};
 use std::alloc::Global;
 
 /// Which files a client is to watch.
@@ -19,7 +19,7 @@ pub enum Watcher {
 fn relative_json(alloc: Global, base_uri: &Text, pattern: &Text) -> Result<Json, NoMemory>
     ensures { IfOk result (λ json. json ≡ relative_value base_uri.now pattern.now) }
 {
-    let mut members = Members::new(alloc);
+    let mut members = JsonObject::new(alloc);
     members.put(alloc, "baseUri", Json::from_text(base_uri.clone()?))?;
     members.put(alloc, "pattern", Json::from_text(pattern.clone()?))?;
     Ok(members.into_json())
@@ -40,7 +40,7 @@ impl ToJson for Watcher {
     ghost shallow = { watcher_shallow };
 
     fn to_json(&self, alloc: Global) -> Result<Json, NoMemory> {
-        let mut members = Members::new(alloc);
+        let mut members = JsonObject::new(alloc);
         members.put(alloc, "globPattern", pattern_json(alloc, self)?)?;
         Ok(members.into_json())
     }

@@ -3,7 +3,7 @@ ghost use Rattle.plain.specs.Plain.{is_plain};
 ghost use Rattle.serde_json.specs.Data.{array, no_items, object, no_members, member, string};
 ghost use Rattle.method_table.specs.Defaults.{value_of, empty_label, full_report, no_crates, no_tests};
 
-use plain::{Json, Members, NoMemory, Text};
+use plain::{Json, JsonObject, NoMemory, Text};
 use serde_json::Value;
 use std::alloc::Global;
 
@@ -37,7 +37,7 @@ fn text(alloc: Global, text: &str) -> Result<Json, NoMemory>
 fn empty_label(alloc: Global) -> Result<Json, NoMemory>
     ensures { IfOk result (λ json. json ≡ empty_label) }
 {
-    let mut members = Members::new(alloc);
+    let mut members = JsonObject::new(alloc);
     members.put(alloc, "label", text(alloc, "")?)?;
     Ok(members.into_json())
 }
@@ -45,7 +45,7 @@ fn empty_label(alloc: Global) -> Result<Json, NoMemory>
 fn full_report(alloc: Global) -> Result<Json, NoMemory>
     ensures { IfOk result (λ json. json ≡ full_report) }
 {
-    let mut members = Members::new(alloc);
+    let mut members = JsonObject::new(alloc);
     members.put(alloc, "items", empty_list(alloc))?;
     members.put(alloc, "kind", text(alloc, "full")?)?;
     members.put(alloc, "resultId", text(alloc, "rust-analyzer")?)?;
@@ -55,7 +55,7 @@ fn full_report(alloc: Global) -> Result<Json, NoMemory>
 fn no_crates(alloc: Global) -> Result<Json, NoMemory>
     ensures { IfOk result (λ json. json ≡ no_crates) }
 {
-    let mut members = Members::new(alloc);
+    let mut members = JsonObject::new(alloc);
     members.put(alloc, "crates", empty_list(alloc))?;
     Ok(members.into_json())
 }
@@ -63,7 +63,7 @@ fn no_crates(alloc: Global) -> Result<Json, NoMemory>
 fn no_tests(alloc: Global) -> Result<Json, NoMemory>
     ensures { IfOk result (λ json. json ≡ no_tests) }
 {
-    let mut members = Members::new(alloc);
+    let mut members = JsonObject::new(alloc);
     members.put(alloc, "scope", Json::null())?;
     members.put(alloc, "scopeFile", Json::null())?;
     members.put(alloc, "tests", empty_list(alloc))?;
@@ -78,7 +78,7 @@ impl DefaultValue {
             DefaultValue::Null => Ok(Json::null()),
             DefaultValue::EmptyText => Ok(Json::from_text(Text::new(alloc))),
             DefaultValue::EmptyList => Ok(empty_list(alloc)),
-            DefaultValue::EmptyObject => Ok(Members::new(alloc).into_json()),
+            DefaultValue::EmptyObject => Ok(JsonObject::new(alloc).into_json()),
             DefaultValue::EmptyLabel => empty_label(alloc),
             DefaultValue::FullReport => full_report(alloc),
             DefaultValue::NoCrates => no_crates(alloc),

@@ -9,7 +9,7 @@ use crate::row_id::RowId;
 
 /// What the table says of a row.
 #[derive(Clone, Copy)]
-pub struct Facts {
+pub struct MethodRow {
     pub method: &'static str,
     pub class: Class,
     pub retries: bool,
@@ -21,7 +21,7 @@ const ROWS: usize = 61;
 
 macro_rules! row {
     ($method:literal, $class:ident, $retries:literal, $default:ident) => {
-        Facts {
+        MethodRow {
             method: $method,
             class: Class::$class,
             retries: $retries,
@@ -31,7 +31,7 @@ macro_rules! row {
 }
 
 // The rows in the order of their numbers.
-static TABLE: [Facts; ROWS] = [
+static TABLE: [MethodRow; ROWS] = [
     row!("shutdown", State, false, Null),
     row!("rust-analyzer/reloadWorkspace", State, false, Null),
     row!("rust-analyzer/rebuildProcMacros", State, false, Null),
@@ -182,7 +182,7 @@ pub(crate) static BY_METHOD: [RowId; ROWS] = [
 
 /// The rows in the order of their numbers, from 1 on.
 #[tactic(auto, unfolding(crate::specs::Table::table))]
-pub fn table() -> &'static [Facts]
+pub fn table() -> &'static [MethodRow]
     ensures { seen_from 1 result.now ≡ table }
 {
     &TABLE

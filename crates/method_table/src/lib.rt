@@ -18,7 +18,7 @@ mod unit;
 
 pub use class::{Class, PoolClass};
 pub use default_value::DefaultValue;
-pub use facts::{Facts, table};
+pub use facts::{MethodRow, table};
 pub use laws::{
     few_jobs_are_handed_over, methods_are_distinct, named_rows_have_their_methods, rows_are_found,
 };

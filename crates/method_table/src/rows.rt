@@ -8,21 +8,21 @@ ghost use Rattle.method_table.specs.Rows.{facts_of, row_of, method_of, class_of,
 ghost use Rattle.method_table.specs.Seen.{seen};
 
 use crate::class::Class;
-use crate::facts::{BY_METHOD, Facts, table};
+use crate::facts::{BY_METHOD, MethodRow, table};
 use crate::row_id::RowId;
 use plain::{Json, NoMemory};
 use std::alloc::Global;
 use std::cmp::Ordering;
 
 /// What stands at a place of a table.
-fn at(table: &[Facts], place: usize) -> Option<&Facts>
+fn at(table: &[MethodRow], place: usize) -> Option<&MethodRow>
     ensures { option_map (λ facts. facts.now) result ≡ slice_get table.now place }
 {
     table.get(place)
 }
 
 /// What the table says of a row.
-pub(crate) fn facts_of(row: RowId) -> Option<&'static Facts>
+pub(crate) fn facts_of(row: RowId) -> Option<&'static MethodRow>
     ensures { option_map (λ facts. seen row.0 facts.now) result ≡ facts_of row }
 {
     if row.0 == 0 {

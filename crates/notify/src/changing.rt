@@ -4,11 +4,11 @@ ghost use Rattle.notify.specs.Changing.{changed_in, members_change};
 
 use crate::notice::DidChange;
 use lsp_types::read_edits;
-use plain::{Json, Members, NoMemory};
+use plain::{Json, JsonObject, NoMemory};
 use serde_json::Value;
 use std::alloc::Global;
 
-fn change_in(alloc: Global, mut params: Members) -> Result<Option<DidChange>, NoMemory>
+fn change_in(alloc: Global, mut params: JsonObject) -> Result<Option<DidChange>, NoMemory>
     ensures { IfOk result (λ change. change ≡ members_change params) }
 {
     let (Some(document), Some(changes)) = (

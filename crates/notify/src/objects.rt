@@ -4,7 +4,7 @@ ghost use Rattle.serde_json.specs.Data.{array, string};
 ghost use Rattle.serde_json.specs.View.{items_view, view};
 ghost use Rattle.notify.specs.Objects.{list, one, optional_number, optional_text, with_text};
 
-use plain::{Items, Json, Members, NoMemory, Text};
+use plain::{Items, Json, JsonObject, NoMemory, Text};
 use serde_json::Value;
 use std::alloc::Global;
 
@@ -38,7 +38,7 @@ pub(crate) fn optional_number(number: Option<u32>) -> Option<Json>
 pub(crate) fn one(alloc: Global, key: &str, value: Json) -> Result<Json, NoMemory>
     ensures { IfOk result (λ json. json ≡ one key.now value) }
 {
-    let mut members = Members::new(alloc);
+    let mut members = JsonObject::new(alloc);
     members.put(alloc, key, value)?;
     Ok(members.into_json())
 }

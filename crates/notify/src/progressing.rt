@@ -5,7 +5,7 @@ ghost use Rattle.notify.specs.Progressing.{begin_value, end_value, progress_para
 use crate::objects::{optional_number, optional_text, text};
 use crate::outgo::ProgressValue;
 use lsp_types::put_some;
-use plain::{Json, Members, NoMemory, Text};
+use plain::{Json, JsonObject, NoMemory, Text};
 use std::alloc::Global;
 
 // The members of work that goes on.
@@ -15,10 +15,10 @@ fn work_members(
     cancellable: bool,
     message: Option<Text>,
     percentage: Option<u32>,
-) -> Result<Members, NoMemory>
+) -> Result<JsonObject, NoMemory>
     ensures { IfOk result (λ members. members ≡ work_members kind.now cancellable message percentage) }
 {
-    let mut members = Members::new(alloc);
+    let mut members = JsonObject::new(alloc);
     members.put(alloc, "cancellable", Json::from_bool(cancellable))?;
     members.put(alloc, "kind", text(alloc, kind)?)?;
     put_some(&mut members, alloc, "message", optional_text(message))?;
@@ -31,7 +31,7 @@ fn work_members(
     Ok(members)
 }
 
-fn begin_value(alloc: Global, title: Text, mut work: Members) -> Result<Json, NoMemory>
+fn begin_value(alloc: Global, title: Text, mut work: JsonObject) -> Result<Json, NoMemory>
     ensures { IfOk result (λ json. json ≡ begin_value title work) }
 {
     work.put(alloc, "title", Json::from_text(title))?;
@@ -41,7 +41,7 @@ fn begin_value(alloc: Global, title: Text, mut work: Members) -> Result<Json, No
 fn end_value(alloc: Global, message: Option<Text>) -> Result<Json, NoMemory>
     ensures { IfOk result (λ json. json ≡ end_value message) }
 {
-    let mut members = Members::new(alloc);
+    let mut members = JsonObject::new(alloc);
     members.put(alloc, "kind", text(alloc, "end")?)?;
     put_some(&mut members, alloc, "message", optional_text(message))?;
     Ok(members.into_json())
@@ -77,7 +77,7 @@ pub(crate) fn progress_params(
 ) -> Result<Json, NoMemory>
     ensures { IfOk result (λ json. json ≡ progress_params token value) }
 {
-    let mut members = Members::new(alloc);
+    let mut members = JsonObject::new(alloc);
     members.put(alloc, "token", Json::from_text(token))?;
     members.put(alloc, "value", progress_value(alloc, value)?)?;
     Ok(members.into_json())

@@ -3,7 +3,7 @@ ghost use Rattle.std.specs.Prelude.{◌≡◌, IfOk};
 ghost use Rattle.notify.specs.Publishing.{publish_params, version_value};
 
 use lsp_types::{Diagnostic, list_json, put_some};
-use plain::{Items, Json, Members, NoMemory, Text};
+use plain::{Items, Json, JsonObject, NoMemory, Text};
 use std::alloc::Global;
 
 fn version_json(version: Option<i32>) -> Option<Json>
@@ -24,7 +24,7 @@ pub(crate) fn publish_params(
 ) -> Result<Json, NoMemory>
     ensures { IfOk result (λ json. json ≡ publish_params diagnostics.now uri version) }
 {
-    let mut members = Members::new(alloc);
+    let mut members = JsonObject::new(alloc);
     members.put(
         alloc,
         "diagnostics",

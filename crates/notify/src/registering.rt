@@ -4,13 +4,13 @@ ghost use Rattle.notify.specs.Registering.{patterns, registering, registration, 
 
 use crate::objects::{alone, list_of_objects, one, text};
 use lsp_types::{Watcher, list_json};
-use plain::{Items, Json, Members, NoMemory, Text};
+use plain::{Items, Json, JsonObject, NoMemory, Text};
 use std::alloc::Global;
 
 fn registration(alloc: Global, method: &str, options: Json) -> Result<Json, NoMemory>
     ensures { IfOk result (λ json. json ≡ registration method.now options) }
 {
-    let mut members = Members::new(alloc);
+    let mut members = JsonObject::new(alloc);
     members.put(alloc, "id", text(alloc, method)?)?;
     members.put(alloc, "method", text(alloc, method)?)?;
     members.put(alloc, "registerOptions", options)?;
@@ -61,7 +61,7 @@ fn save_options(alloc: Global, files: &Items<Text>) -> Result<Json, NoMemory>
     ensures { IfOk result (λ json. json ≡ save_options files.now) }
 {
     let selector = list_of_objects(alloc, "pattern", patterns(alloc, files.as_slice())?)?;
-    let mut members = Members::new(alloc);
+    let mut members = JsonObject::new(alloc);
     members.put(alloc, "documentSelector", selector)?;
     members.put(alloc, "includeText", Json::from_bool(false))?;
     Ok(members.into_json())

@@ -6,7 +6,7 @@ ghost use Rattle.notify.specs.Showing.{asking_members, message_members, status_p
 use crate::objects::{alone, one, optional_text, text};
 use crate::outgo::MessageKind;
 use lsp_types::put_some;
-use plain::{Json, Members, NoMemory, Text};
+use plain::{Json, JsonObject, NoMemory, Text};
 use std::alloc::Global;
 
 fn type_of(kind: MessageKind) -> u32
@@ -20,10 +20,10 @@ fn type_of(kind: MessageKind) -> u32
 }
 
 /// The members of a message.
-fn message_members(alloc: Global, message: Text, kind: MessageKind) -> Result<Members, NoMemory>
+fn message_members(alloc: Global, message: Text, kind: MessageKind) -> Result<JsonObject, NoMemory>
     ensures { IfOk result (λ members. members ≡ message_members message kind) }
 {
-    let mut members = Members::new(alloc);
+    let mut members = JsonObject::new(alloc);
     members.put(alloc, "message", Json::from_text(message))?;
     members.put(alloc, "type", Json::from_u32(type_of(kind)))?;
     Ok(members)
@@ -63,7 +63,7 @@ pub(crate) fn status_params(
 ) -> Result<Json, NoMemory>
     ensures { IfOk result (λ json. json ≡ status_params health message quiescent) }
 {
-    let mut members = Members::new(alloc);
+    let mut members = JsonObject::new(alloc);
     members.put(alloc, "health", Json::from_text(health))?;
     put_some(&mut members, alloc, "message", optional_text(message))?;
     members.put(alloc, "quiescent", Json::from_bool(quiescent))?;

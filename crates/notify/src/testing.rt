@@ -5,7 +5,7 @@ ghost use Rattle.notify.specs.Testing.{discovered_params, failed_value, report_v
 
 use crate::objects::{array, list_of_objects, one, text};
 use crate::outgo::TestReport;
-use plain::{Items, Json, Members, NoMemory, Text};
+use plain::{Items, Json, JsonObject, NoMemory, Text};
 use serde_json::Value;
 use std::alloc::Global;
 
@@ -29,7 +29,7 @@ pub(crate) fn discovered_params(
 {
     let files = list_of_objects(alloc, "uri", uris)?;
     let tests = array(values(alloc, tests)?);
-    let mut members = Members::new(alloc);
+    let mut members = JsonObject::new(alloc);
     members.put(alloc, "scope", Json::null())?;
     members.put(alloc, "scopeFile", files)?;
     members.put(alloc, "tests", tests)?;
@@ -39,7 +39,7 @@ pub(crate) fn discovered_params(
 fn failed_value(alloc: Global, message: Text) -> Result<Json, NoMemory>
     ensures { IfOk result (λ json. json ≡ failed_value message) }
 {
-    let mut members = Members::new(alloc);
+    let mut members = JsonObject::new(alloc);
     members.put(alloc, "kind", text(alloc, "failed")?)?;
     members.put(alloc, "message", Json::from_text(message))?;
     Ok(members.into_json())
@@ -60,7 +60,7 @@ fn report_value(alloc: Global, report: TestReport) -> Result<Json, NoMemory>
 pub(crate) fn test_state(alloc: Global, state: TestReport, test_id: Text) -> Result<Json, NoMemory>
     ensures { IfOk result (λ json. json ≡ test_state state test_id) }
 {
-    let mut members = Members::new(alloc);
+    let mut members = JsonObject::new(alloc);
     members.put(alloc, "state", report_value(alloc, state)?)?;
     members.put(alloc, "testId", Json::from_text(test_id))?;
     Ok(members.into_json())

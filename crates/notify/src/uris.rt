@@ -5,7 +5,7 @@ ghost use Rattle.notify.specs.Uris.{uris_in, uris_of, folders_in, event_of, watc
 
 use crate::notice::Notice;
 use lsp_types::take_uri;
-use plain::{Items, Json, Members, NoMemory, Text};
+use plain::{Items, Json, JsonObject, NoMemory, Text};
 use serde_json::Value;
 use std::alloc::Global;
 
@@ -36,7 +36,7 @@ fn uris_of(alloc: Global, list: Option<Json>) -> Result<Option<Items<Text>>, NoM
     }
 }
 
-fn event_of(params: Json) -> Option<Members>
+fn event_of(params: Json) -> Option<JsonObject>
     ensures { result ≡ event_of params }
 {
     params.into_members()?.take_value("event")?.into_members()

@@ -9,8 +9,8 @@ use Rattle.std.specs.FinMap as map
 use Rattle.std.proofs.lemmas.Bool.{cases_Bool, cond_both, cond-true, cond-false, true≢false, eqb-true, and_parts, and_from, or_left, or_right, and_right, false_from_ne_true, ltb-true}
 use Rattle.docs_vfs.specs.declared.file_kinds.FileId.{FileId}
 use Rattle.lsp_types.specs.declared.diagnostic.Diagnostic.{Diagnostic}
-use Rattle.op_board.specs.declared.diagnostic.Pass.{Pass}
-use Rattle.op_board.specs.declared.diagnostic.Pass.TheVariants.{Syntax, Semantic}
+use Rattle.op_board.specs.declared.diagnostic.NativePass.{NativePass}
+use Rattle.op_board.specs.declared.diagnostic.NativePass.TheVariants.{Syntax, Semantic}
 use Rattle.op_board.specs.declared.check_package.CheckPackage.{CheckPackage}
 use Rattle.op_board.specs.declared.check_package.CheckEntry.{CheckEntry}
 use Rattle.lsp_types.specs.Diagnostics.{same_diagnostic, diagnostic_told}
@@ -144,7 +144,7 @@ module _ (file : FileId) where
   differs_at : (old new : List Act) (id : ℕ) (name : Option (List ℕ)) → L old id name ≢ L new id name → Differs file old new
   differs_at old new id name apart = (OfPackage id name, λ e. apart (lists_are id name old file ∙ e ∙ sym (lists_are id name new file)))
 
-  from_place : (old new : List Act) (x : Bool) → ((pass : Pass) → stored pass file old ≡ stored pass file new)
+  from_place : (old new : List Act) (x : Bool) → ((pass : NativePass) → stored pass file old ≡ stored pass file new)
       → ((id : ℕ) (name : Option (List ℕ)) → L old id name ≢ L new id name → x ≡ true) → (place : Place) → said place file old ≢ said place file new → x ≡ true
   from_place old new x same from (OfPass pass) apart = absurd (apart (same pass))
   from_place old new x same from (OfPackage id name) apart = from id name (λ e. apart (sym (lists_are id name old file) ∙ e ∙ lists_are id name new file))
@@ -194,7 +194,7 @@ module _ (file : FileId) where
   says_some packages name None is some = absurd (true≢false (sym some))
   says_some packages name (Some p) is some = found_any package_cmp (λ p. has_some (list_in file p)) (map.entries packages) name p (sym (map.get-entries packages name) ∙ is) some
 
-  module _ (before new : List Act) (same : (pass : Pass) → stored pass file before ≡ stored pass file new) where
+  module _ (before new : List Act) (same : (pass : NativePass) → stored pass file before ≡ stored pass file new) where
     -- the act drops a package, if the test does
     abbrev DropsOne : (CheckPackage → Bool) → ℕ → Option (List ℕ) → Type 0
     DropsOne drops i n = let b = after before in (after new).checks ≡ (drop_in drops i n (map.get b.checks i) (b.checks, b.marked)).0
@@ -461,13 +461,13 @@ module _ (file : FileId) where
   forget_dropped true (Some p) = refl
   forget_dropped false o = refl
 
-  forget_mark : (i : ℕ) (o : Option Packages) (checks : Checks) (m : Marked) (before new : List Act) (same : (pass : Pass) → stored pass file before ≡ stored pass file new)
+  forget_mark : (i : ℕ) (o : Option Packages) (checks : Checks) (m : Marked) (before new : List Act) (same : (pass : NativePass) → stored pass file before ≡ stored pass file new)
       → ((packages : Packages) → o ≡ Some packages → AllRows Sound (map.entries packages))
       → is_some (map.get (forget i o (checks, m)).1 file.0) ≡ (lost_in before new same (drops_at None) o || is_some (map.get m file.0))
   forget_mark i None checks m before new same all = refl
   forget_mark i (Some packages) checks m before new same all = packages_mark file (map.entries packages) m (all packages refl)
 
-  sift_mark : (drops : CheckPackage → Bool) (i : ℕ) (o : Option Packages) (checks : Checks) (m : Marked) (before new : List Act) (same : (pass : Pass) → stored pass file before ≡ stored pass file new)
+  sift_mark : (drops : CheckPackage → Bool) (i : ℕ) (o : Option Packages) (checks : Checks) (m : Marked) (before new : List Act) (same : (pass : NativePass) → stored pass file before ≡ stored pass file new)
       → ((packages : Packages) → o ≡ Some packages → AllRows Sound (map.entries packages))
       → is_some (map.get (sift drops i o (checks, m)).1 file.0) ≡ (lost_in before new same drops o || is_some (map.get m file.0))
   sift_mark drops i None checks m before new same all = refl

@@ -7,8 +7,8 @@ use Rattle.std.specs.FinMap as map
 use Rattle.std.proofs.lemmas.Bool.{eqb-true}
 use Rattle.docs_vfs.specs.declared.file_kinds.FileId.{FileId}
 use Rattle.lsp_types.specs.declared.diagnostic.Diagnostic.{Diagnostic}
-use Rattle.op_board.specs.declared.diagnostic.Pass.{Pass}
-use Rattle.op_board.specs.declared.diagnostic.Pass.TheVariants.{Syntax, Semantic}
+use Rattle.op_board.specs.declared.diagnostic.NativePass.{NativePass}
+use Rattle.op_board.specs.declared.diagnostic.NativePass.TheVariants.{Syntax, Semantic}
 use Rattle.op_board.specs.declared.pass_list.PassList.{PassList}
 use Rattle.lsp_types.specs.Diagnostics.{same_diagnostic, diagnostic_told}
 use Rattle.op_board.specs.Diagnostics.{in_order}
@@ -92,11 +92,11 @@ here_same : (here a b : Bool) → (here ≡ true → a ≡ b) → (here && a) �
 here_same true a b same = same refl
 here_same false a b same = refl
 
-marked_with : (p : Pass) (x : Lists × Marked) (b : Board) → (with_lists p x b).marked ≡ x.1
+marked_with : (p : NativePass) (x : Lists × Marked) (b : Board) → (with_lists p x b).marked ≡ x.1
 marked_with Syntax x b = refl
 marked_with Semantic x b = refl
 
-changes_given : (file : FileId) (p : Pass) (g : ℕ) (f : FileId) (new : List Diagnostic) (before : List Act)
+changes_given : (file : FileId) (p : NativePass) (g : ℕ) (f : FileId) (new : List Diagnostic) (before : List Act)
     → changes file (Gives p g f new) before ≡ (same_file file f && (accepts p file before g && differ (stored p file before) (in_order new)))
 changes_given file Syntax g f new before =
     (λ i. given_differs (same_file file f) (accepts Syntax file before g) (last_list Syntax file before) new i || itself (stored Semantic file before) i)
@@ -104,7 +104,7 @@ changes_given file Syntax g f new before =
 changes_given file Semantic g f new before =
     (λ i. itself (stored Syntax file before) i || given_differs (same_file file f) (accepts Semantic file before g) (last_list Semantic file before) new i)
 
-pub given_marks : (file : FileId) (p : Pass) (g : ℕ) (f : FileId) (new : List Diagnostic) (before : List Act)
+pub given_marks : (file : FileId) (p : NativePass) (g : ℕ) (f : FileId) (new : List Diagnostic) (before : List Act)
     → is_marked file (after (Gives p g f new ∷ before)) ≡ (changes file (Gives p g f new) before || is_marked file (after before))
 given_marks file p g f new before =
     let b = after before in
@@ -137,7 +137,7 @@ turned true false m = refl
 turned false true m = refl
 turned false false m = refl
 
-clear_marks_is : (file f : FileId) (p : Pass) (before : List Act)
+clear_marks_is : (file f : FileId) (p : NativePass) (before : List Act)
     → (same_file file f && has_some (list_of (map.get (lists_of p (after before)) f.0))) ≡ differ (stored p file before) (stored p file (Clears f ∷ before))
 clear_marks_is file f p before =
     here_same (same_file file f) _ _ (λ h.

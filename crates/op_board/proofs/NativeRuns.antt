@@ -8,8 +8,8 @@ use Rattle.std.specs.FinMap as map
 use Rattle.std.proofs.lemmas.Bool.{cond-true, cond-false, true≢false, eqb-true, leb-true, le-leb, and_parts, and_from}
 use Rattle.docs_vfs.specs.declared.file_kinds.FileId.{FileId}
 use Rattle.lsp_types.specs.declared.diagnostic.Diagnostic.{Diagnostic}
-use Rattle.op_board.specs.declared.diagnostic.Pass.{Pass}
-use Rattle.op_board.specs.declared.diagnostic.Pass.TheVariants.{Syntax, Semantic}
+use Rattle.op_board.specs.declared.diagnostic.NativePass.{NativePass}
+use Rattle.op_board.specs.declared.diagnostic.NativePass.TheVariants.{Syntax, Semantic}
 use Rattle.op_board.specs.declared.pass_list.PassList.{PassList}
 use Rattle.op_board.specs.Diagnostics.{in_order}
 use Rattle.op_board.specs.Marked.{Marked, mark_if}
@@ -102,41 +102,41 @@ clear_at f m marked q = clear_by (nat_eq q f.0) f m marked q (map.get m f.0) ref
 
 -- ---- the lists of a pass in the board
 
-lists_with : (pass p : Pass) (m : Lists) (marked : Marked) (b : Board) → lists_of pass (with_lists p (m, marked) b) ≡ cond (same_pass pass p) m (lists_of pass b)
+lists_with : (pass p : NativePass) (m : Lists) (marked : Marked) (b : Board) → lists_of pass (with_lists p (m, marked) b) ≡ cond (same_pass pass p) m (lists_of pass b)
 lists_with Syntax Syntax m marked b = refl
 lists_with Syntax Semantic m marked b = refl
 lists_with Semantic Syntax m marked b = refl
 lists_with Semantic Semantic m marked b = refl
 
-cleared_with : (p : Pass) (m : Lists) (marked : Marked) (b : Board) → (with_lists p (m, marked) b).cleared ≡ b.cleared
+cleared_with : (p : NativePass) (m : Lists) (marked : Marked) (b : Board) → (with_lists p (m, marked) b).cleared ≡ b.cleared
 cleared_with Syntax m marked b = refl
 cleared_with Semantic m marked b = refl
 
-generation_with : (p : Pass) (m : Lists) (marked : Marked) (b : Board) → (with_lists p (m, marked) b).generation ≡ b.generation
+generation_with : (p : NativePass) (m : Lists) (marked : Marked) (b : Board) → (with_lists p (m, marked) b).generation ≡ b.generation
 generation_with Syntax m marked b = refl
 generation_with Semantic m marked b = refl
 
 -- the lists of a pass, in a board with the same lists
-same_lists : (pass : Pass) (b c : Board) → b.syntax ≡ c.syntax → b.semantic ≡ c.semantic → lists_of pass b ≡ lists_of pass c
+same_lists : (pass : NativePass) (b c : Board) → b.syntax ≡ c.syntax → b.semantic ≡ c.semantic → lists_of pass b ≡ lists_of pass c
 same_lists Syntax b c s t = s
 same_lists Semantic b c s t = t
 
 -- ---- the invariant
 
-record Keeps (pass : Pass) (file : FileId) (last : ℕ) (mark : Option ℕ) (gs : List ℕ) (list : List Diagnostic) (b : Board) : Type 0 where
+record Keeps (pass : NativePass) (file : FileId) (last : ℕ) (mark : Option ℕ) (gs : List ℕ) (list : List Diagnostic) (b : Board) : Type 0 where
   generation : b.generation ≡ last
   cleared : map.get b.cleared file.0 ≡ mark
   entry : map.get (lists_of pass b) file.0 ≡ entry_of gs list
   falls : Falls gs
 
-abbrev KeepsRun : Pass → FileId → List Act → Board → Type 0
+abbrev KeepsRun : NativePass → FileId → List Act → Board → Type 0
 KeepsRun pass file run b = Keeps pass file (last_generation run) (cleared_mark file run) (accepted pass file run) (last_list pass file run) b
 
 by_test : (here : Bool) (m n : Lists) (q : ℕ) → map.get (cond here m n) q ≡ cond here (map.get m q) (map.get n q)
 by_test true m n q = refl
 by_test false m n q = refl
 
-pass_is : (pass p : Pass) → same_pass pass p ≡ true → pass ≡ p
+pass_is : (pass p : NativePass) → same_pass pass p ≡ true → pass ≡ p
 pass_is Syntax Syntax e = refl
 pass_is Semantic Semantic e = refl
 pass_is Syntax Semantic e = absurd (true≢false (sym e))
@@ -158,8 +158,8 @@ given_is true true t u gs l new g here there is other same =
 given_is true false t u gs l new g here there is other same = is refl
 given_is false sf t u gs l new g here there is other same = other
 
-module _ (pass : Pass) (file : FileId) where
-  given : (p : Pass) (g : ℕ) (f : FileId) (new : List Diagnostic) (before : List Act) (b : Board)
+module _ (pass : NativePass) (file : FileId) where
+  given : (p : NativePass) (g : ℕ) (f : FileId) (new : List Diagnostic) (before : List Act) (b : Board)
       → KeepsRun pass file before b → KeepsRun pass file (Gives p g f new ∷ before) (step (Gives p g f new) b)
   given p g f new before b k =
       let gs = accepted pass file before in
@@ -199,7 +199,7 @@ module _ (pass : Pass) (file : FileId) where
       clear_at f m marked file.0
       ∙ cleared_is (same_file file f) gs l _ _ (λ h. ap (map.get m) (sym (eqb-true file.0 f.0 h)) ∙ is) is
 
-  cleared_of : (f : FileId) (p : Pass) (b : Board) (gs : List ℕ) (l : List Diagnostic) → map.get (lists_of p b) file.0 ≡ entry_of gs l
+  cleared_of : (f : FileId) (p : NativePass) (b : Board) (gs : List ℕ) (l : List Diagnostic) → map.get (lists_of p b) file.0 ≡ entry_of gs l
       → map.get (lists_of p (step (Clears f) b)) file.0 ≡ entry_of gs (cond (same_file file f) [] l)
   cleared_of f Syntax b gs l is = cleared_in f b.syntax b.marked gs l is
   cleared_of f Semantic b gs l is = cleared_in f b.semantic (clear_list f (b.syntax, b.marked)).1 gs l is
@@ -225,7 +225,7 @@ module _ (pass : Pass) (file : FileId) where
     falls = k.falls;
   }
 
-  none_of : (p : Pass) → map.get (lists_of p (after [])) file.0 ≡ None
+  none_of : (p : NativePass) → map.get (lists_of p (after [])) file.0 ≡ None
   none_of Syntax = map.get-empty nat_cmp file.0
   none_of Semantic = map.get-empty nat_cmp file.0
 
@@ -292,19 +292,19 @@ module _ (pass : Pass) (file : FileId) where
 
 -- ---- a call that gives several lists
 
-with_both : (p : Pass) (x : Lists × Marked) (b : Board) → (lists_of p (with_lists p x b), (with_lists p x b).marked) ≡ x
+with_both : (p : NativePass) (x : Lists × Marked) (b : Board) → (lists_of p (with_lists p x b), (with_lists p x b).marked) ≡ x
 with_both Syntax x b = refl
 with_both Semantic x b = refl
 
-with_twice : (p : Pass) (x y : Lists × Marked) (b : Board) → with_lists p y (with_lists p x b) ≡ with_lists p y b
+with_twice : (p : NativePass) (x y : Lists × Marked) (b : Board) → with_lists p y (with_lists p x b) ≡ with_lists p y b
 with_twice Syntax x y b = refl
 with_twice Semantic x y b = refl
 
-with_own : (p : Pass) (b : Board) → with_lists p (lists_of p b, b.marked) b ≡ b
+with_own : (p : NativePass) (b : Board) → with_lists p (lists_of p b, b.marked) b ≡ b
 with_own Syntax b = refl
 with_own Semantic b = refl
 
-pub gives_is : (p : Pass) (g : ℕ) (given : List (FileId × List Diagnostic)) (run : List Act) (start : Board)
+pub gives_is : (p : NativePass) (g : ℕ) (given : List (FileId × List Diagnostic)) (run : List Act) (start : Board)
     → set_native p g given (steps run start) ≡ steps (gives p g given run) start
 gives_is p g [] run start = with_own p (steps run start)
 gives_is p g (x ∷ more) run start =

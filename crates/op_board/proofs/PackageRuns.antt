@@ -12,8 +12,8 @@ use Rattle.docs_vfs.specs.declared.file_kinds.FileId.{FileId}
 use Rattle.lsp_types.specs.declared.diagnostic.Diagnostic.{Diagnostic}
 use Rattle.op_board.specs.declared.check_package.CheckPackage.{CheckPackage}
 use Rattle.op_board.specs.declared.check_package.CheckEntry.{CheckEntry}
-use Rattle.op_board.specs.declared.diagnostic.Pass.{Pass}
-use Rattle.op_board.specs.declared.diagnostic.Pass.TheVariants.{Syntax, Semantic}
+use Rattle.op_board.specs.declared.diagnostic.NativePass.{NativePass}
+use Rattle.op_board.specs.declared.diagnostic.NativePass.TheVariants.{Syntax, Semantic}
 use Rattle.lsp_types.specs.Diagnostics.{same_diagnostic, diagnostic_told}
 use Rattle.op_board.specs.Packages.{package_cmp}
 use Rattle.op_board.specs.Marked.{Marked}
@@ -201,7 +201,7 @@ first_added g e m =
     (λ lt. absurd (below_same g g refl (ltb-true g g lt)))
     (λ _. add_says e (new_package g) m g [] (new_says g)))))
 
-pub same_checks : (p : Pass) (g : ℕ) (f : FileId) (l : List Diagnostic) (b : Board) → (step (Gives p g f l) b).checks ≡ b.checks
+pub same_checks : (p : NativePass) (g : ℕ) (f : FileId) (l : List Diagnostic) (b : Board) → (step (Gives p g f l) b).checks ≡ b.checks
 same_checks Syntax g f l b = refl
 same_checks Semantic g f l b = refl
 

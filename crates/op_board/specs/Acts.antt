@@ -3,7 +3,7 @@ use Rattle.std.specs.Prelude.{ℕ, ◌+◌, List, [], ◌∷◌, Option, None, S
 use Rattle.std.specs.FinMap as map
 use Rattle.docs_vfs.specs.declared.file_kinds.FileId.{FileId}
 use Rattle.lsp_types.specs.declared.diagnostic.Diagnostic.{Diagnostic}
-use Rattle.op_board.specs.declared.diagnostic.Pass.{Pass}
+use Rattle.op_board.specs.declared.diagnostic.NativePass.{NativePass}
 use Rattle.op_board.specs.declared.check_package.CheckEntry.{CheckEntry}
 use Rattle.op_board.specs.Board.{Board, new_board, set_native, clear_native, with_checks, clear_all_checks}
 use Rattle.op_board.specs.Checks.{add_check, clear_id, clear_one, clear_older, drops_at}
@@ -12,7 +12,7 @@ pub data Act : Type 0 where
   -- the next generation is given
   Counts : Act
   -- a list of a pass and generation comes for a file
-  Gives : Pass → ℕ → FileId → List Diagnostic → Act
+  Gives : NativePass → ℕ → FileId → List Diagnostic → Act
   -- both lists of a file are emptied
   Clears : FileId → Act
   -- an entry of a check, generation and package comes
@@ -53,6 +53,6 @@ abbrev pub after : List Act → Board
 after run = steps run new_board
 
 -- a run that goes on with a list for each of these files, one after another
-abbrev pub gives : Pass → ℕ → List (FileId × List Diagnostic) → List Act → List Act
+abbrev pub gives : NativePass → ℕ → List (FileId × List Diagnostic) → List Act → List Act
 gives pass generation [] run = run
 gives pass generation (given ∷ more) run = gives pass generation more (Gives pass generation given.0 given.1 ∷ run)

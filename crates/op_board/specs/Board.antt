@@ -5,8 +5,8 @@ use Rattle.std.specs.Cmp.Lexicographic.{pointwise}
 use Rattle.std.specs.FinMap as map
 use Rattle.docs_vfs.specs.declared.file_kinds.FileId.{FileId}
 use Rattle.lsp_types.specs.declared.diagnostic.Diagnostic.{Diagnostic}
-use Rattle.op_board.specs.declared.diagnostic.Pass.{Pass}
-use Rattle.op_board.specs.declared.diagnostic.Pass.TheVariants.{Syntax, Semantic}
+use Rattle.op_board.specs.declared.diagnostic.NativePass.{NativePass}
+use Rattle.op_board.specs.declared.diagnostic.NativePass.TheVariants.{Syntax, Semantic}
 use Rattle.op_board.specs.declared.pass_list.PassList.{PassList}
 use Rattle.lsp_types.specs.Diagnostics.{same_diagnostic}
 use Rattle.op_board.specs.Diagnostics.{in_order}
@@ -84,20 +84,20 @@ clear_stored file (Some stored) (lists, marked) =
 abbrev pub clear_list : FileId → Lists × Marked → Lists × Marked
 clear_list file (lists, marked) = clear_stored file (map.get lists file.0) (lists, marked)
 
-abbrev pub lists_of : Pass → Board → Lists
+abbrev pub lists_of : NativePass → Board → Lists
 lists_of Syntax b = b.syntax
 lists_of Semantic b = b.semantic
 
-abbrev pub with_lists : Pass → Lists × Marked → Board → Board
+abbrev pub with_lists : NativePass → Lists × Marked → Board → Board
 with_lists Syntax (lists, marked) b = record b { syntax = lists; marked = marked }
 with_lists Semantic (lists, marked) b = record b { semantic = lists; marked = marked }
 
-abbrev pub set_native : Pass → ℕ → List (FileId × List Diagnostic) → Board → Board
+abbrev pub set_native : NativePass → ℕ → List (FileId × List Diagnostic) → Board → Board
 set_native pass generation given b =
     with_lists pass (set_lists b.cleared generation given (lists_of pass b, b.marked)) b
 
 -- after both lists of a file were emptied
-abbrev pub clear_pass : Pass → FileId → Board → Board
+abbrev pub clear_pass : NativePass → FileId → Board → Board
 clear_pass pass file b = with_lists pass (clear_list file (lists_of pass b, b.marked)) b
 
 abbrev pub clear_native : FileId → Board → Board

@@ -5,7 +5,7 @@ use Rattle.std.specs.List.Sorted.{IsStrictlySortedBy}
 use Rattle.std.specs.Ordering.{nat_cmp}
 use Rattle.docs_vfs.specs.declared.file_kinds.FileId.{FileId}
 use Rattle.lsp_types.specs.declared.diagnostic.Diagnostic.{Diagnostic}
-use Rattle.op_board.specs.declared.diagnostic.Pass.{Pass}
+use Rattle.op_board.specs.declared.diagnostic.NativePass.{NativePass}
 use Rattle.op_board.specs.Runs.{stored}
 use Rattle.op_board.specs.CheckRuns.{entries, said_of}
 use Rattle.op_board.specs.Acts.{Act}
@@ -13,7 +13,7 @@ use Rattle.op_board.specs.Acts.Act.{Adds, ForgetsOlderIn, Takes}
 
 -- where a list stands: with a pass, or with a package of a check
 pub data Place : Type 0 where
-  OfPass : Pass → Place
+  OfPass : NativePass → Place
   OfPackage : ℕ → Option (List ℕ) → Place
 
 abbrev pub said : Place → FileId → List Act → List Diagnostic

@@ -3,13 +3,13 @@ use Rattle.std.specs.Prelude.{ℕ, ◌+◌, Bool, true, false, ◌&&◌, List, [
 use Rattle.std.specs.List.{list_all}
 use Rattle.docs_vfs.specs.declared.file_kinds.FileId.{FileId}
 use Rattle.lsp_types.specs.declared.diagnostic.Diagnostic.{Diagnostic}
-use Rattle.op_board.specs.declared.diagnostic.Pass.{Pass}
-use Rattle.op_board.specs.declared.diagnostic.Pass.TheVariants.{Syntax, Semantic}
+use Rattle.op_board.specs.declared.diagnostic.NativePass.{NativePass}
+use Rattle.op_board.specs.declared.diagnostic.NativePass.TheVariants.{Syntax, Semantic}
 use Rattle.op_board.specs.Diagnostics.{in_order}
 use Rattle.op_board.specs.Acts.{Act}
 use Rattle.op_board.specs.Acts.Act.{Counts, Gives, Clears}
 
-abbrev pub same_pass : Pass → Pass → Bool
+abbrev pub same_pass : NativePass → NativePass → Bool
 same_pass Syntax Syntax = true
 same_pass Semantic Semantic = true
 same_pass p q = false
@@ -38,7 +38,7 @@ abbrev pub fits : Option ℕ → List ℕ → ℕ → Bool
 fits mark accepted generation = above mark generation && list_all (λ a. nat_le a generation) accepted
 
 -- the generations whose lists were accepted
-abbrev pub accepted : Pass → FileId → List Act → List ℕ
+abbrev pub accepted : NativePass → FileId → List Act → List ℕ
 accepted pass file [] = []
 accepted pass file (Gives p generation f list ∷ before) =
     cond (same_pass pass p && same_file file f && fits (cleared_mark file before) (accepted pass file before) generation)
@@ -47,11 +47,11 @@ accepted pass file (Gives p generation f list ∷ before) =
 accepted pass file (act ∷ before) = accepted pass file before
 
 -- whether a list of this generation is accepted after a run
-abbrev pub accepts : Pass → FileId → List Act → ℕ → Bool
+abbrev pub accepts : NativePass → FileId → List Act → ℕ → Bool
 accepts pass file run generation = fits (cleared_mark file run) (accepted pass file run) generation
 
 -- the last list that was accepted since the last clear
-abbrev pub last_list : Pass → FileId → List Act → List Diagnostic
+abbrev pub last_list : NativePass → FileId → List Act → List Diagnostic
 last_list pass file [] = []
 last_list pass file (Gives p generation f list ∷ before) =
     cond (same_pass pass p && same_file file f && accepts pass file before generation) list (last_list pass file before)
@@ -59,5 +59,5 @@ last_list pass file (Clears cleared ∷ before) = cond (same_file file cleared) 
 last_list pass file (act ∷ before) = last_list pass file before
 
 -- what is stored
-abbrev pub stored : Pass → FileId → List Act → List Diagnostic
+abbrev pub stored : NativePass → FileId → List Act → List Diagnostic
 stored pass file run = in_order (last_list pass file run)

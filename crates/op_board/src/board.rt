@@ -11,7 +11,7 @@ use crate::by_file::ByFile;
 use crate::check_package::{CheckEntry, push_all};
 use crate::checks::{Checks, add_check, all_fixes, push_checks};
 use crate::clearing::{clear_checks, clear_id, clear_older, clear_one};
-use crate::diagnostic::{CheckFix, Pass};
+use crate::diagnostic::{CheckFix, NativePass};
 use crate::marks::Marks;
 use crate::pass_list::{PassList, clear_list, set_lists};
 use docs_vfs::FileId;
@@ -115,21 +115,21 @@ impl DiagnosticCollection {
 
     fn set_pass(
         &mut self,
-        pass: Pass,
+        pass: NativePass,
         generation: u64,
         lists: Items<(FileId, Items<Diagnostic>)>,
     ) -> Result<(), AllocError>
         ensures { OnOk result (self.new ≡ set_native pass generation lists self.old) }
     {
         match pass {
-            Pass::Syntax => set_lists(
+            NativePass::Syntax => set_lists(
                 &mut self.syntax,
                 &mut self.marks,
                 &self.cleared,
                 generation,
                 lists,
             ),
-            Pass::Semantic => set_lists(
+            NativePass::Semantic => set_lists(
                 &mut self.semantic,
                 &mut self.marks,
                 &self.cleared,
@@ -142,7 +142,7 @@ impl DiagnosticCollection {
     /// Stores the lists that are accepted, each sorted by start and end, and marks the files whose lists change.
     pub fn set_native_diagnostics(
         &mut self,
-        pass: Pass,
+        pass: NativePass,
         generation: u64,
         lists: Items<(FileId, Items<Diagnostic>)>,
     ) -> Result<(), AllocError>
@@ -152,12 +152,17 @@ impl DiagnosticCollection {
         Ok(())
     }
 
-    fn clear_pass(&mut self, pass: Pass, file: FileId) -> Result<(), AllocError>
+    fn clear_pass(&mut self, pass: NativePass, file: FileId) -> Result<(), AllocError>
         ensures { OnOk result (self.new ≡ clear_pass pass file self.old) }
     {
         match pass {
-            Pass::Syntax => clear_list(self.alloc, &mut self.syntax, &mut self.marks, file),
-            Pass::Semantic => clear_list(self.alloc, &mut self.semantic, &mut self.marks, file),
+            NativePass::Syntax => clear_list(self.alloc, &mut self.syntax, &mut self.marks, file),
+            NativePass::Semantic => clear_list(
+                self.alloc,
+                &mut self.semantic,
+                &mut self.marks,
+                file,
+            ),
         }
     }
 
@@ -165,8 +170,8 @@ impl DiagnosticCollection {
     pub fn clear_native_for(&mut self, file: FileId) -> Result<(), AllocError>
         ensures { OnOk result (self.new ≡ step (Clears file) self.old) }
     {
-        self.clear_pass(Pass::Syntax, file)?;
-        self.clear_pass(Pass::Semantic, file)?;
+        self.clear_pass(NativePass::Syntax, file)?;
+        self.clear_pass(NativePass::Semantic, file)?;
         self.cleared.insert(file, self.generation)
     }
 

@@ -3,14 +3,14 @@ ghost use Rattle.op_board.specs.Diagnostics.{position_cmp, range_cmp, in_order};
 
 use docs_vfs::FileId;
 use lsp_types::Diagnostic;
-use plain::{Copied, Items, SharedJson};
+use plain::{ExactClone, Items, SharedJson};
 use std::alloc::AllocError;
 use std::cmp::Ordering;
 use text_core::{Position, Range};
 
 /// Which part of the analysis a list comes from.
 #[derive(Clone, Copy, Debug, PartialEq, Eq, PartialOrd, Ord, Hash)]
-pub enum Pass {
+pub enum NativePass {
     Syntax,
     Semantic,
 }
@@ -38,7 +38,7 @@ impl Clone for CheckFix {
     }
 }
 
-impl Copied for CheckFix {
+impl ExactClone for CheckFix {
     ghost copies = { λ x y h. h };
 }
 

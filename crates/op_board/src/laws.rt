@@ -3,7 +3,7 @@ ghost use Rattle.std.specs.Prelude.{◌≡◌, ◌↔◌, ℕ, ◌+◌, List, �
 ghost use Rattle.std.specs.FinMap as map;
 ghost use Rattle.docs_vfs.specs.declared.file_kinds.FileId.{FileId};
 ghost use Rattle.lsp_types.specs.declared.diagnostic.Diagnostic.{Diagnostic};
-ghost use Rattle.op_board.specs.declared.diagnostic.Pass.{Pass};
+ghost use Rattle.op_board.specs.declared.diagnostic.NativePass.{NativePass};
 ghost use Rattle.op_board.specs.Acts.{Act, steps, after};
 ghost use Rattle.op_board.specs.Board.{list_of, lists_of};
 ghost use Rattle.op_board.specs.Changes.{ListsChanges};
@@ -15,7 +15,7 @@ ghost use Rattle.op_board.specs.Runs.{stored};
 /// After every run the list of a file and pass is the last that was accepted since the last clear, in order, else
 /// empty.
 pub fn the_last_accepted_list_is_stored()
-    ensures { (run : List Act) (pass : Pass) (file : FileId)
+    ensures { (run : List Act) (pass : NativePass) (file : FileId)
         → list_of (map.get (lists_of pass (after run)) file.0) ≡ stored pass file run }
 {}
 

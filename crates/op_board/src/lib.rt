@@ -14,7 +14,7 @@ mod op_queue;
 mod pass_list;
 
 pub use board::DiagnosticCollection;
-pub use diagnostic::{CheckFix, Pass};
+pub use diagnostic::{CheckFix, NativePass};
 pub use laws::{
     calls_continue_a_run, changed_files_are_marked, one_operation_runs, packages_say_the_newest,
     the_last_accepted_list_is_stored,

@@ -6,7 +6,7 @@ ghost use Rattle.std.specs.FinMap as map;
 ghost use Rattle.plain.specs.LentByText.{lends_at};
 
 use crate::NoMemory;
-use crate::copied::Copied;
+use crate::exact_clone::ExactClone;
 use crate::text_key::TextKey;
 use std::alloc::Global;
 use std::collections::BTreeMap;
@@ -138,7 +138,7 @@ impl<K: TextKey, V> ByText<K, V> {
     }
 }
 
-impl<K: TextKey + Copied + Drop, V: Copied + Drop> Clone for ByText<K, V> {
+impl<K: TextKey + ExactClone + Drop, V: ExactClone + Drop> Clone for ByText<K, V> {
     ghost is_clone = { λ m copy. copy ≡ m };
 
     fn clone(&self) -> Result<ByText<K, V>, NoMemory> {
@@ -148,6 +148,6 @@ impl<K: TextKey + Copied + Drop, V: Copied + Drop> Clone for ByText<K, V> {
     }
 }
 
-impl<K: TextKey + Copied + Drop, V: Copied + Drop> Copied for ByText<K, V> {
+impl<K: TextKey + ExactClone + Drop, V: ExactClone + Drop> ExactClone for ByText<K, V> {
     ghost copies = { λ x y h. h };
 }

@@ -1,7 +1,7 @@
 ghost use Rattle.std.specs.Prelude.{◌≡◌};
 
 use docs_vfs::VfsPath;
-use plain::{Copied, Items, NoMemory, Text, copy};
+use plain::{ExactClone, Items, NoMemory, Text, copy};
 
 /// What was built of a proc macro crate.
 #[derive(Drop)]
@@ -43,7 +43,7 @@ impl Clone for MacroPath {
     }
 }
 
-impl Copied for MacroPath {
+impl ExactClone for MacroPath {
     ghost copies = { λ x y h. h };
 }
 
@@ -58,6 +58,6 @@ impl Clone for BuildScripts {
     }
 }
 
-impl Copied for BuildScripts {
+impl ExactClone for BuildScripts {
     ghost copies = { λ x y h. h };
 }

@@ -3,7 +3,7 @@ ghost use Rattle.std.specs.Prelude.{◌≡◌};
 use crate::kinds::TargetKind;
 use crate::package::PackageSpecifier;
 use docs_vfs::VfsPath;
-use plain::{Copied, Items, NoMemory, Text, copy};
+use plain::{ExactClone, Items, NoMemory, Text, copy};
 
 /// What a check is run on.
 #[derive(Drop)]
@@ -58,7 +58,7 @@ impl Clone for CheckScope {
     }
 }
 
-impl Copied for CheckScope {
+impl ExactClone for CheckScope {
     ghost copies = { λ x y h. h };
 }
 
@@ -73,6 +73,6 @@ impl Clone for Restart {
     }
 }
 
-impl Copied for Restart {
+impl ExactClone for Restart {
     ghost copies = { λ x y h. h };
 }

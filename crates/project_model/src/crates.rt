@@ -1,7 +1,7 @@
 ghost use Rattle.std.specs.Prelude.{◌≡◌};
 
 use docs_vfs::{FileId, VfsPath};
-use plain::{Copied, Items, NoMemory, Text, copy};
+use plain::{ExactClone, Items, NoMemory, Text, copy};
 
 /// A crate of a workspace, before its root file has a number.
 pub struct CrateEntry {
@@ -77,7 +77,7 @@ impl Clone for CrateEntry {
     }
 }
 
-impl Copied for CrateEntry {
+impl ExactClone for CrateEntry {
     ghost copies = { λ x y h. h };
 }
 
@@ -94,7 +94,7 @@ impl Clone for CrateInfo {
     }
 }
 
-impl Copied for CrateInfo {
+impl ExactClone for CrateInfo {
     ghost copies = { λ x y h. h };
 }
 
@@ -111,7 +111,7 @@ impl Clone for MacroState {
     }
 }
 
-impl Copied for MacroState {
+impl ExactClone for MacroState {
     ghost copies = { λ x y h. h };
 }
 
@@ -127,6 +127,6 @@ impl Clone for CrateData {
     }
 }
 
-impl Copied for CrateData {
+impl ExactClone for CrateData {
     ghost copies = { λ x y h. h };
 }

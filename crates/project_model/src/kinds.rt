@@ -1,6 +1,6 @@
 ghost use Rattle.std.proofs.Common.{rules};
 
-use plain::Copied;
+use plain::ExactClone;
 
 /// Where a workspace comes from.
 #[derive(Clone, Copy, Debug, PartialEq, Eq, PartialOrd, Ord, Hash)]
@@ -25,10 +25,10 @@ pub enum TargetKind {
     Other,
 }
 
-impl Copied for WorkspaceKind {
+impl ExactClone for WorkspaceKind {
     ghost copies = { λ x y h. Prim.search rules };
 }
 
-impl Copied for TargetKind {
+impl ExactClone for TargetKind {
     ghost copies = { λ x y h. Prim.search rules };
 }

@@ -2,7 +2,7 @@ ghost use Rattle.std.specs.Prelude.{◌≡◌};
 
 use crate::kinds::TargetKind;
 use docs_vfs::VfsPath;
-use plain::{Copied, Items, NoMemory, Text, copy};
+use plain::{ExactClone, Items, NoMemory, Text, copy};
 
 /// What a package builds from one root file.
 pub struct Target {
@@ -65,7 +65,7 @@ impl Clone for Target {
     }
 }
 
-impl Copied for Target {
+impl ExactClone for Target {
     ghost copies = { λ x y h. h };
 }
 
@@ -83,7 +83,7 @@ impl Clone for Package {
     }
 }
 
-impl Copied for Package {
+impl ExactClone for Package {
     ghost copies = { λ x y h. h };
 }
 
@@ -102,6 +102,6 @@ impl Clone for PackageSpecifier {
     }
 }
 
-impl Copied for PackageSpecifier {
+impl ExactClone for PackageSpecifier {
     ghost copies = { λ x y h. h };
 }

@@ -6,7 +6,7 @@ use crate::kinds::{TargetKind, WorkspaceKind};
 use crate::package::{Package, Target};
 use crate::workspace::ProjectWorkspace;
 use docs_vfs::VfsPath;
-use plain::{Copied, Items, NoMemory, Text, copy};
+use plain::{ExactClone, Items, NoMemory, Text, copy};
 
 /// What is told of a target to the tool that builds it.
 #[derive(Drop)]
@@ -150,6 +150,6 @@ impl Clone for TargetSpec {
     }
 }
 
-impl Copied for TargetSpec {
+impl ExactClone for TargetSpec {
     ghost copies = { λ x y h. h };
 }

@@ -6,7 +6,7 @@ use crate::kinds::WorkspaceKind;
 use crate::package::Package;
 use crate::same::are_same;
 use docs_vfs::{Root, VfsPath};
-use plain::{Copied, Items, NoMemory, Text, copy, is_same};
+use plain::{ExactClone, Items, NoMemory, Text, copy, is_same};
 
 /// One workspace of a project, as it was loaded.
 pub struct ProjectWorkspace {
@@ -116,6 +116,6 @@ impl Clone for ProjectWorkspace {
     }
 }
 
-impl Copied for ProjectWorkspace {
+impl ExactClone for ProjectWorkspace {
     ghost copies = { λ x y h. h };
 }

@@ -11,7 +11,7 @@ use crate::projects::{
 };
 use docs_vfs::VfsPath;
 use layered_settings::{ConfigChange, Settings};
-use plain::{Copied, Items, Json, Text};
+use plain::{ExactClone, Items, Json, Text};
 use ra_settings::{ConfigErrors, Layer, LinkedProject, Row};
 use std::alloc::{AllocError, Global};
 use std::marker::Model;
@@ -297,6 +297,6 @@ impl Clone for Config {
     }
 }
 
-impl Copied for Config {
+impl ExactClone for Config {
     ghost copies = { λ x y h. h };
 }

@@ -4,7 +4,7 @@ ghost use Rattle.std.specs.List.{list_any, position};
 ghost use Rattle.ra_config.specs.Projects.{newer, with_discovered, as_project, manifest, manifests, without};
 
 use docs_vfs::VfsPath;
-use plain::{Copied, Items, Json, Text, is_same};
+use plain::{ExactClone, Items, Json, Text, is_same};
 use ra_settings::LinkedProject;
 use std::alloc::{AllocError, Global};
 use std::marker::Model;
@@ -71,7 +71,7 @@ impl Clone for Discovered {
     }
 }
 
-impl Copied for Discovered {
+impl ExactClone for Discovered {
     ghost copies = { λ x y h. h };
 }
 

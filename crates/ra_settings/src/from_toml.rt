@@ -5,7 +5,7 @@ ghost use Rattle.serde_json.specs.View.{view as json_view};
 ghost use Rattle.toml.specs.View.{view, items_view, table_view};
 ghost use Rattle.ra_settings.specs.Toml.{tree_of, list_of, members_of, toml_tree, has_mark, no_setting};
 
-use plain::{Json, Members, Text};
+use plain::{Json, JsonObject, Text};
 use serde_json::Value as JsonValue;
 use std::alloc::{AllocError, Global};
 use toml::{Table, Value};
@@ -66,10 +66,10 @@ fn list_of(alloc: Global, list: &Vec<Value>) -> Result<Vec<JsonValue>, AllocErro
 }
 
 #[cycle(tree)]
-fn members_of(alloc: Global, table: &Table) -> Result<Members, AllocError>
+fn members_of(alloc: Global, table: &Table) -> Result<JsonObject, AllocError>
     ensures { IfOk result (λ made. made ≡ members_of no_members (table_view table.now)) }
 {
-    let mut made = Members::new(alloc);
+    let mut made = JsonObject::new(alloc);
     for (key, value) in table.iter() {
         let tree = tree_of(alloc, value)?;
         made.put(alloc, key.as_str(), tree)?;

@@ -11,7 +11,7 @@ use crate::read::read_value;
 use crate::row::{ROWS, Row, Scope};
 use crate::value::{Reading, SettingValue};
 use docs_vfs::VfsPath;
-use plain::{Copied, Items, Text};
+use plain::{ExactClone, Items, Text};
 use serde_json::Value;
 use std::alloc::{AllocError, Global};
 use std::marker::Model;
@@ -125,7 +125,7 @@ impl Layer {
     }
 }
 
-impl Copied for Layer {
+impl ExactClone for Layer {
     ghost copies = { λ x y h. h };
 }
 

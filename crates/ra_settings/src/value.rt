@@ -4,7 +4,7 @@ ghost use Rattle.ra_settings.specs.declared.row.Kind.{Kind};
 ghost use Rattle.ra_settings.specs.Values.{kind_of};
 
 use docs_vfs::VfsPath;
-use plain::{Copied, Items, Json, Text, copy};
+use plain::{ExactClone, Items, Json, Text, copy};
 use std::alloc::AllocError;
 
 /// Who watches files.
@@ -266,7 +266,7 @@ impl Clone for LinkedProject {
     }
 }
 
-impl Copied for LinkedProject {
+impl ExactClone for LinkedProject {
     ghost copies = { λ x y h. h };
 }
 
@@ -282,7 +282,7 @@ impl Clone for DiscoverConfig {
     }
 }
 
-impl Copied for DiscoverConfig {
+impl ExactClone for DiscoverConfig {
     ghost copies = { λ x y h. h };
 }
 
@@ -309,6 +309,6 @@ impl Clone for SettingValue {
     }
 }
 
-impl Copied for SettingValue {
+impl ExactClone for SettingValue {
     ghost copies = { λ x y h. h };
 }

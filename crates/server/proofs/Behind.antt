@@ -13,7 +13,8 @@ use Rattle.session.specs.SessionError.TheVariants.{HostFault, WriteFault}
 use Rattle.analysis_host.specs.declared.server_info.ServerInfo.{ServerInfo}
 use Rattle.server.specs.Opening.{Opens}
 use Rattle.server.specs.declared.handshake.opening.Opening.TheVariants.{Begun, Left}
-use Rattle.server.specs.Serving.{RanSession, Welcomed, setup_of}
+use Rattle.session.specs.Ran.{RanSession}
+use Rattle.server.specs.Serving.{Welcomed, setup_of}
 use Rattle.server.proofs.Whole.{completes, left-ends, whole-begun, whole-opened}
 
 -- a count that has risen since a later moment has risen

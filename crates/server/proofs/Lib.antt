@@ -6,6 +6,5 @@ pub mod Openings
 pub mod Replying
 pub mod Streams
 pub mod Stretches
-pub mod Unstarted
 pub mod Whole
 pub mod Written

@@ -4,9 +4,10 @@ use Rattle.lsp_frame.specs.Reader.{Reader}
 use Rattle.ra_config.specs.Config.{ConfigData, config_at}
 use Rattle.session_port.specs.Record.{HostCall, given_in}
 use Rattle.session.specs.Course.{course_of, stop_of, exit}
-use Rattle.session.specs.Headline.{IsAnswered, EndsByCause, IsComplete}
+use Rattle.session.specs.Headline.{EndsByCause}
+use Rattle.session.specs.Ran.{RanSession}
 use Rattle.session.specs.Meaning.{Meaning}
-use Rattle.session.specs.Run.{Told, IsRun, empty_reader}
+use Rattle.session.specs.Run.{Told, empty_reader}
 use Rattle.session.specs.Texts.{same_text}
 use Rattle.session.specs.SessionError.{SessionError}
 use Rattle.session.specs.SessionError.TheVariants.{ClientExited, BadFrame, BadMessage, HostFault, WriteFault, Exhausted}
@@ -42,17 +43,6 @@ setup_of info = record { threads = thread_count; info = info }
 -- the settings of a session that begins without a handshake
 abbrev pub session_config : ConfigData
 session_config = config_at (codes "/w") thread_count
-
--- a session was run behind what a reader holds: its turns are the machine's; its end has its cause in the events; over
--- a good input it is a good one,
--- where neither the host nor the sink has failed; and the record is as it should be
-pub record RanSession (meaning : Meaning) (config : ConfigData) (reader : Reader) (old new : Told) (honest : Bool)
-    (HostFailed SinkFailed : Type 0)
-    (outcome : Result ⊤ SessionError) : Type 0 where
-  pub run : IsRun meaning config reader old new honest outcome
-  pub end : EndsByCause reader old.calls new.calls outcome
-  pub complete : IsComplete meaning config reader old.calls new.calls HostFailed SinkFailed outcome
-  pub headline : IsAnswered meaning config reader old new honest outcome
 
 -- what follows a handshake: the session that it began, or nothing
 abbrev pub Follows : Meaning → Told → Told → Bool → Type 0 → Type 0 → Result Opening SessionError

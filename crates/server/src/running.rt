@@ -30,7 +30,7 @@ pub struct Program<'a> {
 
 /// Prints a text, and answers the status.
 fn print<S: Sink>(text: &str, sink: &mut S) -> u8
-    requires fresh { S.spent sink.old ≡ false }
+    requires usable { S.poisoned sink.old ≡ false }
     ensures { Prints text.now (S.turns sink.old) (S.turns sink.new) (Rose (S.faults sink.old) (S.faults sink.new)) result }
 {
     match sink.put_turn(text.as_bytes()) {
@@ -52,9 +52,9 @@ pub fn run<H: Host<A>, S: Sink, A: Analysis>(
 ) -> u8
     // No job was handed to the host before.
     requires idle { H.out host.old ≡ map.empty }
-    requires unused { H.handed host.old ≡ 0 }
-    requires host_fresh { H.spent host.old ≡ false }
-    requires sink_fresh { S.spent sink.old ≡ false }
+    requires unused { H.last_job host.old ≡ 0 }
+    requires host_usable { H.poisoned host.old ≡ false }
+    requires sink_usable { S.poisoned sink.old ≡ false }
 
     ensures help { purpose_of words.now ≡ Help → Prints program.now.help.now (S.turns sink.old) (S.turns sink.new) (Rose (S.faults sink.old) (S.faults sink.new)) result }
     ensures version { purpose_of words.now ≡ Version → Prints program.now.version.now (S.turns sink.old) (S.turns sink.new) (Rose (S.faults sink.old) (S.faults sink.new)) result }

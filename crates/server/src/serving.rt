@@ -4,7 +4,8 @@ ghost use Rattle.std.specs.FinMap as map;
 ghost use Rattle.session_port.specs.Record.{Rose};
 ghost use Rattle.session.specs.Meaning.{meaning_of};
 ghost use Rattle.session.specs.Run.{empty_reader, told_of};
-ghost use Rattle.server.specs.Serving.{asked_by, session_config, EndsWith, Serves, RanSession, Welcomed};
+ghost use Rattle.session.specs.Ran.{RanSession};
+ghost use Rattle.server.specs.Serving.{asked_by, session_config, EndsWith, Serves, Welcomed};
 ghost use Rattle.server.specs.Status.{status_of, bad_words};
 
 use crate::handshake::{Opening, initialize};
@@ -39,9 +40,9 @@ fn run_session<H: Host<A>, S: Sink, A: Analysis>(
     analysis: &A,
 ) -> Result<(), SessionError>
     requires idle { H.out host.old ≡ map.empty }
-    requires unused { H.handed host.old ≡ 0 }
-    requires host_fresh { H.spent host.old ≡ false }
-    requires sink_fresh { S.spent sink.old ≡ false }
+    requires unused { H.last_job host.old ≡ 0 }
+    requires host_usable { H.poisoned host.old ≡ false }
+    requires sink_usable { S.poisoned sink.old ≡ false }
     ensures run { EndsWith (RanSession (meaning_of A.decodes A.answer) session_config empty_reader (told_of (H.calls host.old) (S.turns sink.old)) (told_of (H.calls host.new) (S.turns sink.new)) (H.honest host.old) (Rose (H.faults host.old) (H.faults host.new)) (Rose (S.faults sink.old) (S.faults sink.new))) (status_of result) }
     ensures host_fault { result ≡ Err SessionError.HostFault → Rose (H.faults host.old) (H.faults host.new) }
     ensures write_fault { result ≡ Err SessionError.WriteFault → Rose (S.faults sink.old) (S.faults sink.new) }
@@ -58,9 +59,9 @@ fn run_lsp<H: Host<A>, S: Sink, A: Analysis>(
     analysis: &A,
 ) -> Result<(), SessionError>
     requires idle { H.out host.old ≡ map.empty }
-    requires unused { H.handed host.old ≡ 0 }
-    requires host_fresh { H.spent host.old ≡ false }
-    requires sink_fresh { S.spent sink.old ≡ false }
+    requires unused { H.last_job host.old ≡ 0 }
+    requires host_usable { H.poisoned host.old ≡ false }
+    requires sink_usable { S.poisoned sink.old ≡ false }
     ensures run { EndsWith (Welcomed A.server_info (meaning_of A.decodes A.answer) (told_of (H.calls host.old) (S.turns sink.old)) (told_of (H.calls host.new) (S.turns sink.new)) (H.honest host.old) (Rose (H.faults host.old) (H.faults host.new)) (Rose (S.faults sink.old) (S.faults sink.new))) (status_of result) }
     ensures host_fault { result ≡ Err SessionError.HostFault → Rose (H.faults host.old) (H.faults host.new) }
     ensures write_fault { result ≡ Err SessionError.WriteFault → Rose (S.faults sink.old) (S.faults sink.new) }
@@ -86,9 +87,9 @@ pub fn serve<H: Host<A>, S: Sink, A: Analysis>(
 ) -> u8
     // No job was handed to the host before.
     requires idle { H.out host.old ≡ map.empty }
-    requires unused { H.handed host.old ≡ 0 }
-    requires host_fresh { H.spent host.old ≡ false }
-    requires sink_fresh { S.spent sink.old ≡ false }
+    requires unused { H.last_job host.old ≡ 0 }
+    requires host_usable { H.poisoned host.old ≡ false }
+    requires sink_usable { S.poisoned sink.old ≡ false }
 
     // One session, with all that is promised of a session, behind a handshake where it is asked for; or the words are none that
     // are known, and nothing is read or written.

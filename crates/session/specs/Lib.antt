@@ -1,5 +1,6 @@
 pub mod Bringing
 pub mod Looping
+pub mod Ran
 pub mod Reading
 -- What a run is and what it answers, passed on to servers over a session.
 pub use Rattle.session_laws.specs.Course

@@ -7,7 +7,7 @@ ghost use Rattle.session_port.specs.Record.{HasCause, Rose, after_ok, added, too
 ghost use Rattle.session_laws.specs.Headline.{IsAnswered, EndsByCause, IsComplete};
 ghost use Rattle.session_laws.specs.Meaning.{meaning_of};
 ghost use Rattle.session_laws.specs.Machine.{step};
-ghost use Rattle.session_port.specs.Meets.{Meets};
+ghost use Rattle.session_port.specs.Refines.{Refines};
 ghost use Rattle.session_laws.specs.Run.{IsRun, empty_reader, told_of, turn_error_of};
 ghost use Rattle.session.specs.Looping.{Advances, AdvancesByEvent, RunsOn, TurnDone};
 ghost use Rattle.session_laws.specs.State.{fresh};
@@ -46,7 +46,7 @@ fn take_input<A: Analysis>(
     analysis: &A,
     out: &mut TurnOut,
 ) -> Result<(), TurnError>
-    ensures { Meets result (step (meaning_of A.decodes A.answer) input (record { state = state.old; out = out.old })) state.new out.new }
+    ensures { Refines result (step (meaning_of A.decodes A.answer) input (record { state = state.old; out = out.old })) state.new out.new }
 {
     match input {
         Input::Start => state.start(out),
@@ -63,14 +63,15 @@ fn run_turn<H: Host<A>, S: Sink, A: Analysis>(
     sink: &mut S,
     analysis: &A,
 ) -> Result<(), SessionError>
-    requires host_fresh { H.spent host.old ≡ false }
-    requires sink_fresh { S.spent sink.old ≡ false }
-    requires handed { H.handed host.old ≡ state.old.desk.handed }
-    ensures host_fresh { OnOk result (H.spent host.new ≡ false) }
-    ensures sink_fresh { OnOk result (S.spent sink.new ≡ false) }
+    requires host_usable { H.poisoned host.old ≡ false }
+    requires sink_usable { S.poisoned sink.old ≡ false }
+    requires last_job { H.last_job host.old ≡ state.old.desk.last_job }
+    ensures host_usable { OnOk result (H.poisoned host.new ≡ false) }
+    ensures sink_usable { OnOk result (S.poisoned sink.new ≡ false) }
     ensures turn { TurnDone (meaning_of A.decodes A.answer) input state.old state.new (told_of (H.calls host.old) (S.turns sink.old)) (told_of (H.calls host.new) (S.turns sink.new)) (H.out host.old) (H.out host.new) result }
-    ensures handed { OnOk result (H.handed host.new ≡ state.new.desk.handed) }
+    ensures last_job { OnOk result (H.last_job host.new ≡ state.new.desk.last_job) }
     ensures honest_stays { H.honest host.new ≡ H.honest host.old }
+    ensures origin_stays { H.origin host.new ≡ H.origin host.old }
     ensures host_later { H.faults host.old ≤ H.faults host.new }
     ensures host_fault { result ≡ Err SessionError.HostFault → Rose (H.faults host.old) (H.faults host.new) }
     ensures sink_later { S.faults sink.old ≤ S.faults sink.new }
@@ -95,9 +96,10 @@ fn run_turn<H: Host<A>, S: Sink, A: Analysis>(
 
 // The last order.
 fn stop<H: Host<A>, A: Analysis>(alloc: Global, host: &mut H) -> Result<(), HostError>
-    requires host_fresh { H.spent host.old ≡ false }
+    requires host_usable { H.poisoned host.old ≡ false }
     ensures calls { H.calls host.new ≡ after_ok result (λ _. added (H.calls host.old) (took (Command.Stop ∷ []))) (H.calls host.old) }
     ensures honest_stays { H.honest host.new ≡ H.honest host.old }
+    ensures origin_stays { H.origin host.new ≡ H.origin host.old }
     ensures cause { HasCause (H.faults host.old) (H.faults host.new) result }
 {
     let mut commands = Items::new(alloc);
@@ -114,16 +116,17 @@ fn take_event<H: Host<A>, S: Sink, A: Analysis>(
     sink: &mut S,
     analysis: &A,
 ) -> Result<(), SessionError>
-    requires host_fresh { H.spent host.old ≡ false }
-    requires sink_fresh { S.spent sink.old ≡ false }
+    requires host_usable { H.poisoned host.old ≡ false }
+    requires sink_usable { S.poisoned sink.old ≡ false }
     requires waits { cut_of reader.old.held ≡ NeedMore }
     requires sound { reader.old.failed ≡ false }
-    requires handed { H.handed host.old ≡ state.old.desk.handed }
-    ensures host_fresh { OnOk result (H.spent host.new ≡ false) }
-    ensures sink_fresh { OnOk result (S.spent sink.new ≡ false) }
+    requires last_job { H.last_job host.old ≡ state.old.desk.last_job }
+    ensures host_usable { OnOk result (H.poisoned host.new ≡ false) }
+    ensures sink_usable { OnOk result (S.poisoned sink.new ≡ false) }
     ensures turn { AdvancesByEvent (meaning_of A.decodes A.answer) state.old state.new reader.old reader.new (told_of (H.calls host.old) (S.turns sink.old)) (told_of (H.calls host.new) (S.turns sink.new)) (H.honest host.old) (H.out host.old) (H.out host.new) result }
-    ensures handed { OnOk result (H.handed host.new ≡ state.new.desk.handed) }
+    ensures last_job { OnOk result (H.last_job host.new ≡ state.new.desk.last_job) }
     ensures honest_stays { H.honest host.new ≡ H.honest host.old }
+    ensures origin_stays { H.origin host.new ≡ H.origin host.old }
     ensures host_later { H.faults host.old ≤ H.faults host.new }
     ensures host_fault { result ≡ Err SessionError.HostFault → Rose (H.faults host.old) (H.faults host.new) }
     ensures sink_later { S.faults sink.old ≤ S.faults sink.new }
@@ -150,14 +153,15 @@ fn advance<H: Host<A>, S: Sink, A: Analysis>(
     sink: &mut S,
     analysis: &A,
 ) -> Result<Turned, SessionError>
-    requires host_fresh { H.spent host.old ≡ false }
-    requires sink_fresh { S.spent sink.old ≡ false }
-    requires handed { H.handed host.old ≡ state.old.desk.handed }
-    ensures host_fresh { result ≡ Ok Turned.Going → H.spent host.new ≡ false }
-    ensures sink_fresh { result ≡ Ok Turned.Going → S.spent sink.new ≡ false }
+    requires host_usable { H.poisoned host.old ≡ false }
+    requires sink_usable { S.poisoned sink.old ≡ false }
+    requires last_job { H.last_job host.old ≡ state.old.desk.last_job }
+    ensures host_usable { result ≡ Ok Turned.Going → H.poisoned host.new ≡ false }
+    ensures sink_usable { result ≡ Ok Turned.Going → S.poisoned sink.new ≡ false }
     ensures turn { Advances (meaning_of A.decodes A.answer) state.old state.new reader.old reader.new (told_of (H.calls host.old) (S.turns sink.old)) (told_of (H.calls host.new) (S.turns sink.new)) (H.honest host.old) (H.out host.old) (H.out host.new) result }
-    ensures handed { result ≡ Ok Turned.Going → H.handed host.new ≡ state.new.desk.handed }
+    ensures last_job { result ≡ Ok Turned.Going → H.last_job host.new ≡ state.new.desk.last_job }
     ensures honest_stays { H.honest host.new ≡ H.honest host.old }
+    ensures origin_stays { H.origin host.new ≡ H.origin host.old }
     ensures host_later { H.faults host.old ≤ H.faults host.new }
     ensures host_fault { result ≡ Err SessionError.HostFault → Rose (H.faults host.old) (H.faults host.new) }
     ensures sink_later { S.faults sink.old ≤ S.faults sink.new }
@@ -194,10 +198,11 @@ fn run_on<H: Host<A>, S: Sink, A: Analysis>(
     sink: &mut S,
     analysis: &A,
 ) -> Result<(), SessionError>
-    requires host_fresh { H.spent host.old ≡ false }
-    requires sink_fresh { S.spent sink.old ≡ false }
-    requires handed { H.handed host.old ≡ state.old.desk.handed }
+    requires host_usable { H.poisoned host.old ≡ false }
+    requires sink_usable { S.poisoned sink.old ≡ false }
+    requires last_job { H.last_job host.old ≡ state.old.desk.last_job }
     ensures run { RunsOn (meaning_of A.decodes A.answer) state.old reader.old (told_of (H.calls host.old) (S.turns sink.old)) (told_of (H.calls host.new) (S.turns sink.new)) (H.honest host.old) (H.out host.old) result }
+    ensures origin_stays { H.origin host.new ≡ H.origin host.old }
     ensures host_later { H.faults host.old ≤ H.faults host.new }
     ensures host_fault { result ≡ Err SessionError.HostFault → Rose (H.faults host.old) (H.faults host.new) }
     ensures sink_later { S.faults sink.old ≤ S.faults sink.new }
@@ -222,10 +227,11 @@ fn run_all<H: Host<A>, S: Sink, A: Analysis>(
     analysis: &A,
 ) -> Result<(), SessionError>
     requires idle { H.out host.old ≡ map.empty }
-    requires host_fresh { H.spent host.old ≡ false }
-    requires sink_fresh { S.spent sink.old ≡ false }
-    requires handed { H.handed host.old ≡ state.old.desk.handed }
+    requires host_usable { H.poisoned host.old ≡ false }
+    requires sink_usable { S.poisoned sink.old ≡ false }
+    requires last_job { H.last_job host.old ≡ state.old.desk.last_job }
     ensures run { (config : ConfigData) → state.old ≡ fresh config → IsRun (meaning_of A.decodes A.answer) config reader.old (told_of (H.calls host.old) (S.turns sink.old)) (told_of (H.calls host.new) (S.turns sink.new)) (H.honest host.old) result }
+    ensures origin_stays { H.origin host.new ≡ H.origin host.old }
     ensures host_fault { result ≡ Err SessionError.HostFault → Rose (H.faults host.old) (H.faults host.new) }
     ensures write_fault { result ≡ Err SessionError.WriteFault → Rose (S.faults sink.old) (S.faults sink.new) }
 {
@@ -245,10 +251,11 @@ fn run_from<H: Host<A>, S: Sink, A: Analysis>(
     analysis: &A,
 ) -> Result<(), SessionError>
     requires idle { H.out host.old ≡ map.empty }
-    requires unused { H.handed host.old ≡ 0 }
-    requires host_fresh { H.spent host.old ≡ false }
-    requires sink_fresh { S.spent sink.old ≡ false }
+    requires unused { H.last_job host.old ≡ 0 }
+    requires host_usable { H.poisoned host.old ≡ false }
+    requires sink_usable { S.poisoned sink.old ≡ false }
     ensures run { IsRun (meaning_of A.decodes A.answer) config reader (told_of (H.calls host.old) (S.turns sink.old)) (told_of (H.calls host.new) (S.turns sink.new)) (H.honest host.old) result }
+    ensures origin_stays { H.origin host.new ≡ H.origin host.old }
     ensures host_fault { result ≡ Err SessionError.HostFault → Rose (H.faults host.old) (H.faults host.new) }
     ensures write_fault { result ≡ Err SessionError.WriteFault → Rose (S.faults sink.old) (S.faults sink.new) }
 {
@@ -271,9 +278,9 @@ pub fn main_loop_from<H: Host<A>, S: Sink, A: Analysis>(
 ) -> Result<(), SessionError>
     // No job was handed to the host before.
     requires idle { H.out host.old ≡ map.empty }
-    requires unused { H.handed host.old ≡ 0 }
-    requires host_fresh { H.spent host.old ≡ false }
-    requires sink_fresh { S.spent sink.old ≡ false }
+    requires unused { H.last_job host.old ≡ 0 }
+    requires host_usable { H.poisoned host.old ≡ false }
+    requires sink_usable { S.poisoned sink.old ≡ false }
 
     // The turns are the session machine's, over the inputs of the bytes held and of the host's events.
     ensures run { IsRun (meaning_of A.decodes A.answer) config reader (told_of (H.calls host.old) (S.turns sink.old)) (told_of (H.calls host.new) (S.turns sink.new)) (H.honest host.old) result }
@@ -286,6 +293,9 @@ pub fn main_loop_from<H: Host<A>, S: Sink, A: Analysis>(
 
     // Each request gets the response of its row and no other; between turns exactly one job holds each pending request.
     ensures headline { IsAnswered (meaning_of A.decodes A.answer) config reader (told_of (H.calls host.old) (S.turns sink.old)) (told_of (H.calls host.new) (S.turns sink.new)) (H.honest host.old) result }
+
+    // What no call of the host changes is as it was.
+    ensures origin_stays { H.origin host.new ≡ H.origin host.old }
 
     ensures host_fault { result ≡ Err SessionError.HostFault → Rose (H.faults host.old) (H.faults host.new) }
     ensures write_fault { result ≡ Err SessionError.WriteFault → Rose (S.faults sink.old) (S.faults sink.new) }
@@ -303,9 +313,9 @@ pub fn main_loop<H: Host<A>, S: Sink, A: Analysis>(
 ) -> Result<(), SessionError>
     // No job was handed to the host before.
     requires idle { H.out host.old ≡ map.empty }
-    requires unused { H.handed host.old ≡ 0 }
-    requires host_fresh { H.spent host.old ≡ false }
-    requires sink_fresh { S.spent sink.old ≡ false }
+    requires unused { H.last_job host.old ≡ 0 }
+    requires host_usable { H.poisoned host.old ≡ false }
+    requires sink_usable { S.poisoned sink.old ≡ false }
 
     // The turns are the session machine's, over the inputs of the host's events.
     ensures run { IsRun (meaning_of A.decodes A.answer) config empty_reader (told_of (H.calls host.old) (S.turns sink.old)) (told_of (H.calls host.new) (S.turns sink.new)) (H.honest host.old) result }
@@ -318,6 +328,9 @@ pub fn main_loop<H: Host<A>, S: Sink, A: Analysis>(
 
     // Each request gets the response of its row and no other; between turns exactly one job holds each pending request.
     ensures headline { IsAnswered (meaning_of A.decodes A.answer) config empty_reader (told_of (H.calls host.old) (S.turns sink.old)) (told_of (H.calls host.new) (S.turns sink.new)) (H.honest host.old) result }
+
+    // What no call of the host changes is as it was.
+    ensures origin_stays { H.origin host.new ≡ H.origin host.old }
 
     ensures host_fault { result ≡ Err SessionError.HostFault → Rose (H.faults host.old) (H.faults host.new) }
     ensures write_fault { result ≡ Err SessionError.WriteFault → Rose (S.faults sink.old) (S.faults sink.new) }

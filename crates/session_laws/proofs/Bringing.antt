@@ -12,7 +12,7 @@ use Rattle.project_model.specs.declared.workspace.ProjectWorkspace.{ProjectWorks
 use Rattle.change_effects.specs.Filing.{filed_change, crate_file, crate_files, file_in, is_at_workspace, text_in, workspace_file, workspace_files}
 use Rattle.change_effects.specs.declared.effects.SettingsFile.{SettingsFile}
 use Rattle.session_port.specs.Jobs.{final_of, fits_job, fits_kind}
-use Rattle.session_port.specs.Working.{Working, and_then}
+use Rattle.session_port.specs.TurnState.{TurnState, and_then}
 use Rattle.session_port.specs.declared.event.TaskBody.{TaskBody}
 use Rattle.session_port.specs.declared.event.TaskBody.TheVariants.{Final}
 use Rattle.session_port.specs.declared.event.TaskMsg.{TaskMsg}
@@ -47,7 +47,7 @@ use Rattle.session_model.specs.Machine.{with_desk, with_files, with_sources, wit
 use Rattle.session_model.specs.Asking.{is_refresh_due}
 use Rattle.session_model.specs.Sources.{change_for, client_with, further_files, is_settled, parents_told}
 use Rattle.session_model.specs.State.{Sources, State, scene_of, snapshot_of}
-use Rattle.session_model.specs.declared.facts.Facts.{Facts}
+use Rattle.session_model.specs.declared.facts.FactsBefore.{FactsBefore}
 use Rattle.session_port.specs.Written.{Written}
 use Rattle.session_port.specs.declared.command.LogCode.TheVariants.{BuildError, FetchError}
 use Rattle.session_model.specs.Status.{build_fault, fetch_fault, is_quiescent}
@@ -63,10 +63,10 @@ use Rattle.session_laws.proofs.Same.{some-same, none-some}
 -- ---- files that are processed
 
 -- the files are those that the processing leaves
-abbrev AreProcessed : Working State → Working State → Type 0
+abbrev AreProcessed : TurnState State → TurnState State → Type 0
 AreProcessed w v = after_processing w.state.sources.roots w.state.files ≡ Ok v.state.files
 
-processed-is : (w : Working State) → IfOk (files_processed w) (AreProcessed w)
+processed-is : (w : TurnState State) → IfOk (files_processed w) (AreProcessed w)
 unfolding files_processed
 processed-is w =
     let roots = w.state.sources.roots in
@@ -75,7 +75,7 @@ processed-is w =
     (IfOk-within files_in with_files (processed roots) w (λ v. AreProcessed w (files_followed list v))
     (IfOk-weaker _ (Processes roots (record { state = w.state.files; out = w.out })) _ (processed-does roots (record { state = w.state.files; out = w.out }))
     (λ p done.
-    let v : Working State = record { state = with_files p.state w.state; out = p.out } in
+    let v : TurnState State = record { state = with_files p.state w.state; out = p.out } in
     let ok : SessionFiles → Result SessionFiles Counter = λ files. Ok files in
     done.is ∙ ap ok (sym (followed-does list v).files))))
     (λ u a. a)
@@ -110,7 +110,7 @@ abbrev Brings : Option CrateData → State → State → Type 0
 Brings None s t = t.files ≡ s.files
 Brings (Some crates) s t = BringsFiles s t
 
-arrive-brings : (crates : Option CrateData) (w : Working State) → IfOk (and_then (crates_arrived crates w) (files_processed_if (is_some crates)))
+arrive-brings : (crates : Option CrateData) (w : TurnState State) → IfOk (and_then (crates_arrived crates w) (files_processed_if (is_some crates)))
     (λ v. Brings crates w.state v.state)
 unfolding crates_arrived files_processed_if
 arrive-brings None w = refl
@@ -136,10 +136,10 @@ abbrev crates_by : Option WorkEnd → Workspaces → Option CrateData
 crates_by None workspaces = None
 crates_by (Some end) workspaces = crates_with end workspaces
 
-load-brings : (told : LoadEnd) (w : Working State) → IfOk (load_taken told w) (λ v. Brings (crates_loaded told w.state.workspaces) w.state v.state)
+load-brings : (told : LoadEnd) (w : TurnState State) → IfOk (load_taken told w) (λ v. Brings (crates_loaded told w.state.workspaces) w.state v.state)
 unfolding load_taken macros_taken
 load-brings told w =
-    let v : Working State = at_workspaces (load_kept told) w in
+    let v : TurnState State = at_workspaces (load_kept told) w in
     IfOk-weaker (and_then (crates_arrived (crates_loaded told w.state.workspaces) v) (files_processed_if (is_some (crates_loaded told w.state.workspaces))))
     (λ u. Brings (crates_loaded told w.state.workspaces) v.state u.state) _
     (arrive-brings (crates_loaded told w.state.workspaces) v) (λ u b. from (crates_loaded told w.state.workspaces) u.state b)
@@ -148,17 +148,17 @@ load-brings told w =
     from None t b = b
     from (Some crates) t b = record { roots = b.roots; current = b.current; taken = b.taken; revision = b.revision }
 
-work-brings : (end : WorkEnd) (w : Working State) → IfOk (work_taken end w) (λ v. Brings (crates_with end w.state.workspaces) w.state v.state)
+work-brings : (end : WorkEnd) (w : TurnState State) → IfOk (work_taken end w) (λ v. Brings (crates_with end w.state.workspaces) w.state v.state)
 unfolding work_taken fetch_taken build_taken
 work-brings (Fetched found) w =
-    let v : Working State = at_workspaces (fetch_kept found) w in ap (λ (s : State). s.files)
+    let v : TurnState State = at_workspaces (fetch_kept found) w in ap (λ (s : State). s.files)
     (logged_if-same FetchError (fetch_fault v.state.client.settings v.state.workspaces) v)
 work-brings (Built made) w =
-    let v : Working State = at_workspaces (build_kept made) w in ap (λ (s : State). s.files) (logged_if-same BuildError (build_fault v.state.workspaces) v)
+    let v : TurnState State = at_workspaces (build_kept made) w in ap (λ (s : State). s.files) (logged_if-same BuildError (build_fault v.state.workspaces) v)
 work-brings (Checked roots) w = refl
 work-brings (Loaded told) w = load-brings told w
 
-end-brings : (end : Option WorkEnd) (w : Working State) → IfOk (end_taken end w) (λ v. Brings (crates_by end w.state.workspaces) w.state v.state)
+end-brings : (end : Option WorkEnd) (w : TurnState State) → IfOk (end_taken end w) (λ v. Brings (crates_by end w.state.workspaces) w.state v.state)
 unfolding end_taken
 end-brings None w = refl
 end-brings (Some end) w = work-brings end w
@@ -182,7 +182,7 @@ brings-before (Some crates) s t u same b = record {
 abbrev MessageBrings : TaskMsg → State → State → Type 0
 MessageBrings message s t = Brings (crates_by (work_ended message s.desk.jobs) s.workspaces) s t
 
-message-brings : (meaning : Meaning) (message : TaskMsg) (w : Working State)
+message-brings : (meaning : Meaning) (message : TaskMsg) (w : TurnState State)
     → IfOk (message_taken meaning message w) (λ v. MessageBrings message w.state v.state)
 unfolding message_taken
 message-brings meaning message w =
@@ -200,10 +200,10 @@ may-bring : (crates : Option CrateData) (s t : State) → Brings crates s t → 
 may-bring None s t b = inl b
 may-bring (Some crates) s t b = inr b
 
-pub message-may-bring : (meaning : Meaning) (message : TaskMsg) (w v : Working State) → message_taken meaning message w ≡ Ok v → MayBringFiles w.state v.state
+pub message-may-bring : (meaning : Meaning) (message : TaskMsg) (w v : TurnState State) → message_taken meaning message w ≡ Ok v → MayBringFiles w.state v.state
 message-may-bring meaning message w v is =
     may-bring (crates_by (work_ended message w.state.desk.jobs) w.state.workspaces) w.state v.state
-    (IfOk-at_ok (λ (v : Working State). MessageBrings message w.state v.state) is (message-brings meaning message w))
+    (IfOk-at_ok (λ (v : TurnState State). MessageBrings message w.state v.state) is (message-brings meaning message w))
 
 -- a load ends with what it came to
 load-told : (kind : JobKind) (result : JobResult) → is_load kind ≡ true → fits_kind kind result ≡ true → (told : LoadEnd)
@@ -223,7 +223,7 @@ waiting-comes : (b : Bool) (o : Option WaitingCrates) (f : WaitingCrates → Cra
 waiting-comes b None f busy some = true-false (sym some)
 waiting-comes b (Some crates) f busy some = (f crates, ap (λ c. if c then Some (f crates) else None) busy)
 
-pub ended-brings : (meaning : Meaning) (message : TaskMsg) (w v : Working State) → message_taken meaning message w ≡ Ok v → EndsWait message w.state
+pub ended-brings : (meaning : Meaning) (message : TaskMsg) (w v : TurnState State) → message_taken meaning message w ≡ Ok v → EndsWait message w.state
     → BringsFiles w.state v.state
 ended-brings meaning message w v is ends =
     let fit = fit-fits message.body (map.get w.state.desk.jobs message.job) ends.job ends.fits in
@@ -234,7 +234,7 @@ ended-brings meaning message w v is ends =
     let crates : crates_by (work_ended message w.state.desk.jobs) w.state.workspaces ≡ Some comes.0 =
     ap (λ (o : Option WorkEnd). crates_by o w.state.workspaces) ended ∙ comes.1 in
     subst (λ (o : Option CrateData). Brings o w.state v.state) crates
-    (IfOk-at_ok (λ (v : Working State). MessageBrings message w.state v.state) is (message-brings meaning message w))
+    (IfOk-at_ok (λ (v : TurnState State). MessageBrings message w.state v.state) is (message-brings meaning message w))
 
 -- ---- of which roots settings files are
 
@@ -283,12 +283,12 @@ change-roots : (b : Bool) (roots : List Root) (parents : Option (List (ℕ × �
 change-roots true roots parents workspaces files = tt
 change-roots false roots parents workspaces files = (workspace-roots roots workspaces files, crate-roots roots workspaces files)
 
-pub filed-by-roots : (files : List SettingsFile) (w : Working State) → FilesSettings (snapshot_of w.state) w.state (settings_filed files w).state
+pub filed-by-roots : (files : List SettingsFile) (w : TurnState State) → FilesSettings (snapshot_of w.state) w.state (settings_filed files w).state
 unfolding settings_filed
 filed-by-roots files w =
     let roots = w.state.files.host.world.roots in
     let change = change_for files roots w.state.sources w.state.workspaces.present in
-    let put : Working State = record w { state = with_sources (parents_told w.state.sources) (with_client (client_with change w.state.client) w.state) } in
+    let put : TurnState State = record w { state = with_sources (parents_told w.state.sources) (with_client (client_with change w.state.client) w.state) } in
     record {
       change = change;
       client = ap (λ (s : State). s.client) (further-same (further_files change) put);
@@ -297,13 +297,13 @@ filed-by-roots files w =
 
 -- ---- what is shown
 
-pub part-knows : (t : Working Turning) → IfOk (files_part t)
+pub part-knows : (t : TurnState Turning) → IfOk (files_part t)
     (λ v. v.state.facts ≡ record t.state.facts { processed = not t.state.state.files.loading && has_changed t.state.state.files })
 unfolding files_part
 part-knows t =
     IfOk-and_then (in_state files_done t) (λ v. Ok (knowing (some_processed t.state.state.files) v)) (λ v. v.state.facts ≡ t.state.facts) _
     (IfOk-within state_in with_state files_done t _ (ok-from (files_done (record { state = t.state.state; out = t.out })) _ (λ v is. refl)))
-    (λ v same. ap (λ (f : Facts). record f { processed = some_processed t.state.state.files }) same)
+    (λ v same. ap (λ (f : FactsBefore). record f { processed = some_processed t.state.state.files }) same)
 
 quiet-by : (due was now done : Bool) → is_refresh_due was now done ≡ due → ((now ≡ true) × ((was ≡ false) ⊎ (done ≡ true)) → ⊥) → due ≡ false
 quiet-by true was true true is none = absurd (none (refl, inr refl))
@@ -321,10 +321,10 @@ due-by was now done quiet (inr some) = (λ i. quiet i && (not was || some i)) �
     or-true false = refl
 
 -- what is asked for where this flag is set
-abbrev if_due : Bool → Working State → Result (Working State) Counter
+abbrev if_due : Bool → TurnState State → Result (TurnState State) Counter
 if_due due w = if due then client_refreshed w.state.client.settings.capabilities w else Ok w
 
-quiet-is : (facts : Facts) (w : Working State) (due : Bool) → is_refresh_due facts.quiescent (is_quiescent w.state.files w.state.workspaces) facts.processed ≡
+quiet-is : (facts : FactsBefore) (w : TurnState State) (due : Bool) → is_refresh_due facts.quiescent (is_quiescent w.state.files w.state.workspaces) facts.processed ≡
     due → quiet_done facts w ≡ if_due due w
 unfolding quiet_done
 quiet-is facts w due is = ap (λ b. if_due b w) is

@@ -4,7 +4,7 @@ use Rattle.std.proofs.lemmas.Bool.{leb-true, ltb-false}
 use Rattle.std.proofs.lemmas.List.{length-append}
 use Rattle.std.specs.FinMap as map
 use Rattle.std.specs.Prelude.{◌==◌, ◌||◌, ℤ, Err, if◌then◌else◌, is_some, ltb, None, Ok, Option, Result, Some}
-use Rattle.docs_vfs.specs.Files.{Files, and_then as and_then_table, contents_at, file_id_of, is_full, is_marked, kept_at, kept_of, mark_in, next_file}
+use Rattle.docs_vfs.specs.Files.{Files, table_then as and_then_table, contents_at, file_id_of, is_full, is_marked, kept_at, kept_of, mark_in, next_file}
 use Rattle.docs_vfs.specs.Files.{number_in, put_at, put_in, same_contents, set_in}
 use Rattle.docs_vfs.specs.declared.file_kinds.ChangedFile.{ChangedFile}
 use Rattle.docs_vfs.specs.declared.file_kinds.FileId.{FileId}
@@ -19,7 +19,7 @@ use Rattle.project_model.specs.declared.crates.CrateData.{CrateData}
 use Rattle.analysis_host.specs.HostData.{HostData}
 use Rattle.analysis_host.specs.SnapshotData.{SnapshotData}
 use Rattle.analysis_host.specs.declared.host.WorldFault.TheVariants.{Exhausted}
-use Rattle.session_port.specs.Working.{Working, and_then, ordered, put_back, within, written}
+use Rattle.session_port.specs.TurnState.{TurnState, and_then, ordered, put_back, lifted, written}
 use Rattle.session_port.specs.declared.event.LoadedFile.{LoadedFile}
 use Rattle.session_port.specs.declared.event.LoaderMsg.{LoaderMsg}
 use Rattle.session_port.specs.declared.event.LoaderMsg.TheVariants.{Changed, Loaded, Progress}
@@ -174,21 +174,21 @@ counts-more of a b n (Ok x) le h =
     (more now.versions n.versions a.versions b.versions h.versions le.versions) (more now.settings n.settings a.settings b.settings h.settings le.settings)
 counts-more of a b n (Err counter) le h = many-more a b n counter le h
 
-put-counts : {S P : Type 0} (of : Working S → State) (needs n : Numbers) (put : P → S → S) (state : S) (r : Result (Working P) Counter)
-    → Counts (λ (v : Working P). of (record { state = put v.state state; out = v.out })) needs n r → Counts of needs n (put_back put state r)
+put-counts : {S P : Type 0} (of : TurnState S → State) (needs n : Numbers) (put : P → S → S) (state : S) (r : Result (TurnState P) Counter)
+    → Counts (λ (v : TurnState P). of (record { state = put v.state state; out = v.out })) needs n r → Counts of needs n (put_back put state r)
 put-counts of needs n put state (Ok v) h = h
 put-counts of needs n put state (Err counter) h = h
 
 -- a step of one part of the state
-pub counts-within : {S P : Type 0} (of : Working S → State) (needs n : Numbers) (get : S → P) (put : P → S → S) (step : Working P → Result (Working P) Counter)
-    (w : Working S)
-    → Counts (λ (v : Working P). of (record { state = put v.state w.state; out = v.out })) needs n (step (record { state = get w.state; out = w.out }))
-    → Counts of needs n (within get put step w)
-unfolding within
+pub counts-within : {S P : Type 0} (of : TurnState S → State) (needs n : Numbers) (get : S → P) (put : P → S → S) (step : TurnState P → Result (TurnState P) Counter)
+    (w : TurnState S)
+    → Counts (λ (v : TurnState P). of (record { state = put v.state w.state; out = v.out })) needs n (step (record { state = get w.state; out = w.out }))
+    → Counts of needs n (lifted get put step w)
+unfolding lifted
 counts-within of needs n get put step w h = put-counts of needs n put w.state (step (record { state = get w.state; out = w.out })) h
 
 -- the session after a step
-abbrev pub state_at : Working State → State
+abbrev pub state_at : TurnState State → State
 state_at w = w.state
 
 -- files that have changed are to be processed once
@@ -199,7 +199,7 @@ pending files = if has_changed files then 1 else 0
 abbrev pub ahead : State → State
 ahead s = record s { files = record s.files { host = record s.files.host { revision = s.files.host.revision + pending s.files } } }
 
-abbrev pub state_ahead : Working State → State
+abbrev pub state_ahead : TurnState State → State
 state_ahead w = ahead w.state
 
 -- those that were given, with that revision
@@ -216,7 +216,7 @@ pub gives-versions : (s : State) (workspaces : Workspaces) → workspaces.versio
     → workspaces.loader_version ≤ s.workspaces.loader_version + 1
     → AtMost (given (with_workspaces workspaces s)) (both (given s) (record none { versions = 1; settings = 1 }))
 gives-versions s workspaces version settings =
-    at-most _ _ (still s.desk.turns 0) (still s.desk.handed 0) (still s.client.asked.given 0) (still s.files.host.revision 0)
+    at-most _ _ (still s.desk.turns 0) (still s.desk.last_job 0) (still s.client.asked.given 0) (still s.files.host.revision 0)
     (still (files_given s.files.table) 0) version settings
 
 -- ---- requests of the session's own
@@ -227,13 +227,13 @@ requests n = record none { requests = n }
 gives-requests : (s : State) (client : Client) (n : ℕ) → client.asked.given ≤ s.client.asked.given + n
     → AtMost (given (with_client client s)) (both (given s) (requests n))
 gives-requests s client n le =
-    at-most _ _ (still s.desk.turns 0) (still s.desk.handed 0) le (still s.files.host.revision 0) (still (files_given s.files.table) 0)
+    at-most _ _ (still s.desk.turns 0) (still s.desk.last_job 0) le (still s.files.host.revision 0) (still (files_given s.files.table) 0)
     (still s.workspaces.version 0)
     (still s.workspaces.loader_version 0)
 
-asked-cases : (message : Outgo) (handler : ReqHandler) (s : State) (w : Working Client) (b : Bool) → w.state ≡ s.client
+asked-cases : (message : Outgo) (handler : ReqHandler) (s : State) (w : TurnState Client) (b : Bool) → w.state ≡ s.client
     → (w.state.asked.given == number_limit) ≡ b
-    → Counts (λ (v : Working Client). with_client v.state s) (requests 1) (given s)
+    → Counts (λ (v : TurnState Client). with_client v.state s) (requests 1) (given s)
     (if b then Err counters.Outgoing else Ok (written (request_at w.state.asked.given message) (record w { state = after_asking handler w.state })))
 unfolding written
 asked-cases message handler s w true its all =
@@ -241,7 +241,7 @@ asked-cases message handler s w true its all =
 asked-cases message handler s w false its some =
     let same = ap (λ (c : Client). c.asked.given) its in gives-requests s (after_asking handler w.state) 1 (omega (arith, same))
 
-pub request-counts : (message : Outgo) (handler : ReqHandler) (w : Working State)
+pub request-counts : (message : Outgo) (handler : ReqHandler) (w : TurnState State)
     → Counts state_ahead (requests 1) (held w.state) (at_client (asked_for message handler) w)
 unfolding asked_for
 request-counts message handler w =
@@ -256,7 +256,7 @@ turns n = record none { turns = n }
 abbrev pub jobs : ℕ → Numbers
 jobs n = record none { jobs = n }
 
-pub gives-desk : (needs : Numbers) (s : State) (desk : Desk) → desk.turns ≤ s.desk.turns + needs.turns → desk.handed ≤ s.desk.handed + needs.jobs
+pub gives-desk : (needs : Numbers) (s : State) (desk : Desk) → desk.turns ≤ s.desk.turns + needs.turns → desk.last_job ≤ s.desk.last_job + needs.jobs
     → AtMost (given (with_desk desk s)) (both (given s) needs)
 gives-desk needs s desk turns jobs =
     at-most _ _ turns jobs (still s.client.asked.given needs.requests) (still s.files.host.revision needs.revisions)
@@ -269,14 +269,14 @@ pub next-counts : {Y : Type 0} (of : Y → State) (needs before : Numbers) (n : 
 next-counts of needs before n counter f true is gives short = gives
 next-counts of needs before n counter f false is gives short = short (ltb-false n (2 ^ 64 - 1) is)
 
-pub job-counts : (snapshot : SnapshotData) (kind : JobKind) (w : Working State)
+pub job-counts : (snapshot : SnapshotData) (kind : JobKind) (w : TurnState State)
     → Counts state_ahead (jobs 1) (held w.state) (at_desk (handed_over snapshot Worker kind) w)
 unfolding ordered
 job-counts snapshot kind w =
     counts-within state_ahead (jobs 1) (held w.state) desk_in with_desk (handed_over snapshot Worker kind) w
-    (next-counts (λ (v : Working Desk). with_desk v.state (ahead w.state)) (jobs 1) (held w.state) w.state.desk.handed counters.Jobs _
-    (ltb w.state.desk.handed (2 ^ 64 - 1)) refl
-    (gives-desk (jobs 1) (ahead w.state) (record w.state.desk { handed = w.state.desk.handed + 1 }) (omega arith) (omega arith)) (λ last. omega (arith, last)))
+    (next-counts (λ (v : TurnState Desk). with_desk v.state (ahead w.state)) (jobs 1) (held w.state) w.state.desk.last_job counters.Jobs _
+    (ltb w.state.desk.last_job (2 ^ 64 - 1)) refl
+    (gives-desk (jobs 1) (ahead w.state) (record w.state.desk { last_job = w.state.desk.last_job + 1 }) (omega arith) (omega arith)) (λ last. omega (arith, last)))
 
 -- ---- the numbers of files
 
@@ -290,7 +290,7 @@ CountsFiles n s r = Counts (λ (now : SessionFiles). with_files now s) (files n)
 gives-files : (s : State) (now : SessionFiles) (n m : ℕ) → files_given now.table ≤ files_given s.files.table + n → now.host.revision ≤ s.files.host.revision + m
     → AtMost (given (with_files now s)) (both (given s) (record none { files = n; revisions = m }))
 gives-files s now n m files revisions =
-    at-most _ _ (still s.desk.turns 0) (still s.desk.handed 0) (still s.client.asked.given 0) revisions files
+    at-most _ _ (still s.desk.turns 0) (still s.desk.last_job 0) (still s.client.asked.given 0) revisions files
     (still s.workspaces.version 0) (still s.workspaces.loader_version 0)
 
 abbrev TableGives : {X : Type 0} → (X → Files) → Files → Result X TableFault → Type 0
@@ -437,7 +437,7 @@ world-counts : (s : State) (host : HostData) (now : SessionFiles) (n : ℕ) (b :
     → files_given now.table ≡ files_given s.files.table → pending now + 1 ≤ pending s.files + n
     → Counts (files_ahead s) (revisions n) (held s) (world_put (if b then Ok host else Err Exhausted) now)
 world-counts s host now n true is once table few =
-    at-most _ _ (still s.desk.turns 0) (still s.desk.handed 0) (still s.client.asked.given 0) (omega (arith, once, few)) (omega (arith, table))
+    at-most _ _ (still s.desk.turns 0) (still s.desk.last_job 0) (still s.client.asked.given 0) (omega (arith, once, few)) (omega (arith, table))
     (still s.workspaces.version 0) (still s.workspaces.loader_version 0)
 world-counts s host now n false is once table few = let last = ltb-false s.files.host.revision (2 ^ 64 - 1) is in omega (arith, last, few)
 
@@ -449,7 +449,7 @@ list-counts : (roots : List Root) (list : List ChangedFile) (s : State) → chan
     → Counts (files_ahead s) none (held s) (with_changes roots list (taken_up s.files))
 list-counts roots [] s is =
     let left : pending (taken_up s.files) ≡ 0 = none-pending s.files in
-    at-most _ _ (still s.desk.turns 0) (still s.desk.handed 0) (still s.client.asked.given 0) (omega (arith, left)) (still (files_given s.files.table) 0)
+    at-most _ _ (still s.desk.turns 0) (still s.desk.last_job 0) (still s.client.asked.given 0) (omega (arith, left)) (still (files_given s.files.table) 0)
     (still s.workspaces.version 0) (still s.workspaces.loader_version 0)
 list-counts roots (file ∷ later) s is =
     let left : pending (taken_up s.files) ≡ 0 = none-pending s.files in
@@ -466,7 +466,7 @@ unfolding after_crates
 crates-count roots crates s = world-counts s _ s.files 1 (ltb s.files.host.revision (2 ^ 64 - 1)) refl refl refl (omega arith)
 
 -- files that come to this, as a step of them
-pub become-counts : (of : SessionFiles → State) (needs before : Numbers) (r : Result SessionFiles Counter) (w : Working SessionFiles)
-    → Counts of needs before r → Counts (λ (v : Working SessionFiles). of v.state) needs before (become r w)
+pub become-counts : (of : SessionFiles → State) (needs before : Numbers) (r : Result SessionFiles Counter) (w : TurnState SessionFiles)
+    → Counts of needs before r → Counts (λ (v : TurnState SessionFiles). of v.state) needs before (become r w)
 become-counts of needs before (Ok now) w h = h
 become-counts of needs before (Err counter) w h = h

@@ -18,7 +18,7 @@ use Rattle.project_model.specs.declared.crates.CrateData.{CrateData}
 use Rattle.layered_settings.specs.declared.change.ConfigChange.{ConfigChange}
 use Rattle.ra_config.specs.declared.capabilities.Capabilities.{Capabilities}
 use Rattle.session_port.specs.Jobs.{Jobs, jobs_after}
-use Rattle.session_port.specs.Working.{Working, and_then, logged, ordered, within, written}
+use Rattle.session_port.specs.TurnState.{TurnState, and_then, logged, ordered, lifted, written}
 use Rattle.session_port.specs.declared.command.DeferredTask.{DeferredTask}
 use Rattle.session_port.specs.declared.command.DeferredTask.TheVariants.{CheckIfIndexed, CheckProcMacroSources}
 use Rattle.session_port.specs.declared.command.LogCode.{LogCode}
@@ -94,7 +94,7 @@ use Rattle.session_model.specs.State.{State, columns_in, discovers, excludes_in,
 use Rattle.session_model.specs.Status.{opens_logs, shown_of, status_message, status_now, takes_status}
 use Rattle.session_model.specs.Switching.{switch_made}
 use Rattle.session_model.specs.Timing.{bring_files, effects_for, fetch_planned, renewed_if}
-use Rattle.session_model.specs.declared.facts.Facts.{Facts}
+use Rattle.session_model.specs.declared.facts.FactsBefore.{FactsBefore}
 use Rattle.session_model.specs.declared.heard.Heard.{Heard}
 use Rattle.session_model.specs.declared.heard.Heard.TheVariants.{Told, Malformed, Unhandled, Silent}
 use Rattle.session_model.specs.declared.input.Event.{Event}
@@ -117,25 +117,25 @@ use Rattle.session_laws.proofs.Switching.{loader-same, warned-same}
 use Rattle.session_laws.proofs.Telling.{answered-does, folders-do}
 
 -- from here on a step gives no more numbers than these
-abbrev Does : Numbers → Working State → Result (Working State) Counter → Type 0
+abbrev Does : Numbers → TurnState State → Result (TurnState State) Counter → Type 0
 Does needs w r = Counts state_ahead needs (held w.state) r
 
-does-same : (needs : Numbers) (w v : Working State) → held v.state ≡ held w.state → Does needs w (Ok v)
+does-same : (needs : Numbers) (w v : TurnState State) → held v.state ≡ held w.state → Does needs w (Ok v)
 does-same needs w v same = gives-same needs (held w.state) (held v.state) same
 
-does-then : (a b : Numbers) (w : Working State) (r : Result (Working State) Counter) (f : Working State → Result (Working State) Counter) → Does a w r
-    → ((v : Working State) → Does b v (f v))
+does-then : (a b : Numbers) (w : TurnState State) (r : Result (TurnState State) Counter) (f : TurnState State → Result (TurnState State) Counter) → Does a w r
+    → ((v : TurnState State) → Does b v (f v))
     → Does (both a b) w (and_then r f)
 does-then a b w r f p q = counts-then state_ahead state_ahead a b (held w.state) r f p (λ v is. q v)
 
 -- and then nothing changes that is counted
-then-same : (needs : Numbers) (w : Working State) (r : Result (Working State) Counter) (f : Working State → Working State)
-    → ((v : Working State) → held (f v).state ≡ held v.state) → Does needs w r
+then-same : (needs : Numbers) (w : TurnState State) (r : Result (TurnState State) Counter) (f : TurnState State → TurnState State)
+    → ((v : TurnState State) → held (f v).state ≡ held v.state) → Does needs w r
     → Does needs w (and_then r (λ v. Ok (f v)))
 then-same needs w (Ok v) f same h = subst (λ (n : Numbers). AtMost n (both (held w.state) needs)) (sym (same v)) h
 then-same needs w (Err counter) f same h = h
 
-from-same : (needs : Numbers) (w v : Working State) (r : Result (Working State) Counter) → held v.state ≡ held w.state → Does needs v r → Does needs w r
+from-same : (needs : Numbers) (w v : TurnState State) (r : Result (TurnState State) Counter) → held v.state ≡ held w.state → Does needs v r → Does needs w r
 from-same needs w v r same h = subst (λ (n : Numbers). Counts state_ahead needs n r) same h
 
 held-workspaces : (s : State) (workspaces : Workspaces) → versions_of workspaces ≡ versions_of s.workspaces → held (with_workspaces workspaces s) ≡ held s
@@ -146,12 +146,12 @@ same-state s t same = ap held same
 
 -- ---- requests of the session's own
 
-asked_if-does : (wanted : Bool) (message : Outgo) (w : Working State) → Does (requests 1) w (asked_if wanted message w)
+asked_if-does : (wanted : Bool) (message : Outgo) (w : TurnState State) → Does (requests 1) w (asked_if wanted message w)
 unfolding asked_if
 asked_if-does true message w = request-counts message Ignore w
 asked_if-does false message w = does-same (requests 1) w w refl
 
-refreshed-does : (can : Capabilities) (w : Working State) → Does (requests 4) w (client_refreshed can w)
+refreshed-does : (can : Capabilities) (w : TurnState State) → Does (requests 4) w (client_refreshed can w)
 unfolding client_refreshed
 refreshed-does can w =
     does-then (requests 1) (requests 3) w (asked_if can.semantic_tokens_refresh SemanticTokensRefresh w) _
@@ -160,28 +160,28 @@ refreshed-does can w =
     (λ u. does-then (requests 1) (requests 1) u (asked_if can.inlay_hints_refresh InlayHintRefresh u) (asked_if can.diagnostics_refresh DiagnosticRefresh)
     (asked_if-does can.inlay_hints_refresh InlayHintRefresh u) (asked_if-does can.diagnostics_refresh DiagnosticRefresh)))
 
-quiet-does : (facts : Facts) (w : Working State) → Does (requests 4) w (quiet_done facts w)
+quiet-does : (facts : FactsBefore) (w : TurnState State) → Does (requests 4) w (quiet_done facts w)
 unfolding quiet_done
 quiet-does facts w =
     counts-if state_ahead (requests 4) (held w.state) _ (client_refreshed w.state.client.settings.capabilities w) (Ok w)
     (refreshed-does w.state.client.settings.capabilities w) (does-same (requests 4) w w refl)
 
-registered-does : (w : Working State) → Does (requests 1) w (saves_registered w)
+registered-does : (w : TurnState State) → Does (requests 1) w (saves_registered w)
 unfolding saves_registered
 registered-does w = asked_if-does _ _ w
 
-watched-does : (w : Working State) → Does (requests 1) w (watchers_registered w)
+watched-does : (w : TurnState State) → Does (requests 1) w (watchers_registered w)
 unfolding watchers_registered
 watched-does w = asked_if-does _ _ w
 
-shown-does : (button : Bool) (text : Option (List ℕ × MessageKind)) (w : Working State) → Does (requests 1) w (text_shown button text w)
+shown-does : (button : Bool) (text : Option (List ℕ × MessageKind)) (w : TurnState State) → Does (requests 1) w (text_shown button text w)
 unfolding text_shown written
 shown-does true None w = does-same (requests 1) w w refl
 shown-does false None w = does-same (requests 1) w w refl
 shown-does true (Some text) w = request-counts (ShowMessageRequest text.0 text.1) OpenLogs w
 shown-does false (Some text) w = does-same (requests 1) w (written (notification_of (ShowMessage text.0 text.1)) w) refl
 
-status-does : (w : Working State) → Does (requests 1) w (status_done w)
+status-does : (w : TurnState State) → Does (requests 1) w (status_done w)
 unfolding status_done status_kept status_changed status_told written
 status-does w =
     let now = status_now w.state.client w.state.files w.state.workspaces in
@@ -194,30 +194,30 @@ status-does w =
 -- ---- the world
 
 -- the same with the revisions that were given
-abbrev Gives : Numbers → Working State → Result (Working State) Counter → Type 0
+abbrev Gives : Numbers → TurnState State → Result (TurnState State) Counter → Type 0
 Gives needs w r = Counts state_at needs (given w.state) r
 
-files-do : (needs : Numbers) (w : Working State) (work : Working SessionFiles → Result (Working SessionFiles) Counter)
-    → Counts (λ (v : Working SessionFiles). with_files v.state w.state) needs (given w.state) (work (record { state = w.state.files; out = w.out }))
+files-do : (needs : Numbers) (w : TurnState State) (work : TurnState SessionFiles → Result (TurnState SessionFiles) Counter)
+    → Counts (λ (v : TurnState SessionFiles). with_files v.state w.state) needs (given w.state) (work (record { state = w.state.files; out = w.out }))
     → Gives needs w (at_files work w)
 files-do needs w work h = counts-within state_at needs (given w.state) files_in with_files work w h
 
-world-do : (needs : Numbers) (w : Working State) (work : Working SessionFiles → Result (Working SessionFiles) Counter)
-    → Counts (λ (v : Working SessionFiles). files_ahead w.state v.state) needs (held w.state) (work (record { state = w.state.files; out = w.out }))
+world-do : (needs : Numbers) (w : TurnState State) (work : TurnState SessionFiles → Result (TurnState SessionFiles) Counter)
+    → Counts (λ (v : TurnState SessionFiles). files_ahead w.state v.state) needs (held w.state) (work (record { state = w.state.files; out = w.out }))
     → Does needs w (at_files work w)
 world-do needs w work h = counts-within state_ahead needs (held w.state) files_in with_files work w h
 
-crates-do : (roots : List Root) (crates : CrateData) (w : Working State) → Does (revisions 1) w (at_files (crates_put roots crates) w)
+crates-do : (roots : List Root) (crates : CrateData) (w : TurnState State) → Does (revisions 1) w (at_files (crates_put roots crates) w)
 unfolding crates_put
 crates-do roots crates w = world-do (revisions 1) w (crates_put roots crates)
     (become-counts (files_ahead w.state) (revisions 1) (held w.state) _ _ (crates-count roots crates w.state))
 
-arrived-does : (crates : Option CrateData) (w : Working State) → Does (revisions 1) w (crates_arrived crates w)
+arrived-does : (crates : Option CrateData) (w : TurnState State) → Does (revisions 1) w (crates_arrived crates w)
 unfolding crates_arrived
 arrived-does None w = does-same (revisions 1) w w refl
 arrived-does (Some crates) w = crates-do w.state.sources.roots crates w
 
-built-does : (built : Bool) (w : Working State) → Does (revisions 1) w (crates_built built w)
+built-does : (built : Bool) (w : TurnState State) → Does (revisions 1) w (crates_built built w)
 unfolding crates_built
 built-does false w = does-same (revisions 1) w w refl
 built-does true w = crates-do w.state.sources.roots (crate_data w.state.client.settings w.state.files.ids w.state.workspaces.present) w
@@ -227,45 +227,45 @@ change-asks : (change : Option ConfigChange) (client : Client) → (client_with 
 change-asks None client = refl
 change-asks (Some change) client = refl
 
-followed-same : (changes : List ChangedFile) (w : Working State) → held (files_followed changes w).state ≡ held w.state
+followed-same : (changes : List ChangedFile) (w : TurnState State) → held (files_followed changes w).state ≡ held w.state
 unfolding files_followed effects_done settings_filed fetch_waits
 followed-same [] w = refl
 followed-same (change ∷ changes) w =
     let effects = effects_for w.state.client.settings (change ∷ changes) w.state.workspaces in
     let filed = settings_filed effects.settings w in
     let settings = change_for effects.settings w.state.files.host.world.roots w.state.sources w.state.workspaces.present in
-    let put : Working State = record w { state = with_sources (parents_told w.state.sources) (with_client (client_with settings w.state.client) w.state) } in
+    let put : TurnState State = record w { state = with_sources (parents_told w.state.sources) (with_client (client_with settings w.state.client) w.state) } in
     let deferred = sources_deferred effects.macro_sources filed in
     held-workspaces deferred.state (fetch_planned deferred.state.desk.turns effects.fetch deferred.state.workspaces)
     (planned-runs deferred.state.desk.turns effects.fetch deferred.state.workspaces).versions
     ∙ same-state put.state deferred.state (deferred-same effects.macro_sources filed ∙ further-same (further_files settings) put)
     ∙ ap (λ (request_taken : Outgoing ReqHandler). record (held w.state) { requests = request_taken.given }) (change-asks settings w.state.client)
 
-processed-does : (w : Working State) → Does none w (files_processed w)
+processed-does : (w : TurnState State) → Does none w (files_processed w)
 unfolding files_processed processed
 processed-does w =
     then-same none w (at_files (processed w.state.sources.roots) w) (files_followed (changed_files w.state.files)) (followed-same (changed_files w.state.files))
     (world-do none w (processed w.state.sources.roots)
     (become-counts (files_ahead w.state) none (held w.state) _ _ (processing-counts w.state.sources.roots w.state)))
 
-processed_if-does : (b : Bool) (w : Working State) → Does none w (files_processed_if b w)
+processed_if-does : (b : Bool) (w : TurnState State) → Does none w (files_processed_if b w)
 unfolding files_processed_if
 processed_if-does true w = processed-does w
 processed_if-does false w = does-same none w w refl
 
-done-does : (w : Working State) → Does none w (files_done w)
+done-does : (w : TurnState State) → Does none w (files_done w)
 unfolding files_done
 done-does w = counts-if state_ahead none (held w.state) w.state.files.loading (Ok w) (files_processed w) (does-same none w w refl) (processed-does w)
 
 -- ---- a switch
 
-followed-does : (next : Follows) (w : Working State) → Does (requests 1) w (switch_followed next w)
+followed-does : (next : Follows) (w : TurnState State) → Does (requests 1) w (switch_followed next w)
 unfolding switch_followed roots_renewed
 followed-does follows.Nothing w = does-same (requests 1) w w refl
 followed-does follows.CrateData w = does-same (requests 1) w w refl
 followed-does (follows.Wait msrv) w = does-same (requests 1) w (warned msrv w) (same-state w.state (warned msrv w).state (warned-same msrv w))
 followed-does (follows.GoOn msrv version initial) w =
-    let v : Working State = warned msrv w in
+    let v : TurnState State = warned msrv w in
     then-same (requests 1) w (watchers_registered v) (λ u. roots_renewed (loader_set version u))
     (λ u. same-state u.state (loader_set version u).state (loader-same version u))
     (from-same (requests 1) w v (watchers_registered v) (same-state w.state v.state (warned-same msrv w)) (watched-does v))
@@ -274,12 +274,12 @@ followed-does (follows.GoOn msrv version initial) w =
 abbrev for_switch : Numbers
 for_switch = record none { requests = 1; revisions = 1; versions = 1; settings = 1 }
 
-switch-cases : (made : Result (Follows × Workspaces) Counter) (w : Working State) → Outcome w.state.workspaces made
+switch-cases : (made : Result (Follows × Workspaces) Counter) (w : TurnState State) → Outcome w.state.workspaces made
     → Does for_switch w (switch_taken made w)
 unfolding switch_taken
 switch-cases (Err counter) w refused = subst (AreTooMany (held w.state) for_switch) (sym refused.0) refused.1
 switch-cases (Ok made) w makes =
-    let now : Working State = at_workspaces (λ before. made.1) w in
+    let now : TurnState State = at_workspaces (λ before. made.1) w in
     counts-behind state_ahead (record none { versions = 1; settings = 1 }) (record none { requests = 1; revisions = 1 }) (held w.state) (held now.state) _
     (gives-versions (ahead w.state) made.1 makes.version
     (next-most w.state.workspaces.loader_version made.1.loader_version made.0 makes.next))
@@ -287,7 +287,7 @@ switch-cases (Ok made) w makes =
     (followed-does made.0 now)
     (built-does (builds_crates w.state.client.settings made.0)))
 
-switch-does : (w : Working State) → Does for_switch w (switch_done w)
+switch-does : (w : TurnState State) → Does for_switch w (switch_done w)
 unfolding switch_done
 switch-does w = switch-cases (switch_made w.state.client.settings w.state.files w.state.workspaces) w
     (switch-makes w.state.client.settings w.state.files w.state.workspaces)
@@ -295,24 +295,24 @@ switch-does w = switch-cases (switch_made w.state.client.settings w.state.files 
 -- ---- jobs of the session's own
 
 -- the session's own work that starts is that which is due
-fetch-does : (may : Bool) (w : Working State) → Does (jobs (length (fetch_job w.state (fetch_to_start may w.state.workspaces.fetches)))) w (fetch_started may w)
+fetch-does : (may : Bool) (w : TurnState State) → Does (jobs (length (fetch_job w.state (fetch_to_start may w.state.workspaces.fetches)))) w (fetch_started may w)
 unfolding fetch_started fetch_handed_over
 fetch-does may w = by_fetch (fetch_to_start may w.state.workspaces.fetches)
   where
-    now : Working State
+    now : TurnState State
     now = at_workspaces (with_fetches (start_fetch may)) w
 
     by_fetch : (fetch : Option (List ℕ × FetchRequest)) → Does (jobs (length (fetch_job w.state fetch))) w (fetch_handed_over fetch now)
     by_fetch None = does-same (jobs 0) w now refl
     by_fetch (Some fetch) = job-counts (snapshot_of now.state) _ now
 
-load-does : (s : State) (load : Option MacroPaths) (w : Working State) → Does (jobs (length (load_job s load))) w (load_handed_over load w)
+load-does : (s : State) (load : Option MacroPaths) (w : TurnState State) → Does (jobs (length (load_job s load))) w (load_handed_over load w)
 unfolding load_handed_over
 load-does s None w = does-same (jobs 0) w w refl
 load-does s (Some paths) w = job-counts (snapshot_of w.state) _ w
 
 -- no load starts where build data does
-run-does : (s : State) (build : Option ℕ) (w : Working State) → load_due build w.state.workspaces ≡ load_due build s.workspaces
+run-does : (s : State) (build : Option ℕ) (w : TurnState State) → load_due build w.state.workspaces ≡ load_due build s.workspaces
     → Does (jobs (length (build_job s build ++ load_behind build s))) w (and_then (build_handed_over build w) (load_started build))
 unfolding build_handed_over load_started load_handed_over
 run-does s None w same =
@@ -322,17 +322,17 @@ run-does s None w same =
 run-does s (Some version) w same =
     then-same (jobs 1) w (build_handed_over (Some version) w) (at_workspaces (with_due_load (Some version))) (λ v. refl) (job-counts (snapshot_of w.state) _ w)
 
-runs-do : (w : Working State) → Does (jobs (length (run_jobs w.state))) w (runs_started w)
+runs-do : (w : TurnState State) → Does (jobs (length (run_jobs w.state))) w (runs_started w)
 unfolding runs_started build_started
 runs-do w = run-does w.state (build_due w.state.workspaces) (at_workspaces with_due_build w) (load-due-same (build_due w.state.workspaces) w.state.workspaces)
 
 -- as many as two are
-jobs-then : (n m all : ℕ) (w : Working State) (r : Result (Working State) Counter) (f : Working State → Result (Working State) Counter) → n + m ≡ all
+jobs-then : (n m all : ℕ) (w : TurnState State) (r : Result (TurnState State) Counter) (f : TurnState State → Result (TurnState State) Counter) → n + m ≡ all
     → Does (jobs n) w r
-    → ((v : Working State) → Does (jobs m) v (f v)) → Does (jobs all) w (and_then r f)
+    → ((v : TurnState State) → Does (jobs m) v (f v)) → Does (jobs all) w (and_then r f)
 jobs-then n m all w r f sum p q = subst (λ k. Does (jobs k) w (and_then r f)) sum (does-then (jobs n) (jobs m) w r f p q)
 
-resumed-do : (s : State) (tasks : List DeferredTask) (w : Working State) → Does (jobs (length (checks_among_tasks s tasks))) w (all_resumed tasks w)
+resumed-do : (s : State) (tasks : List DeferredTask) (w : TurnState State) → Does (jobs (length (checks_among_tasks s tasks))) w (all_resumed tasks w)
 unfolding resumed
 resumed-do s [] w = does-same (jobs 0) w w refl
 resumed-do s (CheckIfIndexed path ∷ tasks) w = resumed-do s tasks w
@@ -353,21 +353,21 @@ many-jobs : (given before n most : ℕ) → before ≡ given → n ≤ most → 
 many-jobs given before n most p le h = omega (arith, p, le, h)
 
 -- what the desk does hands over these jobs
-desk-counts : (needs : Numbers) (s : State) (request : Option Request) (w : Working Desk) (done : Reaction) (out : Jobs) (r : Result (Working Desk) Counter)
+desk-counts : (needs : Numbers) (s : State) (request : Option Request) (w : TurnState Desk) (done : Reaction) (out : Jobs) (r : Result (TurnState Desk) Counter)
     → w.state.turns ≡ s.desk.turns
-    → w.state.handed ≡ s.desk.handed → length done.jobs ≤ needs.jobs → IfOk r (λ v. Settled request w v done out) → IfErr r (TooMany w.state.handed done)
-    → Counts (λ (v : Working Desk). with_desk v.state s) needs (given s) r
-desk-counts needs s request w done out (Ok v) turns handed few settles errs =
+    → w.state.last_job ≡ s.desk.last_job → length done.jobs ≤ needs.jobs → IfOk r (λ v. Settled request w v done out) → IfErr r (TooMany w.state.last_job done)
+    → Counts (λ (v : TurnState Desk). with_desk v.state s) needs (given s) r
+desk-counts needs s request w done out (Ok v) turns last_job few settles errs =
     gives-desk needs s v.state (few-turns s.desk.turns w.state.turns v.state.turns needs.turns turns settles.turns)
-    (few-jobs s.desk.handed w.state.handed v.state.handed (length done.jobs) needs.jobs handed settles.handed few)
-desk-counts needs s request w done out (Err counter) turns handed few settles errs =
-    subst (AreTooMany (given s) needs) (sym errs.0) (many-jobs s.desk.handed w.state.handed (length done.jobs) needs.jobs handed few errs.1)
+    (few-jobs s.desk.last_job w.state.last_job v.state.last_job (length done.jobs) needs.jobs last_job settles.last_job few)
+desk-counts needs s request w done out (Err counter) turns last_job few settles errs =
+    subst (AreTooMany (given s) needs) (sym errs.0) (many-jobs s.desk.last_job w.state.last_job (length done.jobs) needs.jobs last_job few errs.1)
 
 request-does : (meaning : Meaning) (s : State) (r : Request) (needs : Numbers)
     → length (turn_row meaning (Next (Lsp (lsp.Request r))) (place_of_state s)).jobs ≤ needs.jobs
     → Does needs (turn_begun s) (request_taken meaning r (turn_begun s))
 request-does meaning s r needs few =
-    let w : Working State = turn_begun s in
+    let w : TurnState State = turn_begun s in
     let done = request_row meaning (scene_of s) w.state.desk (s.desk.turns + 1) r in
     let same = request-turns meaning (scene_of s) s.desk (s.desk.turns + 1) (s.desk.turns + 1) r in
     then-same needs w (at_desk (requested meaning (scene_of s) r) w) (at_workspaces (request_told r w.state.desk))
@@ -380,27 +380,27 @@ request-does meaning s r needs few =
 -- ---- batches
 
 -- ends of jobs give no number
-logged-same : (code : LogCode) (text : Option (List ℕ)) (w : Working State) → held (logged_if code text w).state ≡ held w.state
+logged-same : (code : LogCode) (text : Option (List ℕ)) (w : TurnState State) → held (logged_if code text w).state ≡ held w.state
 logged-same code text w = same-state w.state (logged_if code text w).state (logged_if-same code text w)
 
-kept-same : (end : WorkEnd) (w : Working State) → held (at_workspaces (work_kept end) w).state ≡ held w.state
+kept-same : (end : WorkEnd) (w : TurnState State) → held (at_workspaces (work_kept end) w).state ≡ held w.state
 kept-same end w = held-workspaces w.state (work_kept end w.state.workspaces) (work-versions end w.state.workspaces)
 
 -- but that of a load of macros may bring crate data into the world
-work-does : (end : WorkEnd) (w : Working State) → Does (revisions 1) w (work_taken end w)
+work-does : (end : WorkEnd) (w : TurnState State) → Does (revisions 1) w (work_taken end w)
 unfolding work_taken fetch_taken build_taken load_taken macros_taken
 work-does (Fetched found) w = does-same (revisions 1) w (fetch_taken found w)
     (logged-same _ _ (at_workspaces (fetch_kept found) w) ∙ kept-same (Fetched found) w)
 work-does (Built made) w = does-same (revisions 1) w (build_taken made w) (logged-same _ _ (at_workspaces (build_kept made) w) ∙ kept-same (Built made) w)
 work-does (Checked roots) w = does-same (revisions 1) w (at_workspaces (check_kept roots) w) (kept-same (Checked roots) w)
 work-does (Loaded told) w =
-    let l : Working State = at_workspaces (load_kept told) w in
+    let l : TurnState State = at_workspaces (load_kept told) w in
     let crates : Option CrateData = crates_loaded told w.state.workspaces in
     from-same (revisions 1) w l (and_then (crates_arrived crates l) (files_processed_if (is_some crates))) (kept-same (Loaded told) w)
     (does-then (revisions 1) none l (crates_arrived crates l) (files_processed_if (is_some crates)) (arrived-does crates l)
     (processed_if-does (is_some crates)))
 
-end-does : (end : Option WorkEnd) (w : Working State) → Does (revisions 1) w (end_taken end w)
+end-does : (end : Option WorkEnd) (w : TurnState State) → Does (revisions 1) w (end_taken end w)
 unfolding end_taken
 end-does None w = does-same (revisions 1) w w refl
 end-does (Some end) w = work-does end w
@@ -412,7 +412,7 @@ for_messages jobs revisions = record none { jobs = jobs; revisions = revisions }
 plus-none : (n : ℕ) → n + 0 ≡ n
 plus-none n = omega arith
 
-taken-does : (meaning : Meaning) (turns : ℕ) (message : TaskMsg) (w : Working State)
+taken-does : (meaning : Meaning) (turns : ℕ) (message : TaskMsg) (w : TurnState State)
     → Does (for_messages (length (message_row meaning (scene_of w.state) (record w.state.desk { turns = turns }) message).jobs) 1) w
     (message_taken meaning message w)
 unfolding message_taken
@@ -430,7 +430,7 @@ taken-does meaning turns message w =
     (message-settles meaning scene message (at w)) (message-errs meaning scene message (at w))))
     (end-does (work_ended message out)))
 
-batch-does : (meaning : Meaning) (turns : ℕ) (s : State) (batch : List TaskMsg) (w : Working State) → Stays s w.state
+batch-does : (meaning : Meaning) (turns : ℕ) (s : State) (batch : List TaskMsg) (w : TurnState State) → Stays s w.state
     → Does (for_messages (length (batch_row meaning batch w (place_now s turns w)).jobs) (length batch)) w (batched meaning batch w)
 batch-does meaning turns s [] w h = does-same (for_messages 0 0) w w refl
 batch-does meaning turns s (m ∷ ms) w h =
@@ -461,13 +461,13 @@ for_event meaning s input = record none {
   files = file_count input;
 }
 
-gives-none : (needs : Numbers) (w v : Working State) → given v.state ≡ given w.state → Gives needs w (Ok v)
+gives-none : (needs : Numbers) (w v : TurnState State) → given v.state ≡ given w.state → Gives needs w (Ok v)
 gives-none needs w v same = gives-same needs (given w.state) (given v.state) same
 
 -- files that it brings
-event-files : (meaning : Meaning) (s : State) (input : Input) (n : ℕ) (work : Working SessionFiles → Result (Working SessionFiles) Counter)
+event-files : (meaning : Meaning) (s : State) (input : Input) (n : ℕ) (work : TurnState SessionFiles → Result (TurnState SessionFiles) Counter)
     → file_count input ≡ n
-    → Counts (λ (v : Working SessionFiles). with_files v.state (turn_begun s).state) (files n) (given (turn_begun s).state)
+    → Counts (λ (v : TurnState SessionFiles). with_files v.state (turn_begun s).state) (files n) (given (turn_begun s).state)
     (work (record { state = s.files; out = (turn_begun s).out }))
     → Gives (for_event meaning s input) (turn_begun s) (at_files work (turn_begun s))
 event-files meaning s input n work count h =
@@ -486,11 +486,11 @@ opened-does meaning s n document (Ok path) one =
     (become-counts (λ now. with_files now (turn_begun s).state) (files 1) (given (turn_begun s).state) _ _
     (opening-counts excludes path document.version document.text (turn_begun s).state))
 
-edited-cases : (needs before : Numbers) (s : State) (b : Bool) (r : Result (Working SessionFiles) Counter) (w : Working SessionFiles)
-    → Counts (λ (v : Working SessionFiles). with_files v.state s) needs before r
-    → Counts (λ (v : Working SessionFiles). with_files v.state s) needs before (Ok w)
-    → Counts (λ (v : Working SessionFiles). with_files v.state s) needs before (if b then r else Ok w)
-edited-cases needs before s b r w p q = counts-if (λ (v : Working SessionFiles). with_files v.state s) needs before b r (Ok w) p q
+edited-cases : (needs before : Numbers) (s : State) (b : Bool) (r : Result (TurnState SessionFiles) Counter) (w : TurnState SessionFiles)
+    → Counts (λ (v : TurnState SessionFiles). with_files v.state s) needs before r
+    → Counts (λ (v : TurnState SessionFiles). with_files v.state s) needs before (Ok w)
+    → Counts (λ (v : TurnState SessionFiles). with_files v.state s) needs before (if b then r else Ok w)
+edited-cases needs before s b r w p q = counts-if (λ (v : TurnState SessionFiles). with_files v.state s) needs before b r (Ok w) p q
 
 changed-does : (meaning : Meaning) (s : State) (n : Notification) (change : DidChange) (o : Result (List ℕ) UrlFault) → file_count (notification_input n) ≡ 1
     → Gives (for_event meaning s (notification_input n)) (turn_begun s) (document_changed_at o change (turn_begun s))
@@ -512,7 +512,7 @@ closed-does needs s uri (Ok path) = files-do needs (turn_begun s) (λ f. Ok (clo
     (gives-same needs (given (turn_begun s).state) (given (turn_begun s).state) refl)
 
 -- from here on an event gives no more than these and the revision of files that have changed behind it
-abbrev EventDoes : Numbers → Working State → Result (Working State) Counter → Type 0
+abbrev EventDoes : Numbers → TurnState State → Result (TurnState State) Counter → Type 0
 EventDoes needs w r = Counts state_ahead (both needs (revisions 1)) (given w.state) r
 
 one-pending : (b : Bool) (revision most : ℕ) → revision ≤ most → revision + (if b then 1 else 0) ≤ most + 1
@@ -525,12 +525,12 @@ more-held s =
     (omega arith) (omega arith) (omega arith)
 
 -- where it changes files
-event-gives : (needs : Numbers) (w : Working State) (r : Result (Working State) Counter) → Gives needs w r → EventDoes needs w r
+event-gives : (needs : Numbers) (w : TurnState State) (r : Result (TurnState State) Counter) → Gives needs w r → EventDoes needs w r
 event-gives needs w (Ok v) h = gives-on needs (revisions 1) (given w.state) (given v.state) (held v.state) h (more-held v.state)
 event-gives needs w (Err counter) h = many-more needs (both needs (revisions 1)) (given w.state) counter (none-more needs (revisions 1)) h
 
 -- where it doesn't
-event-holds : (needs : Numbers) (w : Working State) (r : Result (Working State) Counter) → Does needs w r → EventDoes needs w r
+event-holds : (needs : Numbers) (w : TurnState State) (r : Result (TurnState State) Counter) → Does needs w r → EventDoes needs w r
 event-holds needs w r h =
     counts-more state_ahead (both (revisions 1) needs) (both needs (revisions 1)) (given w.state) r
     (at-most _ _ (omega arith) (omega arith) (omega arith) (omega arith) (omega arith) (omega arith) (omega arith))
@@ -540,15 +540,15 @@ saved-does : (needs : Numbers) (s : State) (uri : List ℕ) (o : Result (List �
 unfolding saved_at logged ordered
 saved-does needs s uri (Err fault) = does-same needs (turn_begun s) (logged BadPath uri (turn_begun s)) refl
 saved-does needs s uri (Ok path) =
-    let w : Working State = turn_begun s in
-    let noted : Working State = save_noted (is_unknown s.files.ids path) path w in
+    let w : TurnState State = turn_begun s in
+    let noted : TurnState State = save_noted (is_unknown s.files.ids path) path w in
     does-same needs w (saved_file path w)
     (held-workspaces noted.state (path_saved s.client.settings s.files path noted.state.workspaces)
     (save-runs 0 s.client.settings s.files path noted.state.workspaces).versions
     ∙ same-state w.state noted.state (noted-same (is_unknown s.files.ids path) path w))
 
 -- a step of what is agreed with the client that gives no number
-client-does : (needs : Numbers) (w : Working State) (step : Working Client → Working Client)
+client-does : (needs : Numbers) (w : TurnState State) (step : TurnState Client → TurnState Client)
     → (step (record { state = w.state.client; out = w.out })).state.asked.given ≡ w.state.client.asked.given
     → Does needs w (at_client (λ c. Ok (step c)) w)
 client-does needs w step same =
@@ -557,7 +557,7 @@ client-does needs w step same =
 
 folders-does : (needs : Numbers) (s : State) (added removed : List (List ℕ)) → Does needs (turn_begun s) (folders_taken added removed (turn_begun s))
 folders-does needs s added removed =
-    let client : Working Client = record { state = s.client; out = (turn_begun s).out } in
+    let client : TurnState Client = record { state = s.client; out = (turn_begun s).out } in
     then-same needs (turn_begun s) (at_client (λ c. Ok (folders_changed added removed c)) (turn_begun s))
     (at_workspaces (folders_told_if (goes_by_folders s.client.settings)))
     (λ v. held-workspaces v.state (folders_told_if (goes_by_folders s.client.settings) v.state.workspaces)
@@ -574,7 +574,7 @@ after-same (Some id) request_taken = without-same (number_of id) request_taken
 
 answer-does : (needs : Numbers) (s : State) (r : Response) → Does needs (turn_begun s) (answer_taken r (turn_begun s))
 answer-does needs s r =
-    let client : Working Client = record { state = s.client; out = (turn_begun s).out } in
+    let client : TurnState Client = record { state = s.client; out = (turn_begun s).out } in
     then-same needs (turn_begun s) (at_client (λ c. Ok (answered r c)) (turn_begun s))
     (λ v. at_workspaces (settings_told s.client.settings v.state.client.settings) v)
     (λ v. held-workspaces v.state (settings_told s.client.settings v.state.client.settings v.state.workspaces)
@@ -585,14 +585,14 @@ cancel-does : (meaning : Meaning) (s : State) (n : Notification) (id : RequestId
     → Does (for_event meaning s (notification_input n)) (turn_begun s) (at_desk (λ d. Ok (cancelled id d)) (turn_begun s))
 cancel-does meaning s n id heard =
     let needs = for_event meaning s (notification_input n) in
-    let w : Working State = turn_begun s in
+    let w : TurnState State = turn_begun s in
     let settles = cancel-settles id (at w) in
     let jobs : length (turn_row meaning (notification_input n) (place_of_state s)).jobs ≡ length (cancel_row id s.desk).jobs =
     ap (λ o. length (notice_row (cancelled_by o) s.desk).jobs) heard in
     counts-within state_ahead needs (held w.state) desk_in with_desk (λ d. Ok (cancelled id d)) w
     (gives-desk needs (ahead w.state) (cancelled id (at w)).state
     (few-turns w.state.desk.turns w.state.desk.turns (cancelled id (at w)).state.turns needs.turns refl settles.turns)
-    (few-jobs w.state.desk.handed w.state.desk.handed (cancelled id (at w)).state.handed (length (cancel_row id s.desk).jobs) needs.jobs refl settles.handed
+    (few-jobs w.state.desk.last_job w.state.desk.last_job (cancelled id (at w)).state.last_job (length (cancel_row id s.desk).jobs) needs.jobs refl settles.last_job
     (omega (arith, jobs))))
 
 -- where a notice changes no files
@@ -608,7 +608,7 @@ told-gives : (meaning : Meaning) (s : State) (n : Notification) (notice : Notice
 told-gives meaning s n notice h = event-gives (for_event meaning s (notification_input n)) (turn_begun s) (told notice (turn_begun s)) h
 
 -- where a notification gives nothing
-holds-same : (meaning : Meaning) (s : State) (n : Notification) (v : Working State) → held v.state ≡ held (turn_begun s).state
+holds-same : (meaning : Meaning) (s : State) (n : Notification) (v : TurnState State) → held v.state ≡ held (turn_begun s).state
     → EventDoes (for_event meaning s (notification_input n)) (turn_begun s) (Ok v)
 holds-same meaning s n v same =
     let needs = for_event meaning s (notification_input n) in
@@ -636,7 +636,7 @@ told-does meaning s n (notices.DidChangeWorkspaceFolders added removed) heard =
     told-holds meaning s n (notices.DidChangeWorkspaceFolders added removed)
     (folders-does (for_event meaning s (notification_input n)) s added removed)
 told-does meaning s n (notices.DidChangeWatchedFiles changes) heard =
-    let v : Working State = files_changed map.empty changes (turn_begun s) in
+    let v : TurnState State = files_changed map.empty changes (turn_begun s) in
     holds-same meaning s n v (same-state (turn_begun s).state v.state (files-same map.empty changes (turn_begun s)))
 told-does meaning s n notices.CancelFlycheck heard = holds-same meaning s n (turn_begun s) refl
 told-does meaning s n notices.ClearFlycheck heard = holds-same meaning s n (turn_begun s) refl
@@ -653,8 +653,8 @@ heard-does meaning s n Silent is = holds-same meaning s n (turn_begun s) refl
 
 -- ---- events
 
-gives-then : (needs : Numbers) (w : Working State) (r : Result (Working State) Counter) (f : Working State → Working State)
-    → ((v : Working State) → given (f v).state ≡ given v.state)
+gives-then : (needs : Numbers) (w : TurnState State) (r : Result (TurnState State) Counter) (f : TurnState State → TurnState State)
+    → ((v : TurnState State) → given (f v).state ≡ given v.state)
     → Gives needs w r → Gives needs w (and_then r (λ v. Ok (f v)))
 gives-then needs w (Ok v) f same h = subst (λ (n : Numbers). AtMost n (both (given w.state) needs)) (sym (same v)) h
 gives-then needs w (Err counter) f same h = h
@@ -670,7 +670,7 @@ event-does meaning s (Lsp (lsp.Response r)) =
     event-holds (for_event meaning s (Next (Lsp (lsp.Response r)))) (turn_begun s) (happened meaning (Lsp (lsp.Response r)) (turn_begun s))
     (answer-does (for_event meaning s (Next (Lsp (lsp.Response r)))) s r)
 event-does meaning s (Task batch) =
-    let w : Working State = turn_begun s in
+    let w : TurnState State = turn_begun s in
     let input : Input = Next (Task batch) in
     event-holds (for_event meaning s (Next (Task batch))) (turn_begun s) (happened meaning (Task batch) (turn_begun s))
     (counts-more state_ahead (for_messages (length (turn_row meaning input (place_of_state s)).jobs) (length batch)) (for_event meaning s input) (held w.state)
@@ -678,7 +678,7 @@ event-does meaning s (Task batch) =
     (at-most _ _ (omega arith) (omega arith) (omega arith) (omega arith) (omega arith) (omega arith) (omega arith))
     (batch-does meaning s.desk.turns s batch w (stays-same s (turn_begun s).state refl refl (record { present = refl; version = refl }))))
 event-does meaning s (Vfs messages) =
-    let w : Working State = turn_begun s in
+    let w : TurnState State = turn_begun s in
     let input : Input = Next (Vfs messages) in
     event-gives (for_event meaning s (Next (Vfs messages))) (turn_begun s) (happened meaning (Vfs messages) (turn_begun s))
     (gives-then (for_event meaning s input) w (at_files (loaded messages) w) (λ v. at_workspaces (renewed_if (bring_files messages) v.state.desk.turns) v)
@@ -687,7 +687,7 @@ event-does meaning s (Vfs messages) =
     (event-files meaning s input (files_among messages) (loaded messages) refl
     (become-counts (λ now. with_files now w.state) (files (files_among messages)) (given w.state) _ _ (messages-count messages w.state))))
 event-does meaning s (Deferred tasks) =
-    let w : Working State = turn_begun s in
+    let w : TurnState State = turn_begun s in
     let input : Input = Next (Deferred tasks) in
     event-holds (for_event meaning s (Next (Deferred tasks))) (turn_begun s) (happened meaning (Deferred tasks) (turn_begun s))
     (counts-more state_ahead (jobs (length (checks_among_tasks s tasks))) (for_event meaning s input) (held w.state) (all_resumed tasks w)
@@ -705,7 +705,7 @@ counted-does : (s : State) → Gives (turns 1) (turn_start s) (turn_counted (tur
 unfolding turn_counted counted_at_desk
 counted-does s =
     counts-within state_at (turns 1) (given s) desk_in with_desk counted_at_desk (turn_start s)
-    (next-counts (λ (v : Working Desk). with_desk v.state s) (turns 1) (given s) s.desk.turns counters.Turns _ (ltb s.desk.turns (2 ^ 64 - 1)) refl
+    (next-counts (λ (v : TurnState Desk). with_desk v.state s) (turns 1) (given s) s.desk.turns counters.Turns _ (ltb s.desk.turns (2 ^ 64 - 1)) refl
     (gives-desk (turns 1) s (record s.desk { turns = s.desk.turns + 1 }) (omega arith) (omega arith)) (λ last. omega (arith, last)))
 
 -- the turn is counted, and its event is taken in
@@ -723,53 +723,53 @@ taken_in-does meaning s event =
 
 -- ---- whole turns
 
-abbrev turning_ahead : Working Turning → State
+abbrev turning_ahead : TurnState Turning → State
 turning_ahead t = ahead t.state.state
 
 -- a part of a turn
-abbrev PartDoes : Numbers → Working Turning → Result (Working Turning) Counter → Type 0
+abbrev PartDoes : Numbers → TurnState Turning → Result (TurnState Turning) Counter → Type 0
 PartDoes needs t r = Counts turning_ahead needs (held t.state.state) r
 
-part-does : (needs : Numbers) (part : Working State → Result (Working State) Counter) (t : Working Turning)
+part-does : (needs : Numbers) (part : TurnState State → Result (TurnState State) Counter) (t : TurnState Turning)
     → Does needs (session_in t) (part (session_in t)) → PartDoes needs t (in_state part t)
 part-does needs part t h = counts-within turning_ahead needs (held t.state.state) state_in with_state part t h
 
-parts-then : (a b : Numbers) (t : Working Turning) (r : Result (Working Turning) Counter) (f : Working Turning → Result (Working Turning) Counter)
+parts-then : (a b : Numbers) (t : TurnState Turning) (r : Result (TurnState Turning) Counter) (f : TurnState Turning → Result (TurnState Turning) Counter)
     → PartDoes a t r
-    → ((u : Working Turning) → PartDoes b u (f u)) → PartDoes (both a b) t (and_then r f)
+    → ((u : TurnState Turning) → PartDoes b u (f u)) → PartDoes (both a b) t (and_then r f)
 parts-then a b t r f p q = counts-then turning_ahead turning_ahead a b (held t.state.state) r f p (λ u is. q u)
 
 -- a part, and then the others
-part-then : (a b : Numbers) (part : Working State → Result (Working State) Counter) (f : Working Turning → Result (Working Turning) Counter)
-    (t : Working Turning) → ((w : Working State) → Does a w (part w))
-    → ((u : Working Turning) → PartDoes b u (f u)) → PartDoes (both a b) t (and_then (in_state part t) f)
+part-then : (a b : Numbers) (part : TurnState State → Result (TurnState State) Counter) (f : TurnState Turning → Result (TurnState Turning) Counter)
+    (t : TurnState Turning) → ((w : TurnState State) → Does a w (part w))
+    → ((u : TurnState Turning) → PartDoes b u (f u)) → PartDoes (both a b) t (and_then (in_state part t) f)
 part-then a b part f t does next = parts-then a b t (in_state part t) f (part-does a part t (does (session_in t))) next
 
 -- and then nothing changes that is counted
-parts-same : (needs : Numbers) (t : Working Turning) (r : Result (Working Turning) Counter) (f : Working Turning → Working Turning)
-    → ((u : Working Turning) → held (f u).state.state ≡ held u.state.state)
+parts-same : (needs : Numbers) (t : TurnState Turning) (r : Result (TurnState Turning) Counter) (f : TurnState Turning → TurnState Turning)
+    → ((u : TurnState Turning) → held (f u).state.state ≡ held u.state.state)
     → PartDoes needs t r → PartDoes needs t (and_then r (λ u. Ok (f u)))
 parts-same needs t (Ok u) f same h = subst (λ (n : Numbers). AtMost n (both (held t.state.state) needs)) (sym (same u)) h
 parts-same needs t (Err counter) f same h = h
 
-held-if : (b : Bool) (w u v : Working State) → held u.state ≡ held w.state → held v.state ≡ held w.state → held (if b then u else v).state ≡ held w.state
+held-if : (b : Bool) (w u v : TurnState State) → held u.state ≡ held w.state → held v.state ≡ held w.state → held (if b then u else v).state ≡ held w.state
 held-if true w u v p q = p
 held-if false w u v p q = q
 
-ending-does : (facts : Facts) (w : Working State) → Does none w (turn_closed facts w)
-unfolding desk_kept within kept_at_desk revised timer_set ordered
+ending-does : (facts : FactsBefore) (w : TurnState State) → Does none w (turn_closed facts w)
+unfolding desk_kept lifted kept_at_desk revised timer_set ordered
 ending-does facts w =
-    let now : Working State = record w { state = with_desk (record w.state.desk { jobs = _ }) w.state } in
-    let told : Working State = revised facts.revision now in
+    let now : TurnState State = record w { state = with_desk (record w.state.desk { jobs = _ }) w.state } in
+    let told : TurnState State = revised facts.revision now in
     does-same none w (timer_set told)
     (held-if (fires told.state.desk.turns told.state.workspaces.fetches.waiting) told (ordered (SetTimer told.state.desk.turns) told) told refl refl
     ∙ held-if (now.state.files.host.revision == facts.revision) now now (ordered (Revise now.state.files.host.revision) now) refl refl)
 
-closing-does : (t : Working Turning) → PartDoes none t (closing_part t)
+closing-does : (t : TurnState Turning) → PartDoes none t (closing_part t)
 unfolding closing_part
 closing-does t = part-does none (turn_closed t.state.facts) t (ending-does t.state.facts _)
 
-files_part-does : (t : Working Turning) → PartDoes none t (files_part t)
+files_part-does : (t : TurnState Turning) → PartDoes none t (files_part t)
 unfolding files_part
 files_part-does t =
     parts-same none t (in_state files_done t) (knowing (some_processed t.state.state.files)) (λ u. refl)
@@ -808,23 +808,23 @@ parts-before-do meaning s (Next event) =
 abbrev for_work : ℕ → Numbers
 for_work n = record none { jobs = n; requests = 1 }
 
-fetch_part-does : (input : Input) (t : Working Turning) → PartDoes (jobs (length (fetch_jobs input t.state.state))) t (fetch_part input t)
+fetch_part-does : (input : Input) (t : TurnState Turning) → PartDoes (jobs (length (fetch_jobs input t.state.state))) t (fetch_part input t)
 unfolding fetch_part
 fetch_part-does input t = part-does (jobs (length (fetch_jobs input t.state.state))) (fetch_started (may_start input t.state.state.client.settings)) t
     (fetch-does _ _)
 
 -- where a fetch has been started
-build_part-does : (event : Event) (t u : Working Turning) → fetch_part (Next event) t ≡ Ok u
+build_part-does : (event : Event) (t u : TurnState Turning) → fetch_part (Next event) t ≡ Ok u
     → PartDoes (jobs (length (run_jobs_behind (Next event) (fetch_begun (Next event) t.state.state)))) u (build_part u)
 unfolding build_part
 build_part-does event t u is =
     let fetched : State = fetch_begun (Next event) t.state.state in
-    let same : run_jobs u.state.state ≡ run_jobs fetched = IfOk-at_ok (λ (u : Working Turning). run_jobs u.state.state ≡ run_jobs fetched) is
+    let same : run_jobs u.state.state ≡ run_jobs fetched = IfOk-at_ok (λ (u : TurnState Turning). run_jobs u.state.state ≡ run_jobs fetched) is
     (fetch_part-leaves (Next event) t) in
     subst (λ (own : List OwnJob). PartDoes (jobs (length own)) u (in_state runs_started u)) same
     (part-does (jobs (length (run_jobs u.state.state))) runs_started u (runs-do _))
 
-parts-from-do : (input : Input) (t : Working Turning) → PartDoes (for_work (length (jobs_due input t.state.state))) t (parts_from_fetch input t)
+parts-from-do : (input : Input) (t : TurnState Turning) → PartDoes (for_work (length (jobs_due input t.state.state))) t (parts_from_fetch input t)
 unfolding status_part
 parts-from-do Start t =
     let own = fetch_jobs Start t.state.state in
@@ -844,7 +844,7 @@ parts-from-do (Next event) t =
     (λ t. part-then (requests 1) none status_done closing_part t status-does closing-does)))
 
 -- the facts are forgotten
-forgets : (needs n : Numbers) (r : Result (Working Turning) Counter) → Counts turning_ahead needs n r → Counts state_ahead needs n (and_then r turned)
+forgets : (needs n : Numbers) (r : Result (TurnState Turning) Counter) → Counts turning_ahead needs n r → Counts state_ahead needs n (and_then r turned)
 forgets needs n (Ok t) h = h
 forgets needs n (Err counter) h = h
 
@@ -872,10 +872,10 @@ step-does meaning s input =
     (λ t is. subst (λ (o : State). PartDoes (for_work (length (jobs_due input o))) t (parts_from_fetch input t)) (sym (before-is meaning input s t is))
     (parts-from-do input t)))))
 
-same-err : (c d : Counter) → (let r : Result (Working State) Counter = Err c in r) ≡ Err d → c ≡ d
+same-err : (c d : Counter) → (let r : Result (TurnState State) Counter = Err c in r) ≡ Err d → c ≡ d
 same-err c d is = cc
 
-too-many : (needs n : Numbers) (r : Result (Working State) Counter) (counter : Counter) → r ≡ Err counter → Counts state_ahead needs n r
+too-many : (needs n : Numbers) (r : Result (TurnState State) Counter) (counter : Counter) → r ≡ Err counter → Counts state_ahead needs n r
     → AreTooMany n needs counter
 too-many needs n (Ok v) counter is h = absurd cc
 too-many needs n (Err c) counter is h = subst (AreTooMany n needs) (same-err c counter is) h

@@ -4,7 +4,7 @@ use Rattle.std.proofs.lemmas.List.{append-nil, append_assoc}
 use Rattle.std.proofs.lemmas.Result.{IfOk-at_ok}
 use Rattle.std.specs.Prelude.{◌==◌, Result, Ok, Err, IfOk, if◌then◌else◌}
 use Rattle.session_port.specs.Record.{spawned}
-use Rattle.session_port.specs.Working.{Working, and_then, ordered, within}
+use Rattle.session_port.specs.TurnState.{TurnState, and_then, ordered, lifted}
 use Rattle.session_port.specs.declared.command.Command.{Command}
 use Rattle.session_port.specs.declared.command.Command.TheVariants.{Revise, Timer as SetTimer}
 use Rattle.session_port.specs.declared.command.DeferredTask.{DeferredTask}
@@ -26,7 +26,7 @@ use Rattle.session_model.specs.OwnJobs.{OwnJob, checks_among_tasks, checks_back,
 use Rattle.session_model.specs.Rows.{turn_row, turn_begun}
 use Rattle.session_model.specs.Run.{Steps, Turn, turn_start}
 use Rattle.session_model.specs.State.{State, discovers, may_start}
-use Rattle.session_model.specs.declared.facts.Facts.{Facts}
+use Rattle.session_model.specs.declared.facts.FactsBefore.{FactsBefore}
 use Rattle.session_model.specs.declared.input.Event.{Event}
 use Rattle.session_model.specs.declared.input.Event.TheVariants.{Lsp, Task, Vfs, Deferred, News, Timer}
 use Rattle.session_model.specs.declared.input.Input.{Input}
@@ -51,35 +51,35 @@ length-none : (jobs : List Job) → length jobs ≤ 0 → jobs ≡ []
 length-none [] le = refl
 length-none (job ∷ jobs) le = absurd (omega (arith, le))
 
-aside-over : (w v : Working State) → Aside w v → v.state.desk ≡ w.state.desk → HandsOver w [] v
+aside-over : (w v : TurnState State) → Aside w v → v.state.desk ≡ w.state.desk → HandsOver w [] v
 aside-over w v a same =
     let b : Beside w v = a.beside in
-    let kept : v.state.desk.handed ≡ w.state.desk.handed = ap (λ (d : Desk). d.handed) same in
-    let grown : v.state.desk.handed ≡ w.state.desk.handed + length (spawned b.commands) = ap (λ (d : Desk). d.handed) b.desk in
+    let kept : v.state.desk.last_job ≡ w.state.desk.last_job = ap (λ (d : Desk). d.last_job) same in
+    let grown : v.state.desk.last_job ≡ w.state.desk.last_job + length (spawned b.commands) = ap (λ (d : Desk). d.last_job) b.desk in
     let nothing : spawned b.commands ≡ [] = length-none (spawned b.commands) (omega (arith, grown, kept)) in
     hands-none w v (beside-spawned w v b ∙ ap (λ (js : List Job). spawned w.out.commands ++ js) nothing ∙ append-nil _) same
 
-part-over : (part : Working State → Result (Working State) Counter) (t : Working Turning) → IfOk (part (session_in t)) (HandsOver (session_in t) [])
+part-over : (part : TurnState State → Result (TurnState State) Counter) (t : TurnState Turning) → IfOk (part (session_in t)) (HandsOver (session_in t) [])
     → IfOk (in_state part t) (λ v. HandsOver (session_in t) [] (session_in v))
 part-over part t h = IfOk-within state_in with_state part t (λ v. HandsOver (session_in t) [] (session_in v)) h
 
-speaks-over : (part : Working State → Result (Working State) Counter) (t : Working Turning) → IfOk (part (session_in t)) (Speaks (session_in t))
+speaks-over : (part : TurnState State → Result (TurnState State) Counter) (t : TurnState Turning) → IfOk (part (session_in t)) (Speaks (session_in t))
     → IfOk (in_state part t) (λ v. HandsOver (session_in t) [] (session_in v))
 speaks-over part t h =
-    let w : Working State = session_in t in
+    let w : TurnState State = session_in t in
     part-over part t (IfOk-weaker (part w) (Speaks w) (HandsOver w []) h (λ v said. aside-over w v (aside-speaks w v said) said.desk))
 
 -- what was handed over before a part that hands over nothing is so behind it
-none-is : (jobs : List Job) (n : ℕ) (own : List OwnJob) (t : Working Turning) (r : Result (Working Turning) Counter) → HandedOver jobs n own (session_in t)
+none-is : (jobs : List Job) (n : ℕ) (own : List OwnJob) (t : TurnState Turning) (r : Result (TurnState Turning) Counter) → HandedOver jobs n own (session_in t)
     → IfOk r (λ v. HandsOver (session_in t) [] (session_in v)) → IfOk r (λ v. HandedOver jobs n own (session_in v))
 none-is jobs n own t r h nothing =
     IfOk-weaker r (λ v. HandsOver (session_in t) [] (session_in v)) _ nothing
     (λ v more. subst (λ (js : List OwnJob). HandedOver jobs n js (session_in v)) (append-nil own) (hands-on jobs n own [] (session_in t) (session_in v) h more))
 
-none-on : (jobs : List Job) (n : ℕ) (own : List OwnJob) (t : Working Turning) (r : Result (Working Turning) Counter)
-    (f : Working Turning → Result (Working Turning) Counter) (Goal : Working Turning → Type 0)
+none-on : (jobs : List Job) (n : ℕ) (own : List OwnJob) (t : TurnState Turning) (r : Result (TurnState Turning) Counter)
+    (f : TurnState Turning → Result (TurnState Turning) Counter) (Goal : TurnState Turning → Type 0)
     → HandedOver jobs n own (session_in t) → IfOk r (λ v. HandsOver (session_in t) [] (session_in v))
-    → ((v : Working Turning) → HandedOver jobs n own (session_in v) → IfOk (f v) Goal)
+    → ((v : TurnState Turning) → HandedOver jobs n own (session_in v) → IfOk (f v) Goal)
     → IfOk (and_then r f) Goal
 none-on jobs n own t r f Goal h nothing next = IfOk-and_then r f (λ v. HandedOver jobs n own (session_in v)) Goal (none-is jobs n own t r h nothing) next
 
@@ -105,31 +105,31 @@ all-asked : (jobs : List Job) → length jobs ≤ length (asked_among jobs) → 
 all-asked [] le = refl
 all-asked (job ∷ jobs) le = one-all (is_for_request job) job (asked_among jobs) jobs (asked-few jobs) (all-asked jobs) le
 
-asked-only : (meaning : Meaning) (s : State) (input : Input) (v : Working State) → Behind meaning s input v
-    → v.state.desk.handed ≤ s.desk.handed + length (turn_row meaning input (place_of_state s)).jobs
-    → HandedOver (turn_row meaning input (place_of_state s)).jobs (s.desk.handed + length (turn_row meaning input (place_of_state s)).jobs) [] v
+asked-only : (meaning : Meaning) (s : State) (input : Input) (v : TurnState State) → Behind meaning s input v
+    → v.state.desk.last_job ≤ s.desk.last_job + length (turn_row meaning input (place_of_state s)).jobs
+    → HandedOver (turn_row meaning input (place_of_state s)).jobs (s.desk.last_job + length (turn_row meaning input (place_of_state s)).jobs) [] v
 asked-only meaning s input v behind le =
     let jobs : List Job = (turn_row meaning input (place_of_state s)).jobs in
     let does : asked_among (spawned v.out.commands) ≡ jobs = behind.mid.serves.does.jobs in
-    let handed : v.state.desk.handed ≡ s.desk.handed + length (spawned v.out.commands) = ap (λ (d : Desk). d.handed) behind.mid.serves.desk in
+    let last_job : v.state.desk.last_job ≡ s.desk.last_job + length (spawned v.out.commands) = ap (λ (d : Desk). d.last_job) behind.mid.serves.desk in
     let many : length (asked_among (spawned v.out.commands)) ≡ length jobs = ap (λ (js : List Job). length js) does in
-    let all : asked_among (spawned v.out.commands) ≡ spawned v.out.commands = all-asked (spawned v.out.commands) (omega (arith, le, handed, many)) in
+    let all : asked_among (spawned v.out.commands) ≡ spawned v.out.commands = all-asked (spawned v.out.commands) (omega (arith, le, last_job, many)) in
     let as_many : length (spawned v.out.commands) ≡ length jobs = ap (λ (js : List Job). length js) (sym all) ∙ many in
-    record { spawns = sym all ∙ does ∙ sym (append-nil jobs); handed = handed ∙ ap (λ n. s.desk.handed + n) as_many ∙ plus-none (s.desk.handed + length jobs) }
+    record { spawns = sym all ∙ does ∙ sym (append-nil jobs); last_job = last_job ∙ ap (λ n. s.desk.last_job + n) as_many ∙ plus-none (s.desk.last_job + length jobs) }
 
 -- what the event of a turn hands over
-abbrev EventOver : Meaning → State → Input → Working State → Type 0
+abbrev EventOver : Meaning → State → Input → TurnState State → Type 0
 EventOver meaning s input v =
-    HandedOver (turn_row meaning input (place_of_state s)).jobs (s.desk.handed + length (turn_row meaning input (place_of_state s)).jobs) (checks_back s input)
+    HandedOver (turn_row meaning input (place_of_state s)).jobs (s.desk.last_job + length (turn_row meaning input (place_of_state s)).jobs) (checks_back s input)
     v
 
-no-checks : (meaning : Meaning) (s : State) (event : Event) (r : Result (Working State) Counter) → checks_back s (Next event) ≡ []
+no-checks : (meaning : Meaning) (s : State) (event : Event) (r : Result (TurnState State) Counter) → checks_back s (Next event) ≡ []
     → IfOk r (Behind meaning s (Next event)) → Counts state_ahead (for_event_part meaning s event) (given s) r → IfOk r (EventOver meaning s (Next event))
 no-checks meaning s event (Ok v) nothing behind c =
     let jobs : List Job = (turn_row meaning (Next event) (place_of_state s)).jobs in
     let no : length (checks_back s (Next event)) ≡ 0 = ap (λ (own : List OwnJob). length own) nothing in
-    let le : v.state.desk.handed ≤ s.desk.handed + (0 + ((length jobs + length (checks_back s (Next event))) + 0)) = c.jobs in
-    subst (λ (own : List OwnJob). HandedOver jobs (s.desk.handed + length jobs) own v) (sym nothing)
+    let le : v.state.desk.last_job ≤ s.desk.last_job + (0 + ((length jobs + length (checks_back s (Next event))) + 0)) = c.jobs in
+    subst (λ (own : List OwnJob). HandedOver jobs (s.desk.last_job + length jobs) own v) (sym nothing)
     (asked-only meaning s (Next event) v behind (omega (arith, le, no)))
 no-checks meaning s event (Err counter) nothing behind c = tt
 
@@ -138,13 +138,13 @@ deferred-over : (meaning : Meaning) (s : State) (tasks : List DeferredTask)
     → IfOk (event_taken meaning (Deferred tasks) (turn_start s)) (EventOver meaning s (Next (Deferred tasks)))
 unfolding event_taken happened
 deferred-over meaning s tasks =
-    let Goal : Working State → Type 0 = λ v. HandedOver [] (s.desk.handed + 0) (checks_among_tasks s tasks) v in
+    let Goal : TurnState State → Type 0 = λ v. HandedOver [] (s.desk.last_job + 0) (checks_among_tasks s tasks) v in
     IfOk-and_then (turn_counted (turn_start s)) (happened meaning (Deferred tasks)) (λ v. v ≡ turn_begun s) Goal (counted-is s)
     (λ v is. subst (λ w. IfOk (happened meaning (Deferred tasks) w) Goal) (sym is)
     (IfOk-weaker (all_resumed tasks (turn_begun s)) (HandsOver (turn_begun s) (checks_among_tasks (turn_begun s).state tasks)) Goal
     (checks-over tasks (turn_begun s))
-    (λ v h. subst (λ n. HandedOver [] n (checks_among_tasks s tasks) v) (plus-none s.desk.handed)
-    (subst (λ (own : List OwnJob). HandedOver [] s.desk.handed own v) (checks-same (turn_begun s).state.desk s tasks) h))))
+    (λ v h. subst (λ n. HandedOver [] n (checks_among_tasks s tasks) v) (plus-none s.desk.last_job)
+    (subst (λ (own : List OwnJob). HandedOver [] s.desk.last_job own v) (checks-same (turn_begun s).state.desk s tasks) h))))
 
 plain-over : (meaning : Meaning) (s : State) (event : Event) → checks_back s (Next event) ≡ []
     → IfOk (event_taken meaning event (turn_start s)) (EventOver meaning s (Next event))
@@ -161,54 +161,54 @@ event-over meaning s (Timer ticket) = plain-over meaning s (Timer ticket) refl
 
 -- ---- the parts behind it
 
-switch-over : (t : Working Turning) → IfOk (switch_part t) (λ v. HandsOver (session_in t) [] (session_in v))
+switch-over : (t : TurnState Turning) → IfOk (switch_part t) (λ v. HandsOver (session_in t) [] (session_in v))
 unfolding switch_part
 switch-over t =
-    let w : Working State = session_in t in
+    let w : TurnState State = session_in t in
     part-over switch_done t (IfOk-weaker (switch_done w) (SwitchDone w) (HandsOver w []) (switch-does w) (λ v d. aside-over w v d.aside d.desk))
 
-files-over : (t : Working Turning) → IfOk (files_part t) (λ v. HandsOver (session_in t) [] (session_in v))
+files-over : (t : TurnState Turning) → IfOk (files_part t) (λ v. HandsOver (session_in t) [] (session_in v))
 unfolding files_part
 files-over t =
-    let w : Working State = session_in t in
-    let Goal : Working Turning → Type 0 = λ v. HandsOver w [] (session_in v) in
+    let w : TurnState State = session_in t in
+    let Goal : TurnState Turning → Type 0 = λ v. HandsOver w [] (session_in v) in
     IfOk-and_then (in_state files_done t) (λ v. Ok (knowing (some_processed t.state.state.files) v)) Goal Goal
     (part-over files_done t (IfOk-weaker (files_done w) (FilesDone w) (HandsOver w []) (files-done w) (λ v f. aside-over w v f.aside f.desk)))
     (λ v h. h)
 
-quiet-over : (t : Working Turning) → IfOk (quiet_part t) (λ v. HandsOver (session_in t) [] (session_in v))
+quiet-over : (t : TurnState Turning) → IfOk (quiet_part t) (λ v. HandsOver (session_in t) [] (session_in v))
 unfolding quiet_part
 quiet-over t = speaks-over (quiet_done t.state.facts) t (quiet-owes Speaks speaking t.state.facts (session_in t))
 
-status-over : (t : Working Turning) → IfOk (status_part t) (λ v. HandsOver (session_in t) [] (session_in v))
+status-over : (t : TurnState Turning) → IfOk (status_part t) (λ v. HandsOver (session_in t) [] (session_in v))
 unfolding status_part
 status-over t = speaks-over status_done t (status-owes Speaks speaking (session_in t))
 
-register-over : (t : Working Turning) → IfOk (register_part t) (λ v. HandsOver (session_in t) [] (session_in v))
+register-over : (t : TurnState Turning) → IfOk (register_part t) (λ v. HandsOver (session_in t) [] (session_in v))
 unfolding register_part saves_registered
 register-over t = speaks-over saves_registered t (asked_if-owes Speaks speaking _ _ (session_in t))
 
-begin-over : (t : Working Turning) → IfOk (begin_part t) (λ v. HandsOver (session_in t) [] (session_in v))
+begin-over : (t : TurnState Turning) → IfOk (begin_part t) (λ v. HandsOver (session_in t) [] (session_in v))
 unfolding begin_part begun_fetches
 begin-over t = part-over begun_fetches t
     (hands-none (session_in t) (at_workspaces (with_fetches (start_up (discovers t.state.state.client.settings))) (session_in t)) refl refl)
 
 -- before its fetch a turn has handed over the jobs of its row and the checks that come back
 before-over : (meaning : Meaning) (s : State) (input : Input) → IfOk (parts_before_fetch meaning input (turning (turn_start s)))
-    (λ v. HandedOver (turn_row meaning input (place_of_state s)).jobs (s.desk.handed + length (turn_row meaning input (place_of_state s)).jobs)
+    (λ v. HandedOver (turn_row meaning input (place_of_state s)).jobs (s.desk.last_job + length (turn_row meaning input (place_of_state s)).jobs)
     (checks_back s input) (session_in v))
 unfolding event_part
 before-over meaning s Start =
-    let n : ℕ = s.desk.handed + 0 in
-    let t : Working Turning = turning (turn_start s) in
-    let Goal : Working Turning → Type 0 = λ v. HandedOver [] n [] (session_in v) in
-    none-on [] n [] t (status_part t) _ Goal (record { spawns = refl; handed = plus-none s.desk.handed ∙ plus-none n }) (status-over t)
+    let n : ℕ = s.desk.last_job + 0 in
+    let t : TurnState Turning = turning (turn_start s) in
+    let Goal : TurnState Turning → Type 0 = λ v. HandedOver [] n [] (session_in v) in
+    none-on [] n [] t (status_part t) _ Goal (record { spawns = refl; last_job = plus-none s.desk.last_job ∙ plus-none n }) (status-over t)
     (λ t h. none-on [] n [] t (register_part t) begin_part Goal h (register-over t) (λ t h. none-is [] n [] t (begin_part t) h (begin-over t)))
 before-over meaning s (Next event) =
     let jobs : List Job = (turn_row meaning (Next event) (place_of_state s)).jobs in
-    let n : ℕ = s.desk.handed + length jobs in
+    let n : ℕ = s.desk.last_job + length jobs in
     let own : List OwnJob = checks_back s (Next event) in
-    let Goal : Working Turning → Type 0 = λ v. HandedOver jobs n own (session_in v) in
+    let Goal : TurnState Turning → Type 0 = λ v. HandedOver jobs n own (session_in v) in
     IfOk-and_then (event_part meaning event (turning (turn_start s))) _ Goal Goal
     (IfOk-within state_in with_state (event_taken meaning event) (turning (turn_start s)) Goal (event-over meaning s event))
     (λ t h. none-on jobs n own t (switch_part t) _ Goal h (switch-over t)
@@ -217,11 +217,11 @@ before-over meaning s (Next event) =
 
 -- ---- its own work
 
-record Fetches (input : Input) (t u : Working Turning) : Type 0 where
+record Fetches (input : Input) (t u : TurnState Turning) : Type 0 where
   hands : HandsOver (session_in t) (fetch_jobs input t.state.state) (session_in u)
   due : run_jobs u.state.state ≡ run_jobs (fetch_begun input t.state.state)
 
-fetches : (input : Input) (t : Working Turning) → IfOk (fetch_part input t) (Fetches input t)
+fetches : (input : Input) (t : TurnState Turning) → IfOk (fetch_part input t) (Fetches input t)
 unfolding fetch_part
 fetches input t =
     let may : Bool = may_start input t.state.state.client.settings in
@@ -229,41 +229,41 @@ fetches input t =
     (IfOk-weaker (fetch_started may (session_in t)) (FetchOver may (session_in t)) _ (fetch-over may (session_in t))
     (λ v f. record { hands = f.hands; due = ap run_jobs f.state ∙ run-jobs-same v.state.desk (fetch_begun input t.state.state) }))
 
-runs : (t : Working Turning) → IfOk (build_part t) (λ u. HandsOver (session_in t) (run_jobs t.state.state) (session_in u))
+runs : (t : TurnState Turning) → IfOk (build_part t) (λ u. HandsOver (session_in t) (run_jobs t.state.state) (session_in u))
 unfolding build_part
 runs t = IfOk-within state_in with_state runs_started t (λ u. HandsOver (session_in t) (run_jobs t.state.state) (session_in u)) (runs-over (session_in t))
 
 -- an order that is no job
-order-none : (b : Bool) (w : Working State) (command : Command) → spawned (command ∷ []) ≡ []
+order-none : (b : Bool) (w : TurnState State) (command : Command) → spawned (command ∷ []) ≡ []
     → spawned (if b then ordered command w else w).out.commands ≡ spawned w.out.commands
 unfolding ordered
 order-none true w command is = spawned-append w.out.commands (command ∷ []) ∙ ap (λ (js : List Job). spawned w.out.commands ++ js) is ∙ append-nil _
 order-none false w command is = refl
 
-order-unless : (b : Bool) (w : Working State) (command : Command) → spawned (command ∷ []) ≡ []
+order-unless : (b : Bool) (w : TurnState State) (command : Command) → spawned (command ∷ []) ≡ []
     → spawned (if b then w else ordered command w).out.commands ≡ spawned w.out.commands
 unfolding ordered
 order-unless true w command is = refl
 order-unless false w command is = spawned-append w.out.commands (command ∷ []) ∙ ap (λ (js : List Job). spawned w.out.commands ++ js) is ∙ append-nil _
 
-closed-over : (facts : Facts) (w : Working State) → IfOk (turn_closed facts w) (λ v. spawned v.out.commands ≡ spawned w.out.commands)
-unfolding desk_kept within kept_at_desk revised timer_set
+closed-over : (facts : FactsBefore) (w : TurnState State) → IfOk (turn_closed facts w) (λ v. spawned v.out.commands ≡ spawned w.out.commands)
+unfolding desk_kept lifted kept_at_desk revised timer_set
 closed-over facts w =
-    let now : Working State = record w { state = with_desk (record w.state.desk { jobs = _ }) w.state } in
-    let told : Working State = revised facts.revision now in
+    let now : TurnState State = record w { state = with_desk (record w.state.desk { jobs = _ }) w.state } in
+    let told : TurnState State = revised facts.revision now in
     order-none (fires told.state.desk.turns told.state.workspaces.fetches.waiting) told (SetTimer told.state.desk.turns) refl
     ∙ order-unless (now.state.files.host.revision == facts.revision) now (Revise now.state.files.host.revision) refl
 
-closing-over : (t : Working Turning) → IfOk (closing_part t) (λ v. spawned v.out.commands ≡ spawned t.out.commands)
+closing-over : (t : TurnState Turning) → IfOk (closing_part t) (λ v. spawned v.out.commands ≡ spawned t.out.commands)
 unfolding closing_part
 closing-over t = IfOk-within state_in with_state (turn_closed t.state.facts) t (λ v. spawned v.out.commands ≡ spawned t.out.commands)
     (closed-over t.state.facts (session_in t))
 
-from-over : (jobs : List Job) (n : ℕ) (own : List OwnJob) (input : Input) (t : Working Turning) → HandedOver jobs n own (session_in t)
+from-over : (jobs : List Job) (n : ℕ) (own : List OwnJob) (input : Input) (t : TurnState Turning) → HandedOver jobs n own (session_in t)
     → IfOk (parts_from_fetch input t) (λ u. spawned u.out.commands ≡ jobs ++ numbered_behind n (own ++ jobs_due input t.state.state))
 from-over jobs n own Start t h =
     let first = fetch_jobs Start t.state.state in
-    let Goal : Working Turning → Type 0 = λ u. spawned u.out.commands ≡ jobs ++ numbered_behind n (own ++ (first ++ [])) in
+    let Goal : TurnState Turning → Type 0 = λ u. spawned u.out.commands ≡ jobs ++ numbered_behind n (own ++ (first ++ [])) in
     IfOk-and_then (fetch_part Start t) closing_part (Fetches Start t) Goal (fetches Start t)
     (λ u f. IfOk-weaker (closing_part u) (λ v. spawned v.out.commands ≡ spawned u.out.commands) Goal (closing-over u)
     (λ v same. same ∙ (hands-on jobs n own first (session_in t) (session_in u) h f.hands).spawns
@@ -272,7 +272,7 @@ from-over jobs n own (Next event) t h =
     let input : Input = Next event in
     let first = fetch_jobs input t.state.state in
     let later = run_jobs (fetch_begun input t.state.state) in
-    let Goal : Working Turning → Type 0 = λ u. spawned u.out.commands ≡ jobs ++ numbered_behind n (own ++ (first ++ later)) in
+    let Goal : TurnState Turning → Type 0 = λ u. spawned u.out.commands ≡ jobs ++ numbered_behind n (own ++ (first ++ later)) in
     IfOk-and_then (fetch_part input t) _ (Fetches input t) Goal (fetches input t)
     (λ u f. IfOk-and_then (build_part u) _ (λ v. HandsOver (session_in u) (run_jobs u.state.state) (session_in v)) Goal (runs u)
     (λ v r. let all : HandedOver jobs n ((own ++ first) ++ run_jobs u.state.state) (session_in v) =
@@ -285,19 +285,19 @@ from-over jobs n own (Next event) t h =
 
 -- ---- whole turns
 
-is-then : (r : Result (Working Turning) Counter) (f : Working Turning → Result (Working Turning) Counter) (P Q : Working Turning → Type 0) → IfOk r P
-    → ((t : Working Turning) → r ≡ Ok t → P t → IfOk (f t) Q) → IfOk (and_then r f) Q
+is-then : (r : Result (TurnState Turning) Counter) (f : TurnState Turning → Result (TurnState Turning) Counter) (P Q : TurnState Turning → Type 0) → IfOk r P
+    → ((t : TurnState Turning) → r ≡ Ok t → P t → IfOk (f t) Q) → IfOk (and_then r f) Q
 is-then (Ok t) f P Q p next = next t refl p
 is-then (Err counter) f P Q p next = tt
 
 step-over : (meaning : Meaning) (s : State) (input : Input) → let asked = (turn_row meaning input (place_of_state s)).jobs in
-    IfOk (step meaning input (turn_start s)) (λ w. spawned w.out.commands ≡ asked ++ numbered_behind (s.desk.handed + length asked) (own_jobs meaning input s))
+    IfOk (step meaning input (turn_start s)) (λ w. spawned w.out.commands ≡ asked ++ numbered_behind (s.desk.last_job + length asked) (own_jobs meaning input s))
 step-over meaning s input =
     let jobs : List Job = (turn_row meaning input (place_of_state s)).jobs in
-    let n : ℕ = s.desk.handed + length jobs in
+    let n : ℕ = s.desk.last_job + length jobs in
     let own : List OwnJob = checks_back s input in
     let before = parts_before_fetch meaning input (turning (turn_start s)) in
-    let Goal : Working State → Type 0 = λ w. spawned w.out.commands ≡ jobs ++ numbered_behind n (own_jobs meaning input s) in
+    let Goal : TurnState State → Type 0 = λ w. spawned w.out.commands ≡ jobs ++ numbered_behind n (own_jobs meaning input s) in
     subst (λ r. IfOk r Goal) (sym (step-split meaning input s))
     (IfOk-and_then (and_then before (parts_from_fetch input)) turned (λ u. Goal (session_in u)) Goal
     (is-then before (parts_from_fetch input) (λ t. HandedOver jobs n own (session_in t)) (λ u. Goal (session_in u)) (before-over meaning s input)
@@ -307,8 +307,8 @@ step-over meaning s input =
 
 pub turns-over : (meaning : Meaning) (old : State) (turn : Turn) (new : State) → Steps meaning old turn new → let asked =
     (turn_row meaning turn.input (place_of_state old)).jobs in
-    spawned turn.commands ≡ asked ++ numbered_behind (old.desk.handed + length asked) (own_jobs meaning turn.input old)
+    spawned turn.commands ≡ asked ++ numbered_behind (old.desk.last_job + length asked) (own_jobs meaning turn.input old)
 turns-over meaning old turn new steps =
     let asked : List Job = (turn_row meaning turn.input (place_of_state old)).jobs in
-    IfOk-at_ok (λ w. spawned w.out.commands ≡ asked ++ numbered_behind (old.desk.handed + length asked) (own_jobs meaning turn.input old)) steps
+    IfOk-at_ok (λ w. spawned w.out.commands ≡ asked ++ numbered_behind (old.desk.last_job + length asked) (own_jobs meaning turn.input old)) steps
     (step-over meaning old turn.input)

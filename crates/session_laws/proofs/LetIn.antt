@@ -6,7 +6,7 @@ use Rattle.docs_vfs.specs.declared.file_kinds.ChangedFile.{ChangedFile}
 use Rattle.docs_vfs.specs.declared.source_roots.Root.{Root}
 use Rattle.project_model.specs.declared.crates.CrateData.{CrateData}
 use Rattle.ra_config.specs.Config.{ConfigData}
-use Rattle.session_port.specs.Working.{Working, ordered}
+use Rattle.session_port.specs.TurnState.{TurnState, ordered}
 use Rattle.session_port.specs.declared.command.Command.{Command}
 use Rattle.session_port.specs.declared.fault.Counter.{Counter}
 use Rattle.change_effects.specs.Effects.{settings_among}
@@ -29,7 +29,7 @@ use Rattle.session_model.specs.Sources.{change_for, further_files, parents_told,
 use Rattle.session_model.specs.State.{Sources, State}
 use Rattle.session_model.specs.Switching.{switch_made}
 use Rattle.session_model.specs.Timing.{effects_for}
-use Rattle.session_model.specs.declared.facts.Facts.{Facts}
+use Rattle.session_model.specs.declared.facts.FactsBefore.{FactsBefore}
 use Rattle.session_model.specs.declared.input.Event.{Event}
 use Rattle.session_model.specs.declared.input.Input.{Input}
 use Rattle.session_model.specs.declared.input.Input.TheVariants.{Start, Next}
@@ -43,10 +43,10 @@ use Rattle.session_laws.proofs.Saying.{Saying, asked_if-owes, warned-owes}
 use Rattle.session_laws.proofs.Turns.{Begins}
 use Rattle.session_laws.proofs.Walk.{Owed, built-owes, closed-owes, event-owes, walk}
 
-abbrev StillTo : Working State → Working State → Type 0
+abbrev StillTo : TurnState State → TurnState State → Type 0
 StillTo w v = Still w.state v.state
 
-abbrev AltersTo : Bool → Working State → Working State → Type 0
+abbrev AltersTo : Bool → TurnState State → TurnState State → Type 0
 AltersTo tells w v = Alters tells w.state v.state
 
 -- ---- files that are processed
@@ -58,14 +58,14 @@ record FollowsTo (list : List ChangedFile) (s t : State) : Type 0 where
   parents : TellsParents s t
   settings : settings_among list ≡ [] → s.sources.parents ≡ None → KeepsSettings s t
 
-follows-to : (list : List ChangedFile) (w : Working State) → FollowsTo list w.state (files_followed list w).state
+follows-to : (list : List ChangedFile) (w : TurnState State) → FollowsTo list w.state (files_followed list w).state
 unfolding files_followed effects_done settings_filed fetch_waits
 follows-to [] w = record { host = refl; roots = refl; parents = inl (refl, refl); settings = λ none waits. record { settings = refl; errors = refl } }
 follows-to (file ∷ later) w =
     let effects : ChangeEffects = effects_for w.state.client.settings (file ∷ later) w.state.workspaces in
     let change = change_for effects.settings w.state.files.host.world.roots w.state.sources w.state.workspaces.present in
-    let put : Working State = record w { state = with_sources (parents_told w.state.sources) (with_client (filed_client effects.settings w.state) w.state) } in
-    let filed : Working State = further_logged (further_files change) put in
+    let put : TurnState State = record w { state = with_sources (parents_told w.state.sources) (with_client (filed_client effects.settings w.state) w.state) } in
+    let filed : TurnState State = further_logged (further_files change) put in
     let same = still-same put.state (sources_deferred effects.macro_sources filed).state
     (deferred-same effects.macro_sources filed ∙ further-same (further_files change) put) in
     record {
@@ -82,7 +82,7 @@ follows-to (file ∷ later) w =
       };
     }
 
-files-alter : (tells : Bool) (w : Working State) → IfOk (files_processed w) (AltersTo tells w)
+files-alter : (tells : Bool) (w : TurnState State) → IfOk (files_processed w) (AltersTo tells w)
 unfolding files_processed
 files-alter tells w =
     let roots = w.state.sources.roots in
@@ -91,7 +91,7 @@ files-alter tells w =
     (IfOk-within files_in with_files (processed roots) w (λ v. AltersTo tells w (files_followed list v))
     (IfOk-weaker _ (Processes roots (record { state = w.state.files; out = w.out })) _ (processed-does roots (record { state = w.state.files; out = w.out }))
     (λ p done.
-    let v : Working State = record { state = with_files p.state w.state; out = p.out } in
+    let v : TurnState State = record { state = with_files p.state w.state; out = p.out } in
     let f : FollowsTo list v.state (files_followed list v).state = follows-to list v in
     record {
       entries = files_entries roots list;
@@ -106,7 +106,7 @@ files-alter tells w =
 
 -- ---- what each step owes
 
-crates-enter : (tells : Bool) (crates : CrateData) (w : Working State) → IfOk (at_files (crates_put w.state.sources.roots crates) w) (AltersTo tells w)
+crates-enter : (tells : Bool) (crates : CrateData) (w : TurnState State) → IfOk (at_files (crates_put w.state.sources.roots crates) w) (AltersTo tells w)
 crates-enter tells crates w =
     let roots = w.state.sources.roots in
     IfOk-within files_in with_files (crates_put roots crates) w (AltersTo tells w)
@@ -114,7 +114,7 @@ crates-enter tells crates w =
     (crates-put roots crates (record { state = w.state.files; out = w.out }))
     (λ v p. crates-alter tells crates w.state v.state p.is))
 
-ordered-alters : (tells : Bool) (command : Command) (w : Working State) → AltersTo tells w (ordered command w)
+ordered-alters : (tells : Bool) (command : Command) (w : TurnState State) → AltersTo tells w (ordered command w)
 unfolding ordered
 ordered-alters tells command w = alters-still tells w.state w.state (still-none w.state)
 
@@ -156,7 +156,7 @@ told-alters tells s client is parents = record {
   settings = λ silent. absurd (true≢false (sym is ∙ silent));
 }
 
-event-alters : (meaning : Meaning) (event : Event) (w : Working State) → IfOk (event_taken meaning event w) (AltersTo (tells_settings (Next event)) w)
+event-alters : (meaning : Meaning) (event : Event) (w : TurnState State) → IfOk (event_taken meaning event w) (AltersTo (tells_settings (Next event)) w)
 event-alters meaning event w =
     let tells = tells_settings (Next event) in
     event-owes (AltersTo tells) (lets-in tells) (λ path v. ordered-alters tells _ v) meaning event
@@ -182,13 +182,13 @@ renews-behind s t u p q = record { host = q.host ∙ p.host; settings = q.settin
     either (inl same) = inl (same ∙ p.sources)
     either (inr now) = inr now
 
-followed-renews : (follows : Follows) (w : Working State) → IfOk (switch_followed follows w) (λ v. Renews w.state v.state)
+followed-renews : (follows : Follows) (w : TurnState State) → IfOk (switch_followed follows w) (λ v. Renews w.state v.state)
 unfolding switch_followed roots_renewed loader_set ordered watchers_registered
 followed-renews Nothing w = still-renews w.state w.state (still-none w.state)
 followed-renews CratesAnew w = still-renews w.state w.state (still-none w.state)
 followed-renews (Wait msrv) w = still-renews w.state _ (warned-owes StillTo still-says msrv w)
 followed-renews (GoOn msrv version initial) w =
-    let v : Working State = warned msrv w in
+    let v : TurnState State = warned msrv w in
     IfOk-and_then (watchers_registered v) (λ u. Ok (roots_renewed (loader_set version u))) (StillTo v) (λ u. Renews w.state u.state)
     (asked_if-owes StillTo still-says _ _ v)
     (λ u still. renews-behind w.state u.state _ (still-on w.state v.state u.state (warned-owes StillTo still-says msrv w) still)
@@ -209,12 +209,12 @@ pub record TurnAlters (tells : Bool) (E : State → Type 0) (t : State) : Type 0
   pub event : E behind_event
   pub behind : Behind tells behind_event t
 
-switched-behind : (tells : Bool) (made : Result (Follows × Workspaces) Counter) (w : Working State)
+switched-behind : (tells : Bool) (made : Result (Follows × Workspaces) Counter) (w : TurnState State)
     → IfOk (switch_taken made w) (λ v. Behind tells w.state v.state)
 unfolding switch_taken
 switched-behind tells (Err counter) w = tt
 switched-behind tells (Ok made) w =
-    let now : Working State = at_workspaces (λ before. made.1) w in
+    let now : TurnState State = at_workspaces (λ before. made.1) w in
     let built = builds_crates w.state.client.settings made.0 in
     IfOk-and_then (switch_followed made.0 now) (crates_built built) (λ v. Renews now.state v.state) (λ v. Behind tells w.state v.state)
     (followed-renews made.0 now)
@@ -226,13 +226,13 @@ switched-behind tells (Ok made) w =
       alters = a;
     }))
 
-switch-behind : (tells : Bool) (w : Working State) → IfOk (switch_done w) (λ v. Behind tells w.state v.state)
+switch-behind : (tells : Bool) (w : TurnState State) → IfOk (switch_done w) (λ v. Behind tells w.state v.state)
 unfolding switch_done
 switch-behind tells w = switched-behind tells (switch_made w.state.client.settings w.state.files w.state.workspaces) w
 
 -- ---- whole turns
 
-closed-alters : (tells : Bool) (facts : Facts) (w : Working State) → IfOk (turn_closed facts w) (AltersTo tells w)
+closed-alters : (tells : Bool) (facts : FactsBefore) (w : TurnState State) → IfOk (turn_closed facts w) (AltersTo tells w)
 closed-alters tells facts w = closed-owes (AltersTo tells) (lets-in tells) (λ revision v. ordered-alters tells _ v) facts w
 
 -- what is so where its event is done, and then a switch and files
@@ -246,7 +246,7 @@ turn-does tells meaning s input E first =
     (starts input first)
     (λ w facts kept d. IfOk-weaker (turn_closed facts w) (AltersTo tells w) _ (closed-alters tells facts w) (λ v a. keeps w v d a))
   where
-    keeps : (w v : Working State) → TurnAlters tells E w.state → AltersTo tells w v → TurnAlters tells E v.state
+    keeps : (w v : TurnState State) → TurnAlters tells E w.state → AltersTo tells w v → TurnAlters tells E v.state
     keeps w v d a = record { behind_event = d.behind_event; event = d.event; behind = behind-on tells d.behind_event w.state v.state d.behind a }
 
     starts : (input : Input) → Begins meaning s input (λ w. E w.state) (λ w. E w.state)
@@ -270,7 +270,7 @@ step-alters meaning input s = turn-does (tells_settings input) meaning s input (
     first (Next event) = event-alters meaning event (turn_start s)
 
 pub steps-alter : (meaning : Meaning) (s : State) (turn : Turn) (new : State) → Steps meaning s turn new → Altered turn.input s new
-steps-alter meaning s turn new steps = IfOk-at_ok (λ (v : Working State). Altered turn.input s v.state) steps (step-alters meaning turn.input s)
+steps-alter meaning s turn new steps = IfOk-at_ok (λ (v : TurnState State). Altered turn.input s v.state) steps (step-alters meaning turn.input s)
 
 pub turns-let-in : (meaning : Meaning) (s : State) (turn : Turn) (new : State) → Steps meaning s turn new → LetsIn s new
 turns-let-in meaning s turn new steps =

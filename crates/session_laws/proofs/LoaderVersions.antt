@@ -7,7 +7,7 @@ use Rattle.std.proofs.lemmas.Result.{IfOk-at_ok}
 use Rattle.ra_config.specs.Config.{ConfigData}
 use Rattle.session_port.specs.declared.command.Command.{Command}
 use Rattle.session_port.specs.declared.fault.Counter.{Counter}
-use Rattle.session_port.specs.Working.{Working, ordered}
+use Rattle.session_port.specs.TurnState.{TurnState, ordered}
 use Rattle.session_port.specs.Written.{Written}
 use Rattle.desk.specs.Meaning.{Meaning}
 use Rattle.desk_laws.proofs.Results.{IfOk-and_then, IfOk-weaker}
@@ -20,7 +20,7 @@ use Rattle.session_model.specs.Machine.{event_taken, warned, watchers_registered
 use Rattle.session_model.specs.Run.{Runs, Turn, turn_start}
 use Rattle.session_model.specs.State.{State, fresh}
 use Rattle.session_model.specs.Switching.{switch_made}
-use Rattle.session_model.specs.declared.facts.Facts.{Facts}
+use Rattle.session_model.specs.declared.facts.FactsBefore.{FactsBefore}
 use Rattle.session_model.specs.declared.input.Input.{Input}
 use Rattle.session_model.specs.declared.input.Input.TheVariants.{Start, Next}
 use Rattle.session_laws.specs.Ordered.{loader_version, loader_versions}
@@ -56,21 +56,21 @@ range-on first (suc n) m =
 -- ---- what passes gives the loader no settings
 
 -- the versions that have been given
-abbrev given_in : Working State → List ℕ
+abbrev given_in : TurnState State → List ℕ
 given_in w = filter_map loader_version w.out.commands
 
-abbrev version_in : Working State → ℕ
+abbrev version_in : TurnState State → ℕ
 version_in w = w.state.workspaces.loader_version
 
 -- the version stays, and none is given
-record SameVersions (w v : Working State) : Type 0 where
+record SameVersions (w v : TurnState State) : Type 0 where
   version : version_in v ≡ version_in w
   given : given_in v ≡ given_in w
 
 passes-versions : (old new : Written) → Passes old new → filter_map loader_version new.commands ≡ filter_map loader_version old.commands
 passes-versions old new passes = passes loader_version (record { jobs = λ job. refl; logs = λ code text. refl; defers = λ task. refl })
 
-other-passes : (command : Command) (w : Working State) → loader_version command ≡ None → SameVersions w (ordered command w)
+other-passes : (command : Command) (w : TurnState State) → loader_version command ≡ None → SameVersions w (ordered command w)
 unfolding ordered
 other-passes command w none = record {
   version = refl;
@@ -86,12 +86,12 @@ same-versions =
 -- ---- a turn
 
 -- since this version so many were given, each one more than the one before it
-record Rises (before : ℕ) (w : Working State) : Type 0 where
+record Rises (before : ℕ) (w : TurnState State) : Type 0 where
   count : ℕ
   version : version_in w ≡ before + count
   given : given_in w ≡ range_with_len (before + 1) count
 
-rises-same : (before : ℕ) (w v : Working State) → Rises before w → SameVersions w v → Rises before v
+rises-same : (before : ℕ) (w v : TurnState State) → Rises before w → SameVersions w v → Rises before v
 rises-same before w v rises same = record { count = rises.count; version = same.version ∙ rises.version; given = same.given ∙ rises.given }
 
 next-place : (before count version : ℕ) → version ≡ before + count + 1 → version ≡ before + 1 + count
@@ -101,7 +101,7 @@ next-count : (before count version : ℕ) → version ≡ before + count + 1 →
 next-count before count version is = omega (arith, is)
 
 -- the loader is given the next version
-given-next : (before count version : ℕ) (w : Working State) → version ≡ before + count + 1 → version_in w ≡ before + count + 1
+given-next : (before count version : ℕ) (w : TurnState State) → version ≡ before + count + 1 → version_in w ≡ before + count + 1
     → given_in w ≡ range_with_len (before + 1) count
     → Rises before (roots_renewed (loader_set version w))
 unfolding roots_renewed loader_set ordered
@@ -113,7 +113,7 @@ given-next before count version w next now rises = record {
 }
 
 -- what follows a switch that has left these workspaces
-follows-rise : (before count : ℕ) (follows : Follows) (w : Working State) → IsNext (before + count) follows (version_in w)
+follows-rise : (before count : ℕ) (follows : Follows) (w : TurnState State) → IsNext (before + count) follows (version_in w)
     → given_in w ≡ range_with_len (before + 1) count
     → IfOk (switch_followed follows w) (Rises before)
 unfolding switch_followed watchers_registered
@@ -122,25 +122,25 @@ follows-rise before count CrateData w next rises = record { count = count; versi
 follows-rise before count (Wait msrv) w next rises =
     rises-same before w (warned msrv w) (record { count = count; version = next; given = rises }) (warned-owes SameVersions same-versions.saying msrv w)
 follows-rise before count (GoOn msrv version initial) w next rises =
-    let v : Working State = warned msrv w in
+    let v : TurnState State = warned msrv w in
     let warns = warned-owes SameVersions same-versions.saying msrv w in
     IfOk-and_then (watchers_registered v) (λ u. Ok (roots_renewed (loader_set version u))) (SameVersions v) (Rises before)
     (asked_if-owes SameVersions same-versions.saying _ _ v)
     (λ u same. given-next before count version u next.0 (same.version ∙ warns.version ∙ next.1) (same.given ∙ warns.given ∙ rises))
 
-made-rises : (before : ℕ) (made : Result (Follows × Workspaces) Counter) (w : Working State) → (r : Rises before w) → Outcome w.state.workspaces made
+made-rises : (before : ℕ) (made : Result (Follows × Workspaces) Counter) (w : TurnState State) → (r : Rises before w) → Outcome w.state.workspaces made
     → IfOk (switch_taken made w) (Rises before)
 unfolding switch_taken
 made-rises before (Err counter) w rises outcome = tt
 made-rises before (Ok made) w rises makes =
-    let now : Working State = at_workspaces (λ before. made.1) w in
+    let now : TurnState State = at_workspaces (λ before. made.1) w in
     let builds : Bool = builds_crates w.state.client.settings made.0 in
     IfOk-and_then (switch_followed made.0 now) (crates_built builds) (Rises before) (Rises before)
     (follows-rise before rises.count made.0 now (subst (λ n. IsNext n made.0 made.1.loader_version) rises.version makes.next) rises.given)
     (λ v r. IfOk-weaker (crates_built builds v) (SameVersions v) (Rises before) (built-owes SameVersions same-versions builds v)
     (λ u same. rises-same before v u r same))
 
-switch-rises : (before : ℕ) (w : Working State) → Rises before w → IfOk (switch_done w) (Rises before)
+switch-rises : (before : ℕ) (w : TurnState State) → Rises before w → IfOk (switch_done w) (Rises before)
 unfolding switch_done
 switch-rises before w rises =
     made-rises before (switch_made w.state.client.settings w.state.files w.state.workspaces) w rises
@@ -149,7 +149,7 @@ switch-rises before w rises =
 begun-rises : (s : State) → Rises s.workspaces.loader_version (turn_start s)
 begun-rises s = record { count = 0; version = omega arith; given = refl }
 
-closed-rises : (before : ℕ) (facts : Facts) (w : Working State) → Rises before w → IfOk (turn_closed facts w) (Rises before)
+closed-rises : (before : ℕ) (facts : FactsBefore) (w : TurnState State) → Rises before w → IfOk (turn_closed facts w) (Rises before)
 closed-rises before facts w rises =
     IfOk-weaker (turn_closed facts w) (SameVersions w) (Rises before) (closed-owes SameVersions same-versions (λ revision v. other-passes _ v refl) facts w)
     (λ v same. rises-same before w v rises same)

@@ -5,7 +5,7 @@ use Rattle.std.specs.Prelude.{Option, None, Some, Result, Ok, Err, IfOk}
 use Rattle.std.specs.Result.{result_unwrap_or}
 use Rattle.method_table.specs.declared.class.PoolClass.TheVariants.{Worker}
 use Rattle.session_port.specs.Record.{spawned}
-use Rattle.session_port.specs.Working.{Working, and_then, ordered}
+use Rattle.session_port.specs.TurnState.{TurnState, and_then, ordered}
 use Rattle.session_port.specs.declared.command.DeferredTask.{DeferredTask}
 use Rattle.session_port.specs.declared.command.DeferredTask.TheVariants.{CheckIfIndexed, CheckProcMacroSources}
 use Rattle.session_port.specs.declared.fault.Counter.{Counter}
@@ -39,13 +39,13 @@ use Rattle.session_model.specs.declared.input.Input.TheVariants.{Start, Next}
 -- ---- jobs that are handed over, one after another
 
 -- behind these jobs, and so many that were given, these were handed over, with the next numbers
-pub record HandedOver (jobs : List Job) (given : ℕ) (own : List OwnJob) (v : Working State) : Type 0 where
+pub record HandedOver (jobs : List Job) (given : ℕ) (own : List OwnJob) (v : TurnState State) : Type 0 where
   pub spawns : spawned v.out.commands ≡ jobs ++ numbered_behind given own
-  pub handed : v.state.desk.handed ≡ given + length own
+  pub last_job : v.state.desk.last_job ≡ given + length own
 
 -- between these two
-abbrev pub HandsOver : Working State → List OwnJob → Working State → Type 0
-HandsOver w own v = HandedOver (spawned w.out.commands) w.state.desk.handed own v
+abbrev pub HandsOver : TurnState State → List OwnJob → TurnState State → Type 0
+HandsOver w own v = HandedOver (spawned w.out.commands) w.state.desk.last_job own v
 
 pub plus-none : (n : ℕ) → n ≡ n + 0
 plus-none n = omega arith
@@ -53,8 +53,8 @@ plus-none n = omega arith
 plus-one : (n : ℕ) (own : OwnJob) → n + 1 ≡ n + length (own ∷ [])
 plus-one n own = omega arith
 
-pub hands-none : (w v : Working State) → spawned v.out.commands ≡ spawned w.out.commands → v.state.desk ≡ w.state.desk → HandsOver w [] v
-hands-none w v spawns desk = record { spawns = spawns ∙ sym (append-nil _); handed = ap (λ (d : Desk). d.handed) desk ∙ plus-none w.state.desk.handed }
+pub hands-none : (w v : TurnState State) → spawned v.out.commands ≡ spawned w.out.commands → v.state.desk ≡ w.state.desk → HandsOver w [] v
+hands-none w v spawns desk = record { spawns = spawns ∙ sym (append-nil _); last_job = ap (λ (d : Desk). d.last_job) desk ∙ plus-none w.state.desk.last_job }
 
 plus-first : (n : ℕ) (own : OwnJob) (first : List OwnJob) → n + 1 + length first ≡ n + length (own ∷ first)
 plus-first n own first = omega arith
@@ -66,25 +66,25 @@ numbered-append given (own ∷ first) later =
     ap (λ (js : List Job). (record { number = given + 1; class = own.class; kind = own.kind; snapshot = own.snapshot }) ∷ js)
     (numbered-append (given + 1) first later ∙ ap (λ n. numbered_behind (given + 1) first ++ numbered_behind n later) (plus-first given own first))
 
-pub hands-on : (jobs : List Job) (given : ℕ) (first later : List OwnJob) (v u : Working State) → HandedOver jobs given first v → HandsOver v later u
+pub hands-on : (jobs : List Job) (given : ℕ) (first later : List OwnJob) (v u : TurnState State) → HandedOver jobs given first v → HandsOver v later u
     → HandedOver jobs given (first ++ later) u
 hands-on jobs given first later v u p q = record {
-  spawns = q.spawns ∙ ap (λ (js : List Job). js ++ numbered_behind v.state.desk.handed later) p.spawns
-      ∙ append_assoc jobs (numbered_behind given first) (numbered_behind v.state.desk.handed later)
-      ∙ ap (λ n. jobs ++ (numbered_behind given first ++ numbered_behind n later)) p.handed
+  spawns = q.spawns ∙ ap (λ (js : List Job). js ++ numbered_behind v.state.desk.last_job later) p.spawns
+      ∙ append_assoc jobs (numbered_behind given first) (numbered_behind v.state.desk.last_job later)
+      ∙ ap (λ n. jobs ++ (numbered_behind given first ++ numbered_behind n later)) p.last_job
       ∙ ap (λ (js : List Job). jobs ++ js) (sym (numbered-append given first later));
-  handed = omega (arith, p.handed, q.handed, length-append first later);
+  last_job = omega (arith, p.last_job, q.last_job, length-append first later);
 }
 
 -- one job
-one-over : (kind : JobKind) (w : Working State) → IfOk (at_desk (handed_over (snapshot_of w.state) Worker kind) w)
+one-over : (kind : JobKind) (w : TurnState State) → IfOk (at_desk (handed_over (snapshot_of w.state) Worker kind) w)
     (λ v. HandsOver w (own_job w.state kind ∷ []) v × (v.state ≡ with_desk v.state.desk w.state))
 unfolding ordered
 one-over kind w =
-    let Done : Working State → Type 0 = λ v. HandsOver w (own_job w.state kind ∷ []) v × (v.state ≡ with_desk v.state.desk w.state) in
+    let Done : TurnState State → Type 0 = λ v. HandsOver w (own_job w.state kind ∷ []) v × (v.state ≡ with_desk v.state.desk w.state) in
     IfOk-within desk_in with_desk (handed_over (snapshot_of w.state) Worker kind) w Done
-    (IfOk-next w.state.desk.handed JobsCounter _ (λ v. Done (record { state = with_desk v.state w.state; out = v.out }))
-    (record { spawns = spawned-append w.out.commands _; handed = plus-one w.state.desk.handed (own_job w.state kind) }, refl))
+    (IfOk-next w.state.desk.last_job JobsCounter _ (λ v. Done (record { state = with_desk v.state w.state; out = v.out }))
+    (record { spawns = spawned-append w.out.commands _; last_job = plus-one w.state.desk.last_job (own_job w.state kind) }, refl))
 
 -- ---- checks that come back
 
@@ -94,7 +94,7 @@ checks-same desk s (CheckIfIndexed path ∷ tasks) = checks-same desk s tasks
 checks-same desk s (CheckProcMacroSources files ∷ tasks) =
     ap (λ (own : List OwnJob). own_job s (check_kind (snapshot_of s) files) ∷ own) (checks-same desk s tasks)
 
-pub checks-over : (tasks : List DeferredTask) (w : Working State) → IfOk (all_resumed tasks w) (HandsOver w (checks_among_tasks w.state tasks))
+pub checks-over : (tasks : List DeferredTask) (w : TurnState State) → IfOk (all_resumed tasks w) (HandsOver w (checks_among_tasks w.state tasks))
 unfolding resumed
 checks-over [] w = hands-none w w refl refl
 checks-over (CheckIfIndexed path ∷ tasks) w = checks-over tasks w
@@ -105,21 +105,21 @@ checks-over (CheckProcMacroSources files ∷ tasks) w =
     (λ v. HandsOver w (first ∷ []) v × (v.state ≡ with_desk v.state.desk w.state))
     (HandsOver w (first ∷ checks_among_tasks w.state tasks)) (one-over kind w)
     (λ v (hands, state). IfOk-weaker (all_resumed tasks v) (HandsOver v (checks_among_tasks v.state tasks)) _ (checks-over tasks v)
-    (λ u more. hands-on (spawned w.out.commands) w.state.desk.handed (first ∷ []) (checks_among_tasks w.state tasks) v u hands
+    (λ u more. hands-on (spawned w.out.commands) w.state.desk.last_job (first ∷ []) (checks_among_tasks w.state tasks) v u hands
     (subst (λ (own : List OwnJob). HandsOver v own u) (ap (λ (s : State). checks_among_tasks s tasks) state ∙ checks-same v.state.desk w.state tasks) more)))
 
 -- ---- work that is due
 
 -- a fetch leaves all else
-pub record FetchOver (may : Bool) (w v : Working State) : Type 0 where
+pub record FetchOver (may : Bool) (w v : TurnState State) : Type 0 where
   pub hands : HandsOver w (fetch_job w.state (fetch_to_start may w.state.workspaces.fetches)) v
   pub state : v.state ≡ with_desk v.state.desk (with_workspaces (with_fetches (start_fetch may) w.state.workspaces) w.state)
 
-pub fetch-over : (may : Bool) (w : Working State) → IfOk (fetch_started may w) (FetchOver may w)
+pub fetch-over : (may : Bool) (w : TurnState State) → IfOk (fetch_started may w) (FetchOver may w)
 unfolding fetch_started fetch_handed_over
 fetch-over may w = by_fetch (fetch_to_start may w.state.workspaces.fetches) refl
   where
-    now : Working State
+    now : TurnState State
     now = at_workspaces (with_fetches (start_fetch may)) w
 
     by_fetch : (fetch : Option (List ℕ × FetchRequest)) → fetch_to_start may w.state.workspaces.fetches ≡ fetch
@@ -134,20 +134,20 @@ fetch-over may w = by_fetch (fetch_to_start may w.state.workspaces.fetches) refl
         (one-over (fetch_kind now.state.client.settings fetch.1) now)
         (λ v (hands, state). record {
           hands = subst (λ (o : Option (List ℕ × FetchRequest)). HandsOver w (fetch_job w.state o) v) (sym is)
-              (record { spawns = hands.spawns; handed = hands.handed });
+              (record { spawns = hands.spawns; last_job = hands.last_job });
           state = state;
         })
 
 -- a run of build data too
-record BuildOver (w v : Working State) : Type 0 where
+record BuildOver (w v : TurnState State) : Type 0 where
   hands : HandsOver w (build_job w.state (build_due w.state.workspaces)) v
   state : v.state ≡ with_desk v.state.desk (with_workspaces (with_due_build w.state.workspaces) w.state)
 
-build-over : (w : Working State) → IfOk (build_started w) (BuildOver w)
+build-over : (w : TurnState State) → IfOk (build_started w) (BuildOver w)
 unfolding build_started build_handed_over
 build-over w = by_build (build_due w.state.workspaces) refl
   where
-    now : Working State
+    now : TurnState State
     now = at_workspaces with_due_build w
 
     by_build : (build : Option ℕ) → build_due w.state.workspaces ≡ build → IfOk (build_handed_over build now) (BuildOver w)
@@ -155,7 +155,7 @@ build-over w = by_build (build_due w.state.workspaces) refl
     by_build (Some version) is =
         IfOk-weaker (at_desk (handed_over (snapshot_of now.state) Worker (FetchBuildData version)) now) _ (BuildOver w) (one-over (FetchBuildData version) now)
         (λ v (hands, state). record {
-          hands = subst (λ (o : Option ℕ). HandsOver w (build_job w.state o) v) (sym is) (record { spawns = hands.spawns; handed = hands.handed });
+          hands = subst (λ (o : Option ℕ). HandsOver w (build_job w.state o) v) (sym is) (record { spawns = hands.spawns; last_job = hands.last_job });
           state = state;
         })
 
@@ -163,11 +163,11 @@ build-over w = by_build (build_due w.state.workspaces) refl
 abbrev pub load_behind : Option ℕ → State → List OwnJob
 load_behind build s = load_job (with_workspaces (with_due_load build s.workspaces) s) (load_due build s.workspaces)
 
-load-over : (build : Option ℕ) (w : Working State) → IfOk (load_started build w) (HandsOver w (load_behind build w.state))
+load-over : (build : Option ℕ) (w : TurnState State) → IfOk (load_started build w) (HandsOver w (load_behind build w.state))
 unfolding load_started load_handed_over
 load-over build w = by_load (load_due build w.state.workspaces)
   where
-    now : Working State
+    now : TurnState State
     now = at_workspaces (with_due_load build) w
 
     by_load : (load : Option MacroPaths) → IfOk (load_handed_over load now) (HandsOver w (load_job now.state load))
@@ -175,7 +175,7 @@ load-over build w = by_load (load_due build w.state.workspaces)
     by_load (Some paths) =
         IfOk-weaker (at_desk (handed_over (snapshot_of now.state) Worker (load_kind now.state.client.settings paths)) now) _
         (HandsOver w (load_job now.state (Some paths)))
-        (one-over (load_kind now.state.client.settings paths) now) (λ v (hands, state). record { spawns = hands.spawns; handed = hands.handed })
+        (one-over (load_kind now.state.client.settings paths) now) (λ v (hands, state). record { spawns = hands.spawns; last_job = hands.last_job })
 
 -- a run that starts is nothing to a load
 load-job-same : (desk : Desk) (s : State) (build : Option ℕ) (load : Option MacroPaths)
@@ -195,13 +195,13 @@ load-same desk s build =
     load-job-same desk s build (load_due build (with_due_build s.workspaces))
     ∙ ap (load_job (with_workspaces (with_due_load build s.workspaces) s)) (load-due-same build s.workspaces)
 
-pub runs-over : (w : Working State) → IfOk (runs_started w) (HandsOver w (run_jobs w.state))
+pub runs-over : (w : TurnState State) → IfOk (runs_started w) (HandsOver w (run_jobs w.state))
 unfolding runs_started
 runs-over w =
     let build : Option ℕ = build_due w.state.workspaces in
     IfOk-and_then (build_started w) (load_started build) (BuildOver w) (HandsOver w (run_jobs w.state)) (build-over w)
     (λ v b. IfOk-weaker (load_started build v) (HandsOver v (load_behind build v.state)) _ (load-over build v)
-    (λ u more. hands-on (spawned w.out.commands) w.state.desk.handed (build_job w.state build) (load_behind build w.state) v u b.hands
+    (λ u more. hands-on (spawned w.out.commands) w.state.desk.last_job (build_job w.state build) (load_behind build w.state) v u b.hands
     (subst (λ (own : List OwnJob). HandsOver v own u) (ap (load_behind build) b.state ∙ load-same v.state.desk w.state build) more)))
 
 -- the work that is due is that of the workspaces, the files and the settings
@@ -223,30 +223,30 @@ run-jobs-same desk s =
 
 -- ---- a turn, cut where its fetch starts
 
-abbrev pub parts_from_fetch : Input → Working Turning → Result (Working Turning) Counter
+abbrev pub parts_from_fetch : Input → TurnState Turning → Result (TurnState Turning) Counter
 parts_from_fetch Start w = and_then (fetch_part Start w) closing_part
 parts_from_fetch (Next event) w =
     and_then (fetch_part (Next event) w) (λ w. and_then (build_part w) (λ w. and_then (prime_part w) (λ w. and_then (status_part w) closing_part)))
 
 -- a part of a turn
 abbrev TurnPart : Type 0
-TurnPart = Working Turning → Result (Working Turning) Counter
+TurnPart = TurnState Turning → Result (TurnState Turning) Counter
 
-two-split : (r : Result (Working Turning) Counter) (f k : TurnPart) → and_then r (λ a. and_then (f a) k) ≡ and_then (and_then r f) k
+two-split : (r : Result (TurnState Turning) Counter) (f k : TurnPart) → and_then r (λ a. and_then (f a) k) ≡ and_then (and_then r f) k
 two-split (Ok a) f k = refl
 two-split (Err counter) f k = refl
 
-three-split : (r : Result (Working Turning) Counter) (f g k : TurnPart)
+three-split : (r : Result (TurnState Turning) Counter) (f g k : TurnPart)
     → and_then r (λ a. and_then (f a) (λ b. and_then (g b) k)) ≡ and_then (and_then r (λ a. and_then (f a) g)) k
 three-split (Ok a) f g k = two-split (f a) g k
 three-split (Err counter) f g k = refl
 
-four-split : (r : Result (Working Turning) Counter) (f g h k : TurnPart)
+four-split : (r : Result (TurnState Turning) Counter) (f g h k : TurnPart)
     → and_then r (λ a. and_then (f a) (λ b. and_then (g b) (λ c. and_then (h c) k))) ≡ and_then (and_then r (λ a. and_then (f a) (λ b. and_then (g b) h))) k
 four-split (Ok a) f g h k = three-split (f a) g h k
 four-split (Err counter) f g h k = refl
 
-five-split : (r : Result (Working Turning) Counter) (f g h i k : TurnPart)
+five-split : (r : Result (TurnState Turning) Counter) (f g h i k : TurnPart)
     → and_then r (λ a. and_then (f a) (λ b. and_then (g b) (λ c. and_then (h c) (λ d. and_then (i d) k))))
     ≡ and_then (and_then r (λ a. and_then (f a) (λ b. and_then (g b) (λ c. and_then (h c) i)))) k
 five-split (Ok a) f g h i k = four-split (f a) g h i k
@@ -261,7 +261,7 @@ step-split meaning (Next event) s =
     ap (λ r. and_then r turned) (five-split (event_part meaning event (turning (turn_start s))) switch_part files_part quiet_part publish_part
     (parts_from_fetch (Next event)))
 
-pub before-is : (meaning : Meaning) (input : Input) (s : State) (t : Working Turning) → parts_before_fetch meaning input (turning (turn_start s)) ≡ Ok t
+pub before-is : (meaning : Meaning) (input : Input) (s : State) (t : TurnState Turning) → parts_before_fetch meaning input (turning (turn_start s)) ≡ Ok t
     → before_fetch meaning input s ≡ t.state.state
 before-is meaning input s t is = ap (λ r. (result_unwrap_or r (turning (turn_start s))).state.state) is
 
@@ -270,12 +270,12 @@ abbrev pub fetch_begun : Input → State → State
 fetch_begun input s = with_workspaces (with_fetches (start_fetch (may_start input s.client.settings)) s.workspaces) s
 
 -- the work that is due behind the fetch is due there
-pub fetch_part-leaves : (input : Input) (t : Working Turning)
+pub fetch_part-leaves : (input : Input) (t : TurnState Turning)
     → IfOk (fetch_part input t) (λ u. run_jobs u.state.state ≡ run_jobs (fetch_begun input t.state.state))
 unfolding fetch_part
 fetch_part-leaves input t =
     let may : Bool = may_start input t.state.state.client.settings in
-    let w : Working State = record { state = t.state.state; out = t.out } in
+    let w : TurnState State = record { state = t.state.state; out = t.out } in
     IfOk-within state_in with_state (fetch_started may) t (λ u. run_jobs u.state.state ≡ run_jobs (fetch_begun input t.state.state))
     (IfOk-weaker (fetch_started may w) (FetchOver may w) _ (fetch-over may w)
     (λ v f. ap run_jobs f.state ∙ run-jobs-same v.state.desk (fetch_begun input t.state.state)))

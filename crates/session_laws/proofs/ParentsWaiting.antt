@@ -16,7 +16,7 @@ use Rattle.notify.specs.declared.notice.Notice.TheVariants as notices
 use Rattle.ra_config.specs.Config.{ConfigData, config_at}
 use Rattle.ra_config.specs.Initialize.{config_from, config_with, initial_config, paths_of}
 use Rattle.serde_json.specs.Data.{Data}
-use Rattle.session_port.specs.Working.{Working}
+use Rattle.session_port.specs.TurnState.{TurnState}
 use Rattle.client.specs.Client.{Client}
 use Rattle.client.specs.Folds.{after_answer, after_folders, follows}
 use Rattle.client.specs.Steps.{answered, folders_changed}
@@ -234,7 +234,7 @@ record EventTells (client : Client) (s t : State) : Type 0 where
 
 response-tells : (r : Response) (s : State) → IfOk (answer_taken r (turn_begun s)) (λ v. EventTells (after_answer r s.client) s v.state)
 response-tells r s =
-    let w : Working State = turn_begun s in
+    let w : TurnState State = turn_begun s in
     IfOk-and_then (at_client (λ c. Ok (answered r c)) w) _ (λ v. EventTells (after_answer r s.client) s v.state)
     (λ v. EventTells (after_answer r s.client) s v.state)
     (IfOk-within client_in with_client (λ c. Ok (answered r c)) w (λ v. EventTells (after_answer r s.client) s v.state)
@@ -252,7 +252,7 @@ response-tells r s =
 folders-tell : (added removed : List (List ℕ)) (s : State)
     → IfOk (folders_taken added removed (turn_begun s)) (λ v. EventTells (after_folders added removed s.client) s v.state)
 folders-tell added removed s =
-    let w : Working State = turn_begun s in
+    let w : TurnState State = turn_begun s in
     IfOk-and_then (at_client (λ c. Ok (folders_changed added removed c)) w) _ (λ v. EventTells (after_folders added removed s.client) s v.state)
     (λ v. EventTells (after_folders added removed s.client) s v.state)
     (IfOk-within client_in with_client (λ c. Ok (folders_changed added removed c)) w (λ v. EventTells (after_folders added removed s.client) s v.state)
@@ -307,7 +307,7 @@ event-tells : (meaning : Meaning) (event : Event) (s : State) → tells_settings
     → IfOk (event_taken meaning event (turn_start s)) (λ v. EventTells (as_told (Next event) s.client) s v.state)
 unfolding event_taken
 event-tells meaning event s tells =
-    let Goal : Working State → Type 0 = λ v. EventTells (as_told (Next event) s.client) s v.state in
+    let Goal : TurnState State → Type 0 = λ v. EventTells (as_told (Next event) s.client) s v.state in
     IfOk-and_then (turn_counted (turn_start s)) (happened meaning event) (λ v. v ≡ turn_begun s) Goal (counted-is s)
     (λ v is. subst (λ w. IfOk (happened meaning event w) Goal) (sym is) (happened-tells meaning event s tells))
 
@@ -379,4 +379,4 @@ settings-change meaning settings turns last turn new none runs steps = by (tells
     by : (tells : Bool) → tells_settings turn.input ≡ tells → ChangesAsTold turn.input last new
     by false silent = silent-change turn.input last new altered are silent
     by true tells = told-change turn.input last new altered
-        (IfOk-at_ok (λ (v : Working State). TurnTells turn.input last v.state) steps (step-tells meaning turn.input last tells)) are
+        (IfOk-at_ok (λ (v : TurnState State). TurnTells turn.input last v.state) steps (step-tells meaning turn.input last tells)) are

@@ -25,7 +25,7 @@ use Rattle.session_port.specs.declared.event.TaskMsg.{TaskMsg}
 use Rattle.session_port.specs.declared.fault.Counter.{Counter}
 use Rattle.session_port.specs.declared.fault.Counter.TheVariants.{Jobs, Outgoing, Turns}
 use Rattle.session_port.specs.declared.job.JobKind.{JobKind}
-use Rattle.session_port.specs.Working.{Working, logged, ordered, written}
+use Rattle.session_port.specs.TurnState.{TurnState, logged, ordered, written}
 use Rattle.session_port.specs.Written.{Written}
 use Rattle.client.specs.Answers.{chooses, fault_in}
 use Rattle.client.specs.Client.{Client}
@@ -63,19 +63,19 @@ passes-none out number_of passes = refl
 pub passes-on : (a b c : Written) → Passes a b → Passes b c → Passes a c
 passes-on a b c p q number_of passes = q number_of passes ∙ p number_of passes
 
-pub passes-logged : {S : Type 0} (code : LogCode) (text : List ℕ) (w : Working S) → Passes w.out (logged code text w).out
+pub passes-logged : {S : Type 0} (code : LogCode) (text : List ℕ) (w : TurnState S) → Passes w.out (logged code text w).out
 unfolding logged ordered
 passes-logged code text w number_of passes = passed-append number_of w.out.commands (Log code text) (passes.logs code text)
 
-passes-deferred : {S : Type 0} (task : DeferredTask) (w : Working S) → Passes w.out (ordered (Defer task) w).out
+passes-deferred : {S : Type 0} (task : DeferredTask) (w : TurnState S) → Passes w.out (ordered (Defer task) w).out
 unfolding ordered
 passes-deferred task w number_of passes = passed-append number_of w.out.commands (Defer task) (passes.defers task)
 
-passes-logged_if : {S : Type 0} (code : LogCode) (text : Option (List ℕ)) (w : Working S) → Passes w.out (logged_if code text w).out
+passes-logged_if : {S : Type 0} (code : LogCode) (text : Option (List ℕ)) (w : TurnState S) → Passes w.out (logged_if code text w).out
 passes-logged_if code None w = passes-none w.out
 passes-logged_if code (Some text) w = passes-logged code text w
 
-passes-if : {S : Type 0} (code : LogCode) (text : List ℕ) (b : Bool) (w : Working S) → Passes w.out (if b then logged code text w else w).out
+passes-if : {S : Type 0} (code : LogCode) (text : List ℕ) (b : Bool) (w : TurnState S) → Passes w.out (if b then logged code text w else w).out
 passes-if code text true w = passes-logged code text w
 passes-if code text false w = passes-none w.out
 
@@ -87,54 +87,54 @@ pub record Says (old new : Written) : Type 0 where
 pub says-none : (out : Written) → Says out out
 says-none out = record { passes = passes-none out; tells = tells-none out }
 
-pub says-logged : {S : Type 0} (code : LogCode) (text : List ℕ) (w : Working S) → Says w.out (logged code text w).out
+pub says-logged : {S : Type 0} (code : LogCode) (text : List ℕ) (w : TurnState S) → Says w.out (logged code text w).out
 says-logged code text w = record { passes = passes-logged code text w; tells = tells-logged code text w }
 
-pub says-deferred : {S : Type 0} (task : DeferredTask) (w : Working S) → Says w.out (ordered (Defer task) w).out
+pub says-deferred : {S : Type 0} (task : DeferredTask) (w : TurnState S) → Says w.out (ordered (Defer task) w).out
 says-deferred task w = record { passes = passes-deferred task w; tells = tells-deferred task w }
 
-pub says-notified : {S : Type 0} (message : Outgo) (w : Working S) → Says w.out (written (notification_of message) w).out
+pub says-notified : {S : Type 0} (message : Outgo) (w : TurnState S) → Says w.out (written (notification_of message) w).out
 unfolding written
 says-notified message w = record { passes = passes-none w.out; tells = tells-notification _ w }
 
 -- ---- the desk
 
-abbrev FromDesk : Working Desk → Working Desk → Type 0
+abbrev FromDesk : TurnState Desk → TurnState Desk → Type 0
 FromDesk w v = Passes w.out v.out
 
-pub requested-passes : (meaning : Meaning) (scene : Scene) (r : Request) (w : Working Desk) → IfOk (requested meaning scene r w) (FromDesk w)
+pub requested-passes : (meaning : Meaning) (scene : Scene) (r : Request) (w : TurnState Desk) → IfOk (requested meaning scene r w) (FromDesk w)
 requested-passes meaning scene r w = IfOk-weaker (requested meaning scene r w) _ (FromDesk w) (request-settles meaning scene r w) (λ v settled. settled.others)
 
-pub message-passes : (meaning : Meaning) (scene : Scene) (message : TaskMsg) (w : Working Desk) → IfOk (result_taken meaning scene message w) (FromDesk w)
+pub message-passes : (meaning : Meaning) (scene : Scene) (message : TaskMsg) (w : TurnState Desk) → IfOk (result_taken meaning scene message w) (FromDesk w)
 message-passes meaning scene message w = IfOk-weaker (result_taken meaning scene message w) _ (FromDesk w) (message-settles meaning scene message w)
     (λ v settled. settled.others)
 
-pub cancelled-passes : (id : RequestId) (w : Working Desk) → FromDesk w (cancelled id w)
+pub cancelled-passes : (id : RequestId) (w : TurnState Desk) → FromDesk w (cancelled id w)
 cancelled-passes id w = (cancel-settles id w).others
 
-pub handed-passes : (snapshot : SnapshotData) (kind : JobKind) (w : Working Desk) → IfOk (handed_over snapshot Worker kind w) (FromDesk w)
+pub spawned-passes : (snapshot : SnapshotData) (kind : JobKind) (w : TurnState Desk) → IfOk (handed_over snapshot Worker kind w) (FromDesk w)
 unfolding ordered
-handed-passes snapshot kind w =
-    IfOk-next w.state.handed Jobs _ (FromDesk w) (λ number_of passes. passed-append number_of w.out.commands _ (passes.jobs _))
+spawned-passes snapshot kind w =
+    IfOk-next w.state.last_job Jobs _ (FromDesk w) (λ number_of passes. passed-append number_of w.out.commands _ (passes.jobs _))
 
-pub counted-passes : (w : Working Desk) → IfOk (counted w) (FromDesk w)
+pub counted-passes : (w : TurnState Desk) → IfOk (counted w) (FromDesk w)
 unfolding counted
 counted-passes w = IfOk-next w.state.turns Turns _ (FromDesk w) (passes-none w.out)
 
-pub kept-passes : (before : ℕ) (w : Working Desk) → FromDesk w (jobs_kept before w)
+pub kept-passes : (before : ℕ) (w : TurnState Desk) → FromDesk w (jobs_kept before w)
 unfolding jobs_kept
 kept-passes before w = passes-none w.out
 
 -- ---- what is agreed with the client
 
-abbrev pub FromClient : Working Client → Working Client → Type 0
+abbrev pub FromClient : TurnState Client → TurnState Client → Type 0
 FromClient w v = Passes w.out v.out
 
 -- it is asked for something
-abbrev pub Asks : ReqHandler → Working Client → Working Client → Type 0
+abbrev pub Asks : ReqHandler → TurnState Client → TurnState Client → Type 0
 Asks handler w v = Says w.out v.out × (v.state ≡ after_asking handler w.state)
 
-asked-cases : (message : Outgo) (handler : ReqHandler) (w : Working Client) (b : Bool)
+asked-cases : (message : Outgo) (handler : ReqHandler) (w : TurnState Client) (b : Bool)
     → IfOk (if b then Err Outgoing else Ok (written (request_at w.state.asked.given message) (record w { state = after_asking handler w.state })))
     (Asks handler w)
 unfolding written
@@ -142,23 +142,23 @@ asked-cases message handler w true = tt
 asked-cases message handler w false =
     (record { passes = passes-none w.out; tells = tells-request _ (record w { state = after_asking handler w.state }) }, refl)
 
-pub asked-says : (message : Outgo) (handler : ReqHandler) (w : Working Client) → IfOk (asked_for message handler w) (Asks handler w)
+pub asked-says : (message : Outgo) (handler : ReqHandler) (w : TurnState Client) → IfOk (asked_for message handler w) (Asks handler w)
 unfolding asked_for
 asked-says message handler w = asked-cases message handler w (w.state.asked.given == number_limit)
 
-shown-passes : (b : Bool) (w : Working Client) → FromClient w (if b then written (notification_of OpenLogsMessage) w else w)
+shown-passes : (b : Bool) (w : TurnState Client) → FromClient w (if b then written (notification_of OpenLogsMessage) w else w)
 unfolding written
 shown-passes true w = passes-none w.out
 shown-passes false w = passes-none w.out
 
-followed-passes : (handler : Option ReqHandler) (response : Response) (w : Working Client) → FromClient w (followed handler response w)
+followed-passes : (handler : Option ReqHandler) (response : Response) (w : TurnState Client) → FromClient w (followed handler response w)
 unfolding followed
 followed-passes None response w = passes-logged UnknownResponse (id_text response.id) w
 followed-passes (Some Ignore) response w = passes-none w.out
 followed-passes (Some Settings) response w = passes-logged_if SettingsError (fault_in response) w
 followed-passes (Some OpenLogs) response w = shown-passes (chooses response) w
 
-pub answered-passes : (response : Response) (w : Working Client) → FromClient w (answered response w)
+pub answered-passes : (response : Response) (w : TurnState Client) → FromClient w (answered response w)
 unfolding answered
 answered-passes response w = followed-passes (follows response.id w.state.asked) response w
 
@@ -173,42 +173,42 @@ misses-pass number_of passes commands urls =
     filter_map-append number_of commands (misses urls) ∙ ap (λ (ns : List ℕ). filter_map number_of commands ++ ns)
     (logs-pass number_of passes BadPath (filter names_none urls)) ∙ append-nil _
 
-pub folders-pass : (added removed : List (List ℕ)) (w : Working Client) → FromClient w (folders_changed added removed w)
+pub folders-pass : (added removed : List (List ℕ)) (w : TurnState Client) → FromClient w (folders_changed added removed w)
 unfolding folders_changed
 folders-pass added removed w number_of passes =
     misses-pass number_of passes (w.out.commands ++ misses removed) added ∙ misses-pass number_of passes w.out.commands removed
 
 -- ---- the files
 
-abbrev pub FromFiles : Working SessionFiles → Working SessionFiles → Type 0
+abbrev pub FromFiles : TurnState SessionFiles → TurnState SessionFiles → Type 0
 FromFiles w v = Passes w.out v.out
 
-become-passes : (r : Result SessionFiles Counter) (w u : Working SessionFiles) → Passes w.out u.out → IfOk (become r u) (FromFiles w)
+become-passes : (r : Result SessionFiles Counter) (w u : TurnState SessionFiles) → Passes w.out u.out → IfOk (become r u) (FromFiles w)
 become-passes (Ok files) w u passes = passes
 become-passes (Err counter) w u passes = tt
 
 -- and the world stays
-abbrev pub Stays : Working SessionFiles → Working SessionFiles → Type 0
+abbrev pub Stays : TurnState SessionFiles → TurnState SessionFiles → Type 0
 Stays w v = FromFiles w v × (v.state.host ≡ w.state.host)
 
-become-stays : (r : Result SessionFiles Counter) (w u : Working SessionFiles) → ((now : SessionFiles) → r ≡ Ok now → now.host ≡ w.state.host)
+become-stays : (r : Result SessionFiles Counter) (w u : TurnState SessionFiles) → ((now : SessionFiles) → r ≡ Ok now → now.host ≡ w.state.host)
     → Passes w.out u.out
     → IfOk (become r u) (Stays w)
 become-stays (Ok files) w u same passes = (passes, same files refl)
 become-stays (Err counter) w u same passes = tt
 
-pub opened-passes : (excludes : List (List ℕ)) (path : List ℕ) (version : ℤ) (text : List ℕ) (w : Working SessionFiles)
+pub opened-passes : (excludes : List (List ℕ)) (path : List ℕ) (version : ℤ) (text : List ℕ) (w : TurnState SessionFiles)
     → IfOk (opened_document excludes path version text w) (Stays w)
 unfolding opened_document open_noted
 opened-passes excludes path version text w =
     become-stays (after_opening excludes path version text w.state) w _ (λ now is. (opening_keeps excludes path version text w.state now is).host)
     (passes-if DuplicateOpen path (is_open path w.state) w)
 
-logged-stays : (code : LogCode) (text : List ℕ) (w : Working SessionFiles) → Stays w (logged code text w)
+logged-stays : (code : LogCode) (text : List ℕ) (w : TurnState SessionFiles) → Stays w (logged code text w)
 unfolding logged ordered
 logged-stays code text w = (passes-logged code text w, refl)
 
-changed-cases : (columns : PositionEncoding) (path : List ℕ) (version : ℤ) (changes : List ContentChange) (w : Working SessionFiles) (b : Bool)
+changed-cases : (columns : PositionEncoding) (path : List ℕ) (version : ℤ) (changes : List ContentChange) (w : TurnState SessionFiles) (b : Bool)
     → IfOk (if b then edited_document columns path version changes w else Ok (logged UnexpectedChange path w)) (Stays w)
 unfolding edited_document skip_noted
 changed-cases columns path version changes w true =
@@ -216,28 +216,28 @@ changed-cases columns path version changes w true =
     (passes-if SkippedChange path (has_skipped columns changes (finmap.get w.state.texts path)) w)
 changed-cases columns path version changes w false = logged-stays UnexpectedChange path w
 
-pub changed-passes : (columns : PositionEncoding) (path : List ℕ) (version : ℤ) (changes : List ContentChange) (w : Working SessionFiles)
+pub changed-passes : (columns : PositionEncoding) (path : List ℕ) (version : ℤ) (changes : List ContentChange) (w : TurnState SessionFiles)
     → IfOk (changed_document columns path version changes w) (Stays w)
 unfolding changed_document
 changed-passes columns path version changes w = changed-cases columns path version changes w (is_open path w.state)
 
-noted-cases : (path : List ℕ) (w : Working SessionFiles) (b : Bool) → Passes w.out (if b then w else logged OrphanClose path w).out
+noted-cases : (path : List ℕ) (w : TurnState SessionFiles) (b : Bool) → Passes w.out (if b then w else logged OrphanClose path w).out
 noted-cases path w true = passes-none w.out
 noted-cases path w false = passes-logged OrphanClose path w
 
-pub close-noted-passes : (path : List ℕ) (w : Working SessionFiles) → FromFiles w (close_noted path w)
+pub close-noted-passes : (path : List ℕ) (w : TurnState SessionFiles) → FromFiles w (close_noted path w)
 unfolding close_noted
 close-noted-passes path w = noted-cases path w (is_open path w.state)
 
-pub loaded-passes : (messages : List LoaderMsg) (w : Working SessionFiles) → IfOk (loaded messages w) (Stays w)
+pub loaded-passes : (messages : List LoaderMsg) (w : TurnState SessionFiles) → IfOk (loaded messages w) (Stays w)
 unfolding loaded
 loaded-passes messages w =
     become-stays (after_messages messages w.state) w w (λ now is. (messages_keep messages w.state now is).host) (passes-none w.out)
 
-pub processed-passes : (roots : List Root) (w : Working SessionFiles) → IfOk (processed roots w) (FromFiles w)
+pub processed-passes : (roots : List Root) (w : TurnState SessionFiles) → IfOk (processed roots w) (FromFiles w)
 unfolding processed
 processed-passes roots w = become-passes (after_processing roots w.state) w w (passes-none w.out)
 
-pub crates-pass : (roots : List Root) (crates : CrateData) (w : Working SessionFiles) → IfOk (crates_put roots crates w) (FromFiles w)
+pub crates-pass : (roots : List Root) (crates : CrateData) (w : TurnState SessionFiles) → IfOk (crates_put roots crates w) (FromFiles w)
 unfolding crates_put
 crates-pass roots crates w = become-passes (after_crates roots crates w.state) w w (passes-none w.out)

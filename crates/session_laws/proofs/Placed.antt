@@ -3,7 +3,7 @@ use Rattle.std.proofs.Common.{◌≡◌, ℕ, ◌+◌, ◌≤◌, List, [], ◌�
 use Rattle.std.specs.Prelude.{Err, IfOk, None, Ok, Option, Result, Some}
 use Rattle.std.specs.Result.{result_unwrap_or}
 use Rattle.ra_config.specs.Config.{ConfigData}
-use Rattle.session_port.specs.Working.{Working}
+use Rattle.session_port.specs.TurnState.{TurnState}
 use Rattle.session_port.specs.declared.fault.Counter.{Counter}
 use Rattle.desk.specs.Desk.{Desk}
 use Rattle.desk.specs.Meaning.{Meaning}
@@ -41,7 +41,7 @@ as-turns : (input : Input) (version turns now : ℕ) → now ≤ version + turns
 as-turns Start version turns now gives le = omega (arith, gives, le)
 as-turns (Next event) version turns now gives le = omega (arith, gives, le)
 
-step-cases : (meaning : Meaning) (input : Input) (turns : ℕ) (s : State) (r : Result (Working State) Counter) → IfOk r (Closes meaning s input)
+step-cases : (meaning : Meaning) (input : Input) (turns : ℕ) (s : State) (r : Result (TurnState State) Counter) → IfOk r (Closes meaning s input)
     → Counts state_ahead (needs_of meaning input (place_of_state s)) (given s) r → IsInTurn turns s
     → IsInTurn (turns_after input turns) (result_unwrap_or r (turn_start s)).state
 step-cases meaning input turns s (Ok v) closes counts h =

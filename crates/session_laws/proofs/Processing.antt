@@ -5,7 +5,7 @@ use Rattle.docs_vfs.specs.declared.file_kinds.ChangedFile.{ChangedFile}
 use Rattle.docs_vfs.specs.declared.file_kinds.FileId.{FileId}
 use Rattle.session_port.specs.declared.command.DeferredTask.TheVariants.{CheckProcMacroSources}
 use Rattle.session_port.specs.declared.command.LogCode.TheVariants.{SecondSettingsFile}
-use Rattle.session_port.specs.Working.{Working, logged, ordered}
+use Rattle.session_port.specs.TurnState.{TurnState, logged, ordered}
 use Rattle.change_effects.specs.declared.effects.ChangeEffects.{ChangeEffects}
 use Rattle.desk.specs.Desk.{Desk}
 use Rattle.desk.specs.Reactions.{silent}
@@ -33,7 +33,7 @@ use Rattle.session_laws.proofs.Following.{deferred-same, followed-does, further-
 use Rattle.session_laws.proofs.Running.{SameRuns, same-runs}
 
 -- the desk, and what was written and ordered
-abbrev pub at : Working State → Working Desk
+abbrev pub at : TurnState State → TurnState Desk
 at w = record { state = w.state.desk; out = w.out }
 
 -- what snapshots show of the workspaces is the same
@@ -46,15 +46,15 @@ shows-same before after same = record { present = ap (λ (ws : Workspaces). ws.p
 
 -- ---- what follows from files that changed
 
-further-settles : (paths : List (List ℕ)) (w : Working State) → Settled None (at w) (at (further_logged paths w)) silent w.state.desk.jobs
+further-settles : (paths : List (List ℕ)) (w : TurnState State) → Settled None (at w) (at (further_logged paths w)) silent w.state.desk.jobs
 unfolding further_logged logged ordered
 further-settles [] w = nothing-settles (at w)
 further-settles (path ∷ paths) w =
-    let v : Working State = logged SecondSettingsFile path w in
+    let v : TurnState State = logged SecondSettingsFile path w in
     settled-on (at w) (at v) (at (further_logged paths v)) silent silent w.state.desk.jobs w.state.desk.jobs (log-settles SecondSettingsFile path (at w))
     (further-settles paths v)
 
-deferred-settles : (sources : Option (List FileId)) (w : Working State) → Settled None (at w) (at (sources_deferred sources w)) silent w.state.desk.jobs
+deferred-settles : (sources : Option (List FileId)) (w : TurnState State) → Settled None (at w) (at (sources_deferred sources w)) silent w.state.desk.jobs
 unfolding sources_deferred ordered
 deferred-settles None w = nothing-settles (at w)
 deferred-settles (Some files) w = defer-settles (CheckProcMacroSources files) (at w)
@@ -68,19 +68,19 @@ planned-shows turn None workspaces = record { present = refl; version = refl }
 planned-shows turn (Some request) workspaces = served-shows (is_served workspaces.fetches) turn request workspaces
 
 -- log lines and a task that is put off are ordered, and the settings change only where some files have
-record Follows (changes : List ChangedFile) (w v : Working State) : Type 0 where
+record Follows (changes : List ChangedFile) (w v : TurnState State) : Type 0 where
   desk : Settled None (at w) (at v) silent w.state.desk.jobs
   shows : ShowsSame w.state.workspaces v.state.workspaces
   client : changes ≡ [] → v.state.client ≡ w.state.client
 
-follows : (changes : List ChangedFile) (w : Working State) → Follows changes w (files_followed changes w)
+follows : (changes : List ChangedFile) (w : TurnState State) → Follows changes w (files_followed changes w)
 unfolding files_followed effects_done settings_filed fetch_waits
 follows [] w = record { desk = nothing-settles (at w); shows = record { present = refl; version = refl }; client = λ none. refl }
 follows (change ∷ changes) w =
     let effects : ChangeEffects = effects_for w.state.client.settings (change ∷ changes) w.state.workspaces in
     let settings = change_for effects.settings w.state.files.host.world.roots w.state.sources w.state.workspaces.present in
-    let put : Working State = record w { state = with_sources (parents_told w.state.sources) (with_client (client_with settings w.state.client) w.state) } in
-    let filed : Working State = further_logged (further_files settings) put in
+    let put : TurnState State = record w { state = with_sources (parents_told w.state.sources) (with_client (client_with settings w.state.client) w.state) } in
+    let filed : TurnState State = further_logged (further_files settings) put in
     let same = deferred-same effects.macro_sources filed ∙ further-same (further_files settings) put in
     record {
       desk = settled-on (at w) (at filed) (at (sources_deferred effects.macro_sources filed)) silent silent w.state.desk.jobs w.state.desk.jobs
@@ -96,7 +96,7 @@ follows (change ∷ changes) w =
 -- ---- files that are processed
 
 -- nobody is answered, the world has the present contents, and where no file was touched it stays as it was, and so do the settings
-pub record Files (w v : Working State) : Type 0 where
+pub record Files (w v : TurnState State) : Type 0 where
   pub desk : Settled None (at w) (at v) silent w.state.desk.jobs
   pub same : v.state.desk ≡ w.state.desk
   pub files : KeepsFiles w.state.files v.state.files
@@ -107,7 +107,7 @@ pub record Files (w v : Working State) : Type 0 where
   pub aside : Aside w v
   pub taken : IsUntouched v.state.files
 
-pub files-processed : (w : Working State) → IfOk (files_processed w) (Files w)
+pub files-processed : (w : TurnState State) → IfOk (files_processed w) (Files w)
 unfolding files_processed
 files-processed w =
     let roots = w.state.sources.roots in
@@ -116,13 +116,13 @@ files-processed w =
     (IfOk-within files_in with_files (processed roots) w (λ v. Files w (files_followed changes v))
     (IfOk-weaker _ (Processes roots (record { state = w.state.files; out = w.out })) _ (processed-does roots (record { state = w.state.files; out = w.out }))
     (λ p done.
-    let v : Working State = record { state = with_files p.state w.state; out = p.out } in
-    let u : Working State = files_followed changes v in
+    let v : TurnState State = record { state = with_files p.state w.state; out = p.out } in
+    let u : TurnState State = files_followed changes v in
     let said = followed-does changes v in
     let f = follows changes v in
     let kept : KeepsFiles w.state.files p.state = processing-keeps roots w.state.files p.state done.is in
     record {
-      desk = subst (λ (x : Working Desk). Settled None x (at u) silent w.state.desk.jobs) (λ i. record { state = w.state.desk; out = done.out i }) f.desk;
+      desk = subst (λ (x : TurnState Desk). Settled None x (at u) silent w.state.desk.jobs) (λ i. record { state = w.state.desk; out = done.out i }) f.desk;
       same = said.desk;
       files = subst (KeepsFiles w.state.files) (sym said.files) kept;
       current = λ sound. subst IsCurrent (sym said.files) ((processing_does roots w.state.files p.state done.is).current sound);

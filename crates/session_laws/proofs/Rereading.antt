@@ -19,7 +19,7 @@ use Rattle.notify.specs.declared.notice.Notice.TheVariants as notices
 use Rattle.session_port.specs.declared.command.Command.{Command}
 use Rattle.session_port.specs.declared.command.Command.TheVariants.{Invalidate}
 use Rattle.session_port.specs.declared.fault.Counter.{Counter}
-use Rattle.session_port.specs.Working.{Working, logged, ordered}
+use Rattle.session_port.specs.TurnState.{TurnState, logged, ordered}
 use Rattle.session_port.specs.Written.{Written}
 use Rattle.desk.specs.Meaning.{Meaning}
 use Rattle.desk_laws.proofs.Results.{IfOk-and_then, IfOk-weaker, IfOk-within}
@@ -96,14 +96,14 @@ passes-files old new passes =
     (record { jobs = λ job. refl; logs = λ code text. refl; defers = λ task. refl }) ∙ numbers-are number old.commands)
 
 -- the files that have been ordered to be read anew
-abbrev to_read : Working State → List (List ℕ)
+abbrev to_read : TurnState State → List (List ℕ)
 to_read w = filter_map file_to_read w.out.commands
 
-abbrev SameFiles : Working State → Working State → Type 0
+abbrev SameFiles : TurnState State → TurnState State → Type 0
 SameFiles w v = to_read v ≡ to_read w
 
 -- a command of another kind
-other-passes : (command : Command) (w : Working State) → file_to_read command ≡ None → SameFiles w (ordered command w)
+other-passes : (command : Command) (w : TurnState State) → file_to_read command ≡ None → SameFiles w (ordered command w)
 unfolding ordered
 other-passes command w none = filter_map-append file_to_read w.out.commands (command ∷ []) ∙ ap (λ file. to_read w ++ cons_option file []) none ∙ append-nil _
 
@@ -132,14 +132,14 @@ seen-none url = ap is_some (finmap.get-empty text_cmp url)
 abbrev named : List ℕ → Option (List ℕ)
 named url = result_ok (path_of url)
 
-file-reads : (url : List ℕ) (o : Result (List ℕ) UrlFault) (w : Working State) (files : List (List ℕ))
+file-reads : (url : List ℕ) (o : Result (List ℕ) UrlFault) (w : TurnState State) (files : List (List ℕ))
     → to_read (file_changed url o w) ++ files ≡ to_read w ++ cons_option (result_ok o) files
 unfolding file_changed logged ordered
 file-reads url (Err fault) w files = ap (λ fs. fs ++ files) (filter_map-append file_to_read w.out.commands _ ∙ append-nil _)
 file-reads url (Ok path) w files = ap (λ fs. fs ++ files) (filter_map-append file_to_read w.out.commands _) ∙ append_assoc (to_read w) (path ∷ []) files
 
 -- one more URL, which was seen or was not
-url-reads : (seen : finmap.FinMap text_cmp (Unit {0})) (before : List (List ℕ)) (url : List ℕ) (urls : List (List ℕ)) (w : Working State) (b : Bool)
+url-reads : (seen : finmap.FinMap text_cmp (Unit {0})) (before : List (List ℕ)) (url : List ℕ) (urls : List (List ℕ)) (w : TurnState State) (b : Bool)
     → to_read (files_changed seen urls w) ≡ to_read w ++ filter_map named (each_once before urls)
     → to_read (files_changed (finmap.insert seen url tt) urls (file_changed url (path_of url) w))
     ≡ to_read (file_changed url (path_of url) w) ++ filter_map named (each_once (url ∷ before) urls)
@@ -148,12 +148,12 @@ url-reads : (seen : finmap.FinMap text_cmp (Unit {0})) (before : List (List ℕ)
 url-reads seen before url urls w true again first = again
 url-reads seen before url urls w false again first = first ∙ file-reads url (path_of url) w (filter_map named (each_once (url ∷ before) urls))
 
-watched-reads : (seen : finmap.FinMap text_cmp (Unit {0})) (before urls : List (List ℕ)) (w : Working State) → AreSeen seen before
+watched-reads : (seen : finmap.FinMap text_cmp (Unit {0})) (before urls : List (List ℕ)) (w : TurnState State) → AreSeen seen before
     → to_read (files_changed seen urls w) ≡ to_read w ++ filter_map named (each_once before urls)
 unfolding files_changed
 watched-reads seen before [] w are = sym (append-nil _)
 watched-reads seen before (url ∷ urls) w are =
-    let v : Working State = file_changed url (path_of url) w in
+    let v : TurnState State = file_changed url (path_of url) w in
     url-reads seen before url urls w (is_some (finmap.get seen url)) (watched-reads seen before urls w are)
     (watched-reads (finmap.insert seen url tt) (url ∷ before) urls v (seen-more seen before url are))
     ∙ ap (λ b. to_read w ++ filter_map named (if b then each_once before urls else url ∷ each_once (url ∷ before) urls)) (are url)
@@ -161,10 +161,10 @@ watched-reads seen before (url ∷ urls) w are =
 -- ---- the event
 
 -- these are to be read anew
-abbrev Reads : List (List ℕ) → Working State → Type 0
+abbrev Reads : List (List ℕ) → TurnState State → Type 0
 Reads files w = to_read w ≡ files
 
-closed-reads : (o : Result (List ℕ) UrlFault) (uri : List ℕ) (w : Working State) → Reads [] w
+closed-reads : (o : Result (List ℕ) UrlFault) (uri : List ℕ) (w : TurnState State) → Reads [] w
     → IfOk (document_closed_at o uri w) (Reads (cons_option (result_ok o) []))
 unfolding document_closed_at closed_document ordered
 closed-reads (Err fault) uri w none = logged-owes SameFiles same-files.saying _ uri w ∙ none
@@ -175,13 +175,13 @@ closed-reads (Ok path) uri w none =
     ∙ ap (λ fs. fs ++ path ∷ []) (passes-files w.out noted.out (close-noted-passes path (record { state = w.state.files; out = w.out })) ∙ none))
 
 -- what another notice tells has no file read anew
-plain-reads : (notice : Notice) (w : Working State) → rereads notice ≡ false → Reads [] w → IfOk (told notice w) (Reads [])
+plain-reads : (notice : Notice) (w : TurnState State) → rereads notice ≡ false → Reads [] w → IfOk (told notice w) (Reads [])
 plain-reads notice w plain none =
     IfOk-weaker (told notice w) (SameFiles w) (Reads [])
     (told-owes SameFiles same-files notice (λ is. absurd (true≢false (sym is ∙ plain))) (λ is v client out parents passes. passes-files v.out out passes) w)
     (λ v same. same ∙ none)
 
-told-reads : (notice : Notice) (w : Working State) → Reads [] w → IfOk (told notice w) (Reads (filter_map named (urls_told (Some notice))))
+told-reads : (notice : Notice) (w : TurnState State) → Reads [] w → IfOk (told notice w) (Reads (filter_map named (urls_told (Some notice))))
 unfolding told
 told-reads (notices.CancelRequest id) w none = plain-reads (notices.CancelRequest id) w refl none
 told-reads (notices.DidOpen document) w none = plain-reads (notices.DidOpen document) w refl none
@@ -198,7 +198,7 @@ told-reads notices.ClearFlycheck w none = none
 told-reads (notices.RunFlycheck uri) w none = none
 told-reads notices.AbortRunTest w none = none
 
-heard-reads : (heard : Heard) (method : List ℕ) (w : Working State) → Reads [] w
+heard-reads : (heard : Heard) (method : List ℕ) (w : TurnState State) → Reads [] w
     → IfOk (noticed heard method w) (Reads (filter_map named (urls_told (told_by heard))))
 unfolding noticed
 heard-reads (Told notice) method w none = told-reads notice w none
@@ -207,7 +207,7 @@ heard-reads Unhandled method w none = logged-owes SameFiles same-files.saying _ 
 heard-reads Silent method w none = none
 
 -- an event that is no notification
-other-reads : (meaning : Meaning) (event : Event) (w : Working State) → notifies event ≡ false → files_told (Next event) ≡ [] → Reads [] w
+other-reads : (meaning : Meaning) (event : Event) (w : TurnState State) → notifies event ≡ false → files_told (Next event) ≡ [] → Reads [] w
     → IfOk (happened meaning event w) (Reads (files_told (Next event)))
 other-reads meaning event w silent nothing none =
     IfOk-weaker (happened meaning event w) (SameFiles w) (Reads (files_told (Next event)))
@@ -215,12 +215,12 @@ other-reads meaning event w silent nothing none =
     (λ is v client out parents passes. passes-files v.out out passes) w)
     (λ v same. same ∙ none ∙ sym nothing)
 
-notified-reads : (meaning : Meaning) (n : Notification) (w : Working State) → Reads [] w
+notified-reads : (meaning : Meaning) (n : Notification) (w : TurnState State) → Reads [] w
     → IfOk (happened meaning (Lsp (NotificationMessage n)) w) (Reads (files_told (Next (Lsp (NotificationMessage n)))))
 unfolding happened received
 notified-reads meaning n w none = heard-reads (heard_of n) n.method w none
 
-happened-reads : (meaning : Meaning) (event : Event) (w : Working State) → Reads [] w → IfOk (happened meaning event w) (Reads (files_told (Next event)))
+happened-reads : (meaning : Meaning) (event : Event) (w : TurnState State) → Reads [] w → IfOk (happened meaning event w) (Reads (files_told (Next event)))
 happened-reads meaning (Lsp (RequestMessage r)) w none = other-reads meaning (Lsp (RequestMessage r)) w refl refl none
 happened-reads meaning (Lsp (NotificationMessage n)) w none = notified-reads meaning n w none
 happened-reads meaning (Lsp (ResponseMessage r)) w none = other-reads meaning (Lsp (ResponseMessage r)) w refl refl none
@@ -239,16 +239,16 @@ taken_in-reads meaning event s =
 
 -- ---- whole turns
 
-loader-reads : (version : ℕ) (w : Working State) → SameFiles w (roots_renewed (loader_set version w))
+loader-reads : (version : ℕ) (w : TurnState State) → SameFiles w (roots_renewed (loader_set version w))
 unfolding roots_renewed loader_set
 loader-reads version w = other-passes _ w refl
 
-switched-reads : (made : Result (Follows × Workspaces) Counter) (w : Working State) → IfOk (switch_taken made w) (SameFiles w)
+switched-reads : (made : Result (Follows × Workspaces) Counter) (w : TurnState State) → IfOk (switch_taken made w) (SameFiles w)
 unfolding switch_taken
 switched-reads (Err counter) w = tt
 switched-reads (Ok made) w = switched-owes SameFiles same-files loader-reads made (at_workspaces (λ before. made.1) w)
 
-switch-reads : (files : List (List ℕ)) (w : Working State) → Reads files w → IfOk (switch_done w) (Reads files)
+switch-reads : (files : List (List ℕ)) (w : TurnState State) → Reads files w → IfOk (switch_done w) (Reads files)
 unfolding switch_done
 switch-reads files w reads =
     let made = switch_made w.state.client.settings w.state.files w.state.workspaces in

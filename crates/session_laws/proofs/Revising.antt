@@ -9,7 +9,7 @@ use Rattle.session_port.specs.Events.{revision_of}
 use Rattle.session_port.specs.declared.command.Command.{Command}
 use Rattle.session_port.specs.declared.command.Command.TheVariants.{Revise, Timer as SetTimer}
 use Rattle.session_port.specs.declared.fault.Counter.{Counter}
-use Rattle.session_port.specs.Working.{Working, ordered}
+use Rattle.session_port.specs.TurnState.{TurnState, ordered}
 use Rattle.session_port.specs.Written.{Written}
 use Rattle.desk.specs.Meaning.{Meaning}
 use Rattle.desk_laws.proofs.Results.{IfOk-and_then, IfOk-weaker}
@@ -20,7 +20,7 @@ use Rattle.session_model.specs.Machine.{at_workspaces, turn_closed, desk_kept, l
 use Rattle.session_model.specs.Run.{Runs, Steps, Turn, turn_start}
 use Rattle.session_model.specs.State.{State}
 use Rattle.session_model.specs.Switching.{switch_made}
-use Rattle.session_model.specs.declared.facts.Facts.{Facts}
+use Rattle.session_model.specs.declared.facts.FactsBefore.{FactsBefore}
 use Rattle.session_model.specs.declared.input.Input.{Input}
 use Rattle.session_model.specs.declared.input.Input.TheVariants.{Start, Next}
 use Rattle.session_laws.specs.Ordered.{AreAbove, revisions_told, told_if_other}
@@ -32,16 +32,16 @@ use Rattle.session_laws.proofs.Walk.{Owed, event-owes, kept-owes, owed-by, switc
 -- ---- what passes tells no revision
 
 -- the revisions that have been told
-abbrev revisions : Working State → List ℕ
+abbrev revisions : TurnState State → List ℕ
 revisions w = filter_map revision_of w.out.commands
 
-abbrev SameRevisions : Working State → Working State → Type 0
+abbrev SameRevisions : TurnState State → TurnState State → Type 0
 SameRevisions w v = revisions v ≡ revisions w
 
 passes-revisions : (old new : Written) → Passes old new → filter_map revision_of new.commands ≡ filter_map revision_of old.commands
 passes-revisions old new passes = passes revision_of (record { jobs = λ job. refl; logs = λ code text. refl; defers = λ task. refl })
 
-other-passes : (command : Command) (w : Working State) → revision_of command ≡ None → SameRevisions w (ordered command w)
+other-passes : (command : Command) (w : TurnState State) → revision_of command ≡ None → SameRevisions w (ordered command w)
 unfolding ordered
 other-passes command w none = filter_map-append revision_of w.out.commands (command ∷ []) ∙ ap (λ revision. revisions w ++ cons_option revision []) none
     ∙ append-nil _
@@ -52,34 +52,34 @@ same-revisions = owed-by SameRevisions (λ w v u p q. q ∙ p) (λ w v p. passes
 -- ---- a turn
 
 -- none has been told
-abbrev TellsNone : Working State → Type 0
+abbrev TellsNone : TurnState State → Type 0
 TellsNone w = revisions w ≡ []
 
 -- the revision that the turn comes to is told, where it is another than this one
-abbrev Tells : ℕ → Working State → Type 0
+abbrev Tells : ℕ → TurnState State → Type 0
 Tells before w = revisions w ≡ told_if_other before w.state.files.host.revision
 
-loader-tells : (version : ℕ) (w : Working State) → SameRevisions w (roots_renewed (loader_set version w))
+loader-tells : (version : ℕ) (w : TurnState State) → SameRevisions w (roots_renewed (loader_set version w))
 unfolding roots_renewed loader_set
 loader-tells version w = other-passes _ w refl
 
-switched-tells : (made : Result (Follows × Workspaces) Counter) (w : Working State) → IfOk (switch_taken made w) (SameRevisions w)
+switched-tells : (made : Result (Follows × Workspaces) Counter) (w : TurnState State) → IfOk (switch_taken made w) (SameRevisions w)
 unfolding switch_taken
 switched-tells (Err counter) w = tt
 switched-tells (Ok made) w = switched-owes SameRevisions same-revisions loader-tells made (at_workspaces (λ before. made.1) w)
 
-switch-tells : (w : Working State) → TellsNone w → IfOk (switch_done w) TellsNone
+switch-tells : (w : TurnState State) → TellsNone w → IfOk (switch_done w) TellsNone
 unfolding switch_done
 switch-tells w none =
     let made = switch_made w.state.client.settings w.state.files w.state.workspaces in
     IfOk-weaker (switch_taken made w) (SameRevisions w) TellsNone (switched-tells made w) (λ v same. same ∙ none)
 
-timer-tells : (before : ℕ) (w : Working State) (b : Bool) → Tells before w → Tells before (if b then ordered (SetTimer w.state.desk.turns) w else w)
+timer-tells : (before : ℕ) (w : TurnState State) (b : Bool) → Tells before w → Tells before (if b then ordered (SetTimer w.state.desk.turns) w else w)
 unfolding ordered
 timer-tells before w true tells = filter_map-append revision_of w.out.commands _ ∙ append-nil _ ∙ tells
 timer-tells before w false tells = tells
 
-revised-tells : (before : ℕ) (w : Working State) (b : Bool) → (w.state.files.host.revision == before) ≡ b → TellsNone w
+revised-tells : (before : ℕ) (w : TurnState State) (b : Bool) → (w.state.files.host.revision == before) ≡ b → TellsNone w
     → Tells before (if b then w else ordered (Revise w.state.files.host.revision) w)
 unfolding ordered
 revised-tells before w true is none = none ∙ ap (λ same. if same then [] else w.state.files.host.revision ∷ []) (sym is)
@@ -87,15 +87,15 @@ revised-tells before w false is none =
     filter_map-append revision_of w.out.commands _ ∙ ap (λ (ns : List ℕ). ns ++ w.state.files.host.revision ∷ []) none
     ∙ ap (λ same. if same then [] else w.state.files.host.revision ∷ []) (sym is)
 
-timer-told : (before : ℕ) (w : Working State) → Tells before w → Tells before (timer_set w)
+timer-told : (before : ℕ) (w : TurnState State) → Tells before w → Tells before (timer_set w)
 unfolding timer_set
 timer-told before w tells = timer-tells before w (fires w.state.desk.turns w.state.workspaces.fetches.waiting) tells
 
-revised-told : (before : ℕ) (w : Working State) → TellsNone w → Tells before (revised before w)
+revised-told : (before : ℕ) (w : TurnState State) → TellsNone w → Tells before (revised before w)
 unfolding revised
 revised-told before w none = revised-tells before w (w.state.files.host.revision == before) refl none
 
-closed-tells : (facts : Facts) (w : Working State) → TellsNone w → IfOk (turn_closed facts w) (Tells facts.revision)
+closed-tells : (facts : FactsBefore) (w : TurnState State) → TellsNone w → IfOk (turn_closed facts w) (Tells facts.revision)
 closed-tells facts w none =
     IfOk-and_then (desk_kept facts.ordered w) (λ v. Ok (timer_set (revised facts.revision v))) (SameRevisions w) (Tells facts.revision)
     (kept-owes SameRevisions same-revisions facts.ordered w)
@@ -105,7 +105,7 @@ step-tells : (meaning : Meaning) (s : State) (input : Input) → IfOk (step mean
 step-tells meaning s input =
     walk SameRevisions same-revisions meaning s input TellsNone TellsNone (Tells s.files.host.revision) (λ w v none same. same ∙ none) switch-tells
     (first input)
-    (λ w facts keeps none. subst (λ (f : Facts). IfOk (turn_closed facts w) (Tells f.revision)) keeps (closed-tells facts w none))
+    (λ w facts keeps none. subst (λ (f : FactsBefore). IfOk (turn_closed facts w) (Tells f.revision)) keeps (closed-tells facts w none))
   where
     first : (input : Input) → Begins meaning s input TellsNone TellsNone
     first Start = refl

@@ -13,7 +13,7 @@ use Rattle.session_port.specs.declared.command.DeferredTask.TheVariants.{CheckPr
 use Rattle.session_port.specs.declared.command.LogCode.{LogCode}
 use Rattle.session_port.specs.declared.command.LogCode.TheVariants.{SecondSettingsFile, UnknownSave}
 use Rattle.session_port.specs.declared.fault.Counter.{Counter}
-use Rattle.session_port.specs.Working.{Working, and_then, logged, ordered, written}
+use Rattle.session_port.specs.TurnState.{TurnState, and_then, logged, ordered, written}
 use Rattle.session_port.specs.Written.{Written}
 use Rattle.change_effects.specs.declared.effects.ChangeEffects.{ChangeEffects}
 use Rattle.client.specs.Client.{Client}
@@ -42,97 +42,97 @@ use Rattle.session_model.specs.Sources.{change_for, client_with, further_files, 
 use Rattle.session_model.specs.State.{Sources, State}
 use Rattle.session_model.specs.Status.{opens_logs, shown_of, status_message, status_now, takes_status}
 use Rattle.session_model.specs.Timing.{effects_for, fetch_planned}
-use Rattle.session_model.specs.declared.facts.Facts.{Facts}
+use Rattle.session_model.specs.declared.facts.FactsBefore.{FactsBefore}
 use Rattle.session_laws.proofs.Passing.{Asks, Says, asked-says, says-deferred, says-logged, says-none, says-notified}
 use Rattle.session_laws.proofs.Running.{SameRuns, planned-runs, same-runs, save-runs}
 use Rattle.session_laws.proofs.Telling.{Speaks, speaks-on, tells-none}
 
 -- what such a step owes to a relation
-pub record Saying (R : Working State → Working State → Type 0) : Type 0 where
-  pub on : (w v u : Working State) → R w v → R v u → R w u
+pub record Saying (R : TurnState State → TurnState State → Type 0) : Type 0 where
+  pub on : (w v u : TurnState State) → R w v → R v u → R w u
   -- something is written, logged or put off
-  pub says : (w : Working State) (out : Written) → Says w.out out → R w (record { state = w.state; out = out })
+  pub says : (w : TurnState State) (out : Written) → Says w.out out → R w (record { state = w.state; out = out })
   -- the client is asked for something
-  pub asks : (handler : ReqHandler) (w : Working State) (out : Written) → Says w.out out
+  pub asks : (handler : ReqHandler) (w : TurnState State) (out : Written) → Says w.out out
       → R w (record { state = with_client (after_asking handler w.state.client) w.state; out = out })
   -- nothing that runs starts or ends, and the status is another
-  pub runs : (w : Working State) (workspaces : Workspaces) → SameRuns w.state.desk.turns w.state.workspaces workspaces
+  pub runs : (w : TurnState State) (workspaces : Workspaces) → SameRuns w.state.desk.turns w.state.workspaces workspaces
       → R w (record w { state = with_workspaces workspaces w.state })
-  pub status : (w : Working State) (status : Status) → R w (record w { state = with_status status w.state })
+  pub status : (w : TurnState State) (status : Status) → R w (record w { state = with_status status w.state })
 
 -- the settings and the sources may become others
-abbrev pub MayFile : (Working State → Working State → Type 0) → Type 0
-MayFile R = (w : Working State) (client : Client) (sources : Sources) → R w (record w { state = with_sources sources (with_client client w.state) })
+abbrev pub MayFile : (TurnState State → TurnState State → Type 0) → Type 0
+MayFile R = (w : TurnState State) (client : Client) (sources : Sources) → R w (record w { state = with_sources sources (with_client client w.state) })
 
 -- a file may be read anew
-abbrev pub MayReread : (Working State → Working State → Type 0) → Type 0
-MayReread R = (path : List ℕ) (w : Working State) → R w (ordered (Invalidate path) w)
+abbrev pub MayReread : (TurnState State → TurnState State → Type 0) → Type 0
+MayReread R = (path : List ℕ) (w : TurnState State) → R w (ordered (Invalidate path) w)
 
 -- the loader may be told, with the roots that it gets
-abbrev pub MayRenew : (Working State → Working State → Type 0) → Type 0
-MayRenew R = (version : ℕ) (w : Working State) → R w (roots_renewed (loader_set version w))
+abbrev pub MayRenew : (TurnState State → TurnState State → Type 0) → Type 0
+MayRenew R = (version : ℕ) (w : TurnState State) → R w (roots_renewed (loader_set version w))
 
-module _ (R : Working State → Working State → Type 0) (owed : Saying R) where
-  pub none-owes : (w : Working State) → R w w
+module _ (R : TurnState State → TurnState State → Type 0) (owed : Saying R) where
+  pub none-owes : (w : TurnState State) → R w w
   none-owes w = owed.says w w.out (says-none w.out)
 
   -- one step and then another
-  pub owes-then : (r : Result (Working State) Counter) (f : Working State → Result (Working State) Counter) (w : Working State) → IfOk r (R w)
-      → ((v : Working State) → IfOk (f v) (R v)) → IfOk (and_then r f) (R w)
+  pub owes-then : (r : Result (TurnState State) Counter) (f : TurnState State → Result (TurnState State) Counter) (w : TurnState State) → IfOk r (R w)
+      → ((v : TurnState State) → IfOk (f v) (R v)) → IfOk (and_then r f) (R w)
   owes-then r f w first next = IfOk-and_then r f (R w) (R w) first (λ v p. IfOk-weaker (f v) (R v) (R w) (next v) (λ u q. owed.on w v u p q))
 
-  pub owes-if : (b : Bool) (w v u : Working State) → R w v → R w u → R w (if b then v else u)
+  pub owes-if : (b : Bool) (w v u : TurnState State) → R w v → R w u → R w (if b then v else u)
   owes-if true w v u p q = p
   owes-if false w v u p q = q
 
-  pub logged-owes : (code : LogCode) (text : List ℕ) (w : Working State) → R w (logged code text w)
+  pub logged-owes : (code : LogCode) (text : List ℕ) (w : TurnState State) → R w (logged code text w)
   unfolding logged ordered
   logged-owes code text w = owed.says w _ (says-logged code text w)
 
-  pub logged_if-owes : (code : LogCode) (text : Option (List ℕ)) (w : Working State) → R w (logged_if code text w)
+  pub logged_if-owes : (code : LogCode) (text : Option (List ℕ)) (w : TurnState State) → R w (logged_if code text w)
   logged_if-owes code None w = none-owes w
   logged_if-owes code (Some text) w = logged-owes code text w
 
-  notified-owes : (message : Outgo) (w : Working State) → R w (written (notification_of message) w)
+  notified-owes : (message : Outgo) (w : TurnState State) → R w (written (notification_of message) w)
   unfolding written
   notified-owes message w = owed.says w _ (says-notified message w)
 
   -- the client is asked for something
-  pub asking-owes : (message : Outgo) (handler : ReqHandler) (w : Working State) → IfOk (at_client (asked_for message handler) w) (R w)
+  pub asking-owes : (message : Outgo) (handler : ReqHandler) (w : TurnState State) → IfOk (at_client (asked_for message handler) w) (R w)
   asking-owes message handler w =
-      let client : Working Client = record { state = w.state.client; out = w.out } in
+      let client : TurnState Client = record { state = w.state.client; out = w.out } in
       IfOk-within client_in with_client (asked_for message handler) w (R w)
       (IfOk-weaker (asked_for message handler client) (Asks handler client) _ (asked-says message handler client)
       (λ v p. subst (λ (c : Client). R w (record { state = with_client c w.state; out = v.out })) (sym p.1) (owed.asks handler w v.out p.0)))
 
-  pub asked_if-owes : (wanted : Bool) (message : Outgo) (w : Working State) → IfOk (asked_if wanted message w) (R w)
+  pub asked_if-owes : (wanted : Bool) (message : Outgo) (w : TurnState State) → IfOk (asked_if wanted message w) (R w)
   unfolding asked_if
   asked_if-owes true message w = asking-owes message Ignore w
   asked_if-owes false message w = none-owes w
 
   -- ---- files that changed
 
-  further-owes : (paths : List (List ℕ)) (w : Working State) → R w (further_logged paths w)
+  further-owes : (paths : List (List ℕ)) (w : TurnState State) → R w (further_logged paths w)
   unfolding further_logged
   further-owes [] w = none-owes w
   further-owes (path ∷ paths) w =
-      let v : Working State = logged SecondSettingsFile path w in
+      let v : TurnState State = logged SecondSettingsFile path w in
       owed.on w v _ (logged-owes SecondSettingsFile path w) (further-owes paths v)
 
-  deferred-owes : (sources : Option (List FileId)) (w : Working State) → R w (sources_deferred sources w)
+  deferred-owes : (sources : Option (List FileId)) (w : TurnState State) → R w (sources_deferred sources w)
   unfolding sources_deferred ordered
   deferred-owes None w = none-owes w
   deferred-owes (Some files) w = owed.says w _ (says-deferred (CheckProcMacroSources files) w)
 
-  pub files-followed-owe : MayFile R → (changes : List ChangedFile) (w : Working State) → R w (files_followed changes w)
+  pub files-followed-owe : MayFile R → (changes : List ChangedFile) (w : TurnState State) → R w (files_followed changes w)
   unfolding files_followed effects_done fetch_waits settings_filed
   files-followed-owe may [] w = none-owes w
   files-followed-owe may (change ∷ changes) w =
       let effects : ChangeEffects = effects_for w.state.client.settings (change ∷ changes) w.state.workspaces in
       let settings = change_for effects.settings w.state.files.host.world.roots w.state.sources w.state.workspaces.present in
-      let put : Working State = record w { state = with_sources (parents_told w.state.sources) (with_client (client_with settings w.state.client) w.state) } in
-      let filed : Working State = further_logged (further_files settings) put in
-      let deferred : Working State = sources_deferred effects.macro_sources filed in
+      let put : TurnState State = record w { state = with_sources (parents_told w.state.sources) (with_client (client_with settings w.state.client) w.state) } in
+      let filed : TurnState State = further_logged (further_files settings) put in
+      let deferred : TurnState State = sources_deferred effects.macro_sources filed in
       owed.on w put _ (may w (client_with settings w.state.client) (parents_told w.state.sources))
       (owed.on put filed _ (further-owes (further_files settings) put)
       (owed.on filed deferred _ (deferred-owes effects.macro_sources filed)
@@ -141,37 +141,37 @@ module _ (R : Working State → Working State → Type 0) (owed : Saying R) wher
 
   -- ---- files that were saved, and files that are to be read anew
 
-  noted-owes : (unknown : Bool) (path : List ℕ) (w : Working State) → R w (save_noted unknown path w)
+  noted-owes : (unknown : Bool) (path : List ℕ) (w : TurnState State) → R w (save_noted unknown path w)
   unfolding save_noted
   noted-owes true path w = logged-owes UnknownSave path w
   noted-owes false path w = none-owes w
 
-  pub saved-owes : (o : Result (List ℕ) UrlFault) (uri : List ℕ) (w : Working State) → R w (saved_at o uri w)
+  pub saved-owes : (o : Result (List ℕ) UrlFault) (uri : List ℕ) (w : TurnState State) → R w (saved_at o uri w)
   unfolding saved_at
   saved-owes (Err fault) uri w = logged-owes _ uri w
   saved-owes (Ok path) uri w =
-      let noted : Working State = save_noted (is_unknown w.state.files.ids path) path w in
+      let noted : TurnState State = save_noted (is_unknown w.state.files.ids path) path w in
       owed.on w noted _ (noted-owes (is_unknown w.state.files.ids path) path w)
       (owed.runs noted (path_saved w.state.client.settings w.state.files path noted.state.workspaces)
       (save-runs noted.state.desk.turns w.state.client.settings w.state.files path noted.state.workspaces))
 
-  file-owes : MayReread R → (url : List ℕ) (o : Result (List ℕ) UrlFault) (w : Working State) → R w (file_changed url o w)
+  file-owes : MayReread R → (url : List ℕ) (o : Result (List ℕ) UrlFault) (w : TurnState State) → R w (file_changed url o w)
   unfolding file_changed
   file-owes may url (Err fault) w = logged-owes _ url w
   file-owes may url (Ok path) w = may path w
 
-  pub watched-owe : MayReread R → (seen : map.FinMap text_cmp (Unit {0})) (urls : List (List ℕ)) (w : Working State) → R w (files_changed seen urls w)
+  pub watched-owe : MayReread R → (seen : map.FinMap text_cmp (Unit {0})) (urls : List (List ℕ)) (w : TurnState State) → R w (files_changed seen urls w)
   unfolding files_changed
   watched-owe may seen [] w = none-owes w
   watched-owe may seen (url ∷ urls) w =
-      let v : Working State = file_changed url (path_of url) w in
+      let v : TurnState State = file_changed url (path_of url) w in
       let more = map.insert seen url tt in
       owes-if (is_some (map.get seen url)) w (files_changed seen urls w) (files_changed more urls v) (watched-owe may seen urls w)
       (owed.on w v _ (file-owes may url (path_of url) w) (watched-owe may more urls v))
 
   -- ---- what is told
 
-  refreshed-owes : (can : Capabilities) (w : Working State) → IfOk (client_refreshed can w) (R w)
+  refreshed-owes : (can : Capabilities) (w : TurnState State) → IfOk (client_refreshed can w) (R w)
   unfolding client_refreshed
   refreshed-owes can w =
       owes-then (asked_if can.semantic_tokens_refresh SemanticTokensRefresh w) _ w (asked_if-owes can.semantic_tokens_refresh SemanticTokensRefresh w)
@@ -179,17 +179,17 @@ module _ (R : Working State → Working State → Type 0) (owed : Saying R) wher
       (λ u. owes-then (asked_if can.inlay_hints_refresh InlayHintRefresh u) _ u (asked_if-owes can.inlay_hints_refresh InlayHintRefresh u)
       (asked_if-owes can.diagnostics_refresh DiagnosticRefresh)))
 
-  pub quiet-owes : (facts : Facts) (w : Working State) → IfOk (quiet_done facts w) (R w)
+  pub quiet-owes : (facts : FactsBefore) (w : TurnState State) → IfOk (quiet_done facts w) (R w)
   unfolding quiet_done
   quiet-owes facts w = IfOk-if _ _ (Ok w) (R w) (refreshed-owes w.state.client.settings.capabilities w) (none-owes w)
 
-  shown-owes : (button : Bool) (text : Option (List ℕ × MessageKind)) (w : Working State) → IfOk (text_shown button text w) (R w)
+  shown-owes : (button : Bool) (text : Option (List ℕ × MessageKind)) (w : TurnState State) → IfOk (text_shown button text w) (R w)
   unfolding text_shown
   shown-owes button None w = none-owes w
   shown-owes true (Some text) w = asking-owes (ShowMessageRequest text.0 text.1) OpenLogs w
   shown-owes false (Some text) w = notified-owes (ShowMessage text.0 text.1) w
 
-  pub status-owes : (w : Working State) → IfOk (status_done w) (R w)
+  pub status-owes : (w : TurnState State) → IfOk (status_done w) (R w)
   unfolding status_done status_kept status_changed status_told
   status-owes w =
       let status : Status = status_now w.state.client w.state.files w.state.workspaces in
@@ -199,20 +199,20 @@ module _ (R : Working State → Working State → Type 0) (owed : Saying R) wher
       (shown-owes (opens_logs w.state.client.settings w.state.workspaces) (shown_of status) w)))
       (λ v. owed.status v status)
 
-  pub warned-owes : (texts : List (List ℕ)) (w : Working State) → R w (warned texts w)
+  pub warned-owes : (texts : List (List ℕ)) (w : TurnState State) → R w (warned texts w)
   unfolding warned
   warned-owes [] w = none-owes w
   warned-owes (text ∷ texts) w =
-      let v : Working State = written (notification_of (ShowMessage text Warning)) w in
+      let v : TurnState State = written (notification_of (ShowMessage text Warning)) w in
       owed.on w v _ (notified-owes (ShowMessage text Warning) w) (warned-owes texts v)
 
-  pub switch-followed-owes : MayRenew R → (follows : Follows) (w : Working State) → IfOk (switch_followed follows w) (R w)
+  pub switch-followed-owes : MayRenew R → (follows : Follows) (w : TurnState State) → IfOk (switch_followed follows w) (R w)
   unfolding switch_followed watchers_registered
   switch-followed-owes renews Nothing w = none-owes w
   switch-followed-owes renews CratesAnew w = none-owes w
   switch-followed-owes renews (Wait msrv) w = warned-owes msrv w
   switch-followed-owes renews (GoOn msrv version initial) w =
-      let v : Working State = warned msrv w in
+      let v : TurnState State = warned msrv w in
       IfOk-weaker (and_then (watchers_registered v) (λ u. Ok (roots_renewed (loader_set version u)))) (R v) (R w)
       (owes-then (watchers_registered v) (λ u. Ok (roots_renewed (loader_set version u))) v (asked_if-owes _ _ v) (renews version))
       (λ x p. owed.on w v x (warned-owes msrv w) p)

@@ -18,7 +18,7 @@ use Rattle.session_port.specs.declared.event.TaskMsg.{TaskMsg}
 use Rattle.session_port.specs.declared.fault.Counter.{Counter}
 use Rattle.session_port.specs.declared.job.JobKind.{JobKind}
 use Rattle.session_port.specs.declared.job.JobKind.TheVariants.{FetchBuildData}
-use Rattle.session_port.specs.Working.{Working, and_then, ordered}
+use Rattle.session_port.specs.TurnState.{TurnState, and_then, ordered}
 use Rattle.session_port.specs.Written.{Written}
 use Rattle.client.specs.Client.{Client}
 use Rattle.client.specs.Folds.{follows}
@@ -64,7 +64,7 @@ use Rattle.session_model.specs.Run.{turn_start}
 use Rattle.session_model.specs.State.{State, columns_in, discovers, excludes_in, fetch_kind, goes_by_folders, scene_of, snapshot_of}
 use Rattle.session_model.specs.Status.{build_fault, fetch_fault}
 use Rattle.session_model.specs.Timing.{bring_files, renewed_if}
-use Rattle.session_model.specs.declared.facts.Facts.{Facts}
+use Rattle.session_model.specs.declared.facts.FactsBefore.{FactsBefore}
 use Rattle.session_model.specs.declared.heard.Heard.{Heard}
 use Rattle.session_model.specs.declared.heard.Heard.TheVariants.{Told, Malformed, Unhandled, Silent}
 use Rattle.session_model.specs.declared.input.Event.{Event}
@@ -73,7 +73,7 @@ use Rattle.session_model.specs.declared.input.Input.{Input}
 use Rattle.session_model.specs.declared.input.Input.TheVariants.{Next}
 use Rattle.session_laws.specs.Entering.{tells_folders, tells_settings}
 use Rattle.session_laws.proofs.Passing.{Passes, Stays, answered-passes, cancelled-passes, changed-passes, close-noted-passes, counted-passes, crates-pass}
-use Rattle.session_laws.proofs.Passing.{folders-pass, handed-passes, kept-passes, loaded-passes, message-passes, opened-passes, passes-none, passes-on}
+use Rattle.session_laws.proofs.Passing.{folders-pass, spawned-passes, kept-passes, loaded-passes, message-passes, opened-passes, passes-none, passes-on}
 use Rattle.session_laws.proofs.Passing.{processed-passes, requested-passes}
 use Rattle.session_laws.proofs.Running.{versions_of, begin-runs, fire-runs, folders-runs, renewed-runs, request-runs, settings-runs}
 use Rattle.session_laws.proofs.Saying.{MayRenew, MayReread, Saying, asked_if-owes, asking-owes, files-followed-owe, logged-owes, logged_if-owes, none-owes}
@@ -84,34 +84,34 @@ use Rattle.session_laws.proofs.WorkEnds.{build-leaves, fetch-leaves, load-leaves
 
 -- what each step of the machine owes to a relation of what was before it and what is behind it, but for what an event tells, a switch
 -- and the revision that is told
-pub record Owed (R : Working State → Working State → Type 0) : Type 0 where
+pub record Owed (R : TurnState State → TurnState State → Type 0) : Type 0 where
   pub saying : Saying R
   -- a timer is ordered
-  pub times : (ticket : ℕ) (w : Working State) → R w (ordered (SetTimer ticket) w)
+  pub times : (ticket : ℕ) (w : TurnState State) → R w (ordered (SetTimer ticket) w)
   -- the desk and the workspaces become others
-  pub desk : (w : Working State) (desk : Desk) (out : Written) → Passes w.out out → R w (record { state = with_desk desk w.state; out = out })
-  pub workspaces : (w : Working State) (workspaces : Workspaces) → versions_of workspaces ≡ versions_of w.state.workspaces
+  pub desk : (w : TurnState State) (desk : Desk) (out : Written) → Passes w.out out → R w (record { state = with_desk desk w.state; out = out })
+  pub workspaces : (w : TurnState State) (workspaces : Workspaces) → versions_of workspaces ≡ versions_of w.state.workspaces
       → R w (record w { state = with_workspaces workspaces w.state })
   -- documents, and what a loader brings, leave the world
-  pub files : (w : Working State) (files : SessionFiles) (out : Written) → files.host ≡ w.state.files.host → Passes w.out out
+  pub files : (w : TurnState State) (files : SessionFiles) (out : Written) → files.host ≡ w.state.files.host → Passes w.out out
       → R w (record { state = with_files files w.state; out = out })
   -- files enter it, and what follows from them is done
-  pub processes : (w : Working State) → IfOk (files_processed w) (R w)
+  pub processes : (w : TurnState State) → IfOk (files_processed w) (R w)
   -- crate data enters it, with the roots that are present
-  pub crates : (crates : CrateData) (w : Working State) → IfOk (at_files (crates_put w.state.sources.roots crates) w) (R w)
+  pub crates : (crates : CrateData) (w : TurnState State) → IfOk (at_files (crates_put w.state.sources.roots crates) w) (R w)
 
 -- ---- relations of what is ordered
 
 -- nothing was ordered but jobs, log lines and tasks that are put off, and the workspaces have their versions
-pub record Passed (w v : Working State) : Type 0 where
+pub record Passed (w v : TurnState State) : Type 0 where
   pub out : Passes w.out v.out
   pub versions : versions_of v.state.workspaces ≡ versions_of w.state.workspaces
 
-passed-on : (w v u : Working State) → Passed w v → Passed v u → Passed w u
+passed-on : (w v u : TurnState State) → Passed w v → Passed v u → Passed w u
 passed-on w v u p q = record { out = passes-on w.out v.out u.out p.out q.out; versions = q.versions ∙ p.versions }
 
 -- a relation of these alone
-by-passing : (R : Working State → Working State → Type 0) → ((w v u : Working State) → R w v → R v u → R w u) → ((w v : Working State) → Passed w v → R w v)
+by-passing : (R : TurnState State → TurnState State → Type 0) → ((w v u : TurnState State) → R w v → R v u → R w u) → ((w v : TurnState State) → Passed w v → R w v)
     → Saying R
 by-passing R on keeps = record {
   on = on;
@@ -122,12 +122,12 @@ by-passing R on keeps = record {
 }
 
 -- a step of the files, which enters the world
-enters-passed : (work : Working SessionFiles → Result (Working SessionFiles) Counter) (w : Working State)
+enters-passed : (work : TurnState SessionFiles → Result (TurnState SessionFiles) Counter) (w : TurnState State)
     → IfOk (work (record { state = w.state.files; out = w.out })) (λ v. Passes w.out v.out) → IfOk (at_files work w) (Passed w)
 enters-passed work w passes =
     IfOk-within files_in with_files work w (Passed w) (IfOk-weaker _ (λ v. Passes w.out v.out) _ passes (λ v p. record { out = p; versions = refl }))
 
-processed-passed : (w : Working State) → IfOk (files_processed w) (Passed w)
+processed-passed : (w : TurnState State) → IfOk (files_processed w) (Passed w)
 unfolding files_processed
 processed-passed w =
     IfOk-and_then (at_files (processed w.state.sources.roots) w) (λ v. Ok (files_followed (changed_files w.state.files) v)) (Passed w) (Passed w)
@@ -135,13 +135,13 @@ processed-passed w =
     (λ v p. passed-on w v _ p (files-followed-owe Passed (by-passing Passed passed-on (λ w v p. p))
     (λ w client sources. record { out = passes-none w.out; versions = refl }) (changed_files w.state.files) v))
 
-crates-passed : (crates : CrateData) (w : Working State) → IfOk (at_files (crates_put w.state.sources.roots crates) w) (Passed w)
+crates-passed : (crates : CrateData) (w : TurnState State) → IfOk (at_files (crates_put w.state.sources.roots crates) w) (Passed w)
 crates-passed crates w = enters-passed (crates_put w.state.sources.roots crates) w
     (crates-pass w.state.sources.roots crates (record { state = w.state.files; out = w.out }))
 
-pub owed-by : (R : Working State → Working State → Type 0) → ((w v u : Working State) → R w v → R v u → R w u)
-    → ((w v : Working State) → Passed w v → R w v)
-    → ((ticket : ℕ) (w : Working State) → R w (ordered (SetTimer ticket) w)) → Owed R
+pub owed-by : (R : TurnState State → TurnState State → Type 0) → ((w v u : TurnState State) → R w v → R v u → R w u)
+    → ((w v : TurnState State) → Passed w v → R w v)
+    → ((ticket : ℕ) (w : TurnState State) → R w (ordered (SetTimer ticket) w)) → Owed R
 owed-by R on keeps times = record {
   saying = by-passing R on keeps;
   times = times;
@@ -166,65 +166,65 @@ notifies (Lsp (NotificationMessage n)) = true
 notifies other = false
 
 -- the client's settings may become others, but for their parents
-abbrev pub MayTell : (Working State → Working State → Type 0) → Type 0
-MayTell R = (w : Working State) (client : Client) (out : Written)
+abbrev pub MayTell : (TurnState State → TurnState State → Type 0) → Type 0
+MayTell R = (w : TurnState State) (client : Client) (out : Written)
     → client.settings.settings.parents ≡ w.state.client.settings.settings.parents → Passes w.out out
     → R w (record { state = with_client client w.state; out = out })
 
-module _ (R : Working State → Working State → Type 0) (owed : Owed R) where
-  none : (w : Working State) → R w w
+module _ (R : TurnState State → TurnState State → Type 0) (owed : Owed R) where
+  none : (w : TurnState State) → R w w
   none w = none-owes R owed.saying w
 
   -- one step and then another
-  two-owe : (r : Result (Working State) Counter) (f : Working State → Result (Working State) Counter) (w : Working State) → IfOk r (R w)
-      → ((v : Working State) → IfOk (f v) (R v)) → IfOk (and_then r f) (R w)
+  two-owe : (r : Result (TurnState State) Counter) (f : TurnState State → Result (TurnState State) Counter) (w : TurnState State) → IfOk r (R w)
+      → ((v : TurnState State) → IfOk (f v) (R v)) → IfOk (and_then r f) (R w)
   two-owe r f w first next = owes-then R owed.saying r f w first next
 
-  pub desk-owes : (work : Working Desk → Result (Working Desk) Counter) (w : Working State)
+  pub desk-owes : (work : TurnState Desk → Result (TurnState Desk) Counter) (w : TurnState State)
       → IfOk (work (record { state = w.state.desk; out = w.out })) (λ v. Passes w.out v.out) → IfOk (at_desk work w) (R w)
   desk-owes work w passes = IfOk-within desk_in with_desk work w (R w) (IfOk-weaker _ (λ v. Passes w.out v.out) _ passes (λ v p. owed.desk w v.state v.out p))
 
-  files-owe : (work : Working SessionFiles → Result (Working SessionFiles) Counter) (w : Working State)
-      → (let files : Working SessionFiles = record { state = w.state.files; out = w.out } in IfOk (work files) (Stays files)) → IfOk (at_files work w) (R w)
+  files-owe : (work : TurnState SessionFiles → Result (TurnState SessionFiles) Counter) (w : TurnState State)
+      → (let files : TurnState SessionFiles = record { state = w.state.files; out = w.out } in IfOk (work files) (Stays files)) → IfOk (at_files work w) (R w)
   files-owe work w stays =
-      let files : Working SessionFiles = record { state = w.state.files; out = w.out } in
+      let files : TurnState SessionFiles = record { state = w.state.files; out = w.out } in
       IfOk-within files_in with_files work w (R w) (IfOk-weaker (work files) (Stays files) _ stays (λ v p. owed.files w v.state v.out p.1 p.0))
 
-  handed-owes : (kind : JobKind) (w : Working State) → IfOk (at_desk (handed_over (snapshot_of w.state) Worker kind) w) (R w)
-  handed-owes kind w = desk-owes _ w (handed-passes (snapshot_of w.state) kind (record { state = w.state.desk; out = w.out }))
+  spawned-owes : (kind : JobKind) (w : TurnState State) → IfOk (at_desk (handed_over (snapshot_of w.state) Worker kind) w) (R w)
+  spawned-owes kind w = desk-owes _ w (spawned-passes (snapshot_of w.state) kind (record { state = w.state.desk; out = w.out }))
 
-  processed_if-owes : (b : Bool) (w : Working State) → IfOk (files_processed_if b w) (R w)
+  processed_if-owes : (b : Bool) (w : TurnState State) → IfOk (files_processed_if b w) (R w)
   unfolding files_processed_if
   processed_if-owes true w = owed.processes w
   processed_if-owes false w = none w
 
   -- ---- notifications
 
-  opened-owes : (o : Result (List ℕ) UrlFault) (document : DidOpen) (w : Working State) → IfOk (document_opened_at o document w) (R w)
+  opened-owes : (o : Result (List ℕ) UrlFault) (document : DidOpen) (w : TurnState State) → IfOk (document_opened_at o document w) (R w)
   unfolding document_opened_at
   opened-owes (Err fault) document w = logged-owes R owed.saying _ document.uri w
   opened-owes (Ok path) document w =
       files-owe _ w (opened-passes (excludes_in w.state.client.settings) path document.version document.text (record { state = w.state.files; out = w.out }))
 
-  changed-owes : (o : Result (List ℕ) UrlFault) (change : DidChange) (w : Working State) → IfOk (document_changed_at o change w) (R w)
+  changed-owes : (o : Result (List ℕ) UrlFault) (change : DidChange) (w : TurnState State) → IfOk (document_changed_at o change w) (R w)
   unfolding document_changed_at
   changed-owes (Err fault) change w = logged-owes R owed.saying _ change.uri w
   changed-owes (Ok path) change w =
       files-owe _ w (changed-passes (columns_in w.state.client.settings) path change.version change.changes (record { state = w.state.files; out = w.out }))
 
-  closed-at-owes : MayReread R → (o : Result (List ℕ) UrlFault) (uri : List ℕ) (w : Working State) → IfOk (document_closed_at o uri w) (R w)
+  closed-at-owes : MayReread R → (o : Result (List ℕ) UrlFault) (uri : List ℕ) (w : TurnState State) → IfOk (document_closed_at o uri w) (R w)
   unfolding document_closed_at closed_document ordered
   closed-at-owes may (Err fault) uri w = logged-owes R owed.saying _ uri w
   closed-at-owes may (Ok path) uri w =
       let noted : Written = (close_noted path (record { state = w.state.files; out = w.out })).out in
-      let v : Working State = record { state = with_files (after_closing path w.state.files) w.state; out = noted } in
+      let v : TurnState State = record { state = with_files (after_closing path w.state.files) w.state; out = noted } in
       IfOk-within files_in with_files (λ f. Ok (closed_document path f)) w (R w)
       (owed.saying.on w v _ (owed.files w (after_closing path w.state.files) noted (closing_keeps path w.state.files).host
       (close-noted-passes path (record { state = w.state.files; out = w.out }))) (may path v))
 
-  folders-owe : MayTell R → (added removed : List (List ℕ)) (w : Working State) → IfOk (folders_taken added removed w) (R w)
+  folders-owe : MayTell R → (added removed : List (List ℕ)) (w : TurnState State) → IfOk (folders_taken added removed w) (R w)
   folders-owe tells added removed w =
-      let client : Working Client = record { state = w.state.client; out = w.out } in
+      let client : TurnState Client = record { state = w.state.client; out = w.out } in
       two-owe (at_client (λ c. Ok (folders_changed added removed c)) w) _ w
       (IfOk-within client_in with_client (λ c. Ok (folders_changed added removed c)) w (R w)
       (tells w (folders_changed added removed client).state (folders_changed added removed client).out
@@ -232,7 +232,7 @@ module _ (R : Working State → Working State → Type 0) (owed : Owed R) where
       (λ v. owed.workspaces v (folders_told_if (goes_by_folders w.state.client.settings) v.state.workspaces)
       (folders-runs 0 (goes_by_folders w.state.client.settings) v.state.workspaces).versions)
 
-  pub told-owes : (notice : Notice) → (rereads notice ≡ true → MayReread R) → (tells_folders (Some notice) ≡ true → MayTell R) → (w : Working State)
+  pub told-owes : (notice : Notice) → (rereads notice ≡ true → MayReread R) → (tells_folders (Some notice) ≡ true → MayTell R) → (w : TurnState State)
       → IfOk (told notice w) (R w)
   unfolding told
   told-owes (notices.CancelRequest id) may tells w = desk-owes (λ d. Ok (cancelled id d)) w (cancelled-passes id (record { state = w.state.desk; out = w.out }))
@@ -249,7 +249,7 @@ module _ (R : Working State → Working State → Type 0) (owed : Owed R) where
   told-owes (notices.RunFlycheck uri) may tells w = none w
   told-owes notices.AbortRunTest may tells w = none w
 
-  heard-owes : (heard : Heard) → MayReread R → (tells_folders (told_by heard) ≡ true → MayTell R) → (method : List ℕ) (w : Working State)
+  heard-owes : (heard : Heard) → MayReread R → (tells_folders (told_by heard) ≡ true → MayTell R) → (method : List ℕ) (w : TurnState State)
       → IfOk (noticed heard method w) (R w)
   unfolding noticed
   heard-owes (Told notice) may tells method w = told-owes notice (λ is. may) tells w
@@ -259,15 +259,15 @@ module _ (R : Working State → Working State → Type 0) (owed : Owed R) where
 
   -- ---- other events
 
-  requested-owes : (meaning : Meaning) (r : Request) (w : Working State) → IfOk (request_taken meaning r w) (R w)
+  requested-owes : (meaning : Meaning) (r : Request) (w : TurnState State) → IfOk (request_taken meaning r w) (R w)
   requested-owes meaning r w =
       two-owe (at_desk (requested meaning (scene_of w.state) r) w) _ w
       (desk-owes _ w (requested-passes meaning (scene_of w.state) r (record { state = w.state.desk; out = w.out })))
       (λ v. owed.workspaces v (request_told r w.state.desk v.state.workspaces) (request-runs 0 r w.state.desk v.state.workspaces).versions)
 
-  answer-owes : MayTell R → (r : Response) (w : Working State) → IfOk (answer_taken r w) (R w)
+  answer-owes : MayTell R → (r : Response) (w : TurnState State) → IfOk (answer_taken r w) (R w)
   answer-owes tells r w =
-      let client : Working Client = record { state = w.state.client; out = w.out } in
+      let client : TurnState Client = record { state = w.state.client; out = w.out } in
       two-owe (at_client (λ c. Ok (answered r c)) w) _ w
       (IfOk-within client_in with_client (λ c. Ok (answered r c)) w (R w)
       (tells w (answered r client).state (answered r client).out
@@ -276,55 +276,55 @@ module _ (R : Working State → Working State → Type 0) (owed : Owed R) where
       (λ v. owed.workspaces v (settings_told w.state.client.settings v.state.client.settings v.state.workspaces)
       (settings-runs 0 w.state.client.settings v.state.client.settings v.state.workspaces).versions)
 
-  brought-owes : (messages : List LoaderMsg) (w : Working State) → IfOk (loader_taken messages w) (R w)
+  brought-owes : (messages : List LoaderMsg) (w : TurnState State) → IfOk (loader_taken messages w) (R w)
   brought-owes messages w =
       two-owe (at_files (loaded messages) w) _ w (files-owe _ w (loaded-passes messages (record { state = w.state.files; out = w.out })))
       (λ v. owed.workspaces v (renewed_if (bring_files messages) v.state.desk.turns v.state.workspaces)
       (renewed-runs (bring_files messages) v.state.desk.turns v.state.workspaces).versions)
 
-  fetch-taken-owes : (found : FetchEnd) (w : Working State) → R w (fetch_taken found w)
+  fetch-taken-owes : (found : FetchEnd) (w : TurnState State) → R w (fetch_taken found w)
   unfolding fetch_taken
   fetch-taken-owes found w =
-      let v : Working State = at_workspaces (fetch_kept found) w in
+      let v : TurnState State = at_workspaces (fetch_kept found) w in
       owed.saying.on w v _ (owed.workspaces w (fetch_kept found w.state.workspaces) (fetch-leaves found w.state.workspaces).2)
       (logged_if-owes R owed.saying FetchError (fetch_fault v.state.client.settings v.state.workspaces) v)
 
-  build-taken-owes : (made : BuildEnd) (w : Working State) → R w (build_taken made w)
+  build-taken-owes : (made : BuildEnd) (w : TurnState State) → R w (build_taken made w)
   unfolding build_taken
   build-taken-owes made w =
-      let v : Working State = at_workspaces (build_kept made) w in
+      let v : TurnState State = at_workspaces (build_kept made) w in
       owed.saying.on w v _ (owed.workspaces w (build_kept made w.state.workspaces) (build-leaves made w.state.workspaces).2)
       (logged_if-owes R owed.saying BuildError (build_fault v.state.workspaces) v)
 
-  arrived-owes : (crates : Option CrateData) (w : Working State) → IfOk (crates_arrived crates w) (R w)
+  arrived-owes : (crates : Option CrateData) (w : TurnState State) → IfOk (crates_arrived crates w) (R w)
   unfolding crates_arrived
   arrived-owes None w = none w
   arrived-owes (Some crates) w = owed.crates crates w
 
-  macros-owe : (told : LoadEnd) (w : Working State) → IfOk (macros_taken told w) (R w)
+  macros-owe : (told : LoadEnd) (w : TurnState State) → IfOk (macros_taken told w) (R w)
   unfolding macros_taken
   macros-owe told w =
-      let v : Working State = at_workspaces (load_kept told) w in
+      let v : TurnState State = at_workspaces (load_kept told) w in
       IfOk-weaker (crates_arrived (crates_loaded told w.state.workspaces) v) (R v) (R w) (arrived-owes (crates_loaded told w.state.workspaces) v)
       (λ u p. owed.saying.on w v u (owed.workspaces w (load_kept told w.state.workspaces) (load-leaves told w.state.workspaces).2) p)
 
-  load-owes : (told : LoadEnd) (w : Working State) → IfOk (load_taken told w) (R w)
+  load-owes : (told : LoadEnd) (w : TurnState State) → IfOk (load_taken told w) (R w)
   unfolding load_taken
   load-owes told w = two-owe (macros_taken told w) _ w (macros-owe told w) (λ v. processed_if-owes (is_some (crates_loaded told w.state.workspaces)) v)
 
-  work-owes : (end : WorkEnd) (w : Working State) → IfOk (work_taken end w) (R w)
+  work-owes : (end : WorkEnd) (w : TurnState State) → IfOk (work_taken end w) (R w)
   unfolding work_taken
   work-owes (Fetched found) w = fetch-taken-owes found w
   work-owes (Built made) w = build-taken-owes made w
   work-owes (Checked roots) w = owed.workspaces w (check_kept roots w.state.workspaces) refl
   work-owes (Loaded told) w = load-owes told w
 
-  end-owes : (end : Option WorkEnd) (w : Working State) → IfOk (end_taken end w) (R w)
+  end-owes : (end : Option WorkEnd) (w : TurnState State) → IfOk (end_taken end w) (R w)
   unfolding end_taken
   end-owes None w = none w
   end-owes (Some end) w = work-owes end w
 
-  taken-owes : (meaning : Meaning) (message : TaskMsg) (w : Working State) → IfOk (message_taken meaning message w) (R w)
+  taken-owes : (meaning : Meaning) (message : TaskMsg) (w : TurnState State) → IfOk (message_taken meaning message w) (R w)
   unfolding message_taken
   taken-owes meaning message w =
       let jobs = w.state.desk.jobs in
@@ -332,21 +332,21 @@ module _ (R : Working State → Working State → Type 0) (owed : Owed R) where
       (desk-owes _ w (message-passes meaning (scene_of w.state) message (record { state = w.state.desk; out = w.out })))
       (end-owes (work_ended message jobs))
 
-  batch-owes : (meaning : Meaning) (batch : List TaskMsg) (w : Working State) → IfOk (batched meaning batch w) (R w)
+  batch-owes : (meaning : Meaning) (batch : List TaskMsg) (w : TurnState State) → IfOk (batched meaning batch w) (R w)
   batch-owes meaning [] w = none w
   batch-owes meaning (m ∷ ms) w = two-owe (message_taken meaning m w) (batched meaning ms) w (taken-owes meaning m w) (batch-owes meaning ms)
 
-  resumed-owes : (task : DeferredTask) (w : Working State) → IfOk (resumed task w) (R w)
+  resumed-owes : (task : DeferredTask) (w : TurnState State) → IfOk (resumed task w) (R w)
   unfolding resumed
   resumed-owes (CheckIfIndexed path) w = none w
-  resumed-owes (CheckProcMacroSources files) w = handed-owes (check_kind (snapshot_of w.state) files) w
+  resumed-owes (CheckProcMacroSources files) w = spawned-owes (check_kind (snapshot_of w.state) files) w
 
-  all-resumed-owe : (tasks : List DeferredTask) (w : Working State) → IfOk (all_resumed tasks w) (R w)
+  all-resumed-owe : (tasks : List DeferredTask) (w : TurnState State) → IfOk (all_resumed tasks w) (R w)
   all-resumed-owe [] w = none w
   all-resumed-owe (task ∷ tasks) w = two-owe (resumed task w) (all_resumed tasks) w (resumed-owes task w) (all-resumed-owe tasks)
 
   pub happened-owes : (meaning : Meaning) (event : Event) → (notifies event ≡ true → MayReread R) → (tells_settings (Next event) ≡ true → MayTell R)
-      → (w : Working State) → IfOk (happened meaning event w) (R w)
+      → (w : TurnState State) → IfOk (happened meaning event w) (R w)
   unfolding happened received
   happened-owes meaning (Lsp (RequestMessage r)) may tells w = requested-owes meaning r w
   happened-owes meaning (Lsp (NotificationMessage n)) may tells w = heard-owes (heard_of n) (may refl) tells n.method w
@@ -358,11 +358,11 @@ module _ (R : Working State → Working State → Type 0) (owed : Owed R) where
   happened-owes meaning (Timer ticket) may tells w = owed.workspaces w (with_fetches (fire ticket) w.state.workspaces)
       (fire-runs 0 ticket w.state.workspaces).versions
 
-  pub counted-owes : (w : Working State) → IfOk (turn_counted w) (R w)
+  pub counted-owes : (w : TurnState State) → IfOk (turn_counted w) (R w)
   unfolding turn_counted
   counted-owes w = desk-owes counted_at_desk w (counted-passes (record { state = w.state.desk; out = w.out }))
 
-  pub event-owes : MayReread R → (meaning : Meaning) (event : Event) → (tells_settings (Next event) ≡ true → MayTell R) → (w : Working State)
+  pub event-owes : MayReread R → (meaning : Meaning) (event : Event) → (tells_settings (Next event) ≡ true → MayTell R) → (w : TurnState State)
       → IfOk (event_taken meaning event w) (R w)
   unfolding event_taken
   event-owes may meaning event tells w = two-owe (turn_counted w) (happened meaning event) w (counted-owes w)
@@ -370,75 +370,75 @@ module _ (R : Working State → Working State → Type 0) (owed : Owed R) where
 
   -- ---- a switch, but for its workspaces and what the loader is told
 
-  pub built-owes : (built : Bool) (w : Working State) → IfOk (crates_built built w) (R w)
+  pub built-owes : (built : Bool) (w : TurnState State) → IfOk (crates_built built w) (R w)
   unfolding crates_built
   built-owes false w = none w
   built-owes true w = owed.crates (crate_data w.state.client.settings w.state.files.ids w.state.workspaces.present) w
 
   -- what is told behind workspaces that are present from now on
-  pub switched-owes : MayRenew R → (made : Follows × Workspaces) (w : Working State)
+  pub switched-owes : MayRenew R → (made : Follows × Workspaces) (w : TurnState State)
       → IfOk (and_then (switch_followed made.0 w) (crates_built (builds_crates w.state.client.settings made.0))) (R w)
   switched-owes renews made w = two-owe (switch_followed made.0 w) _ w (switch-followed-owes R owed.saying renews made.0 w)
       (λ v. built-owes (builds_crates w.state.client.settings made.0) v)
 
   -- ---- the parts behind it
 
-  done-owes : (w : Working State) → IfOk (files_done w) (R w)
+  done-owes : (w : TurnState State) → IfOk (files_done w) (R w)
   unfolding files_done
   done-owes w = IfOk-if w.state.files.loading (Ok w) (files_processed w) (R w) (none w) (owed.processes w)
 
   -- the workspaces come to this, and then a job is handed over
-  starts : (step : Workspaces → Workspaces) (kind : JobKind) (w : Working State) → versions_of (step w.state.workspaces) ≡ versions_of w.state.workspaces
+  starts : (step : Workspaces → Workspaces) (kind : JobKind) (w : TurnState State) → versions_of (step w.state.workspaces) ≡ versions_of w.state.workspaces
       → IfOk (at_desk (handed_over (snapshot_of (at_workspaces step w).state) Worker kind) (at_workspaces step w)) (R w)
   starts step kind w same =
-      let v : Working State = at_workspaces step w in
-      IfOk-weaker _ (R v) (R w) (handed-owes kind v) (λ u q. owed.saying.on w v u (owed.workspaces w (step w.state.workspaces) same) q)
+      let v : TurnState State = at_workspaces step w in
+      IfOk-weaker _ (R v) (R w) (spawned-owes kind v) (λ u q. owed.saying.on w v u (owed.workspaces w (step w.state.workspaces) same) q)
 
-  fetch-handed : (may : Bool) (request : Option (List ℕ × FetchRequest)) (w : Working State)
+  fetch-spawned : (may : Bool) (request : Option (List ℕ × FetchRequest)) (w : TurnState State)
       → IfOk (fetch_handed_over request (at_workspaces (with_fetches (start_fetch may)) w)) (R w)
   unfolding fetch_handed_over
-  fetch-handed may None w = owed.workspaces w (with_fetches (start_fetch may) w.state.workspaces) refl
-  fetch-handed may (Some request) w = starts (with_fetches (start_fetch may)) (fetch_kind w.state.client.settings request.1) w refl
+  fetch-spawned may None w = owed.workspaces w (with_fetches (start_fetch may) w.state.workspaces) refl
+  fetch-spawned may (Some request) w = starts (with_fetches (start_fetch may)) (fetch_kind w.state.client.settings request.1) w refl
 
-  fetch-owes : (may : Bool) (w : Working State) → IfOk (fetch_started may w) (R w)
+  fetch-owes : (may : Bool) (w : TurnState State) → IfOk (fetch_started may w) (R w)
   unfolding fetch_started
-  fetch-owes may w = fetch-handed may (fetch_to_start may w.state.workspaces.fetches) w
+  fetch-owes may w = fetch-spawned may (fetch_to_start may w.state.workspaces.fetches) w
 
-  build-handed : (version : Option ℕ) (w : Working State) → IfOk (build_handed_over version (at_workspaces with_due_build w)) (R w)
+  build-spawned : (version : Option ℕ) (w : TurnState State) → IfOk (build_handed_over version (at_workspaces with_due_build w)) (R w)
   unfolding build_handed_over
-  build-handed None w = owed.workspaces w (with_due_build w.state.workspaces) refl
-  build-handed (Some version) w = starts with_due_build (FetchBuildData version) w refl
+  build-spawned None w = owed.workspaces w (with_due_build w.state.workspaces) refl
+  build-spawned (Some version) w = starts with_due_build (FetchBuildData version) w refl
 
-  build-owes : (w : Working State) → IfOk (build_started w) (R w)
+  build-owes : (w : TurnState State) → IfOk (build_started w) (R w)
   unfolding build_started
-  build-owes w = build-handed (build_due w.state.workspaces) w
+  build-owes w = build-spawned (build_due w.state.workspaces) w
 
-  load-handed : (build : Option ℕ) (paths : Option MacroPaths) (w : Working State)
+  load-spawned : (build : Option ℕ) (paths : Option MacroPaths) (w : TurnState State)
       → IfOk (load_handed_over paths (at_workspaces (with_due_load build) w)) (R w)
   unfolding load_handed_over
-  load-handed build None w = owed.workspaces w (with_due_load build w.state.workspaces) refl
-  load-handed build (Some paths) w = starts (with_due_load build) (load_kind w.state.client.settings paths) w refl
+  load-spawned build None w = owed.workspaces w (with_due_load build w.state.workspaces) refl
+  load-spawned build (Some paths) w = starts (with_due_load build) (load_kind w.state.client.settings paths) w refl
 
-  load-started-owes : (build : Option ℕ) (w : Working State) → IfOk (load_started build w) (R w)
+  load-started-owes : (build : Option ℕ) (w : TurnState State) → IfOk (load_started build w) (R w)
   unfolding load_started
-  load-started-owes build w = load-handed build (load_due build w.state.workspaces) w
+  load-started-owes build w = load-spawned build (load_due build w.state.workspaces) w
 
-  runs-owe : (w : Working State) → IfOk (runs_started w) (R w)
+  runs-owe : (w : TurnState State) → IfOk (runs_started w) (R w)
   unfolding runs_started
   runs-owe w = two-owe (build_started w) _ w (build-owes w) (λ v. load-started-owes (build_due w.state.workspaces) v)
 
   -- the jobs that were handed over are out, and a timer is ordered where a fetch waits for it
-  pub kept-owes : (before : ℕ) (w : Working State) → IfOk (desk_kept before w) (R w)
+  pub kept-owes : (before : ℕ) (w : TurnState State) → IfOk (desk_kept before w) (R w)
   unfolding desk_kept
   kept-owes before w = desk-owes (λ d. Ok (kept_at_desk before d)) w (kept-passes before (record { state = w.state.desk; out = w.out }))
 
-  pub timer-owes : (w : Working State) → R w (timer_set w)
+  pub timer-owes : (w : TurnState State) → R w (timer_set w)
   unfolding timer_set
   timer-owes w = owes-if R owed.saying (fires w.state.desk.turns w.state.workspaces.fetches.waiting) w (ordered (SetTimer w.state.desk.turns) w) w
       (owed.times w.state.desk.turns w) (none w)
 
   -- with the revision, where it is told so
-  pub closed-owes : ((revision : ℕ) (w : Working State) → R w (ordered (Revise revision) w)) → (facts : Facts) (w : Working State)
+  pub closed-owes : ((revision : ℕ) (w : TurnState State) → R w (ordered (Revise revision) w)) → (facts : FactsBefore) (w : TurnState State)
       → IfOk (turn_closed facts w) (R w)
   unfolding revised
   closed-owes revises facts w =
@@ -462,8 +462,8 @@ module _ (R : Working State → Working State → Type 0) (owed : Owed R) where
   }
 
   -- what is so behind a switch, by what was so before it, and is kept by each step, is so where the turn is closed
-  pub walk : (meaning : Meaning) (s : State) (input : Input) (P Q Goal : Working State → Type 0) (keeps : Keeps R Q)
-      (switches : (w : Working State) → P w → IfOk (switch_done w) Q) → Begins meaning s input P Q → Closes Q Goal (facts_before (turn_start s))
+  pub walk : (meaning : Meaning) (s : State) (input : Input) (P Q Goal : TurnState State → Type 0) (keeps : Keeps R Q)
+      (switches : (w : TurnState State) → P w → IfOk (switch_done w) Q) → Begins meaning s input P Q → Closes Q Goal (facts_before (turn_start s))
       → IfOk (step meaning input (turn_start s)) Goal
   walk meaning s input P Q Goal keeps switches first closes =
       turn-ends R parts_owed meaning s input P Q Q Goal keeps switches

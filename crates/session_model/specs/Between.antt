@@ -68,7 +68,7 @@ pub record WasHandedOver (meaning : Meaning) (settings : ConfigData) (turns : Li
   pub snapshot : let place = place_of_turns meaning settings before in
       job.snapshot ≡ snapshot_within place (machine_within meaning earlier place)
   pub documents : ShowsDocuments (place_of_turns meaning settings before) job.snapshot
-  pub handed : Contains (spawned turn.commands) job
+  pub is_spawned : Contains (spawned turn.commands) job
 
 abbrev pub AreHandedOver : Meaning → ConfigData → List Turn → Jobs → Type 0
 AreHandedOver meaning settings turns jobs =

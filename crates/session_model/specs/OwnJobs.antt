@@ -4,7 +4,7 @@ use Rattle.std.specs.Result.{result_unwrap_or}
 use Rattle.analysis_host.specs.SnapshotData.{SnapshotData}
 use Rattle.method_table.specs.declared.class.PoolClass.{PoolClass}
 use Rattle.method_table.specs.declared.class.PoolClass.TheVariants.{Worker}
-use Rattle.session_port.specs.Working.{Working, and_then}
+use Rattle.session_port.specs.TurnState.{TurnState, and_then}
 use Rattle.session_port.specs.declared.command.DeferredTask.{DeferredTask}
 use Rattle.session_port.specs.declared.command.DeferredTask.TheVariants.{CheckIfIndexed, CheckProcMacroSources}
 use Rattle.session_port.specs.declared.fault.Counter.{Counter}
@@ -39,10 +39,10 @@ own_job s kind = record { class = Worker; kind = kind; snapshot = snapshot_of s 
 
 -- jobs with the numbers behind so many that were handed over
 abbrev pub numbered_behind : ℕ → List OwnJob → List Job
-numbered_behind handed [] = []
-numbered_behind handed (own ∷ later) =
-    (record { number = handed + 1; class = own.class; kind = own.kind; snapshot = own.snapshot })
-    ∷ numbered_behind (handed + 1) later
+numbered_behind last_job [] = []
+numbered_behind last_job (own ∷ later) =
+    (record { number = last_job + 1; class = own.class; kind = own.kind; snapshot = own.snapshot })
+    ∷ numbered_behind (last_job + 1) later
 
 -- ---- checks of sources that come back
 
@@ -98,7 +98,7 @@ jobs_due input s =
 -- ---- of a turn
 
 -- the parts of a turn before its fetch
-abbrev pub parts_before_fetch : Meaning → Input → Working Turning → Result (Working Turning) Counter
+abbrev pub parts_before_fetch : Meaning → Input → TurnState Turning → Result (TurnState Turning) Counter
 parts_before_fetch meaning Start w = and_then (status_part w) (λ w. and_then (register_part w) begin_part)
 parts_before_fetch meaning (Next event) w =
     and_then (event_part meaning event w) (λ w.

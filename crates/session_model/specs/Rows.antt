@@ -6,7 +6,7 @@ use Rattle.lsp_frame.specs.declared.message.RequestId.{RequestId}
 use Rattle.analysis_host.specs.SnapshotData.{SnapshotData}
 use Rattle.session_port.specs.Record.{spawned}
 use Rattle.session_port.specs.declared.event.TaskMsg.{TaskMsg}
-use Rattle.session_port.specs.Working.{Working}
+use Rattle.session_port.specs.TurnState.{TurnState}
 use Rattle.session_port.specs.Written.{responses_in}
 use Rattle.desk.specs.Desk.{Desk}
 use Rattle.desk.specs.Folds.{asked_among, desk_past}
@@ -27,36 +27,36 @@ use Rattle.session_model.specs.declared.input.Input.TheVariants.{Next}
 -- ---- within a turn
 
 -- the machine in a turn that takes an event, before it does: the turn is counted
-abbrev pub turn_begun : State → Working State
+abbrev pub turn_begun : State → TurnState State
 turn_begun s = turn_start (record s { desk = record s.desk { turns = s.desk.turns + 1 } })
 
 -- the machine after a message of a batch; as before it, where the message needs one more of a counter than there are
-abbrev pub machine_after : Meaning → TaskMsg → Working State → Working State
+abbrev pub machine_after : Meaning → TaskMsg → TurnState State → TurnState State
 machine_after meaning message w = result_unwrap_or (message_taken meaning message w) w
 
 -- after messages, one after another
-abbrev pub machine_after_all : Meaning → List TaskMsg → Working State → Working State
+abbrev pub machine_after_all : Meaning → List TaskMsg → TurnState State → TurnState State
 machine_after_all meaning [] w = w
 machine_after_all meaning (message ∷ messages) w = machine_after_all meaning messages (machine_after meaning message w)
 
 -- within the next turn, behind these messages of its batch
-abbrev pub machine_within : Meaning → List TaskMsg → Place → Working State
+abbrev pub machine_within : Meaning → List TaskMsg → Place → TurnState State
 machine_within meaning earlier place = machine_after_all meaning earlier (turn_begun place.rest)
 
 -- the revision rises within a turn as the machine's does
-abbrev pub revision_within : Place → Working State → ℕ
+abbrev pub revision_within : Place → TurnState State → ℕ
 revision_within place w = place.revision + (w.state.files.host.revision - place.rest.files.host.revision)
 
 -- what a job works on that is handed over within a turn, where the machine has come to this: a batch changes no
 -- documents
-abbrev pub snapshot_within : Place → Working State → SnapshotData
+abbrev pub snapshot_within : Place → TurnState State → SnapshotData
 snapshot_within place w = record (snapshot_of w.state) {
   versions = place.documents.versions;
   revision = revision_within place w;
 }
 
 -- what a request meets that is given to a job then, once more or for the first time
-abbrev pub scene_within : Place → Working State → Scene
+abbrev pub scene_within : Place → TurnState State → Scene
 scene_within place w = record {
   snapshot = snapshot_within place w;
   loading = place.loading;
@@ -98,7 +98,7 @@ abbrev pub place_after_message : TaskMsg → Reaction → Place → Place
 place_after_message message done place = record place { desk = desk_past message done place.desk }
 
 -- a batch: each message on what the machine makes of the ones before it
-abbrev pub batch_row : Meaning → List TaskMsg → Working State → Place → Reaction
+abbrev pub batch_row : Meaning → List TaskMsg → TurnState State → Place → Reaction
 batch_row meaning [] w place = silent
 batch_row meaning (message ∷ messages) w place =
     let done = message_row meaning (scene_within place w) place.desk message in

@@ -60,7 +60,7 @@ pub record Numbers : Type 0 where
 abbrev pub given_at : Place → Numbers
 given_at place = record {
   turns = place.desk.turns;
-  jobs = place.desk.handed;
+  jobs = place.desk.last_job;
   requests = place.rest.client.asked.given;
   revisions = place.revision;
   files = place.rest.files.table.first + length place.rest.files.table.paths;

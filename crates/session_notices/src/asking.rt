@@ -1,6 +1,6 @@
 // What is agreed with the client.
 ghost use Rattle.std.specs.Prelude.{Ok};
-ghost use Rattle.session_port.specs.Meets.{Meets};
+ghost use Rattle.session_port.specs.Refines.{Refines};
 ghost use Rattle.session_model.specs.ClientSteps.{answered, folders_changed};
 ghost use Rattle.session_model.specs.Machine.{answer_taken, asked_for_settings, at_client, folders_taken};
 
@@ -15,26 +15,26 @@ use std::sync::Arc;
 
 // The client is asked for its settings.
 pub(crate) fn ask_for_settings(store: &mut Store, out: &mut TurnOut) -> Result<(), TurnError>
-    ensures { Meets result (at_client asked_for_settings (record { state = store.old; out = out.old })) store.new out.new }
+    ensures { Refines result (at_client asked_for_settings (record { state = store.old; out = out.old })) store.new out.new }
 {
     store.send_request(Outgo::Configuration, ReqHandler::Settings, out)
 }
 
 // An answer, to what is agreed with the client.
 fn take_answer(store: &mut Store, response: Response, out: &mut TurnOut) -> Result<(), TurnError>
-    ensures { Meets result (at_client (λ c. Ok (answered response c)) (record { state = store.old; out = out.old })) store.new out.new }
+    ensures { Refines result (at_client (λ c. Ok (answered response c)) (record { state = store.old; out = out.old })) store.new out.new }
 {
     store.client.complete(response, out)
 }
 
 /// The client answers what it was asked. Other settings than before ask for a fetch. That no request has the answer's id
-/// is logged. After an `Err` the state is spent.
+/// is logged. After an `Err` the state is poisoned.
 pub fn complete_request(
     store: &mut Store,
     response: Response,
     out: &mut TurnOut,
 ) -> Result<(), TurnError>
-    ensures { Meets result (answer_taken response (record { state = store.old; out = out.old })) store.new out.new }
+    ensures { Refines result (answer_taken response (record { state = store.old; out = out.old })) store.new out.new }
 {
     let before = Arc::try_clone(store.client.settings())?;
     take_answer(store, response, out)?;
@@ -54,7 +54,7 @@ fn change_folders(
     removed: Items<Text>,
     out: &mut TurnOut,
 ) -> Result<(), TurnError>
-    ensures { Meets result (at_client (λ c. Ok (folders_changed added removed c)) (record { state = store.old; out = out.old })) store.new out.new }
+    ensures { Refines result (at_client (λ c. Ok (folders_changed added removed c)) (record { state = store.old; out = out.old })) store.new out.new }
 {
     store.client.change_folders(added, removed, out)
 }
@@ -66,7 +66,7 @@ pub(crate) fn on_folders(
     removed: Items<Text>,
     out: &mut TurnOut,
 ) -> Result<(), TurnError>
-    ensures { Meets result (folders_taken added removed (record { state = store.old; out = out.old })) store.new out.new }
+    ensures { Refines result (folders_taken added removed (record { state = store.old; out = out.old })) store.new out.new }
 {
     let counts = goes_by_folders(store.client.settings());
     change_folders(store, added, removed, out)?;

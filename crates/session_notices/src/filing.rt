@@ -1,7 +1,7 @@
 // Documents, the loader's files, and the world that is made of them.
 ghost use Rattle.std.specs.Prelude.{◌≡◌, ◌<◌, ◌^◌, length, Ok, IfOk};
 ghost use Rattle.docs_vfs.specs.FileUrls.{path_of};
-ghost use Rattle.session_port.specs.Meets.{Meets, Gives};
+ghost use Rattle.session_port.specs.Refines.{Refines, RefinesTotal};
 ghost use Rattle.session_model.specs.FilesFolds.{changed_files, has_changed};
 ghost use Rattle.session_model.specs.FilesSteps.{changed_document, closed_document, loaded, opened_document, processed};
 ghost use Rattle.session_model.specs.Machine.{at_files, loader_taken, document_changed_at, document_closed_at, files_done, files_followed, files_processed, document_opened_at, some_processed};
@@ -42,7 +42,7 @@ fn open_at(
     out: &mut TurnOut,
 ) -> Result<(), TurnError>
     requires { length text < 2 ^ 32 }
-    ensures { Meets result (at_files (opened_document (excludes_in store.old.client.settings) path version text) (record { state = store.old; out = out.old })) store.new out.new }
+    ensures { Refines result (at_files (opened_document (excludes_in store.old.client.settings) path version text) (record { state = store.old; out = out.old })) store.new out.new }
 {
     let excludes = store.client.settings().files_exclude();
     store.files.open(excludes, path, version, text, out)
@@ -56,7 +56,7 @@ pub(crate) fn on_open(
     out: &mut TurnOut,
 ) -> Result<(), TurnError>
     requires { length document.text < 2 ^ 32 }
-    ensures { Meets result (document_opened_at (path_of document.uri) document (record { state = store.old; out = out.old })) store.new out.new }
+    ensures { Refines result (document_opened_at (path_of document.uri) document (record { state = store.old; out = out.old })) store.new out.new }
 {
     match path_named(store.alloc, document.uri.as_str())? {
         Some(path) => open_at(store, path, document.version, document.text, out),
@@ -71,7 +71,7 @@ fn change_at(
     changes: Items<ContentChange>,
     out: &mut TurnOut,
 ) -> Result<(), TurnError>
-    ensures { Meets result (at_files (changed_document (columns_in store.old.client.settings) path version changes) (record { state = store.old; out = out.old })) store.new out.new }
+    ensures { Refines result (at_files (changed_document (columns_in store.old.client.settings) path version changes) (record { state = store.old; out = out.old })) store.new out.new }
 {
     let columns = store.client.settings().encodings();
     store.files.change(columns, path, version, changes, out)
@@ -84,7 +84,7 @@ pub(crate) fn on_change(
     change: DidChange,
     out: &mut TurnOut,
 ) -> Result<(), TurnError>
-    ensures { Meets result (document_changed_at (path_of change.uri) change (record { state = store.old; out = out.old })) store.new out.new }
+    ensures { Refines result (document_changed_at (path_of change.uri) change (record { state = store.old; out = out.old })) store.new out.new }
 {
     match path_named(store.alloc, change.uri.as_str())? {
         Some(path) => change_at(store, path, change.version, change.changes, out),
@@ -93,7 +93,7 @@ pub(crate) fn on_change(
 }
 
 fn close_at(store: &mut Store, path: VfsPath, out: &mut TurnOut) -> Result<(), TurnError>
-    ensures { Meets result (at_files (λ f. Ok (closed_document path f)) (record { state = store.old; out = out.old })) store.new out.new }
+    ensures { Refines result (at_files (λ f. Ok (closed_document path f)) (record { state = store.old; out = out.old })) store.new out.new }
 {
     store.files.close(path, out)
 }
@@ -101,7 +101,7 @@ fn close_at(store: &mut Store, path: VfsPath, out: &mut TurnOut) -> Result<(), T
 // A document is closed at the path of its URL.
 #[tactic(auto, unfolding(session_model::specs::Machine::document_closed_at))]
 pub(crate) fn on_close(store: &mut Store, uri: Text, out: &mut TurnOut) -> Result<(), TurnError>
-    ensures { Meets result (document_closed_at (path_of uri) uri (record { state = store.old; out = out.old })) store.new out.new }
+    ensures { Refines result (document_closed_at (path_of uri) uri (record { state = store.old; out = out.old })) store.new out.new }
 {
     match path_named(store.alloc, uri.as_str())? {
         Some(path) => close_at(store, path, out),
@@ -111,7 +111,7 @@ pub(crate) fn on_close(store: &mut Store, uri: Text, out: &mut TurnOut) -> Resul
 
 // What a loader brings, in the files.
 fn load(store: &mut Store, messages: Items<LoaderMsg>, out: &mut TurnOut) -> Result<(), TurnError>
-    ensures { Meets result (at_files (loaded messages) (record { state = store.old; out = out.old })) store.new out.new }
+    ensures { Refines result (at_files (loaded messages) (record { state = store.old; out = out.old })) store.new out.new }
 {
     store.files.load(messages, out)
 }
@@ -122,7 +122,7 @@ pub fn on_loader(
     messages: Items<LoaderMsg>,
     out: &mut TurnOut,
 ) -> Result<(), TurnError>
-    ensures { Meets result (loader_taken messages (record { state = store.old; out = out.old })) store.new out.new }
+    ensures { Refines result (loader_taken messages (record { state = store.old; out = out.old })) store.new out.new }
 {
     let brings = bring_files(messages.as_slice());
     load(store, messages, out)?;
@@ -133,7 +133,7 @@ pub fn on_loader(
 // What has changed goes into the world, and with files that came or went the source roots. Answers the files that have
 // changed.
 fn take_up(store: &mut Store, out: &mut TurnOut) -> Result<Items<ChangedFile>, TurnError>
-    ensures meets { Meets result (at_files (processed store.old.sources.roots) (record { state = store.old; out = out.old })) store.new out.new }
+    ensures meets { Refines result (at_files (processed store.old.sources.roots) (record { state = store.old; out = out.old })) store.new out.new }
     ensures changed { IfOk result (λ changed. changed ≡ changed_files store.old.files) }
 {
     store.files.process(&store.roots, out)
@@ -146,7 +146,7 @@ fn follow_files(
     changed: &Items<ChangedFile>,
     out: &mut TurnOut,
 ) -> Result<(), TurnError>
-    ensures { Gives result (files_followed changed.now (record { state = store.old; out = out.old })) store.new out.new }
+    ensures { RefinesTotal result (files_followed changed.now (record { state = store.old; out = out.old })) store.new out.new }
 {
     if changed.is_empty() {
         return Ok(());
@@ -162,10 +162,10 @@ fn follow_files(
 
 /// What has changed goes into the world: one change, and so one revision. The settings files among it go into the
 /// settings, and the fetch that it asks for waits for a timer. Answers whether something has changed, also while files are
-/// loading. After an `Err` the state is spent.
+/// loading. After an `Err` the state is poisoned.
 #[tactic(auto, unfolding(session_model::specs::Machine::files_processed))]
 pub fn process_changes(store: &mut Store, out: &mut TurnOut) -> Result<bool, TurnError>
-    ensures meets { Meets result (files_processed (record { state = store.old; out = out.old })) store.new out.new }
+    ensures meets { Refines result (files_processed (record { state = store.old; out = out.old })) store.new out.new }
     ensures some { IfOk result (λ some. some ≡ has_changed store.old.files) }
 {
     let changed = take_up(store, out)?;
@@ -176,7 +176,7 @@ pub fn process_changes(store: &mut Store, out: &mut TurnOut) -> Result<bool, Tur
 /// The same behind the event of a turn, unless files are loading.
 #[tactic(auto, unfolding(session_model::specs::Machine::files_done))]
 pub fn process(store: &mut Store, out: &mut TurnOut) -> Result<bool, TurnError>
-    ensures meets { Meets result (files_done (record { state = store.old; out = out.old })) store.new out.new }
+    ensures meets { Refines result (files_done (record { state = store.old; out = out.old })) store.new out.new }
     ensures some { IfOk result (λ some. some ≡ some_processed store.old.files) }
 {
     if store.files.is_loading() {

@@ -1,6 +1,6 @@
 // Notifications.
 ghost use Rattle.std.specs.Prelude.{Ok};
-ghost use Rattle.session_port.specs.Meets.{Meets};
+ghost use Rattle.session_port.specs.Refines.{Refines};
 ghost use Rattle.session_model.specs.DeskSteps.{cancelled};
 ghost use Rattle.notify.specs.Reading.{FitsWorld as NoticeFitsWorld};
 ghost use Rattle.session_model.specs.Hearing.{heard_of, HeardFitsWorld};
@@ -20,7 +20,7 @@ use session_store::{Store, log};
 
 // The request of an id is cancelled, where it is pending.
 fn on_cancel(store: &mut Store, id: RequestId, out: &mut TurnOut) -> Result<(), TurnError>
-    ensures { Meets result (at_desk (λ d. Ok (cancelled id d)) (record { state = store.old; out = out.old })) store.new out.new }
+    ensures { Refines result (at_desk (λ d. Ok (cancelled id d)) (record { state = store.old; out = out.old })) store.new out.new }
 {
     store.desk.cancel(id, out)?;
     Ok(())
@@ -30,7 +30,7 @@ fn on_cancel(store: &mut Store, id: RequestId, out: &mut TurnOut) -> Result<(), 
 #[tactic(auto, unfolding(session_model::specs::Machine::told))]
 fn on_notice(store: &mut Store, notice: Notice, out: &mut TurnOut) -> Result<(), TurnError>
     requires { NoticeFitsWorld notice }
-    ensures { Meets result (told notice (record { state = store.old; out = out.old })) store.new out.new }
+    ensures { Refines result (told notice (record { state = store.old; out = out.old })) store.new out.new }
 {
     match notice {
         Notice::CancelRequest(id) => on_cancel(store, id, out),
@@ -60,7 +60,7 @@ fn on_heard(
     out: &mut TurnOut,
 ) -> Result<(), TurnError>
     requires { HeardFitsWorld heard }
-    ensures { Meets result (noticed heard method (record { state = store.old; out = out.old })) store.new out.new }
+    ensures { Refines result (noticed heard method (record { state = store.old; out = out.old })) store.new out.new }
 {
     match heard {
         Heard::Told(notice) => on_notice(store, notice, out),
@@ -77,7 +77,7 @@ pub fn on_notification(
     notification: Notification,
     out: &mut TurnOut,
 ) -> Result<(), TurnError>
-    ensures { Meets result (noticed (heard_of notification) notification.method (record { state = store.old; out = out.old })) store.new out.new }
+    ensures { Refines result (noticed (heard_of notification) notification.method (record { state = store.old; out = out.old })) store.new out.new }
 {
     let Notification { method, params } = notification;
     let heard = heard_of(store.alloc, &method, params)?;

@@ -3,7 +3,7 @@ ghost use Rattle.std.specs.Prelude.{◌≡◌, ◌++◌, IfOk, OnOk};
 ghost use Rattle.docs_vfs.specs.FileUrls.{path_of};
 ghost use Rattle.docs_vfs.specs.declared.file_kinds.ChangeKind.TheVariants.{Modify as Modified};
 ghost use Rattle.reload.specs.Refresh.{refreshes};
-ghost use Rattle.session_port.specs.Meets.{Gives};
+ghost use Rattle.session_port.specs.Refines.{RefinesTotal};
 ghost use Rattle.session_model.specs.Machine.{save_noted, saved_at, saved_file};
 ghost use Rattle.session_model.specs.Saving.{asked_by_save, builds_on_save, fetch_saved, is_detached, is_detached_at, is_detached_file, is_manifest, path_saved, rebuilt_on, save_cause, settings_root};
 ghost use Rattle.session_model.specs.State.{State, watched_names};
@@ -152,7 +152,7 @@ fn note_save(
     path: &VfsPath,
     out: &mut TurnOut,
 ) -> Result<(), TurnError>
-    ensures { (state : State) → Gives result (save_noted unknown path.now (record { state = state; out = out.old })) state out.new }
+    ensures { (state : State) → RefinesTotal result (save_noted unknown path.now (record { state = state; out = out.old })) state out.new }
 {
     if !unknown {
         return Ok(());
@@ -179,7 +179,7 @@ fn ask_if_loaded(
 
 // A file was saved.
 fn save(store: &mut Store, path: VfsPath, out: &mut TurnOut) -> Result<(), TurnError>
-    ensures { Gives result (saved_file path (record { state = store.old; out = out.old })) store.new out.new }
+    ensures { RefinesTotal result (saved_file path (record { state = store.old; out = out.old })) store.new out.new }
 {
     let unknown = is_unknown_file(&store.files, &path)?;
     note_save(store.alloc, unknown, &path, out)?;
@@ -196,7 +196,7 @@ fn save(store: &mut Store, path: VfsPath, out: &mut TurnOut) -> Result<(), TurnE
 // A document is saved at the path of its URL. Checks are not run yet.
 #[tactic(auto, unfolding(session_model::specs::Machine::saved_at))]
 pub(crate) fn on_save(store: &mut Store, uri: Text, out: &mut TurnOut) -> Result<(), TurnError>
-    ensures { Gives result (saved_at (path_of uri) uri (record { state = store.old; out = out.old })) store.new out.new }
+    ensures { RefinesTotal result (saved_at (path_of uri) uri (record { state = store.old; out = out.old })) store.new out.new }
 {
     match path_named(store.alloc, uri.as_str())? {
         Some(path) => save(store, path, out),

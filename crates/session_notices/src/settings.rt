@@ -1,6 +1,6 @@
 // Settings files that changed.
 ghost use Rattle.std.specs.Prelude.{◌≡◌, Some, IfOk, OnOk};
-ghost use Rattle.session_port.specs.Meets.{Gives};
+ghost use Rattle.session_port.specs.Refines.{RefinesTotal};
 ghost use Rattle.session_model.specs.Machine.{further_logged, settings_filed};
 ghost use Rattle.session_model.specs.Sources.{is_settled, parents_told};
 ghost use Rattle.session_model.specs.State.{State};
@@ -42,7 +42,7 @@ fn take_change(store: &mut Store, files: &[SettingsFile]) -> Result<ConfigChange
 // Further settings files of a root and kind, of which another holds, are logged.
 #[tactic(auto, unfolding(session_model::specs::Machine::further_logged))]
 fn log_further(alloc: Global, paths: Items<VfsPath>, out: &mut TurnOut) -> Result<(), TurnError>
-    ensures { (state : State) → Gives result (further_logged paths (record { state = state; out = out.old })) state out.new }
+    ensures { (state : State) → RefinesTotal result (further_logged paths (record { state = state; out = out.old })) state out.new }
 {
     for path in paths.into_vec() {
         let text = Text::from_str(alloc, path.as_str())?;
@@ -58,7 +58,7 @@ pub(crate) fn file_settings(
     files: Items<SettingsFile>,
     out: &mut TurnOut,
 ) -> Result<(), TurnError>
-    ensures { Gives result (settings_filed files (record { state = store.old; out = out.old })) store.new out.new }
+    ensures { RefinesTotal result (settings_filed files (record { state = store.old; out = out.old })) store.new out.new }
 {
     if is_settled(store, &files) {
         return Ok(());

@@ -1,6 +1,6 @@
 // What follows from changed files, and fetches of workspaces that wait for a timer.
 ghost use Rattle.std.specs.Prelude.{◌≡◌, IfOk};
-ghost use Rattle.session_port.specs.Meets.{Gives};
+ghost use Rattle.session_port.specs.Refines.{RefinesTotal};
 ghost use Rattle.session_model.specs.Machine.{effects_done, sources_deferred, timer_set};
 ghost use Rattle.session_model.specs.State.{State};
 ghost use Rattle.session_model.specs.Timing.{effects_for, fetch_planned, renewed_if};
@@ -40,7 +40,7 @@ fn plan_fetch(workspaces: &mut Workspaces, turn: u64, request: Option<FetchReque
 // The host is to ask for a check of these files as sources of macros, once there is nothing else to do.
 #[tactic(auto, unfolding(session_model::specs::Machine::sources_deferred))]
 fn defer_sources(sources: Option<Items<FileId>>, out: &mut TurnOut) -> Result<(), TurnError>
-    ensures { (state : State) → Gives result (sources_deferred sources (record { state = state; out = out.old })) state out.new }
+    ensures { (state : State) → RefinesTotal result (sources_deferred sources (record { state = state; out = out.old })) state out.new }
 {
     match sources {
         None => Ok(()),
@@ -59,7 +59,7 @@ pub(crate) fn do_effects(
     effects: ChangeEffects,
     out: &mut TurnOut,
 ) -> Result<(), TurnError>
-    ensures { Gives result (effects_done effects (record { state = store.old; out = out.old })) store.new out.new }
+    ensures { RefinesTotal result (effects_done effects (record { state = store.old; out = out.old })) store.new out.new }
 {
     let ChangeEffects {
         settings,
@@ -85,7 +85,7 @@ pub(crate) fn renew_timer_if(workspaces: &mut Workspaces, brings: bool, turn: u6
 /// A timer is ordered for a fetch that waits from this turn on.
 #[tactic(auto, unfolding(session_model::specs::Machine::timer_set))]
 pub fn set_timer(store: &Store, out: &mut TurnOut) -> Result<(), TurnError>
-    ensures { Gives result (timer_set (record { state = store.now; out = out.old })) store.now out.new }
+    ensures { RefinesTotal result (timer_set (record { state = store.now; out = out.old })) store.now out.new }
 {
     let turn = store.desk.turns();
     if !store.workspaces.waits_for(turn) {

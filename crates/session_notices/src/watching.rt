@@ -1,7 +1,7 @@
 // Files that the client watches.
 ghost use Rattle.std.specs.FinMap as map;
 ghost use Rattle.docs_vfs.specs.FileUrls.{path_of};
-ghost use Rattle.session_port.specs.Meets.{Gives};
+ghost use Rattle.session_port.specs.Refines.{RefinesTotal};
 ghost use Rattle.session_model.specs.Machine.{file_changed, files_changed};
 ghost use Rattle.session_model.specs.State.{State};
 
@@ -15,7 +15,7 @@ use std::alloc::Global;
 // The file of a URL is to be read anew.
 #[tactic(auto, unfolding(session_model::specs::Machine::file_changed))]
 fn change_file(alloc: Global, url: Text, out: &mut TurnOut) -> Result<(), TurnError>
-    ensures { (state : State) → Gives result (file_changed url (path_of url) (record { state = state; out = out.old })) state out.new }
+    ensures { (state : State) → RefinesTotal result (file_changed url (path_of url) (record { state = state; out = out.old })) state out.new }
 {
     match path_named(alloc, url.as_str())? {
         Some(path) => order(Command::Invalidate(path), out),
@@ -30,7 +30,7 @@ pub(crate) fn change_files(
     urls: Items<Text>,
     out: &mut TurnOut,
 ) -> Result<(), TurnError>
-    ensures { (state : State) → Gives result (files_changed map.empty urls (record { state = state; out = out.old })) state out.new }
+    ensures { (state : State) → RefinesTotal result (files_changed map.empty urls (record { state = state; out = out.old })) state out.new }
 {
     let mut seen = ByText::new(alloc);
     for url in urls.into_vec() {

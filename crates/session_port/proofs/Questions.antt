@@ -1,7 +1,7 @@
 -- What the questions of a job come to, one after another.
 use Rattle.std.proofs.Common.{◌≡◌, ◌≤◌, ◌<◌, ℕ, Bool, true, false, List, [], ◌∷◌, ◌++◌, map, refl, sym, ap, ◌∙◌, subst, append-nil, append_assoc, arith}
 use Rattle.std.specs.List.{AllZip}
-use Rattle.analysis_host.specs.Answers.{Finding, answer, IsAnswerTo}
+use Rattle.analysis_host.specs.Answers.{OutcomeSpec, answer, IsAnswerTo}
 use Rattle.analysis_host.specs.SnapshotData.{SnapshotData}
 use Rattle.analysis_host.specs.declared.ask.Answer.{Answer}
 use Rattle.analysis_host.specs.declared.ask.Ask.{Ask}
@@ -48,32 +48,32 @@ answers_in-answers [] = refl
 answers_in-answers (first ∷ rest) = ap (λ others. first ∷ others) (answers_in-answers rest)
 
 -- a fault behind answers stands for the result
-or_fault-behind : (found : List Answer) (finding : Finding) (left : List Finding) (result : JobResult)
+or_fault-behind : (found : List Answer) (finding : OutcomeSpec) (left : List OutcomeSpec) (result : JobResult)
     → or_fault (map answer found ++ finding ∷ left) result ≡ or_fault (finding ∷ left) result
 or_fault-behind [] finding left result = refl
 or_fault-behind (first ∷ rest) finding left result = or_fault-behind rest finding left result
 
 -- a job that stops at a question stops at all of them
-pub stops_asking : (findings : List Finding) (found : List Answer) (finding : Finding) (left : List Finding) (end : JobResult)
+pub stops_asking : (findings : List OutcomeSpec) (found : List Answer) (finding : OutcomeSpec) (left : List OutcomeSpec) (end : JobResult)
     → map answer found ++ finding ∷ left ≡ findings → StopsAt finding end → StopsAsking findings end
 stops_asking findings found finding left (Value value) is stops = absurd stops
 stops_asking findings found finding left (Fault code message) is stops = λ result.
-    ap (λ (all : List Finding). or_fault all result) (sym is) ∙ or_fault-behind found finding left result
-    ∙ ap (λ (one : Finding). or_fault (one ∷ left) result) stops
+    ap (λ (all : List OutcomeSpec). or_fault all result) (sym is) ∙ or_fault-behind found finding left result
+    ∙ ap (λ (one : OutcomeSpec). or_fault (one ∷ left) result) stops
 stops_asking findings found finding left (Cancelled saw) is stops = tt
 stops_asking findings found finding left NoMemory is stops = tt
 
-pub one_stops : (finding : Finding) (end : JobResult) → StopsAt finding end → StopsAsking (finding ∷ []) end
+pub one_stops : (finding : OutcomeSpec) (end : JobResult) → StopsAt finding end → StopsAsking (finding ∷ []) end
 one_stops finding end stops = stops_asking (finding ∷ []) [] finding [] end refl stops
 
 -- ---- a job's result
 
-asked_end : (b : Bool) (kind : JobKind) (findings : List Finding) (result : JobResult) → b ≡ true → result ≡ result_of kind findings
+asked_end : (b : Bool) (kind : JobKind) (findings : List OutcomeSpec) (result : JobResult) → b ≡ true → result ≡ result_of kind findings
     → IsEndBy b kind findings result
 asked_end true kind findings result asked is = is
 asked_end false kind findings result asked is = absurd cc
 
-module _ (answers : SnapshotData → Ask → Finding) (job : Job) (asks : List Ask) (asked : asks_analysis job.kind ≡ true) (are : asks ≡ asks_of job.kind) where
+module _ (answers : SnapshotData → Ask → OutcomeSpec) (job : Job) (asks : List Ask) (asked : asks_analysis job.kind ≡ true) (are : asks ≡ asks_of job.kind) where
   -- the questions come to the same
   same_findings : map (answers job.snapshot) asks ≡ findings_of answers job
   same_findings = ap (map (answers job.snapshot)) are
@@ -100,7 +100,7 @@ module _ (answers : SnapshotData → Ask → Finding) (job : Job) (asks : List A
   end_is floor NoMemory later stops above = tt
 
 -- an end without a value is one of every job
-pub end_fits : (kind : JobKind) (findings : List Finding) (end : JobResult) → StopsAsking findings end → fits_kind kind end ≡ true
+pub end_fits : (kind : JobKind) (findings : List OutcomeSpec) (end : JobResult) → StopsAsking findings end → fits_kind kind end ≡ true
 end_fits kind findings (Value value) stops = absurd stops
 end_fits kind findings (Fault code message) stops = refl
 end_fits kind findings (Cancelled saw) stops = refl

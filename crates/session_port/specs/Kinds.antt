@@ -4,8 +4,8 @@ use Rattle.std.specs.Option.{option_map}
 use Rattle.docs_vfs.specs.declared.file_kinds.FileId.{FileId}
 use Rattle.method_table.specs.declared.row_id.RowId.{RowId}
 use Rattle.serde_json.specs.Data.{Data}
-use Rattle.op_board.specs.declared.diagnostic.Pass.{Pass}
-use Rattle.op_board.specs.declared.diagnostic.Pass.TheVariants.{Syntax, Semantic}
+use Rattle.op_board.specs.declared.diagnostic.NativePass.{NativePass}
+use Rattle.op_board.specs.declared.diagnostic.NativePass.TheVariants.{Syntax, Semantic}
 use Rattle.analysis_host.specs.declared.ask.Ask.{Ask}
 use Rattle.analysis_host.specs.declared.ask.Ask.TheVariants as asks
 use Rattle.session_port.specs.declared.job.JobKind.{JobKind}
@@ -101,7 +101,7 @@ is_priming other = false
 -- ---- questions
 
 -- the question of a pass about a file
-abbrev pub pass_ask : Pass → FileId → Ask
+abbrev pub pass_ask : NativePass → FileId → Ask
 pass_ask Syntax = asks.Syntax
 pass_ask Semantic = asks.Semantic
 

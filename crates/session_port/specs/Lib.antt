@@ -8,6 +8,6 @@ pub mod Record
 pub mod Runs
 pub mod SmallProject
 pub mod Codes
-pub mod Meets
-pub mod Working
+pub mod Refines
+pub mod TurnState
 pub mod Written

@@ -4,7 +4,7 @@ use Rattle.std.specs.List.{filter_map, flat_map}
 use Rattle.serde_json.specs.Data.{Data}
 use Rattle.docs_vfs.specs.declared.file_kinds.FileId.{FileId}
 use Rattle.lsp_types.specs.declared.diagnostic.Diagnostic.{Diagnostic}
-use Rattle.analysis_host.specs.Answers.{Finding, answer, fault}
+use Rattle.analysis_host.specs.Answers.{OutcomeSpec, answer, fault}
 use Rattle.analysis_host.specs.declared.ask.Answer.{Answer}
 use Rattle.analysis_host.specs.declared.ask.Answer.TheVariants as answers
 use Rattle.session_port.specs.Kinds.{listed_files, value_kind}
@@ -19,11 +19,11 @@ use Rattle.session_port.specs.declared.kinds.ValueKind.TheVariants as kinds
 -- ---- answers
 
 -- the answers among what questions come to
-abbrev pub answer_of : Finding → Option Answer
+abbrev pub answer_of : OutcomeSpec → Option Answer
 answer_of (answer value) = Some value
 answer_of (fault code message) = None
 
-abbrev pub answers_in : List Finding → List Answer
+abbrev pub answers_in : List OutcomeSpec → List Answer
 answers_in findings = filter_map answer_of findings
 
 -- the value that an answer is by itself: JSON, or that all is found out
@@ -70,11 +70,11 @@ joined kind found = joined_by (value_kind kind) (listed_files kind) found
 -- ---- results
 
 -- the first fault stands for a result
-abbrev pub or_fault : List Finding → JobResult → JobResult
+abbrev pub or_fault : List OutcomeSpec → JobResult → JobResult
 or_fault [] result = result
 or_fault (answer value ∷ findings) result = or_fault findings result
 or_fault (fault code message ∷ findings) result = Fault code message
 
 -- what a job comes to for which the analysis is asked, by what its questions come to
-abbrev pub result_of : JobKind → List Finding → JobResult
+abbrev pub result_of : JobKind → List OutcomeSpec → JobResult
 result_of kind findings = or_fault findings (Value (joined kind (answers_in findings)))

@@ -1,6 +1,6 @@
 -- How the run of a job ends.
 use Rattle.std.specs.Prelude.{◌≡◌, ◌≤◌, ◌^◌, ◌-◌, ℕ, List, [], ◌∷◌, Option, None, Some}
-use Rattle.analysis_host.specs.Answers.{Finding, fault}
+use Rattle.analysis_host.specs.Answers.{OutcomeSpec, fault}
 use Rattle.analysis_host.specs.Polls.{HasPolled}
 use Rattle.session_port.specs.Jobs.{final_of}
 use Rattle.session_port.specs.Results.{or_fault}
@@ -41,14 +41,14 @@ HasCounted before now = HasPolled before now × now ≤ 2 ^ 64 - 1
 
 -- a job ends without a value at a question: by the fault that it comes to, by a later revision, or where memory runs
 -- out
-abbrev pub StopsAt : Finding → JobResult → Type 0
+abbrev pub StopsAt : OutcomeSpec → JobResult → Type 0
 StopsAt finding (Value value) = ⊥
 StopsAt finding (Fault code message) = finding ≡ fault code message
 StopsAt finding (Cancelled saw) = Unit {0}
 StopsAt finding NoMemory = Unit {0}
 
 -- so does a job whose questions come to these, whatever else is made of their answers
-abbrev pub StopsAsking : List Finding → JobResult → Type 0
+abbrev pub StopsAsking : List OutcomeSpec → JobResult → Type 0
 StopsAsking findings (Value value) = ⊥
 StopsAsking findings (Fault code message) = (result : JobResult) → or_fault findings result ≡ Fault code message
 StopsAsking findings (Cancelled saw) = Unit {0}

@@ -10,7 +10,7 @@ ghost use Rattle.session_port.specs.Runs.{HasCounted, IfCancelled, StopsAsking, 
 use crate::job::{JobKind, JobResult};
 use analysis_host::{Analysis, Answer, Ask, Cancel, GlobalStateSnapshot, Outcome};
 use docs_vfs::FileId;
-use op_board::Pass;
+use op_board::NativePass;
 use plain::{Items, NoMemory};
 use std::alloc::Global;
 
@@ -55,12 +55,12 @@ fn alone(alloc: Global, ask: Ask) -> Result<Items<Ask>, NoMemory>
 }
 
 /// The questions of a pass about files.
-fn of_pass(alloc: Global, pass: Pass, files: &[FileId]) -> Result<Items<Ask>, NoMemory>
+fn of_pass(alloc: Global, pass: NativePass, files: &[FileId]) -> Result<Items<Ask>, NoMemory>
     ensures { IfOk result (λ asks. asks ≡ map (pass_ask pass) files.now) }
 {
     match pass {
-        Pass::Syntax => about_each(alloc, Question::Syntax, files),
-        Pass::Semantic => about_each(alloc, Question::Semantic, files),
+        NativePass::Syntax => about_each(alloc, Question::Syntax, files),
+        NativePass::Semantic => about_each(alloc, Question::Semantic, files),
     }
 }
 
@@ -113,7 +113,7 @@ fn ask_one<A: Analysis, C: Cancel>(
     cancel: &mut C,
 ) -> Result<Answer, JobResult>
     requires floor { snapshot.now.revision ≤ C.floor cancel.old }
-    requires fresh { C.held cancel.old ≡ None }
+    requires usable { C.held cancel.old ≡ None }
     ensures found { IfOk result (λ value. A.answer snapshot.now ask.now ≡ answer value) }
     ensures kind { IfOk result (IsAnswerTo ask.now) }
     ensures stops { IfErr result (StopsAt (A.answer snapshot.now ask.now)) }
@@ -141,7 +141,7 @@ fn ask_next<A: Analysis, C: Cancel>(
     cancel: &mut C,
 ) -> Result<Answer, JobResult>
     requires floor { snapshot.now.revision ≤ C.floor cancel.old }
-    requires fresh { C.held cancel.old ≡ None }
+    requires usable { C.held cancel.old ≡ None }
     ensures found { IfOk result (λ value. A.answer snapshot.now ask.now ≡ answer value) }
     ensures kind { IfOk result (IsAnswerTo ask.now) }
     ensures none { IfOk result (λ _. C.held cancel.new ≡ None) }
@@ -191,7 +191,7 @@ pub(crate) fn ask_all<A: Analysis, C: Cancel>(
     cancel: &mut C,
 ) -> Result<Items<Answer>, JobResult>
     requires floor { snapshot.now.revision ≤ C.floor cancel.old }
-    requires fresh { C.held cancel.old ≡ None }
+    requires usable { C.held cancel.old ≡ None }
     ensures found { IfOk result (λ answers. map (A.answer snapshot.now) asks ≡ map answer answers) }
     ensures kinds { IfOk result (AllZip IsAnswerTo asks) }
     ensures stops { IfErr result (StopsAsking (map (A.answer snapshot.now) asks)) }
@@ -224,7 +224,7 @@ pub(crate) fn ask_alone<A: Analysis, C: Cancel>(
     cancel: &mut C,
 ) -> Result<Items<Answer>, JobResult>
     requires floor { snapshot.now.revision ≤ C.floor cancel.old }
-    requires fresh { C.held cancel.old ≡ None }
+    requires usable { C.held cancel.old ≡ None }
     ensures found { IfOk result (λ answers. map (A.answer snapshot.now) (ask.now ∷ []) ≡ map answer answers) }
     ensures kinds { IfOk result (AllZip IsAnswerTo (ask.now ∷ [])) }
     ensures stops { IfErr result (StopsAsking (map (A.answer snapshot.now) (ask.now ∷ []))) }

@@ -4,7 +4,7 @@ ghost use Rattle.std.specs.Prelude.{◌≡◌};
 use crate::copies::copy_of;
 use crate::job::Job;
 use docs_vfs::{FileId, Root, VfsPath};
-use plain::{Copied, Items, Text};
+use plain::{ExactClone, Items, Text};
 use project_model::CheckScope;
 use std::alloc::AllocError;
 
@@ -134,7 +134,7 @@ impl Clone for DeferredTask {
     }
 }
 
-impl Copied for DeferredTask {
+impl ExactClone for DeferredTask {
     ghost copies = { λ x y h. h };
 }
 
@@ -175,6 +175,6 @@ impl Clone for Command {
     }
 }
 
-impl Copied for Command {
+impl ExactClone for Command {
     ghost copies = { λ x y h. h };
 }

@@ -8,7 +8,7 @@ use crate::job::{Job, JobResult};
 use crate::kinds::{JobFacts, JobGroup};
 use crate::news::{DiscoverMsg, FlycheckMsg, TestMsg};
 use docs_vfs::VfsPath;
-use plain::{Bytes, Copied, Items, Text};
+use plain::{Bytes, ExactClone, Items, Text};
 use std::alloc::AllocError;
 
 /// What a message says of its job.
@@ -158,29 +158,29 @@ impl Clone for TaskBody {
     }
 }
 
-impl Copied for TaskBody {
+impl ExactClone for TaskBody {
     ghost copies = { λ x y h. h };
 }
 
-impl Copied for LoadedFile {
+impl ExactClone for LoadedFile {
     ghost use Rattle.std.proofs.Common.{rules};
 
     ghost copies = { λ x y h. Prim.search rules };
 }
 
-impl Copied for LoaderMsg {
+impl ExactClone for LoaderMsg {
     ghost use Rattle.std.proofs.Common.{rules};
 
     ghost copies = { λ x y h. Prim.search rules };
 }
 
-impl Copied for TaskMsg {
+impl ExactClone for TaskMsg {
     ghost use Rattle.std.proofs.Common.{rules};
 
     ghost copies = { λ x y h. Prim.search rules };
 }
 
-impl Copied for HostEvent {
+impl ExactClone for HostEvent {
     ghost use Rattle.std.proofs.Common.{rules};
 
     ghost copies = { λ x y h. Prim.search rules };

@@ -21,7 +21,7 @@ pub enum Counter {
     LoaderSettings,
 }
 
-/// Why a turn was broken off. The state is spent after it.
+/// Why a turn was broken off. The state is poisoned after it.
 #[derive(Clone, Copy, PartialEq, Eq)]
 pub enum TurnError {
     /// One more of this counter was needed than there are.

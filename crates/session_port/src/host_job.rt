@@ -1,6 +1,6 @@
 // What a job of the host's own comes to where no build system is run.
 ghost use Rattle.std.specs.Prelude.{◌≡◌, Ok, Some, map, true, false, IfOk};
-ghost use Rattle.analysis_host.specs.Answers.{Finding};
+ghost use Rattle.analysis_host.specs.Answers.{OutcomeSpec};
 ghost use Rattle.analysis_host.specs.SnapshotData.{SnapshotData};
 ghost use Rattle.analysis_host.specs.declared.ask.Ask.{Ask};
 ghost use Rattle.session_port.specs.Honest.{IsResultOf};
@@ -20,7 +20,7 @@ pub fn small_project(alloc: Global, job: &Job, workspaces: usize) -> JobResult
     requires { asks_analysis job.now.kind ≡ false }
     ensures is { IsSmall job.now.kind workspaces result }
     // It is a result that the job may have, whatever the analysis answers.
-    ensures honest { (answer : SnapshotData → Ask → Finding) → IsResultOf answer job.now result }
+    ensures honest { (answer : SnapshotData → Ask → OutcomeSpec) → IsResultOf answer job.now result }
     ensures fits { fits_kind job.now.kind result ≡ true }
     ensures uncancelled { IsUncancelled result }
 {

@@ -11,8 +11,8 @@ use analysis_host::GlobalStateSnapshot;
 use docs_vfs::{FileId, VfsPath};
 use lsp_types::Diagnostic;
 use method_table::{PoolClass, RowId};
-use op_board::Pass;
-use plain::{Copied, Items, Json, SharedJson, Text};
+use op_board::NativePass;
+use plain::{ExactClone, Items, Json, SharedJson, Text};
 use project_model::{BuildScripts, MacroPath, MacroState, ProjectWorkspace};
 use ra_settings::LinkedProject;
 use std::alloc::AllocError;
@@ -37,7 +37,7 @@ pub enum JobKind {
     /// What is wrong in these files, file by file, by this part of the analysis. The generation is that of the batch.
     Diagnostics {
         generation: u64,
-        pass: Pass,
+        pass: NativePass,
         files: Items<FileId>,
     },
     /// The tests of these files.
@@ -289,6 +289,6 @@ impl Clone for Job {
     }
 }
 
-impl Copied for Job {
+impl ExactClone for Job {
     ghost copies = { λ x y h. h };
 }

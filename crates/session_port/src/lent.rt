@@ -9,7 +9,7 @@ use plain::{Bytes, Items};
 impl<A: Analysis, H: Host<A>> Host<A> for &mut H {
     ghost out = { λ h. H.out h.now };
 
-    ghost handed = { λ h. H.handed h.now };
+    ghost last_job = { λ h. H.last_job h.now };
 
     ghost honest = { λ h. H.honest h.now };
 
@@ -17,7 +17,11 @@ impl<A: Analysis, H: Host<A>> Host<A> for &mut H {
 
     ghost calls = { λ h. H.calls h.now };
 
-    ghost spent = { λ h. H.spent h.now };
+    ghost poisoned = { λ h. H.poisoned h.now };
+
+    ghost Origin = { H.Origin };
+
+    ghost origin = { λ h. H.origin h.now };
 
     fn next(&mut self) -> Result<HostEvent, HostError> {
         Host::next(&mut **self)
@@ -33,7 +37,7 @@ impl<S: Sink> Sink for &mut S {
 
     ghost faults = { λ s. S.faults s.now };
 
-    ghost spent = { λ s. S.spent s.now };
+    ghost poisoned = { λ s. S.poisoned s.now };
 
     fn put_turn(&mut self, bytes: &[u8]) -> Result<(), HostError> {
         Sink::put_turn(&mut **self, bytes)
@@ -45,7 +49,7 @@ impl<S: Source> Source for &mut S {
 
     ghost faults = { λ s. S.faults s.now };
 
-    ghost spent = { λ s. S.spent s.now };
+    ghost poisoned = { λ s. S.poisoned s.now };
 
     fn read_piece(&mut self, max: usize) -> Result<Option<Bytes>, HostError> {
         Source::read_piece(&mut **self, max)

@@ -4,7 +4,7 @@ ghost use Rattle.std.specs.Prelude.{◌≡◌, IfOk};
 use crate::copies::copy_of;
 use docs_vfs::VfsPath;
 use lsp_types::Diagnostic;
-use plain::{Copied, Json, Text};
+use plain::{ExactClone, Json, Text};
 use std::alloc::AllocError;
 
 /// How far a check is.
@@ -151,7 +151,7 @@ impl Clone for FlycheckMsg {
     }
 }
 
-impl Copied for FlycheckMsg {
+impl ExactClone for FlycheckMsg {
     ghost copies = { λ x y h. h };
 }
 
@@ -199,7 +199,7 @@ impl Clone for TestMsg {
     }
 }
 
-impl Copied for TestMsg {
+impl ExactClone for TestMsg {
     ghost copies = { λ x y h. h };
 }
 
@@ -223,6 +223,6 @@ impl Clone for DiscoverMsg {
     }
 }
 
-impl Copied for DiscoverMsg {
+impl ExactClone for DiscoverMsg {
     ghost copies = { λ x y h. h };
 }

@@ -16,7 +16,7 @@ pub trait Host<A: Analysis> {
     ghost out: { Self → Jobs };
 
     /// The number of the last job that was handed over, 0 at first.
-    ghost handed: { Self → ℕ };
+    ghost last_job: { Self → ℕ };
 
     /// Whether each result is its job's.
     ghost honest: { Self → Bool };
@@ -28,27 +28,34 @@ pub trait Host<A: Analysis> {
     ghost calls: { Self → Option (List HostCall) };
 
     /// No call may be made any more.
-    ghost spent: { Self → Bool };
+    ghost poisoned: { Self → Bool };
+
+    /// What no call changes, such as what a host was made of.
+    ghost Origin: { Type 0 } = { Unit {0} };
+
+    ghost origin: { Self → Self.Origin };
 
     /// The next event.
     fn next(&mut self) -> Result<HostEvent, HostError>
-        requires fresh { spent self.old ≡ false }
-        ensures fresh { IfOk result (λ event. UnlessEnded event (spent self.new ≡ false)) }
+        requires usable { poisoned self.old ≡ false }
+        ensures usable { IfOk result (λ event. UnlessEnded event (poisoned self.new ≡ false)) }
         ensures out { out self.new ≡ after_given result (out self.old) }
-        ensures handed { handed self.new ≡ handed self.old }
+        ensures last_job { last_job self.new ≡ last_job self.old }
         ensures honest_stays { honest self.new ≡ honest self.old }
+        ensures origin_stays { Self.origin self.new ≡ Self.origin self.old }
         ensures honest { IfOk result (λ event. IsTrue (honest self.old) → IsHonest A.answer (out self.old) event) }
         ensures calls { calls self.new ≡ after_ok result (λ event. added (calls self.old) (gave event)) (calls self.old) }
         ensures cause { HasCause (faults self.old) (faults self.new) result };
 
     /// Takes a turn's commands.
     fn order(&mut self, commands: Items<Command>) -> Result<(), HostError>
-        requires fresh { spent self.old ≡ false }
-        requires rising { AreRising (handed self.old) (spawned commands) }
-        ensures fresh { IfOk result (λ _. spent self.new ≡ false) }
+        requires usable { poisoned self.old ≡ false }
+        requires rising { AreRising (last_job self.old) (spawned commands) }
+        ensures usable { IfOk result (λ _. poisoned self.new ≡ false) }
         ensures out { IfOk result (λ _. out self.new ≡ after_order commands (out self.old)) }
-        ensures handed { IfOk result (λ _. handed self.new ≡ last_number (handed self.old) (spawned commands)) }
+        ensures last_job { IfOk result (λ _. last_job self.new ≡ last_number (last_job self.old) (spawned commands)) }
         ensures honest_stays { honest self.new ≡ honest self.old }
+        ensures origin_stays { Self.origin self.new ≡ Self.origin self.old }
         ensures calls { calls self.new ≡ after_ok result (λ _. added (calls self.old) (took commands)) (calls self.old) }
         ensures cause { HasCause (faults self.old) (faults self.new) result };
 }
@@ -62,12 +69,12 @@ pub trait Sink {
     ghost faults: { Self → ℕ };
 
     /// No call may be made any more.
-    ghost spent: { Self → Bool };
+    ghost poisoned: { Self → Bool };
 
     /// Writes a turn. After an `Err` a prefix of it may stand after the whole turns.
     fn put_turn(&mut self, bytes: &[u8]) -> Result<(), HostError>
-        requires fresh { spent self.old ≡ false }
-        ensures fresh { IfOk result (λ _. spent self.new ≡ false) }
+        requires usable { poisoned self.old ≡ false }
+        ensures usable { IfOk result (λ _. poisoned self.new ≡ false) }
         ensures turns { turns self.new ≡ after_ok result (λ _. added (turns self.old) bytes.now) (turns self.old) }
         ensures cause { HasCause (faults self.old) (faults self.new) result };
 }
@@ -81,13 +88,13 @@ pub trait Source: Drop {
     ghost faults: { Self → ℕ };
 
     /// No call may be made any more.
-    ghost spent: { Self → Bool };
+    ghost poisoned: { Self → Bool };
 
     /// The next piece, of at most `max` bytes, or the end. A failure takes nothing.
     fn read_piece(&mut self, max: usize) -> Result<Option<Bytes>, HostError>
         requires some { 1 ≤ max }
-        requires fresh { spent self.old ≡ false }
-        ensures fresh { IfOk result (λ _. spent self.new ≡ false) }
+        requires usable { poisoned self.old ≡ false }
+        ensures usable { IfOk result (λ _. poisoned self.new ≡ false) }
         ensures piece { IfOk result (IsPiece max (left self.old) (left self.new)) }
         ensures kept { OnErr result (left self.new ≡ left self.old) }
         ensures cause { HasCause (faults self.old) (faults self.new) result };

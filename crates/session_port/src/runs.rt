@@ -24,7 +24,7 @@ fn answers_to<A: Analysis, C: Cancel>(
     cancel: &mut C,
 ) -> Result<Items<Answer>, JobResult>
     requires floor { snapshot.now.revision ≤ C.floor cancel.old }
-    requires fresh { C.held cancel.old ≡ None }
+    requires usable { C.held cancel.old ≡ None }
     ensures found { IfOk result (λ answers. map (A.answer snapshot.now) asks ≡ map answer answers) }
     ensures kinds { IfOk result (AllZip IsAnswerTo asks) }
     ensures stops { IfErr result (StopsAsking (map (A.answer snapshot.now) asks)) }
@@ -51,7 +51,7 @@ pub fn run_job<A: Analysis, C: Cancel>(
 ) -> JobResult
     requires asked { asks_analysis job.now.kind ≡ true }
     requires floor { job.now.snapshot.revision ≤ C.floor cancel.old }
-    requires fresh { C.held cancel.old ≡ None }
+    requires usable { C.held cancel.old ≡ None }
 
     // The value or the fault of its questions; cancelled only with the number that a poll of this call gave.
     ensures is { IsResultOf A.answer job.now result }

@@ -1,10 +1,10 @@
 // Copies of what is ordered, and of what a loader brings.
 use crate::fixtures::{commands_of, news_of, path};
-use expectations::expect;
 use plain::{Bytes, Items};
 use session_port::{LoadedFile, LoaderMsg};
 use std::alloc::Global;
 use std::test::Fail;
+use test_support::expect;
 
 /// Whether a value can be copied.
 fn copies<T: Clone + Drop>(value: T) -> bool {

@@ -8,7 +8,7 @@ use docs_vfs::{FileId, VfsPath};
 use file_ids::FileIds;
 use lsp_types::Diagnostic;
 use method_table::PoolClass;
-use op_board::Pass;
+use op_board::NativePass;
 use plain::{Items, Json, SharedJson, Text};
 use project_model::{CheckScope, ProjectWorkspace};
 use ra_config::Config;
@@ -83,7 +83,7 @@ fn null_params(alloc: Global) -> Option<SharedJson> {
 }
 
 /// Lists of diagnostics of two files.
-fn lists(alloc: Global, pass: Pass) -> JobKind {
+fn lists(alloc: Global, pass: NativePass) -> JobKind {
     JobKind::Diagnostics {
         generation: 1,
         pass,
@@ -101,8 +101,8 @@ fn kind_of(alloc: Global, word: &str) -> Option<JobKind> {
             params: null_params(alloc)?,
             files: two_files(alloc),
         }),
-        "syntax" => Some(lists(alloc, Pass::Syntax)),
-        "semantic" => Some(lists(alloc, Pass::Semantic)),
+        "syntax" => Some(lists(alloc, NativePass::Syntax)),
+        "semantic" => Some(lists(alloc, NativePass::Semantic)),
         "tests" => Some(JobKind::Tests {
             files: two_files(alloc),
         }),

@@ -2,11 +2,11 @@
 use crate::fixtures::job_with;
 use crate::words::{cut, number, result_text};
 use analysis_host::{Cancel, Never};
-use expectations::expect_text;
 use host_fakes::NullAnalysis;
 use session_port::{Job, run_job};
 use std::alloc::Global;
 use std::test::Fail;
+use test_support::expect_text;
 
 /// Tells that revision 3 is there, from the poll with this number on.
 #[derive(Drop)]

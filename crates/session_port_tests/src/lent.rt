@@ -3,30 +3,30 @@ ghost use Rattle.std.specs.Prelude.{◌≡◌, false};
 
 use crate::scripts::steps;
 use crate::words::{add, add_calls, add_event, add_number};
-use expectations::expect_text;
 use host_fakes::{MemorySink, MemorySource, NullAnalysis, ScriptHost};
 use plain::{Bytes, Items};
 use session_port::{Host, HostError, HostEvent, Sink, Source};
 use std::alloc::Global;
 use std::test::Fail;
+use test_support::expect_text;
 
 /// Whether a sink that is handed over takes a turn.
 fn takes<S: Sink + Drop>(mut sink: S, bytes: &[u8]) -> bool
-    requires { S.spent sink ≡ false }
+    requires { S.poisoned sink ≡ false }
 {
     sink.put_turn(bytes).is_ok()
 }
 
 /// Whether a source that is handed over gives a piece.
 fn gives<S: Source>(mut source: S) -> bool
-    requires { S.spent source ≡ false }
+    requires { S.poisoned source ≡ false }
 {
     matches!(source.read_piece(2), Ok(Some(_)))
 }
 
 /// The next event of a host that is handed over.
 fn next_of<H: Host<NullAnalysis> + Drop>(mut host: H) -> Result<HostEvent, HostError>
-    requires { H.spent host ≡ false }
+    requires { H.poisoned host ≡ false }
 {
     host.next()
 }

@@ -4,12 +4,12 @@ ghost use Rattle.session_port.specs.Record.{AreRising, spawned};
 
 use crate::fixtures::{commands_of, end_of, news_of};
 use crate::words::{add, add_calls, add_events, cut, number, numbers, push};
-use expectations::expect_text;
 use host_fakes::{HostileHost, NullAnalysis, ScriptHost, ScriptStep};
 use plain::{Bytes, Items};
 use session_port::{Command, Host, HostError, HostEvent, TaskBody, TaskMsg};
 use std::alloc::Global;
 use std::test::Fail;
+use test_support::expect_text;
 
 /// `timer` is a timer's event, `end` the end, `bytes` are given, `message` is that a job has this end, `begin` that it has begun, and else it
 /// is news of this kind, if it is some.

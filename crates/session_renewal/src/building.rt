@@ -2,7 +2,7 @@
 ghost use Rattle.std.specs.Prelude.{◌≡◌, Some, IfOk, OnOk};
 ghost use Rattle.session_model.specs.ClientSteps.{logged_if};
 ghost use Rattle.session_port.specs.declared.command.LogCode.TheVariants.{BuildError};
-ghost use Rattle.session_port.specs.Meets.{Meets, Gives};
+ghost use Rattle.session_port.specs.Refines.{Refines, RefinesTotal};
 ghost use Rattle.session_model.specs.Building.{build_due, build_kept, rebuilt_if};
 ghost use Rattle.session_model.specs.Machine.{build_handed_over, build_started, build_taken, runs_started};
 ghost use Rattle.session_model.specs.State.{State};
@@ -37,7 +37,7 @@ fn end_build(workspaces: &mut Workspaces, made: BuildEnd) -> Result<(), NoMemory
 
 // The errors of the last run are logged.
 fn log_build(workspaces: &Workspaces, out: &mut TurnOut) -> Result<(), TurnError>
-    ensures { (state : State) → Gives result (logged_if BuildError (build_fault workspaces.now) (record { state = state; out = out.old })) state out.new }
+    ensures { (state : State) → RefinesTotal result (logged_if BuildError (build_fault workspaces.now) (record { state = state; out = out.old })) state out.new }
 {
     let errors = workspaces.build_error()?;
     log_if(LogCode::BuildError, errors, out)
@@ -46,7 +46,7 @@ fn log_build(workspaces: &Workspaces, out: &mut TurnOut) -> Result<(), TurnError
 /// What a run of build data came to is kept, where one is in progress, and its errors are logged.
 #[tactic(auto, unfolding(session_model::specs::Machine::build_taken))]
 pub fn take_build(store: &mut Store, made: BuildEnd, out: &mut TurnOut) -> Result<(), TurnError>
-    ensures { Gives result (build_taken made (record { state = store.old; out = out.old })) store.new out.new }
+    ensures { RefinesTotal result (build_taken made (record { state = store.old; out = out.old })) store.new out.new }
 {
     end_build(&mut store.workspaces, made)?;
     log_build(&store.workspaces, out)
@@ -59,7 +59,7 @@ fn hand_over_build(
     version: Option<u64>,
     out: &mut TurnOut,
 ) -> Result<(), TurnError>
-    ensures { Meets result (build_handed_over version (record { state = store.old; out = out.old })) store.new out.new }
+    ensures { Refines result (build_handed_over version (record { state = store.old; out = out.old })) store.new out.new }
 {
     match version {
         None => Ok(()),
@@ -71,7 +71,7 @@ fn hand_over_build(
 // workspaces that it is on.
 #[tactic(auto, unfolding(session_model::specs::Machine::build_started))]
 fn start_build(store: &mut Store, out: &mut TurnOut) -> Result<Option<u64>, TurnError>
-    ensures meets { Meets result (build_started (record { state = store.old; out = out.old })) store.new out.new }
+    ensures meets { Refines result (build_started (record { state = store.old; out = out.old })) store.new out.new }
     ensures value { IfOk result (λ version. version ≡ build_due store.old.workspaces) }
 {
     let version = store.workspaces.start_build();
@@ -82,7 +82,7 @@ fn start_build(store: &mut Store, out: &mut TurnOut) -> Result<Option<u64>, Turn
 /// Starts build data, else macros.
 #[tactic(auto, unfolding(session_model::specs::Machine::runs_started))]
 pub fn start_runs(store: &mut Store, out: &mut TurnOut) -> Result<(), TurnError>
-    ensures { Meets result (runs_started (record { state = store.old; out = out.old })) store.new out.new }
+    ensures { Refines result (runs_started (record { state = store.old; out = out.old })) store.new out.new }
 {
     let build = start_build(store, out)?;
     start_load(store, build, out)

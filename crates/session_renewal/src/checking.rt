@@ -2,7 +2,7 @@
 ghost use Rattle.std.specs.Prelude.{◌≡◌, filter, IfOk};
 ghost use Rattle.std.specs.List.{list_any};
 ghost use Rattle.analysis_host.specs.SnapshotFiles.{file_exists};
-ghost use Rattle.session_port.specs.Meets.{Meets};
+ghost use Rattle.session_port.specs.Refines.{Refines};
 ghost use Rattle.session_model.specs.Checking.{check_kept, check_kind, has_macro_root, is_macro_root};
 ghost use Rattle.session_model.specs.Machine.{all_resumed, resumed, with_workspaces};
 
@@ -89,7 +89,7 @@ pub fn take_check(store: &mut Store, roots: Items<VfsPath>)
 // A check of sources that was put off hands over its job, on the present snapshot. Nothing is done yet for the other task.
 #[tactic(auto, unfolding(session_model::specs::Machine::resumed))]
 fn resume(store: &mut Store, task: DeferredTask, out: &mut TurnOut) -> Result<(), TurnError>
-    ensures { Meets result (resumed task (record { state = store.old; out = out.old })) store.new out.new }
+    ensures { Refines result (resumed task (record { state = store.old; out = out.old })) store.new out.new }
 {
     match task {
         DeferredTask::CheckIfIndexed(_) => Ok(()),
@@ -112,7 +112,7 @@ pub fn resume_all(
     tasks: Items<DeferredTask>,
     out: &mut TurnOut,
 ) -> Result<(), TurnError>
-    ensures { Meets result (all_resumed tasks (record { state = store.old; out = out.old })) store.new out.new }
+    ensures { Refines result (all_resumed tasks (record { state = store.old; out = out.old })) store.new out.new }
 {
     for task in tasks.into_vec() {
         resume(store, task, out)?;

@@ -1,7 +1,7 @@
 // Crate data of the workspaces.
 ghost use Rattle.std.specs.Prelude.{◌≡◌, IfOk, OnOk};
 ghost use Rattle.std.specs.FinMap as map;
-ghost use Rattle.session_port.specs.Meets.{Meets};
+ghost use Rattle.session_port.specs.Refines.{Refines};
 ghost use Rattle.session_model.specs.FilesSteps.{crates_put};
 ghost use Rattle.session_model.specs.Crates.{are_unknown, builds_crates, crate_data, crate_graph, crates_asked, crates_sought, crates_wait, followed_by, waits, with_paths};
 ghost use Rattle.session_model.specs.Machine.{at_files, crates_built};
@@ -161,7 +161,7 @@ pub(crate) fn put_crates(
     crates: CrateData,
     out: &mut TurnOut,
 ) -> Result<(), TurnError>
-    ensures { Meets result (at_files (crates_put store.old.sources.roots crates) (record { state = store.old; out = out.old })) store.new out.new }
+    ensures { Refines result (at_files (crates_put store.old.sources.roots crates) (record { state = store.old; out = out.old })) store.new out.new }
 {
     store.files.put_crates(&store.roots, crates, out)
 }
@@ -173,7 +173,7 @@ pub(crate) fn build_crates(
     built: bool,
     out: &mut TurnOut,
 ) -> Result<(), TurnError>
-    ensures { Meets result (crates_built built (record { state = store.old; out = out.old })) store.new out.new }
+    ensures { Refines result (crates_built built (record { state = store.old; out = out.old })) store.new out.new }
 {
     if !built {
         return Ok(());

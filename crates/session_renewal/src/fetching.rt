@@ -2,7 +2,7 @@
 ghost use Rattle.std.specs.Prelude.{◌≡◌, Some, IfOk, OnOk};
 ghost use Rattle.session_model.specs.ClientSteps.{logged_if};
 ghost use Rattle.session_port.specs.declared.command.LogCode.TheVariants.{FetchError};
-ghost use Rattle.session_port.specs.Meets.{Meets, Gives};
+ghost use Rattle.session_port.specs.Refines.{Refines, RefinesTotal};
 ghost use Rattle.session_model.specs.Fetching.{fetch_kept, reloaded_if, with_fetches};
 ghost use Rattle.session_model.specs.Machine.{fetch_handed_over, fetch_started, fetch_taken};
 ghost use Rattle.workspaces.specs.Fetches.{start_up};
@@ -58,7 +58,7 @@ fn end_fetch(workspaces: &mut Workspaces, found: FetchEnd) -> Result<(), NoMemor
 
 // The errors of the last fetch are logged.
 fn log_fetch(settings: &Config, workspaces: &Workspaces, out: &mut TurnOut) -> Result<(), TurnError>
-    ensures { (state : State) → Gives result (logged_if FetchError (fetch_fault settings.now workspaces.now) (record { state = state; out = out.old })) state out.new }
+    ensures { (state : State) → RefinesTotal result (logged_if FetchError (fetch_fault settings.now workspaces.now) (record { state = state; out = out.old })) state out.new }
 {
     let errors = workspaces.fetch_error(discovers(settings))?;
     log_if(LogCode::FetchError, errors, out)
@@ -67,7 +67,7 @@ fn log_fetch(settings: &Config, workspaces: &Workspaces, out: &mut TurnOut) -> R
 /// What a fetch came to is kept, where one is in progress, and its errors are logged.
 #[tactic(auto, unfolding(session_model::specs::Machine::fetch_taken))]
 pub fn take_fetch(store: &mut Store, found: FetchEnd, out: &mut TurnOut) -> Result<(), TurnError>
-    ensures { Gives result (fetch_taken found (record { state = store.old; out = out.old })) store.new out.new }
+    ensures { RefinesTotal result (fetch_taken found (record { state = store.old; out = out.old })) store.new out.new }
 {
     end_fetch(&mut store.workspaces, found)?;
     log_fetch(store.client.settings(), &store.workspaces, out)
@@ -96,7 +96,7 @@ fn hand_over_fetch(
     started: Option<(Text, FetchRequest)>,
     out: &mut TurnOut,
 ) -> Result<(), TurnError>
-    ensures { Meets result (fetch_handed_over started (record { state = store.old; out = out.old })) store.new out.new }
+    ensures { Refines result (fetch_handed_over started (record { state = store.old; out = out.old })) store.new out.new }
 {
     match started {
         None => Ok(()),
@@ -110,7 +110,7 @@ fn hand_over_fetch(
 /// Starts the fetch that waits in the queue, where fetches may start and none is in progress.
 #[tactic(auto, unfolding(session_model::specs::Machine::fetch_started))]
 pub fn start_fetch(store: &mut Store, may: bool, out: &mut TurnOut) -> Result<(), TurnError>
-    ensures { Meets result (fetch_started may (record { state = store.old; out = out.old })) store.new out.new }
+    ensures { Refines result (fetch_started may (record { state = store.old; out = out.old })) store.new out.new }
 {
     let started = store.workspaces.start_fetch(may);
     hand_over_fetch(store, started, out)

@@ -1,6 +1,6 @@
 // Loads of the macros of workspaces.
 ghost use Rattle.std.specs.Prelude.{◌≡◌, is_some, IfOk, OnOk};
-ghost use Rattle.session_port.specs.Meets.{Meets};
+ghost use Rattle.session_port.specs.Refines.{Refines};
 ghost use Rattle.session_model.specs.Loading.{crates_loaded, load_kept, load_kind};
 ghost use Rattle.session_model.specs.Machine.{crates_arrived, load_handed_over, load_started, macros_taken};
 
@@ -42,7 +42,7 @@ fn end_load(workspaces: &mut Workspaces, told: LoadEnd) -> Result<Option<CrateDa
 // Crate data that comes goes into the world, with the roots that are present.
 #[tactic(auto, unfolding(session_model::specs::Machine::crates_arrived))]
 fn let_in(store: &mut Store, crates: Option<CrateData>, out: &mut TurnOut) -> Result<(), TurnError>
-    ensures { Meets result (crates_arrived crates (record { state = store.old; out = out.old })) store.new out.new }
+    ensures { Refines result (crates_arrived crates (record { state = store.old; out = out.old })) store.new out.new }
 {
     match crates {
         None => Ok(()),
@@ -54,7 +54,7 @@ fn let_in(store: &mut Store, crates: Option<CrateData>, out: &mut TurnOut) -> Re
 /// whether there was some.
 #[tactic(auto, unfolding(session_model::specs::Machine::macros_taken))]
 pub fn take_macros(store: &mut Store, told: LoadEnd, out: &mut TurnOut) -> Result<bool, TurnError>
-    ensures meets { Meets result (macros_taken told (record { state = store.old; out = out.old })) store.new out.new }
+    ensures meets { Refines result (macros_taken told (record { state = store.old; out = out.old })) store.new out.new }
     ensures came { IfOk result (λ came. came ≡ is_some (crates_loaded told store.old.workspaces)) }
 {
     let crates = end_load(&mut store.workspaces, told)?;
@@ -84,7 +84,7 @@ fn hand_over_load(
     paths: Option<Items<Items<(u32, MacroPath)>>>,
     out: &mut TurnOut,
 ) -> Result<(), TurnError>
-    ensures { Meets result (load_handed_over paths (record { state = store.old; out = out.old })) store.new out.new }
+    ensures { Refines result (load_handed_over paths (record { state = store.old; out = out.old })) store.new out.new }
 {
     match paths {
         None => Ok(()),
@@ -102,7 +102,7 @@ pub(crate) fn start_load(
     build: Option<u64>,
     out: &mut TurnOut,
 ) -> Result<(), TurnError>
-    ensures { Meets result (load_started build (record { state = store.old; out = out.old })) store.new out.new }
+    ensures { Refines result (load_started build (record { state = store.old; out = out.old })) store.new out.new }
 {
     match build {
         Some(_) => Ok(()),

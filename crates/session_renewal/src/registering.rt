@@ -1,6 +1,6 @@
 // What the client is asked to tell of.
 ghost use Rattle.std.specs.Prelude.{◌≡◌, IfOk};
-ghost use Rattle.session_port.specs.Meets.{Meets};
+ghost use Rattle.session_port.specs.Refines.{Refines};
 ghost use Rattle.session_model.specs.Asking.{watchers_asked};
 ghost use Rattle.session_model.specs.Machine.{saves_registered, watchers_registered};
 ghost use Rattle.session_model.specs.State.{watched_names};
@@ -28,7 +28,7 @@ fn names_to_watch(alloc: Global, settings: &Config) -> Result<Items<Text>, NoMem
 /// The client is asked to tell of the documents that it saves, where it can be asked.
 #[tactic(auto, unfolding(session_model::specs::Machine::saves_registered, session_model::specs::Machine::asked_if))]
 pub fn register_saves(store: &mut Store, out: &mut TurnOut) -> Result<(), TurnError>
-    ensures { Meets result (saves_registered (record { state = store.old; out = out.old })) store.new out.new }
+    ensures { Refines result (saves_registered (record { state = store.old; out = out.old })) store.new out.new }
 {
     if !store.client.settings().did_save_registration() {
         return Ok(());
@@ -55,7 +55,7 @@ fn files_to_watch(
 // The client is asked to watch the files of the workspaces that are present, where it is the client that watches.
 #[tactic(auto, unfolding(session_model::specs::Machine::watchers_registered, session_model::specs::Machine::asked_if))]
 pub(crate) fn register_watchers(store: &mut Store, out: &mut TurnOut) -> Result<(), TurnError>
-    ensures { Meets result (watchers_registered (record { state = store.old; out = out.old })) store.new out.new }
+    ensures { Refines result (watchers_registered (record { state = store.old; out = out.old })) store.new out.new }
 {
     if !client_watches(store.client.settings()) {
         return Ok(());

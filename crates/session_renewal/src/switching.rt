@@ -1,6 +1,6 @@
 // Switches to workspaces that were fetched.
 ghost use Rattle.std.specs.Prelude.{◌≡◌, ◌⊎◌, None, Some, Ok, Err, IfOk, IfErr, OnOk};
-ghost use Rattle.session_port.specs.Meets.{Meets, Gives};
+ghost use Rattle.session_port.specs.Refines.{Refines, RefinesTotal};
 ghost use Rattle.session_port.specs.declared.fault.Counter.TheVariants.{LoaderSettings};
 ghost use Rattle.session_port.specs.declared.fault.TurnError.TheVariants.{Exhausted, NoMemory as OutOfMemory};
 ghost use Rattle.session_model.specs.Machine.{switch_followed, loader_set, roots_renewed, switch_done, warned};
@@ -21,9 +21,9 @@ use std::alloc::{AllocError, Global};
 use workspaces::{Follows, SwitchFault, Workspaces};
 
 // The user is told of a compiler that is too old.
-#[tactic(auto, unfolding(session_model::specs::Machine::warned, session_port::specs::Working::written))]
+#[tactic(auto, unfolding(session_model::specs::Machine::warned, session_port::specs::TurnState::written))]
 fn warn(client: &Client, texts: Items<Text>, out: &mut TurnOut) -> Result<(), TurnError>
-    ensures { (state : State) → Gives result (warned texts (record { state = state; out = out.old })) state out.new }
+    ensures { (state : State) → RefinesTotal result (warned texts (record { state = state; out = out.old })) state out.new }
 {
     for message in texts.into_vec() {
         let kind = MessageKind::Warning;
@@ -35,7 +35,7 @@ fn warn(client: &Client, texts: Items<Text>, out: &mut TurnOut) -> Result<(), Tu
 // The host is to load the files of the workspaces that are present.
 #[tactic(auto, unfolding(session_model::specs::Machine::loader_set))]
 fn set_loader(store: &Store, version: u32, out: &mut TurnOut) -> Result<(), TurnError>
-    ensures { Gives result (loader_set version (record { state = store.now; out = out.old })) store.now out.new }
+    ensures { RefinesTotal result (loader_set version (record { state = store.now; out = out.old })) store.now out.new }
 {
     let settings = store.client.settings();
     let load = store.workspaces.loader_roots(excludes(settings))?;
@@ -79,7 +79,7 @@ fn other_parents(
 // The source roots are those that the loader gets.
 #[tactic(auto, unfolding(session_model::specs::Machine::roots_renewed))]
 fn renew_roots(store: &mut Store, out: &mut TurnOut) -> Result<(), TurnError>
-    ensures { Gives result (roots_renewed (record { state = store.old; out = out.old })) store.new out.new }
+    ensures { RefinesTotal result (roots_renewed (record { state = store.old; out = out.old })) store.new out.new }
 {
     let roots = roots_now(store)?;
     store.parents = other_parents(store, &roots)?;
@@ -90,7 +90,7 @@ fn renew_roots(store: &mut Store, out: &mut TurnOut) -> Result<(), TurnError>
 // What the user, the client and the host are told behind a switch, and the roots that it renews.
 #[tactic(auto, unfolding(session_model::specs::Machine::switch_followed))]
 fn follow(store: &mut Store, follows: Follows, out: &mut TurnOut) -> Result<(), TurnError>
-    ensures { Meets result (switch_followed follows (record { state = store.old; out = out.old })) store.new out.new }
+    ensures { Refines result (switch_followed follows (record { state = store.old; out = out.old })) store.new out.new }
 {
     match follows {
         Follows::Nothing | Follows::CrateData => Ok(()),
@@ -149,7 +149,7 @@ fn make_switch_if_due(
 /// The switch that is wanted is made, unless files are loading, and what follows it is done.
 #[tactic(auto, unfolding(session_model::specs::Machine::switch_done, session_model::specs::Machine::switch_taken))]
 pub fn switch_workspaces(store: &mut Store, out: &mut TurnOut) -> Result<(), TurnError>
-    ensures { Meets result (switch_done (record { state = store.old; out = out.old })) store.new out.new }
+    ensures { Refines result (switch_done (record { state = store.old; out = out.old })) store.new out.new }
 {
     let follows = make_switch_if_due(
         store.alloc,

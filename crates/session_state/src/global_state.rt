@@ -5,8 +5,8 @@ ghost use Rattle.lsp_frame.specs.Written.{AreWritable};
 ghost use Rattle.lsp_frame.specs.declared.message.Message.TheVariants.{Response as ResponseMessage};
 ghost use Rattle.notify.specs.Writing.{HoldsPlain};
 ghost use Rattle.lsp_frame.specs.Outgoing.{number_limit};
-ghost use Rattle.session_port.specs.Meets.{Meets};
-ghost use Rattle.session_port.specs.Working.{written};
+ghost use Rattle.session_port.specs.Refines.{Refines};
+ghost use Rattle.session_port.specs.TurnState.{written};
 ghost use Rattle.session_model.specs.ClientSteps.{asked_for, notification_of};
 ghost use Rattle.session_model.specs.Meaning.{Meaning, meaning_of};
 ghost use Rattle.session_model.specs.DeskSteps.{responded, cancelled};
@@ -90,7 +90,7 @@ impl GlobalState {
 
 // Requests by their tickets and ids.
 impl GlobalState {
-    /// Answers the request of a ticket under its id, and closes it; false where it isn't pending. After an `Err` the state is spent.
+    /// Answers the request of a ticket under its id, and closes it; false where it isn't pending. After an `Err` the state is poisoned.
     pub fn respond(
         &mut self,
         ticket: u64,
@@ -106,7 +106,7 @@ impl GlobalState {
     }
 
     /// Answers the request of an id as one that the client cancelled, and closes it; false where it isn't pending. After an `Err` the
-    /// state is spent.
+    /// state is poisoned.
     pub fn cancel(&mut self, id: RequestId, out: &mut TurnOut) -> Result<bool, NoMemory>
         ensures pending { IfOk result (λ done. done ≡ is_pending id self.old.desk.pending) }
         ensures others { self.new ≡ record self.old { desk = self.new.desk } }
@@ -125,7 +125,7 @@ impl GlobalState {
 
 // What is agreed with the client.
 impl GlobalState {
-    /// Sends a request of the session's own, whose answer is followed by what `then` says. After an `Err` the state is spent.
+    /// Sends a request of the session's own, whose answer is followed by what `then` says. After an `Err` the state is poisoned.
     pub fn send_request(
         &mut self,
         message: Outgo,
@@ -133,13 +133,13 @@ impl GlobalState {
         out: &mut TurnOut,
     ) -> Result<(), TurnError>
         requires { HoldsPlain message }
-        ensures { Meets result (at_client (asked_for message then) (record { state = self.old; out = out.old })) self.new out.new }
+        ensures { Refines result (at_client (asked_for message then) (record { state = self.old; out = out.old })) self.new out.new }
     {
         self.store.send_request(message, then, out)
     }
 
     /// Sends a notification.
-    #[tactic(auto, unfolding(session_port::specs::Working::written))]
+    #[tactic(auto, unfolding(session_port::specs::TurnState::written))]
     pub fn send_notification(&mut self, message: Outgo, out: &mut TurnOut) -> Result<(), NoMemory>
         requires { HoldsPlain message }
         ensures after { OnOk result (written (notification_of message) (record { state = self.old; out = out.old }) ≡ record { state = self.new; out = out.new }) }
@@ -149,13 +149,13 @@ impl GlobalState {
     }
 
     /// The client answers what it was asked. Other settings than before ask for a fetch. That no request has the answer's id
-    /// is logged. After an `Err` the state is spent.
+    /// is logged. After an `Err` the state is poisoned.
     pub fn complete_request(
         &mut self,
         response: Response,
         out: &mut TurnOut,
     ) -> Result<(), TurnError>
-        ensures { Meets result (answer_taken response (record { state = self.old; out = out.old })) self.new out.new }
+        ensures { Refines result (answer_taken response (record { state = self.old; out = out.old })) self.new out.new }
     {
         session_notices::complete_request(&mut self.store, response, out)
     }
@@ -174,9 +174,9 @@ impl GlobalState {
 
     /// What has changed goes into the world: one change, and so one revision. The settings files among it go into the
     /// settings, and the fetch that it asks for waits for a timer. Answers whether something has changed, also while files
-    /// are loading. After an `Err` the state is spent.
+    /// are loading. After an `Err` the state is poisoned.
     pub fn process_changes(&mut self, out: &mut TurnOut) -> Result<bool, TurnError>
-        ensures meets { Meets result (files_processed (record { state = self.old; out = out.old })) self.new out.new }
+        ensures meets { Refines result (files_processed (record { state = self.old; out = out.old })) self.new out.new }
         ensures some { IfOk result (λ some. some ≡ has_changed self.old.files) }
     {
         session_notices::process_changes(&mut self.store, out)
@@ -185,21 +185,21 @@ impl GlobalState {
 
 // Turns.
 impl GlobalState {
-    /// Turn 0. It uses no number of the turns. After an `Err` the state is spent.
+    /// Turn 0. It uses no number of the turns. After an `Err` the state is poisoned.
     pub fn start(&mut self, out: &mut TurnOut) -> Result<(), TurnError>
-        ensures { (meaning : Meaning) → Meets result (step meaning Start (record { state = self.old; out = out.old })) self.new out.new }
+        ensures { (meaning : Meaning) → Refines result (step meaning Start (record { state = self.old; out = out.old })) self.new out.new }
     {
         turns::start(&mut self.store, out)
     }
 
-    /// One turn. After an `Err` the state is spent.
+    /// One turn. After an `Err` the state is poisoned.
     pub fn handle_event<A: Analysis>(
         &mut self,
         event: Event,
         analysis: &A,
         out: &mut TurnOut,
     ) -> Result<(), TurnError>
-        ensures { Meets result (step (meaning_of A.decodes A.answer) (Next event) (record { state = self.old; out = out.old })) self.new out.new }
+        ensures { Refines result (step (meaning_of A.decodes A.answer) (Next event) (record { state = self.old; out = out.old })) self.new out.new }
     {
         turns::handle_event(&mut self.store, event, analysis, out)
     }

@@ -1,7 +1,7 @@
 // Messages of the client and of jobs: which is what.
 ghost use Rattle.std.specs.Prelude.{◌≡◌};
 ghost use Rattle.lsp_frame.specs.Pending.{IsAbove};
-ghost use Rattle.session_port.specs.Meets.{Meets};
+ghost use Rattle.session_port.specs.Refines.{Refines};
 ghost use Rattle.session_model.specs.Meaning.{meaning_of};
 ghost use Rattle.session_model.specs.Building.{is_rebuild, asks_to_rebuild};
 ghost use Rattle.session_model.specs.Fetching.{is_reload, reloads};
@@ -65,7 +65,7 @@ fn on_request<A: Analysis>(
     out: &mut TurnOut,
 ) -> Result<(), TurnError>
     requires { IsAbove store.old.desk.turns store.old.desk.pending }
-    ensures { Meets result (request_taken (meaning_of A.decodes A.answer) request (record { state = store.old; out = out.old })) store.new out.new }
+    ensures { Refines result (request_taken (meaning_of A.decodes A.answer) request (record { state = store.old; out = out.old })) store.new out.new }
 {
     let reloads = reloads(&store.desk, &request);
     let rebuilds = rebuilds(&store.desk, &request);
@@ -83,7 +83,7 @@ pub(crate) fn on_message<A: Analysis>(
     out: &mut TurnOut,
 ) -> Result<(), TurnError>
     requires { IsAbove store.old.desk.turns store.old.desk.pending }
-    ensures { Meets result (received (meaning_of A.decodes A.answer) message (record { state = store.old; out = out.old })) store.new out.new }
+    ensures { Refines result (received (meaning_of A.decodes A.answer) message (record { state = store.old; out = out.old })) store.new out.new }
 {
     match message {
         Message::Request(request) => on_request(store, request, analysis, out),
@@ -95,7 +95,7 @@ pub(crate) fn on_message<A: Analysis>(
 // Where this flag is set, the files are processed.
 #[tactic(auto, unfolding(session_model::specs::Machine::files_processed_if))]
 fn process_if(store: &mut Store, wanted: bool, out: &mut TurnOut) -> Result<(), TurnError>
-    ensures { Meets result (files_processed_if wanted (record { state = store.old; out = out.old })) store.new out.new }
+    ensures { Refines result (files_processed_if wanted (record { state = store.old; out = out.old })) store.new out.new }
 {
     if wanted {
         process_changes(store, out)?;
@@ -106,7 +106,7 @@ fn process_if(store: &mut Store, wanted: bool, out: &mut TurnOut) -> Result<(), 
 // The end of a load of macros. Behind crate data that comes with them the files are processed, also while some are loading.
 #[tactic(auto, unfolding(session_model::specs::Machine::load_taken))]
 fn take_load(store: &mut Store, told: LoadEnd, out: &mut TurnOut) -> Result<(), TurnError>
-    ensures { Meets result (load_taken told (record { state = store.old; out = out.old })) store.new out.new }
+    ensures { Refines result (load_taken told (record { state = store.old; out = out.old })) store.new out.new }
 {
     let came = take_macros(store, told, out)?;
     process_if(store, came, out)
@@ -115,7 +115,7 @@ fn take_load(store: &mut Store, told: LoadEnd, out: &mut TurnOut) -> Result<(), 
 // What a job ends of the session's own work is told to the workspaces.
 #[tactic(auto, unfolding(session_model::specs::Machine::work_taken))]
 fn take_work(store: &mut Store, end: WorkEnd, out: &mut TurnOut) -> Result<(), TurnError>
-    ensures { Meets result (work_taken end (record { state = store.old; out = out.old })) store.new out.new }
+    ensures { Refines result (work_taken end (record { state = store.old; out = out.old })) store.new out.new }
 {
     match end {
         WorkEnd::Fetched(found) => take_fetch(store, found, out),
@@ -130,7 +130,7 @@ fn take_work(store: &mut Store, end: WorkEnd, out: &mut TurnOut) -> Result<(), T
 
 #[tactic(auto, unfolding(session_model::specs::Machine::end_taken))]
 fn take_end(store: &mut Store, end: Option<WorkEnd>, out: &mut TurnOut) -> Result<(), TurnError>
-    ensures { Meets result (end_taken end (record { state = store.old; out = out.old })) store.new out.new }
+    ensures { Refines result (end_taken end (record { state = store.old; out = out.old })) store.new out.new }
 {
     match end {
         None => Ok(()),
@@ -146,7 +146,7 @@ fn on_task<A: Analysis>(
     analysis: &A,
     out: &mut TurnOut,
 ) -> Result<(), TurnError>
-    ensures { Meets result (message_taken (meaning_of A.decodes A.answer) message (record { state = store.old; out = out.old })) store.new out.new }
+    ensures { Refines result (message_taken (meaning_of A.decodes A.answer) message (record { state = store.old; out = out.old })) store.new out.new }
 {
     let end = store.bring(message, analysis, out)?;
     take_end(store, end, out)
@@ -159,7 +159,7 @@ pub(crate) fn on_batch<A: Analysis>(
     analysis: &A,
     out: &mut TurnOut,
 ) -> Result<(), TurnError>
-    ensures { Meets result (batched (meaning_of A.decodes A.answer) batch (record { state = store.old; out = out.old })) store.new out.new }
+    ensures { Refines result (batched (meaning_of A.decodes A.answer) batch (record { state = store.old; out = out.old })) store.new out.new }
 {
     for message in batch.into_vec() {
         on_task(store, message, analysis, out)?;

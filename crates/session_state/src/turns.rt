@@ -1,14 +1,14 @@
 // The turns of a session.
 ghost use Rattle.std.specs.Prelude.{◌≡◌, OnOk};
 ghost use Rattle.lsp_frame.specs.Pending.{IsAbove};
-ghost use Rattle.session_port.specs.Meets.{Meets, Gives};
+ghost use Rattle.session_port.specs.Refines.{Refines, RefinesTotal};
 ghost use Rattle.session_model.specs.Meaning.{Meaning, meaning_of};
 ghost use Rattle.session_model.specs.Machine.{turn_closed, turn_counted, facts_before, happened, desk_kept, revised, step, event_taken};
 ghost use Rattle.session_model.specs.declared.input.Input.TheVariants.{Start, Next};
 
 use crate::messages::{on_batch, on_message};
 use analysis_host::Analysis;
-use session_model::{Event, Facts, TurnError};
+use session_model::{Event, FactsBefore, TurnError};
 use session_notices::{on_loader, process, set_timer};
 use session_port::{Command, TurnOut};
 use session_renewal::{
@@ -21,7 +21,7 @@ use session_store::{Store, is_quiescent, may_fetch, order};
 #[tactic(auto, unfolding(session_model::specs::Machine::turn_counted))]
 fn count(store: &mut Store, out: &mut TurnOut) -> Result<(), TurnError>
     ensures above { OnOk result (IsAbove store.new.desk.turns store.new.desk.pending) }
-    ensures meets { Meets result (turn_counted (record { state = store.old; out = out.old })) store.new out.new }
+    ensures meets { Refines result (turn_counted (record { state = store.old; out = out.old })) store.new out.new }
 {
     store.desk.count(out)
 }
@@ -34,7 +34,7 @@ fn on_event<A: Analysis>(
     out: &mut TurnOut,
 ) -> Result<(), TurnError>
     requires { IsAbove store.old.desk.turns store.old.desk.pending }
-    ensures { Meets result (happened (meaning_of A.decodes A.answer) event (record { state = store.old; out = out.old })) store.new out.new }
+    ensures { Refines result (happened (meaning_of A.decodes A.answer) event (record { state = store.old; out = out.old })) store.new out.new }
 {
     match event {
         Event::Lsp(message) => on_message(store, message, analysis, out),
@@ -60,7 +60,7 @@ fn take_in<A: Analysis>(
     analysis: &A,
     out: &mut TurnOut,
 ) -> Result<(), TurnError>
-    ensures { Meets result (event_taken (meaning_of A.decodes A.answer) event (record { state = store.old; out = out.old })) store.new out.new }
+    ensures { Refines result (event_taken (meaning_of A.decodes A.answer) event (record { state = store.old; out = out.old })) store.new out.new }
 {
     count(store, out)?;
     on_event(store, event, analysis, out)
@@ -69,7 +69,7 @@ fn take_in<A: Analysis>(
 // The jobs that this turn hands over are out.
 #[tactic(auto, unfolding(session_model::specs::Machine::desk_kept))]
 fn keep_jobs(store: &mut Store, before: usize, out: &mut TurnOut) -> Result<(), TurnError>
-    ensures { Meets result (desk_kept before (record { state = store.old; out = out.old })) store.new out.new }
+    ensures { Refines result (desk_kept before (record { state = store.old; out = out.old })) store.new out.new }
 {
     store.desk.keep_jobs(before, out)
 }
@@ -77,7 +77,7 @@ fn keep_jobs(store: &mut Store, before: usize, out: &mut TurnOut) -> Result<(), 
 // The host is told of a revision that rose in this turn.
 #[tactic(auto, unfolding(session_model::specs::Machine::revised))]
 fn revise(store: &Store, before: u64, out: &mut TurnOut) -> Result<(), TurnError>
-    ensures { Gives result (revised before (record { state = store.now; out = out.old })) store.now out.new }
+    ensures { RefinesTotal result (revised before (record { state = store.now; out = out.old })) store.now out.new }
 {
     let revision = store.files.revision();
     if revision == before {
@@ -87,8 +87,8 @@ fn revise(store: &Store, before: u64, out: &mut TurnOut) -> Result<(), TurnError
 }
 
 // What closes a turn.
-fn close_turn(store: &mut Store, facts: Facts, out: &mut TurnOut) -> Result<(), TurnError>
-    ensures { Meets result (turn_closed facts (record { state = store.old; out = out.old })) store.new out.new }
+fn close_turn(store: &mut Store, facts: FactsBefore, out: &mut TurnOut) -> Result<(), TurnError>
+    ensures { Refines result (turn_closed facts (record { state = store.old; out = out.old })) store.new out.new }
 {
     keep_jobs(store, facts.ordered, out)?;
     revise(store, facts.revision, out)?;
@@ -96,10 +96,10 @@ fn close_turn(store: &mut Store, facts: Facts, out: &mut TurnOut) -> Result<(), 
 }
 
 // The facts before a turn.
-fn facts(store: &Store, out: &TurnOut) -> Facts
+fn facts(store: &Store, out: &TurnOut) -> FactsBefore
     ensures { result ≡ facts_before (record { state = store.now; out = out.now }) }
 {
-    Facts {
+    FactsBefore {
         revision: store.files.revision(),
         ordered: out.commands().len(),
         quiescent: is_quiescent(&store.files, &store.workspaces),
@@ -108,10 +108,10 @@ fn facts(store: &Store, out: &TurnOut) -> Facts
 }
 
 // The facts before a turn, and whether files were processed behind its event.
-fn knowing(before: Facts, processed: bool) -> Facts
+fn knowing(before: FactsBefore, processed: bool) -> FactsBefore
     ensures { result ≡ record before { processed = processed } }
 {
-    Facts {
+    FactsBefore {
         revision: before.revision,
         ordered: before.ordered,
         quiescent: before.quiescent,
@@ -119,10 +119,10 @@ fn knowing(before: Facts, processed: bool) -> Facts
     }
 }
 
-// Turn 0. It uses no number of the turns. After an `Err` the state is spent.
-#[tactic(auto, unfolding(session_model::specs::Machine::step, session_model::specs::Machine::register_part, session_model::specs::Machine::begin_part, session_model::specs::Machine::begun_fetches, session_model::specs::Machine::fetch_part, session_model::specs::Machine::status_part, session_model::specs::Machine::closing_part, session_port::specs::Working::within))]
+// Turn 0. It uses no number of the turns. After an `Err` the state is poisoned.
+#[tactic(auto, unfolding(session_model::specs::Machine::step, session_model::specs::Machine::register_part, session_model::specs::Machine::begin_part, session_model::specs::Machine::begun_fetches, session_model::specs::Machine::fetch_part, session_model::specs::Machine::status_part, session_model::specs::Machine::closing_part, session_port::specs::TurnState::lifted))]
 pub(crate) fn start(store: &mut Store, out: &mut TurnOut) -> Result<(), TurnError>
-    ensures { (meaning : Meaning) → Meets result (step meaning Start (record { state = store.old; out = out.old })) store.new out.new }
+    ensures { (meaning : Meaning) → Refines result (step meaning Start (record { state = store.old; out = out.old })) store.new out.new }
 {
     let facts = facts(store, out);
     report_status(store, out)?;
@@ -132,15 +132,15 @@ pub(crate) fn start(store: &mut Store, out: &mut TurnOut) -> Result<(), TurnErro
     close_turn(store, facts, out)
 }
 
-// One turn. After an `Err` the state is spent.
-#[tactic(auto, unfolding(session_model::specs::Machine::step, session_model::specs::Machine::event_part, session_model::specs::Machine::switch_part, session_model::specs::Machine::files_part, session_model::specs::Machine::quiet_part, session_model::specs::Machine::fetch_part, session_model::specs::Machine::build_part, session_model::specs::Machine::status_part, session_model::specs::Machine::closing_part, session_port::specs::Working::within))]
+// One turn. After an `Err` the state is poisoned.
+#[tactic(auto, unfolding(session_model::specs::Machine::step, session_model::specs::Machine::event_part, session_model::specs::Machine::switch_part, session_model::specs::Machine::files_part, session_model::specs::Machine::quiet_part, session_model::specs::Machine::fetch_part, session_model::specs::Machine::build_part, session_model::specs::Machine::status_part, session_model::specs::Machine::closing_part, session_port::specs::TurnState::lifted))]
 pub(crate) fn handle_event<A: Analysis>(
     store: &mut Store,
     event: Event,
     analysis: &A,
     out: &mut TurnOut,
 ) -> Result<(), TurnError>
-    ensures { Meets result (step (meaning_of A.decodes A.answer) (Next event) (record { state = store.old; out = out.old })) store.new out.new }
+    ensures { Refines result (step (meaning_of A.decodes A.answer) (Next event) (record { state = store.old; out = out.old })) store.new out.new }
 {
     let before = facts(store, out);
     take_in(store, event, analysis, out)?;

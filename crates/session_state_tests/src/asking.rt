@@ -2,13 +2,13 @@
 // memory runs out.
 use crate::clients::params_of;
 use docs_vfs::VfsPath;
-use expectations::expect_text;
 use plain::Json;
 use ra_config::Config;
 use session_model::Counters;
 use session_state::GlobalState;
 use std::alloc::Global;
 use std::test::Fail;
+use test_support::expect_text;
 
 /// What stands before the first mark in a text, and what stands behind it.
 pub fn cut<'a>(text: &'a str, mark: &str) -> (&'a str, &'a str) {

@@ -2,7 +2,6 @@
 ghost use Rattle.std.specs.Prelude.{◌≡◌, None, IfSome};
 
 use crate::asking::{agree, settings};
-use expectations::expect;
 use lsp_frame::{RequestId, Response, ResponseError};
 use notify::Outgo;
 use plain::Text;
@@ -10,6 +9,7 @@ use session_model::{Client, ReqHandler, SessionFiles};
 use session_state::{GlobalState, TurnOut};
 use std::alloc::Global;
 use std::test::Fail;
+use test_support::expect;
 use workspaces::Workspaces;
 
 /// A refusal under no id.

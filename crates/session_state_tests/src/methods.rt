@@ -1,6 +1,6 @@
 // Each method of the table, at each place.
 use crate::asking::comes_to;
-use method_table::{Class, DefaultValue, Facts, table};
+use method_table::{Class, DefaultValue, MethodRow, table};
 use std::alloc::Global;
 use std::test::Fail;
 
@@ -49,7 +49,7 @@ fn starts_job(method: &str) -> bool {
 }
 
 // The response to a request with the params `{}`, or the class of its job.
-fn answer_to(facts: &Facts, place: &str) -> &'static str {
+fn answer_to(facts: &MethodRow, place: &str) -> &'static str {
     let is_loading = place.contains("loading");
     if facts.method == "shutdown" {
         return NULL;
@@ -71,7 +71,7 @@ fn answer_to(facts: &Facts, place: &str) -> &'static str {
 }
 
 // That a method is answered so at a place.
-fn is_answered(alloc: Global, facts: &Facts, place: &str) -> Result<(), Fail> {
+fn is_answered(alloc: Global, facts: &MethodRow, place: &str) -> Result<(), Fail> {
     let events = place.replace(alloc, "METHOD", facts.method)?;
     comes_to(alloc, events.as_str(), answer_to(facts, place))
 }

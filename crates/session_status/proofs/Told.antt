@@ -15,7 +15,7 @@ use Rattle.status.specs.declared.status.Status.{Status}
 use Rattle.status.specs.declared.status.StatusInput.{StatusInput}
 use Rattle.status.specs.Same.{is_same_status}
 use Rattle.status.proofs.Same.{status_told}
-use Rattle.session_port.specs.Working.{Working}
+use Rattle.session_port.specs.TurnState.{TurnState}
 use Rattle.session_model.specs.Machine.{status_changed, status_done, status_kept, with_status}
 use Rattle.session_model.specs.State.{State}
 use Rattle.session_model.specs.Status.{status_now}
@@ -75,11 +75,11 @@ carried (Ok b) P Q f h = λ is. f (h is)
 carried (Err e) P Q f h = tt
 
 -- a status that is the same as the one told last leaves all as it was
-kept : (w : Working State) (status : Status) → is_same_status w.state.status status ≡ true → status_kept status w ≡ Ok w
+kept : (w : TurnState State) (status : Status) → is_same_status w.state.status status ≡ true → status_kept status w ≡ Ok w
 unfolding status_kept status_changed
 kept w status same = rw same (ap (λ s. Ok (record w { state = with_status s w.state })) (sym ((status_told w.state.status status).0 same)))
 
-pub status_stays : (w : Working State) → is_same_status w.state.status (status_now w.state.client w.state.files w.state.workspaces) ≡ true
+pub status_stays : (w : TurnState State) → is_same_status w.state.status (status_now w.state.client w.state.files w.state.workspaces) ≡ true
     → status_done w ≡ Ok w
 unfolding status_done
 status_stays w same = kept w (status_now w.state.client w.state.files w.state.workspaces) same

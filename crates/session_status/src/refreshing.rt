@@ -1,13 +1,13 @@
 // What the client is asked to ask anew.
 ghost use Rattle.std.specs.Prelude.{◌≡◌};
 ghost use Rattle.notify.specs.Writing.{HoldsPlain};
-ghost use Rattle.session_port.specs.Meets.{Meets};
+ghost use Rattle.session_port.specs.Refines.{Refines};
 ghost use Rattle.session_model.specs.Asking.{is_refresh_due};
 ghost use Rattle.session_model.specs.Machine.{asked_if, quiet_done, client_refreshed};
 ghost use Rattle.session_model.specs.Status.{is_quiescent};
 
 use notify::Outgo;
-use session_model::{Facts, ReqHandler, SessionFiles, TurnError};
+use session_model::{FactsBefore, ReqHandler, SessionFiles, TurnError};
 use session_port::TurnOut;
 use session_store::{Store, is_quiescent};
 use workspaces::Workspaces;
@@ -21,7 +21,7 @@ fn ask_if(
     out: &mut TurnOut,
 ) -> Result<(), TurnError>
     requires { HoldsPlain message }
-    ensures { Meets result (asked_if wanted message (record { state = store.old; out = out.old })) store.new out.new }
+    ensures { Refines result (asked_if wanted message (record { state = store.old; out = out.old })) store.new out.new }
 {
     if wanted {
         return store.send_request(message, ReqHandler::Ignore, out);
@@ -32,7 +32,7 @@ fn ask_if(
 // The client is asked to ask anew for what it shows, for each thing where it can be asked.
 #[tactic(auto, unfolding(session_model::specs::Machine::client_refreshed))]
 fn ask_refreshes(store: &mut Store, out: &mut TurnOut) -> Result<(), TurnError>
-    ensures { Meets result (client_refreshed store.old.client.settings.capabilities (record { state = store.old; out = out.old })) store.new out.new }
+    ensures { Refines result (client_refreshed store.old.client.settings.capabilities (record { state = store.old; out = out.old })) store.new out.new }
 {
     let settings = store.client.settings();
     let tokens = settings.semantic_tokens_refresh();
@@ -46,7 +46,7 @@ fn ask_refreshes(store: &mut Store, out: &mut TurnOut) -> Result<(), TurnError>
 }
 
 // Whether the session has come to be quiescent, or is and files were processed behind the event.
-fn is_refresh_due(files: &SessionFiles, workspaces: &Workspaces, facts: Facts) -> bool
+fn is_refresh_due(files: &SessionFiles, workspaces: &Workspaces, facts: FactsBefore) -> bool
     ensures { result ≡ is_refresh_due facts.quiescent (is_quiescent files.now workspaces.now) facts.processed }
 {
     is_quiescent(files, workspaces) && (!facts.quiescent || facts.processed)
@@ -54,8 +54,8 @@ fn is_refresh_due(files: &SessionFiles, workspaces: &Workspaces, facts: Facts) -
 
 /// In a session that has come to be quiescent, and in one that is and whose files were processed behind the event.
 #[tactic(auto, unfolding(session_model::specs::Machine::quiet_done))]
-pub fn refresh(store: &mut Store, facts: Facts, out: &mut TurnOut) -> Result<(), TurnError>
-    ensures { Meets result (quiet_done facts (record { state = store.old; out = out.old })) store.new out.new }
+pub fn refresh(store: &mut Store, facts: FactsBefore, out: &mut TurnOut) -> Result<(), TurnError>
+    ensures { Refines result (quiet_done facts (record { state = store.old; out = out.old })) store.new out.new }
 {
     if is_refresh_due(&store.files, &store.workspaces, facts) {
         return ask_refreshes(store, out);

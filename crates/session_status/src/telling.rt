@@ -1,7 +1,7 @@
 // The status of the session, and how the client is told of it.
 ghost use Rattle.std.specs.Prelude.{◌≡◌, ◌==◌, length, IfOk};
 ghost use Rattle.ra_config.specs.Config.{projects_of};
-ghost use Rattle.session_port.specs.Meets.{Meets};
+ghost use Rattle.session_port.specs.Refines.{Refines};
 ghost use Rattle.session_model.specs.Machine.{status_changed, status_done, status_kept, status_told, text_shown};
 ghost use Rattle.session_model.specs.State.{linked_of};
 ghost use Rattle.session_model.specs.Status.{facts_known, health_text, lacks_projects, needs_reload, opens_logs, shown_as, shown_of, status_message, status_now};
@@ -152,14 +152,14 @@ fn opens_logs(settings: &Config, workspaces: &Workspaces) -> bool
 }
 
 // A text is shown; with the button that opens the logs it is a request.
-#[tactic(auto, unfolding(session_model::specs::Machine::text_shown, session_port::specs::Working::written))]
+#[tactic(auto, unfolding(session_model::specs::Machine::text_shown, session_port::specs::TurnState::written))]
 fn show_text(
     store: &mut Store,
     button: bool,
     text: Option<(Text, MessageKind)>,
     out: &mut TurnOut,
 ) -> Result<(), TurnError>
-    ensures { Meets result (text_shown button text (record { state = store.old; out = out.old })) store.new out.new }
+    ensures { Refines result (text_shown button text (record { state = store.old; out = out.old })) store.new out.new }
 {
     let Some((message, kind)) = text else {
         return Ok(());
@@ -175,9 +175,9 @@ fn show_text(
 }
 
 // A client that takes statuses is told this one, and any other is shown its text.
-#[tactic(auto, unfolding(session_model::specs::Machine::status_told, session_port::specs::Working::written))]
+#[tactic(auto, unfolding(session_model::specs::Machine::status_told, session_port::specs::TurnState::written))]
 fn tell_status(store: &mut Store, status: &Status, out: &mut TurnOut) -> Result<(), TurnError>
-    ensures { Meets result (status_told status.now (record { state = store.old; out = out.old })) store.new out.new }
+    ensures { Refines result (status_told status.now (record { state = store.old; out = out.old })) store.new out.new }
 {
     if store.client.settings().server_status_notification() {
         let message = status_message(store.alloc, status)?;
@@ -192,7 +192,7 @@ fn tell_status(store: &mut Store, status: &Status, out: &mut TurnOut) -> Result<
 // The same, where it is another than the last one.
 #[tactic(auto, unfolding(session_model::specs::Machine::status_changed))]
 fn tell_change(store: &mut Store, status: &Status, out: &mut TurnOut) -> Result<(), TurnError>
-    ensures { Meets result (status_changed status.now (record { state = store.old; out = out.old })) store.new out.new }
+    ensures { Refines result (status_changed status.now (record { state = store.old; out = out.old })) store.new out.new }
 {
     if store.status.is_same(status) {
         return Ok(());
@@ -203,7 +203,7 @@ fn tell_change(store: &mut Store, status: &Status, out: &mut TurnOut) -> Result<
 // And it is kept.
 #[tactic(auto, unfolding(session_model::specs::Machine::status_kept))]
 fn keep_status(store: &mut Store, status: Status, out: &mut TurnOut) -> Result<(), TurnError>
-    ensures { Meets result (status_kept status (record { state = store.old; out = out.old })) store.new out.new }
+    ensures { Refines result (status_kept status (record { state = store.old; out = out.old })) store.new out.new }
 {
     tell_change(store, &status, out)?;
     store.status = status;
@@ -213,7 +213,7 @@ fn keep_status(store: &mut Store, status: Status, out: &mut TurnOut) -> Result<(
 /// The status of the present is told where it is another than the last one, and kept.
 #[tactic(auto, using(crate::proofs::Told::status_stays), unfolding(session_model::specs::Machine::status_done))]
 pub fn report_status(store: &mut Store, out: &mut TurnOut) -> Result<(), TurnError>
-    ensures { Meets result (status_done (record { state = store.old; out = out.old })) store.new out.new }
+    ensures { Refines result (status_done (record { state = store.old; out = out.old })) store.new out.new }
 {
     if is_told(
         store.alloc,

@@ -2,8 +2,8 @@
 use Rattle.std.proofs.Common.{◌≡◌, sym, ap, subst, ◌∙◌}
 use Rattle.std.specs.Prelude.{Result, Ok}
 use Rattle.session_port.proofs.Parts.{within_meets}
-use Rattle.session_port.specs.Meets.{Meets}
-use Rattle.session_port.specs.Working.{Working, within, put_back}
+use Rattle.session_port.specs.Refines.{Refines}
+use Rattle.session_port.specs.TurnState.{TurnState, lifted, put_back}
 use Rattle.session_port.specs.Written.{Written}
 use Rattle.session_port.specs.declared.fault.Counter.{Counter}
 use Rattle.session_port.specs.declared.fault.TurnError.{TurnError}
@@ -15,23 +15,23 @@ use Rattle.session_model.specs.SessionFiles.{SessionFiles}
 use Rattle.session_model.specs.State.{State, scene_in, scene_of}
 use Rattle.workspaces.specs.Workspaces.{Workspaces}
 
-pub desk_meets : {T : Type 0} (step : Working Desk → Result (Working Desk) Counter) (result : Result T TurnError) (before after : State) (desk desk_now : Desk)
+pub desk_meets : {T : Type 0} (step : TurnState Desk → Result (TurnState Desk) Counter) (result : Result T TurnError) (before after : State) (desk desk_now : Desk)
     (out out_now : Written)
-    → before.desk ≡ desk → after ≡ record before { desk = desk_now } → Meets result (step (record { state = desk; out = out })) desk_now out_now
-    → Meets result (at_desk step (record { state = before; out = out })) after out_now
+    → before.desk ≡ desk → after ≡ record before { desk = desk_now } → Refines result (step (record { state = desk; out = out })) desk_now out_now
+    → Refines result (at_desk step (record { state = before; out = out })) after out_now
 desk_meets step result before after desk desk_now out out_now was is h =
-    subst (λ (s : State). Meets result (at_desk step (record { state = before; out = out })) s out_now) (sym is)
+    subst (λ (s : State). Refines result (at_desk step (record { state = before; out = out })) s out_now) (sym is)
     (within_meets desk_in with_desk step result (record { state = before; out = out }) desk_now out_now
-    (subst (λ (d : Desk). Meets result (step (record { state = d; out = out })) desk_now out_now) (sym was) h))
+    (subst (λ (d : Desk). Refines result (step (record { state = d; out = out })) desk_now out_now) (sym was) h))
 
 -- the same of a step that no counter can refuse
-pub desk_gives : (step : Working Desk → Working Desk) (before after : State) (desk desk_now : Desk) (out out_now : Written)
+pub desk_gives : (step : TurnState Desk → TurnState Desk) (before after : State) (desk desk_now : Desk) (out out_now : Written)
     → before.desk ≡ desk → after ≡ record before { desk = desk_now } → record { state = desk_now; out = out_now } ≡ step (record { state = desk; out = out })
     → at_desk (λ d. Ok (step d)) (record { state = before; out = out }) ≡ Ok (record { state = after; out = out_now })
-unfolding within
+unfolding lifted
 desk_gives step before after desk desk_now out out_now was is h =
     ap (λ (d : Desk). put_back with_desk before (Ok (step (record { state = d; out = out })))) was
-    ∙ ap (λ (w : Working Desk). put_back with_desk before (Ok w)) (sym h)
+    ∙ ap (λ (w : TurnState Desk). put_back with_desk before (Ok w)) (sym h)
     ∙ ap (λ (s : State). Ok (record { state = s; out = out_now })) (sym is)
 
 -- the same of a step that meets the present
@@ -42,11 +42,11 @@ scene_met state client files workspaces c f w =
     ∙ ap (λ (x : SessionFiles). scene_in state.client x workspaces) (sym f)
     ∙ ap (λ (x : Workspaces). scene_in state.client state.files x) (sym w)
 
-pub present_meets : {T : Type 0} (step : Scene → Working Desk → Result (Working Desk) Counter) (result : Result T TurnError) (before after : State)
+pub present_meets : {T : Type 0} (step : Scene → TurnState Desk → Result (TurnState Desk) Counter) (result : Result T TurnError) (before after : State)
     (client : Client) (files : SessionFiles) (workspaces : Workspaces) (desk desk_now : Desk) (out out_now : Written)
     → before.client ≡ client → before.files ≡ files → before.workspaces ≡ workspaces → before.desk ≡ desk → after ≡ record before { desk = desk_now }
-    → Meets result (step (scene_in client files workspaces) (record { state = desk; out = out })) desk_now out_now
-    → Meets result (at_desk (step (scene_of before)) (record { state = before; out = out })) after out_now
+    → Refines result (step (scene_in client files workspaces) (record { state = desk; out = out })) desk_now out_now
+    → Refines result (at_desk (step (scene_of before)) (record { state = before; out = out })) after out_now
 present_meets step result before after client files workspaces desk desk_now out out_now c f w was is h =
     desk_meets (step (scene_of before)) result before after desk desk_now out out_now was is
-    (subst (λ (x : Scene). Meets result (step x (record { state = desk; out = out })) desk_now out_now) (scene_met before client files workspaces c f w) h)
+    (subst (λ (x : Scene). Refines result (step x (record { state = desk; out = out })) desk_now out_now) (scene_met before client files workspaces c f w) h)

@@ -2,7 +2,7 @@
 ghost use Rattle.std.specs.Prelude.{◌≡◌, ◌≤◌, [], IfOk, Ok};
 ghost use Rattle.lsp_frame.specs.Pending.{IsAbove};
 ghost use Rattle.lsp_frame.specs.Outgoing.{number_limit};
-ghost use Rattle.session_port.specs.Meets.{Meets};
+ghost use Rattle.session_port.specs.Refines.{Refines};
 ghost use Rattle.session_model.specs.DeskSteps.{handed_over, requested, result_taken};
 ghost use Rattle.session_model.specs.Machine.{at_desk};
 ghost use Rattle.session_model.specs.Meaning.{meaning_of};
@@ -156,7 +156,7 @@ impl Store {
 
 // Messages, at the desk.
 impl Store {
-    /// A request that this turn reads. After an `Err` the state is spent.
+    /// A request that this turn reads. After an `Err` the state is poisoned.
     pub fn ask<A: Analysis>(
         &mut self,
         request: Request,
@@ -164,7 +164,7 @@ impl Store {
         out: &mut TurnOut,
     ) -> Result<(), TurnError>
         requires { IsAbove self.old.desk.turns self.old.desk.pending }
-        ensures { Meets result (at_desk (requested (meaning_of A.decodes A.answer) (scene_of self.old) request) (record { state = self.old; out = out.old })) self.new out.new }
+        ensures { Refines result (at_desk (requested (meaning_of A.decodes A.answer) (scene_of self.old) request) (record { state = self.old; out = out.old })) self.new out.new }
     {
         let now = Now {
             alloc: self.alloc,
@@ -175,14 +175,14 @@ impl Store {
         self.desk.on_request(&now, request, analysis, out)
     }
 
-    /// A message of a job, and what it ends of the session's own work. After an `Err` the state is spent.
+    /// A message of a job, and what it ends of the session's own work. After an `Err` the state is poisoned.
     pub fn bring<A: Analysis>(
         &mut self,
         message: TaskMsg,
         analysis: &A,
         out: &mut TurnOut,
     ) -> Result<Option<WorkEnd>, TurnError>
-        ensures meets { Meets result (at_desk (result_taken (meaning_of A.decodes A.answer) (scene_of self.old) message) (record { state = self.old; out = out.old })) self.new out.new }
+        ensures meets { Refines result (at_desk (result_taken (meaning_of A.decodes A.answer) (scene_of self.old) message) (record { state = self.old; out = out.old })) self.new out.new }
         ensures ends { IfOk result (λ end. end ≡ work_ended message self.old.desk.jobs) }
     {
         let now = Now {
@@ -204,14 +204,14 @@ impl Store {
         snapshot: GlobalStateSnapshot,
         out: &mut TurnOut,
     ) -> Result<(), TurnError>
-        ensures { Meets result (at_desk (handed_over snapshot Worker kind) (record { state = self.old; out = out.old })) self.new out.new }
+        ensures { Refines result (at_desk (handed_over snapshot Worker kind) (record { state = self.old; out = out.old })) self.new out.new }
     {
         self.desk.hand_over(kind, PoolClass::Worker, snapshot, out)
     }
 
     /// The same on the present snapshot.
     pub fn hand_over(&mut self, kind: JobKind, out: &mut TurnOut) -> Result<(), TurnError>
-        ensures { Meets result (at_desk (handed_over (snapshot_of self.old) Worker kind) (record { state = self.old; out = out.old })) self.new out.new }
+        ensures { Refines result (at_desk (handed_over (snapshot_of self.old) Worker kind) (record { state = self.old; out = out.old })) self.new out.new }
     {
         let snapshot = match self.snapshot() {
             Ok(snapshot) => snapshot,

@@ -2,11 +2,11 @@
 ghost use Rattle.std.specs.Prelude.{None, false};
 
 use crate::scripts::{given, ran, sink, steps, told};
-use expectations::{expect_same, expect_text};
 use plain::Items;
 use session_port::{HostError, Sink};
 use std::alloc::Global;
 use std::test::Fail;
+use test_support::{expect_same, expect_text};
 
 const LINES: &str =
     r#"- textDocument/didOpen {"textDocument":{"uri":"file:///w/a.rs","version":1,"text":"fn a() {}"}}
@@ -60,7 +60,7 @@ impl Sink for Crowded {
 
     ghost faults = { λ _. 0 };
 
-    ghost spent = { λ _. false };
+    ghost poisoned = { λ _. false };
 
     fn put_turn(&mut self, _bytes: &[u8]) -> Result<(), HostError> {
         Err(HostError::NoMemory)

@@ -1,8 +1,8 @@
 // Who is answered what, and when, in whole sessions.
 use crate::scripts::written;
-use expectations::expect_text;
 use std::alloc::Global;
 use std::test::Fail;
+use test_support::expect_text;
 
 const OPEN: &str =
     r#"- textDocument/didOpen {"textDocument":{"uri":"file:///w/a.rs","version":1,"text":"fn a() {}"}}

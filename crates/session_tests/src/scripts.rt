@@ -129,9 +129,9 @@ fn fault<H: Host<A>, S: Sink, A: Analysis>(
     analysis: &A,
 ) -> Option<SessionError>
     requires idle { H.out host.old ≡ map.empty }
-    requires unused { H.handed host.old ≡ 0 }
-    requires host_fresh { H.spent host.old ≡ false }
-    requires sink_fresh { S.spent sink.old ≡ false }
+    requires unused { H.last_job host.old ≡ 0 }
+    requires host_usable { H.poisoned host.old ≡ false }
+    requires sink_usable { S.poisoned sink.old ≡ false }
 {
     let reader = FrameReader::new_at(alloc, place);
     main_loop_from(alloc, config, reader, host, sink, analysis).err()
@@ -146,7 +146,7 @@ pub fn ran<S: Sink>(
     fails: u64,
     sink: &mut S,
 ) -> Result<Option<SessionError>, Fail>
-    requires sink_fresh { S.spent sink.old ≡ false }
+    requires sink_usable { S.poisoned sink.old ≡ false }
 {
     let config = settings(alloc)?;
     let fails = one(alloc, fails)?;

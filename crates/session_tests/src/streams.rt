@@ -1,9 +1,9 @@
 // Standard input and output: a reader and a writer that a signal interrupts are called again.
-use expectations::expect;
 use server::{StandardInput, StandardOutput};
 use session_port::{Sink, Source};
 use std::io::{self, ErrorKind, Read, Write};
 use std::test::Fail;
+use test_support::expect;
 
 /// Gives its bytes, but for the first read: a signal comes in between.
 #[derive(Drop)]

@@ -1,13 +1,13 @@
 // The method table as it is written elsewhere, and errors as they are shown.
 use analysis_host::Outcome;
 use dispatch::{HandlerCancelledError, LspError, invalid_params_error};
-use expectations::{expect_same, expect_text};
-use method_table::{Facts, table};
+use method_table::{MethodRow, table};
 use plain::Text;
 use requests::malformed;
 use std::alloc::Global;
 use std::fmt::Display;
 use std::test::Fail;
+use test_support::{expect_same, expect_text};
 
 /// The methods in the order of their rows, the class of each, and whether it is asked again where its query stopped.
 const ROWS: &str = "shutdown State once
@@ -72,7 +72,7 @@ experimental/moveItem Worker once
 rust-analyzer-internal/internalTestingFetchConfig Worker once
 rust-analyzer/getFailedObligations Worker again";
 
-fn told(alloc: Global, facts: &Facts) -> Result<String, Fail> {
+fn told(alloc: Global, facts: &MethodRow) -> Result<String, Fail> {
     let again = if facts.retries { "again" } else { "once" };
     Ok(format!(in alloc; "{} {:?} {again}", facts.method, facts.class)?)
 }

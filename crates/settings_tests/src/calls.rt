@@ -41,7 +41,7 @@ pub(crate) fn all_agree<F: Fn(Global, &str) -> Option<bool>>(
     requires { F.IsAlwaysCallable agrees }
 {
     for line in table.split(mark) {
-        expectations::expect(line, agrees(alloc, line) == Some(true))?;
+        test_support::expect(line, agrees(alloc, line) == Some(true))?;
     }
     Ok(())
 }

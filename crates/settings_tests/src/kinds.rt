@@ -1,11 +1,11 @@
 // A setting of each kind, as its call answers it.
 use crate::calls::{all_agree, cut, json, settings};
-use expectations::expect;
 use plain::{Items, Json, Text};
 use ra_config::{CargoFeatures, Config, FilesWatcher, InvocationStrategy, LinkedProject, Row};
 use ra_settings::{ROWS, Reading, find_at, read_value};
 use std::alloc::Global;
 use std::test::Fail;
+use test_support::expect;
 
 /// The first of some texts.
 fn first(texts: &[Text]) -> &str {

@@ -1,10 +1,10 @@
 // The projects that a command discovers, and the roots that params name.
 use crate::calls::{json, settings};
-use expectations::expect;
 use plain::{Json, Text};
 use ra_config::{Config, ConfigFault, LinkedProject, initial_roots};
 use std::alloc::Global;
 use std::test::Fail;
+use test_support::expect;
 
 fn discover(alloc: Global, config: &mut Config, project: Json, file: Text) -> Option<()> {
     config

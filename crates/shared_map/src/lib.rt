@@ -20,7 +20,7 @@ mod tree;
 pub use laws::{
     a_key_is_found_as_it_was_set, a_removed_key_is_gone, keys_stay_in_order, one_entry_more_or_less,
 };
-use plain::Copied;
+use plain::ExactClone;
 pub use plain::Steps;
 
 /// Values by key, seen as the entries in the order of their keys. A clone is the same tree, and no change of a map is
@@ -93,8 +93,8 @@ impl<K: Ord, V> SharedMap<K, V> {
         steps: &mut Steps<L>,
     ) -> Result<SharedMap<K, V>, AllocError>
     where
-        K: Copied + Drop,
-        V: Copied + Drop,
+        K: ExactClone + Drop,
+        V: ExactClone + Drop,
         ensures ok { IfOk result (λ map. map ≡ set_entry K.cmp key value self.now) }
         ensures cost { IsQuick (length self.now) steps.old steps.new }
     {
@@ -132,8 +132,8 @@ impl<K: Ord, V> SharedMap<K, V> {
         steps: &mut Steps<L>,
     ) -> Result<(), AllocError>
     where
-        K: Copied + Drop,
-        V: Copied + Drop,
+        K: ExactClone + Drop,
+        V: ExactClone + Drop,
         ensures ok { OnOk result (self.new ≡ set_entry K.cmp key value self.old) }
         ensures err { OnErr result (self.new ≡ []) }
         ensures cost { IsQuick (length self.old) steps.old steps.new }

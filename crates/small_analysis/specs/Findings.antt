@@ -2,7 +2,7 @@
 use Rattle.std.specs.Prelude.{ℕ, zero, suc, ◌+◌, List, [], ◌∷◌, ◌++◌, codes, length, is_some, if◌then◌else◌}
 use Rattle.std.specs.Prelude.{Option, None, Some}
 use Rattle.std.specs.FinMap as map
-use Rattle.analysis_host.specs.Answers.{Finding, answer}
+use Rattle.analysis_host.specs.Answers.{OutcomeSpec, answer}
 use Rattle.analysis_host.specs.SnapshotData.{SnapshotData, encoding_of}
 use Rattle.analysis_host.specs.SnapshotFiles.{file_text}
 use Rattle.analysis_host.specs.declared.ask.Answer.TheVariants.{Diagnostics, Tests}
@@ -53,18 +53,18 @@ abbrev pub semantic_in : PositionEncoding → List ℕ → List Diagnostic
 semantic_in encoding text = said_before (name_said encoding text) (length text)
 
 -- of a file that has a text
-abbrev pub of_text : (List ℕ → Finding) → Option (List ℕ) → Finding
+abbrev pub of_text : (List ℕ → OutcomeSpec) → Option (List ℕ) → OutcomeSpec
 of_text find None = refusal (codes "not text")
 of_text find (Some text) = find text
 
-abbrev pub syntax_of : SnapshotData → FileId → Finding
+abbrev pub syntax_of : SnapshotData → FileId → OutcomeSpec
 syntax_of snapshot file = of_text (λ text. answer (Diagnostics (syntax_in (encoding_of snapshot) text)))
     (file_text snapshot file)
 
-abbrev pub semantic_of : SnapshotData → FileId → Finding
+abbrev pub semantic_of : SnapshotData → FileId → OutcomeSpec
 semantic_of snapshot file = of_text (λ text. answer (Diagnostics (semantic_in (encoding_of snapshot) text)))
     (file_text snapshot file)
 
 -- it knows no tests
-abbrev pub tests_of : SnapshotData → FileId → Finding
+abbrev pub tests_of : SnapshotData → FileId → OutcomeSpec
 tests_of snapshot file = of_text (λ text. answer (Tests [])) (file_text snapshot file)

@@ -1,7 +1,7 @@
 -- The root files of crates.
 use Rattle.std.specs.Prelude.{ℕ, List, codes, if◌then◌else◌, Option, Some, None}
 use Rattle.std.specs.List.{filter_map}
-use Rattle.analysis_host.specs.Answers.{Finding, answer}
+use Rattle.analysis_host.specs.Answers.{OutcomeSpec, answer}
 use Rattle.analysis_host.specs.SnapshotData.{SnapshotData}
 use Rattle.analysis_host.specs.SnapshotFiles.{file_exists, file_text, path_at}
 use Rattle.analysis_host.specs.declared.ask.Answer.TheVariants.{Roots}
@@ -18,9 +18,9 @@ abbrev pub existing_roots : SnapshotData → List CrateInfo → List (List ℕ)
 existing_roots snapshot crates = filter_map (λ info. existing_path snapshot info.root) crates
 
 -- any text may belong to each crate
-abbrev pub crates_with : SnapshotData → Option (List ℕ) → Finding
+abbrev pub crates_with : SnapshotData → Option (List ℕ) → OutcomeSpec
 crates_with snapshot None = refusal (codes "not text")
 crates_with snapshot (Some text) = answer (Roots (existing_roots snapshot snapshot.world.crates.crates))
 
-abbrev pub crates_of : SnapshotData → FileId → Finding
+abbrev pub crates_of : SnapshotData → FileId → OutcomeSpec
 crates_of snapshot file = crates_with snapshot (file_text snapshot file)

@@ -2,7 +2,7 @@
 use Rattle.std.specs.Prelude.{◌≡◌, ℕ, ◌==◌, ◌&&◌, Bool, true, is_some, List, codes, if◌then◌else◌, Option, Some, None}
 use Rattle.plain.specs.Plain.{is_plain}
 use Rattle.serde_json.specs.Data.{Data, null, boolean, string, object, put, member, no_members}
-use Rattle.analysis_host.specs.Answers.{Finding, answer}
+use Rattle.analysis_host.specs.Answers.{OutcomeSpec, answer}
 use Rattle.analysis_host.specs.SnapshotData.{SnapshotData, encoding_of}
 use Rattle.analysis_host.specs.declared.ask.Ask.{Ask}
 use Rattle.analysis_host.specs.declared.ask.Ask.TheVariants.{Request, Part, Syntax, Semantic, Tests as TestsOf}
@@ -48,25 +48,25 @@ hover_value None = null
 hover_value (Some name) = object (member (codes "contents") (string name) no_members)
 
 -- the name at a place of a text
-abbrev pub hover_at : List ℕ → Option ℕ → Finding
+abbrev pub hover_at : List ℕ → Option ℕ → OutcomeSpec
 hover_at text None = refusal (codes "Invalid offset")
 hover_at text (Some offset) = answer (Json (hover_value (name_at text offset)))
 
-abbrev pub hover_in : PositionEncoding → Position → List ℕ → Finding
+abbrev pub hover_in : PositionEncoding → Position → List ℕ → OutcomeSpec
 hover_in encoding position text = hover_at text (place_in encoding text position)
 
-abbrev pub hover_of : SnapshotData → Option HoverData → Finding
+abbrev pub hover_of : SnapshotData → Option HoverData → OutcomeSpec
 hover_of snapshot None = malformed
 hover_of snapshot (Some hover) = in_text (hover_in (encoding_of snapshot) hover.position) (text_of snapshot hover.uri)
 
-abbrev pub braces_at : Option (List Position) → Finding
+abbrev pub braces_at : Option (List Position) → OutcomeSpec
 braces_at None = refusal (codes "Invalid offset")
 braces_at (Some positions) = answer (Json (list_value position_value positions))
 
-abbrev pub braces_in : PositionEncoding → List Position → List ℕ → Finding
+abbrev pub braces_in : PositionEncoding → List Position → List ℕ → OutcomeSpec
 braces_in encoding positions text = braces_at (all_matched encoding text positions)
 
-abbrev pub braces_of : SnapshotData → Option BraceData → Finding
+abbrev pub braces_of : SnapshotData → Option BraceData → OutcomeSpec
 braces_of snapshot None = malformed
 braces_of snapshot (Some braces) = in_text (braces_in (encoding_of snapshot) braces.positions)
     (text_of snapshot braces.uri)
@@ -83,22 +83,22 @@ abbrev pub row_value : RowId → Data → Data
 row_value row params = class_value row params (class_of row)
 
 -- a value that isn't plain is no answer
-abbrev pub plain_answer : Data → Finding
+abbrev pub plain_answer : Data → OutcomeSpec
 plain_answer value = if is_plain value then answer (Json value) else malformed
 
-abbrev pub row_answer : SnapshotData → RowId → Data → Finding
+abbrev pub row_answer : SnapshotData → RowId → Data → OutcomeSpec
 row_answer snapshot row params =
     if is_hover row then hover_of snapshot (hover_params params)
     else (if is_matching_brace row then braces_of snapshot (brace_params params) else plain_answer
     (row_value row params))
 
 -- params that aren't plain, or that can't be read, are malformed
-abbrev pub request_answer : SnapshotData → RowId → Data → Finding
+abbrev pub request_answer : SnapshotData → RowId → Data → OutcomeSpec
 request_answer snapshot row params = if is_plain params && small_decodes row params then row_answer snapshot row params
     else malformed
 
 -- no row is answered in parts: a part of one is answered as the whole. Nothing has to be found out beforehand
-abbrev pub small_answer : SnapshotData → Ask → Finding
+abbrev pub small_answer : SnapshotData → Ask → OutcomeSpec
 small_answer snapshot (Request row params) = request_answer snapshot row params
 small_answer snapshot (Part row params files) = request_answer snapshot row params
 small_answer snapshot (Syntax file) = syntax_of snapshot file
@@ -114,10 +114,10 @@ IsAnsweredBy row value =
     → small_answer snapshot (Request row params) ≡ answer (Json (value params))
 
 -- the number that stopped a query
-abbrev pub stopped_by : Outcome → Option ℕ
-stopped_by (Value value) = None
-stopped_by (Fault code message) = None
-stopped_by (Cancelled saw) = Some saw
+abbrev pub outdated_by : Outcome → Option ℕ
+outdated_by (Value value) = None
+outdated_by (Fault code message) = None
+outdated_by (Cancelled saw) = Some saw
 
 -- what a server with this analysis says of itself
 abbrev pub small_info : ServerInfo

@@ -2,7 +2,7 @@
 ghost use Rattle.std.specs.Prelude.{◌≡◌, None, IfOk, OnOk};
 ghost use Rattle.analysis_host.specs.Answers.{Answers, IsOutcomeOf, IsPlainOutcome};
 ghost use Rattle.analysis_host.specs.Polls.{Counts, HasPolled};
-ghost use Rattle.small_analysis.specs.Small.{class_value, is_hover, is_matching_brace, plain_answer, request_answer, row_value, small_answer, small_decodes, small_info, stopped_by};
+ghost use Rattle.small_analysis.specs.Small.{class_value, is_hover, is_matching_brace, plain_answer, request_answer, row_value, small_answer, small_decodes, small_info, outdated_by};
 
 use crate::findings::{semantic_of, syntax_of, tests_of};
 use crate::hover::hover_of;
@@ -145,10 +145,10 @@ impl Analysis for SmallAnalysis {
         ask: &Ask,
         cancel: &mut C,
     ) -> Result<Outcome, AllocError>
-        requires fresh { C.held cancel.old ≡ None }
+        requires usable { C.held cancel.old ≡ None }
 
         // Cancelled exactly where the poll gave a number, with that number.
-        ensures stopped { IfOk result (λ outcome. stopped_by outcome ≡ C.held cancel.new) }
+        ensures outdated { IfOk result (λ outcome. outdated_by outcome ≡ C.held cancel.new) }
         ensures answers { let question = small_answer snapshot.now ask.now in
             IfOk result (Answers question (C.held cancel.new)) }
         ensures kind { IfOk result (IsOutcomeOf ask.now) }

@@ -11,7 +11,7 @@ use crate::names::name_at;
 use crate::offsets::place_in;
 use analysis_host::{Answer, GlobalStateSnapshot, Outcome};
 use lsp_types::{position_of, uri_of};
-use plain::{Json, Members, Text};
+use plain::{Json, JsonObject, Text};
 use requests::{malformed, nothing, refusal, text_of};
 use std::alloc::{AllocError, Global};
 use text_core::{Position, PositionEncoding, TextIndex};
@@ -25,7 +25,7 @@ fn hover_value(alloc: Global, name: Option<&str>) -> Result<Json, AllocError>
     let Some(name) = name else {
         return Ok(Json::null());
     };
-    let mut members = Members::new(alloc);
+    let mut members = JsonObject::new(alloc);
     members.put(
         alloc,
         "contents",

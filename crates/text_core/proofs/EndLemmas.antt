@@ -2,8 +2,8 @@
 use Rattle.std.proofs.Common.{◌≡◌, ℕ, ◌+◌, ◌-◌, ◌≤◌, List, ◌++◌, length, take, drop, min, ap, sym, ◌∙◌, arith}
 use Rattle.std.specs.List.{replace_range}
 use Rattle.std.proofs.lemmas.List.{take-take, take-append-le, drop-drop, length-take, length-drop, length-append}
-use Rattle.text_core.specs.Ends.{HasEnds}
-use Rattle.text_core.specs.declared.ends.Ends.{Ends}
+use Rattle.text_core.specs.CommonEnds.{HasEnds}
+use Rattle.text_core.specs.declared.ends.CommonEnds.{CommonEnds}
 use Rattle.text_core.proofs.MovedLemmas.{between, parts, drop_front}
 
 drop_past : (k : ℕ) (xs ys : List ℕ) → drop (length xs + k) (xs ++ ys) ≡ drop k ys
@@ -37,7 +37,7 @@ fewer_back before text n m low old new same =
     sym (drop-drop (n - m) (length text - n) text ∙ ap (λ k. drop k text) here) ∙ ap (drop (n - m)) same
     ∙ drop-drop (n - m) (length before - n) before ∙ ap (λ k. drop k before) there
 
-abbrev pub both_ends : ℕ → ℕ → Ends
+abbrev pub both_ends : ℕ → ℕ → CommonEnds
 both_ends front back = record { front = front; back = back }
 
 pub ends-first : (before text new : List ℕ) (from to : ℕ) → text ≡ before → from ≤ to → to ≤ length text
@@ -51,7 +51,7 @@ ends-first before text new from to same rising within =
       within_before = omega arith;
     }
 
-pub ends-next : (before text new : List ℕ) (ends : Ends) (from to front back : ℕ) → HasEnds before text ends → from ≤ to → to ≤ length text
+pub ends-next : (before text new : List ℕ) (ends : CommonEnds) (from to front back : ℕ) → HasEnds before text ends → from ≤ to → to ≤ length text
     → front ≡ min ends.front from → back ≡ min ends.back (length text - to) → HasEnds before (replace_range text from to new) (both_ends front back)
 ends-next before text new ends from to front back has rising within first last =
     let low : front ≤ from = omega arith in
@@ -66,7 +66,7 @@ ends-next before text new ends from to front back has rising within first last =
     }
 
 -- texts with the same ends are the same where they are between them
-pub ends-same : (before text : List ℕ) (ends : Ends) → HasEnds before text ends
+pub ends-same : (before text : List ℕ) (ends : CommonEnds) → HasEnds before text ends
     → between ends.front (length text - ends.back) text ≡ between ends.front (length before - ends.back) before → text ≡ before
 ends-same before text ends has same =
     parts text ends.front (length text - ends.back) (omega (arith, has.within))
@@ -74,6 +74,6 @@ ends-same before text ends has same =
     ∙ ap (λ l. take ends.front before ++ l) (ap (λ l. l ++ drop (length text - ends.back) text) same ∙ ap (λ l. between ends.front (length before - ends.back) before ++ l) has.back)
     ∙ sym (parts before ends.front (length before - ends.back) (omega (arith, has.within_before)))
 
-pub same-ends : (before text : List ℕ) (ends : Ends) → text ≡ before
+pub same-ends : (before text : List ℕ) (ends : CommonEnds) → text ≡ before
     → between ends.front (length text - ends.back) text ≡ between ends.front (length before - ends.back) before
 same-ends before text ends same = ap (λ l. between ends.front (length l - ends.back) l) same

@@ -17,7 +17,7 @@ use Rattle.text_core.specs.Changes.{edited, replaced}
 use Rattle.text_core.specs.Rebuilds.{Progress, after_edit, is_past, lowered}
 use Rattle.text_core.specs.Splices.{AreBehind, Fall, IsPart, lowest, spliced}
 use Rattle.text_core.specs.Starts.{line_starts}
-use Rattle.text_core.specs.Kept.{IsKept}
+use Rattle.text_core.specs.IndexInvariant.{IsKept}
 use Rattle.text_core.proofs.EndLemmas.{length_edit}
 use Rattle.text_core.proofs.PlaceLemmas.{line_end-bounds, past-within}
 use Rattle.text_core.proofs.SpliceLemmas.{HasFront, fall-push, front_part, has_front, lowest-push, spliced-push}

@@ -5,8 +5,8 @@ use Rattle.std.specs.List.Sorted.{IsPartitionedBy, IsPartitionPoint}
 use Rattle.std.proofs.lemmas.Bool.{cases_Bool, cases_lt, cond-true, cond-false, le-leb, leb-true, leb-false}
 use Rattle.std.proofs.lemmas.List.{take-append-drop, length-take, length-drop, length-append, drop-drop, take_rest, get_or_append_left, get_or-append_right}
 use Rattle.std.proofs.lemmas.List.Elements.{All-nil, All-cons, All-same, All-append, All-weaker, All-get_or}
-use Rattle.text_core.specs.Ends.{HasEnds}
-use Rattle.text_core.specs.declared.ends.Ends.{Ends}
+use Rattle.text_core.specs.CommonEnds.{HasEnds}
+use Rattle.text_core.specs.declared.ends.CommonEnds.{CommonEnds}
 use Rattle.text_core.specs.Positions.{ends_line}
 use Rattle.text_core.specs.Starts.{line_starts, starts_in}
 use Rattle.text_core.proofs.StartLemmas.{length-line_starts}
@@ -213,7 +213,7 @@ divided low high place n early late within finds =
     ]
 
 -- the starts behind a place, moved, fit
-pub moved_fits : (before text : List ℕ) (ends : Ends) (starts : List ℕ) (size n : ℕ) → HasEnds before text ends → length text < 4294967296 → size ≡ length before
+pub moved_fits : (before text : List ℕ) (ends : CommonEnds) (starts : List ℕ) (size n : ℕ) → HasEnds before text ends → length text < 4294967296 → size ≡ length before
     → starts ≡ line_starts before → Splits starts (size - ends.back) n
     → All (λ start. (size - ends.back ≤ start) × (start - (size - ends.back) + (length text - ends.back) < 4294967296)) (take (length starts - n) (drop n starts))
 moved_fits before text ends starts size n has small same all splits =
@@ -226,7 +226,7 @@ moved_fits before text ends starts size n has small same all splits =
     (λ start stands. (omega (arith, stands.0), omega (arith, stands.1, has.within))) _ (starts_in-stand place (drop place before)))
 
 -- the starts of both ends, with those of what stands between them
-pub moved_all : (before text : List ℕ) (ends : Ends) (starts : List ℕ) (size n m : ℕ) → HasEnds before text ends → size ≡ length before → starts ≡ line_starts before
+pub moved_all : (before text : List ℕ) (ends : CommonEnds) (starts : List ℕ) (size n m : ℕ) → HasEnds before text ends → size ≡ length before → starts ≡ line_starts before
     → Splits starts ends.front n → Splits starts (size - ends.back) m
     → (take n starts ++ starts_in ends.front (between ends.front (length text - ends.back) text))
     ++ map (λ start. start - (size - ends.back) + (length text - ends.back)) (take (length starts - m) (drop m starts)) ≡ line_starts text

@@ -4,13 +4,13 @@ pub mod Columns
 pub mod Lines
 pub mod Places
 pub mod Starts
-pub mod Ends
+pub mod CommonEnds
 pub mod Runs
 pub mod Changes
 pub mod Rebuilds
 pub mod Skips
 pub mod Splices
-pub mod Kept
+pub mod IndexInvariant
 pub mod Whole
 pub mod LineEnds
 pub mod Edits

@@ -6,41 +6,41 @@ ghost use Rattle.text_core.specs.Same.{position_told, range_told};
 use crate::change::{CompletionEdit, ContentChange, TextEdit};
 use crate::line_endings::LineEndings;
 use crate::position::{OffsetFault, Position, PositionEncoding, Range, WideEncoding};
-use plain::{Copied, DecidableEq};
+use plain::{DecidableEq, ExactClone};
 
-impl Copied for WideEncoding {
+impl ExactClone for WideEncoding {
     ghost copies = { λ x y h. Prim.search rules };
 }
 
-impl Copied for PositionEncoding {
+impl ExactClone for PositionEncoding {
     ghost copies = { λ x y h. Prim.search rules };
 }
 
-impl Copied for Position {
+impl ExactClone for Position {
     ghost copies = { λ x y h. Prim.search rules };
 }
 
-impl Copied for Range {
+impl ExactClone for Range {
     ghost copies = { λ x y h. Prim.search rules };
 }
 
-impl Copied for OffsetFault {
+impl ExactClone for OffsetFault {
     ghost copies = { λ x y h. Prim.search rules };
 }
 
-impl Copied for LineEndings {
+impl ExactClone for LineEndings {
     ghost copies = { λ x y h. Prim.search rules };
 }
 
-impl Copied for TextEdit {
+impl ExactClone for TextEdit {
     ghost copies = { λ x y h. Prim.search rules };
 }
 
-impl Copied for ContentChange {
+impl ExactClone for ContentChange {
     ghost copies = { λ x y h. Prim.search rules };
 }
 
-impl Copied for CompletionEdit {
+impl ExactClone for CompletionEdit {
     ghost copies = { λ x y h. Prim.search rules };
 }
 

@@ -3,12 +3,12 @@ ghost use Rattle.std.specs.Prelude.{◌≡◌, ◌+◌, ◌-◌, ◌<◌, ◌≤
 ghost use Rattle.text_core.specs.Changes.{edited};
 ghost use Rattle.text_core.specs.Positions.{range_of};
 ghost use Rattle.text_core.specs.Rebuilds.{is_past, refreshed, after_edit, with_edit};
-ghost use Rattle.text_core.specs.Kept.{IsKeptIn, IsNewDraft, progress, text_of};
-ghost use Rattle.text_core.specs.Ends.{ComesFrom};
+ghost use Rattle.text_core.specs.IndexInvariant.{IsKeptIn, IsNewDraft, progress, text_of};
+ghost use Rattle.text_core.specs.CommonEnds.{ComesFrom};
 ghost use Rattle.text_core.specs.Splices.{IsPart, lowest};
 ghost use Rattle.text_core.specs.Starts.{line_starts, starts_in};
 
-use crate::ends::{Ends, ends_after};
+use crate::ends::{CommonEnds, ends_after};
 use crate::offsets;
 use crate::position::{OffsetFault, PositionEncoding, Range};
 use crate::splices::{Splice, make};
@@ -28,7 +28,7 @@ pub(crate) struct Draft<'a> {
     pub(crate) starts: Vec<u32>,
     pub(crate) least: Option<u32>,
     pub(crate) skipped: bool,
-    pub(crate) ends: Option<Ends>,
+    pub(crate) ends: Option<CommonEnds>,
 }
 
 /// A text as a draft begins with, with room for so many bytes more.

@@ -2,10 +2,10 @@
 ghost use Rattle.std.specs.Prelude.{◌≡◌, ◌+◌, ◌<◌, ◌≤◌, ◌^◌, ℕ, List, length, drop, None, OnOk, IfOk, IfSome, IsNone, string_bytes, false};
 ghost use Rattle.std.specs.List.{fold};
 ghost use Rattle.text_core.specs.Changes.{document, IsOther};
-ghost use Rattle.text_core.specs.Ends.{ComesFrom};
+ghost use Rattle.text_core.specs.CommonEnds.{ComesFrom};
 ghost use Rattle.text_core.specs.Rebuilds.{begun, rebuilds};
 ghost use Rattle.text_core.specs.Skips.{skips};
-ghost use Rattle.text_core.specs.Kept.{IsKeptIn, IsNewDraft, IsMade, progress, text_of};
+ghost use Rattle.text_core.specs.IndexInvariant.{IsKeptIn, IsNewDraft, IsMade, progress, text_of};
 ghost use Rattle.text_core.specs.Whole.{is_whole, HaveRanges, IsLastWhole, Begins, taken};
 
 use crate::change::ContentChange;

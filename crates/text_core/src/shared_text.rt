@@ -5,7 +5,7 @@ ghost use Rattle.text_core.specs.LineEnds.{has_cr};
 
 use crate::line_endings::has_cr;
 use crate::text_index::TextIndex;
-use plain::{ArcText, Copied, Text};
+use plain::{ArcText, ExactClone, Text};
 use std::alloc::{AllocError, Global};
 use std::marker::Model;
 use std::sync::Arc;
@@ -116,6 +116,6 @@ impl Clone for SharedText {
     }
 }
 
-impl Copied for SharedText {
+impl ExactClone for SharedText {
     ghost copies = { λ x y h. h };
 }

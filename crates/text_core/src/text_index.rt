@@ -3,8 +3,8 @@ ghost use Rattle.std.specs.Prelude.{◌≡◌, ◌≢◌, ◌+◌, ◌<◌, ◌�
 ghost use Rattle.std.specs.Arc.{arc_value};
 ghost use Rattle.std.specs.String.Boundary.{IsSplitPoint};
 ghost use Rattle.text_core.specs.Changes.{IsOther};
-ghost use Rattle.text_core.specs.Ends.{HasEnds, ComesFrom};
-ghost use Rattle.text_core.specs.Kept.{IsNewDraft};
+ghost use Rattle.text_core.specs.CommonEnds.{HasEnds, ComesFrom};
+ghost use Rattle.text_core.specs.IndexInvariant.{IsNewDraft};
 ghost use Rattle.text_core.specs.Lines.{line_text};
 ghost use Rattle.text_core.specs.Places.{position_of};
 ghost use Rattle.text_core.specs.Positions.{ends_line, line_span, place_of, range_of};
@@ -14,7 +14,7 @@ ghost use Rattle.text_core.specs.declared.position.PositionEncoding.TheVariants.
 ghost use Rattle.text_core.specs.declared.position.WideEncoding.TheVariants.{Utf32};
 
 use crate::draft::{Draft, copy_with_room};
-use crate::ends::Ends;
+use crate::ends::CommonEnds;
 use crate::line_endings::LineEndings;
 use crate::position::{OffsetFault, Position, PositionEncoding, Range};
 use crate::starts::{find_starts, push_moved, push_starts, starts_up_to};
@@ -110,7 +110,12 @@ impl TextIndex {
     }
 
     /// The starts of the lines of a text that has the ends of this one. Only what stands between them is searched.
-    fn starts_of(&self, alloc: Global, text: &[u8], ends: Ends) -> Result<Vec<u32>, AllocError>
+    fn starts_of(
+        &self,
+        alloc: Global,
+        text: &[u8],
+        ends: CommonEnds,
+    ) -> Result<Vec<u32>, AllocError>
         requires within { length text.now < 2 ^ 32 }
         requires ends { HasEnds self.now text.now ends }
         ensures { IfOk result (λ starts. starts.items ≡ line_starts text.now) }
@@ -127,7 +132,7 @@ impl TextIndex {
     }
 
     /// Whether a text that has the ends of this one is the same text. Only what stands between them is compared.
-    fn is_same(&self, text: &[u8], ends: Ends) -> bool
+    fn is_same(&self, text: &[u8], ends: CommonEnds) -> bool
         requires { HasEnds self.now text.now ends }
         ensures { IsTrue result ↔ (text.now ≡ self.now) }
     {
@@ -141,7 +146,7 @@ impl TextIndex {
         &self,
         alloc: Global,
         text: String,
-        ends: Option<Ends>,
+        ends: Option<CommonEnds>,
     ) -> Result<Option<TextIndex>, AllocError>
         requires within { length (string_bytes text) < 2 ^ 32 }
         requires from { ComesFrom self.now (string_bytes text) ends }

@@ -5,9 +5,9 @@ use crate::texts::{are_apart, becomes, has_lines, shares_index};
 use crate::values::{
     are_grown, are_members, go_in_order, is_plain, is_shared, stays_by_number, stays_by_text,
 };
-use expectations::expect;
 use std::alloc::Global;
 use std::test::Fail;
+use test_support::expect;
 
 /// What is called, in words.
 const CALLS: &str = "bytes go in order

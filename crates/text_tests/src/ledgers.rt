@@ -2,13 +2,13 @@
 ghost use Rattle.std.specs.Prelude.{◌≡◌, ◌<◌};
 
 use crate::calls::{UTF16, add_changes, cut};
-use expectations::expect;
 use plain::{Items, Text};
 use shared_map::{SharedMap, Steps};
 use std::alloc::{AllocError, Global};
 use std::marker::Brand;
 use std::sync::ledger::{Blank, Ledger};
 use std::test::Fail;
+use test_support::expect;
 use text_core::apply_with_limit;
 
 type Numbers = SharedMap<u32, u32>;

@@ -1,7 +1,7 @@
 // Bytes, JSON and maps: calls that end well where memory is left.
 use crate::calls::{is_written, json, text};
 use piece_buffer::PieceBuffer;
-use plain::{ByNumber, ByText, Bytes, Json, Members, Plain, SharedJson, Text};
+use plain::{ByNumber, ByText, Bytes, Json, JsonObject, Plain, SharedJson, Text};
 use std::alloc::Global;
 
 /// Puts a piece at the end of a buffer, and says whether there was memory for it.
@@ -46,7 +46,7 @@ pub fn are_grown(alloc: Global) -> Option<bool> {
 
 /// Whether a copy of members is written as they are.
 pub fn are_members(alloc: Global) -> Option<bool> {
-    let mut members = Members::new(alloc);
+    let mut members = JsonObject::new(alloc);
     let is_put = members.put(alloc, "a", Json::from_i32(1)).is_ok();
     let copy = members.clone().ok();
     drop(members);

@@ -1,7 +1,6 @@
 // Values that tests are made of, by words, and a table's loop. No call here claims anything. Where memory runs out, there is none, or
 // less than a test wants.
 use docs_vfs::VfsPath;
-use expectations::expect;
 use plain::{Items, Text};
 use project_model::{
     BuildScripts, CrateEntry, MacroPath, Package, ProjectWorkspace, Target, TargetKind,
@@ -9,6 +8,7 @@ use project_model::{
 };
 use std::alloc::Global;
 use std::test::Fail;
+use test_support::expect;
 
 /// That a call agrees to each line of a table.
 pub(crate) fn all_agree<F: Fn(Global, &str) -> bool>(

@@ -2,7 +2,6 @@
 use crate::made::{add, all_agree, copies, cut, numbers, path_at, push, workspaces};
 use check_restarts::check_restarts;
 use docs_vfs::{FileId, VfsPath};
-use expectations::expect;
 use plain::Items;
 use project_model::{
     CheckScope, CrateData, CrateInfo, MacroState, ProjectWorkspace, Restart, target_spec_for_file,
@@ -10,6 +9,7 @@ use project_model::{
 use std::alloc::Global;
 use std::fmt::Write;
 use std::test::Fail;
+use test_support::expect;
 
 /// A program, a project that is described as JSON, and a library.
 const WORKSPACES: &str = "cargo /w of one bin /a; json /v of two lib /b; cargo /u of three lib /c";

@@ -1,11 +1,11 @@
 // Compilers that are too old, and all that is told of a session.
 use crate::made::{all_agree, cut, path_at, push, put, text_of, workspace};
-use expectations::expect;
 use plain::Items;
 use project_model::{ProjectWorkspace, check_workspaces_msrv};
 use status::{Health, StatusInput, current_status};
 use std::alloc::Global;
 use std::test::Fail;
+use test_support::expect;
 
 /// A workspace whose compiler has this version.
 fn with_toolchain(alloc: Global, version: &str) -> Option<ProjectWorkspace> {

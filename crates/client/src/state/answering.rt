@@ -4,7 +4,7 @@ ghost use Rattle.client.specs.Answers.{fault_in, settings_in};
 ghost use Rattle.client.specs.Folds.{follows, asked_after, with_client_settings, errors_with, client_change};
 ghost use Rattle.client.specs.Steps.{answered, logged_if};
 ghost use Rattle.session_port.specs.declared.command.LogCode.TheVariants.{SettingsError};
-ghost use Rattle.session_port.specs.Meets.{Gives};
+ghost use Rattle.session_port.specs.Refines.{RefinesTotal};
 
 use crate::answers::{SettingsAnswer, chooses, read_settings};
 use crate::handler::ReqHandler;
@@ -55,7 +55,7 @@ impl Client {
     }
 
     // The answer to a request for the settings.
-    #[tactic(auto, unfolding(session_port::specs::Working::logged, session_port::specs::Working::ordered))]
+    #[tactic(auto, unfolding(session_port::specs::TurnState::logged, session_port::specs::TurnState::ordered))]
     fn take_settings(&mut self, response: Response, out: &mut TurnOut) -> Result<(), AllocError>
         ensures { OnOk result (logged_if SettingsError (fault_in response)
             (record { state = record self.old { settings = with_client_settings (settings_in response) self.old.settings; errors = errors_with (settings_in response) self.old }; out = out.old })
@@ -68,10 +68,10 @@ impl Client {
         self.set_client(settings)
     }
 
-    /// An answer to a request of the session's own. After an `Err` the client is spent.
-    #[tactic(auto, unfolding(crate::specs::Steps::answered, crate::specs::Steps::followed, session_port::specs::Working::logged, session_port::specs::Working::ordered, session_port::specs::Working::written))]
+    /// An answer to a request of the session's own. After an `Err` the client is poisoned.
+    #[tactic(auto, unfolding(crate::specs::Steps::answered, crate::specs::Steps::followed, session_port::specs::TurnState::logged, session_port::specs::TurnState::ordered, session_port::specs::TurnState::written))]
     pub fn complete(&mut self, response: Response, out: &mut TurnOut) -> Result<(), TurnError>
-        ensures { Gives result (answered response (record { state = self.old; out = out.old })) self.new out.new }
+        ensures { RefinesTotal result (answered response (record { state = self.old; out = out.old })) self.new out.new }
     {
         match self.take_following(&response.id) {
             None => {

@@ -2,7 +2,7 @@
 ghost use Rattle.std.specs.Prelude.{◌≡◌, ◌++◌, IfOk, OnOk};
 ghost use Rattle.client.specs.Folds.{paths_named, without_each};
 ghost use Rattle.client.specs.Steps.{folders_changed, misses};
-ghost use Rattle.session_port.specs.Meets.{Gives};
+ghost use Rattle.session_port.specs.Refines.{RefinesTotal};
 
 use crate::state::Client;
 use docs_vfs::{VfsPath, path_named};
@@ -61,7 +61,7 @@ impl Client {
         Ok(())
     }
 
-    /// The client adds and removes folders. After an `Err` the client is spent.
+    /// The client adds and removes folders. After an `Err` the client is poisoned.
     #[tactic(auto, unfolding(crate::specs::Steps::folders_changed))]
     pub fn change_folders(
         &mut self,
@@ -69,7 +69,7 @@ impl Client {
         removed: Items<Text>,
         out: &mut TurnOut,
     ) -> Result<(), TurnError>
-        ensures { Gives result (folders_changed added removed (record { state = self.old; out = out.old })) self.new out.new }
+        ensures { RefinesTotal result (folders_changed added removed (record { state = self.old; out = out.old })) self.new out.new }
     {
         let removed = read_paths(self.alloc, removed, out)?;
         let added = read_paths(self.alloc, added, out)?;

@@ -24,8 +24,8 @@ impl Desk {
         self.pending.complete(ticket)
     }
 
-    /// Answers the request of a ticket under its id, and closes it; false where it isn't pending. After an `Err` the desk is spent.
-    #[tactic(auto, unfolding(crate::specs::Steps::responded, crate::specs::Steps::answered_if, crate::specs::Steps::request_answered, session_port::specs::Working::replied))]
+    /// Answers the request of a ticket under its id, and closes it; false where it isn't pending. After an `Err` the desk is poisoned.
+    #[tactic(auto, unfolding(crate::specs::Steps::responded, crate::specs::Steps::answered_if, crate::specs::Steps::request_answered, session_port::specs::TurnState::replied))]
     pub fn respond(
         &mut self,
         ticket: u64,
@@ -49,8 +49,8 @@ impl Desk {
     }
 
     /// Answers the request of an id as one that the client cancelled, and closes it; false where it isn't pending. After an `Err` the
-    /// desk is spent.
-    #[tactic(auto, using(lsp_frame::proofs::Above::closed_above), unfolding(crate::specs::Steps::cancelled, crate::specs::Steps::request_answered, session_port::specs::Working::replied))]
+    /// desk is poisoned.
+    #[tactic(auto, using(lsp_frame::proofs::Above::closed_above), unfolding(crate::specs::Steps::cancelled, crate::specs::Steps::request_answered, session_port::specs::TurnState::replied))]
     pub fn cancel(&mut self, id: RequestId, out: &mut TurnOut) -> Result<bool, NoMemory>
         ensures pending { IfOk result (λ done. done ≡ is_pending id self.old.pending) }
         ensures after { OnOk result (record { state = self.new; out = out.new } ≡ cancelled id (record { state = self.old; out = out.old })) }

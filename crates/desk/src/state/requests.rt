@@ -10,8 +10,8 @@ ghost use Rattle.method_table.specs.Plans.{is_shutdown};
 ghost use Rattle.method_table.specs.Rows.{default_of};
 ghost use Rattle.method_table.specs.StateRequests.{request_of};
 ghost use Rattle.dispatch.specs.Responses.{response_with};
-ghost use Rattle.session_port.specs.Meets.{Meets, Gives};
-ghost use Rattle.session_port.specs.Working.{replied};
+ghost use Rattle.session_port.specs.Refines.{Refines, RefinesTotal};
+ghost use Rattle.session_port.specs.TurnState.{replied};
 ghost use Rattle.desk.specs.Meaning.{meaning_of, can_read};
 ghost use Rattle.desk.specs.Replies.{already_pending, shut_already, unknown_request, invalid_params, finding_reply};
 ghost use Rattle.desk.specs.Steps.{requested, responded, request_admitted, shut_down, asked, unknown, classed, planned, stated, echoed, queried, submitted, dispatched, handed_over};
@@ -65,7 +65,7 @@ impl Desk {
     // Refuses a request whose params can't be read.
     #[tactic(auto, unfolding(crate::specs::Steps::responded, crate::specs::Steps::answered_if, crate::specs::Steps::request_answered))]
     fn refuse_params(&mut self, ticket: u64, out: &mut TurnOut) -> Result<(), TurnError>
-        ensures { Gives result (responded ticket invalid_params (record { state = self.old; out = out.old })) self.new out.new }
+        ensures { RefinesTotal result (responded ticket invalid_params (record { state = self.old; out = out.old })) self.new out.new }
     {
         let Some(id) = self.close(ticket) else {
             return Ok(());
@@ -77,7 +77,7 @@ impl Desk {
     // Refuses a request after a shutdown.
     #[tactic(auto, unfolding(crate::specs::Steps::responded, crate::specs::Steps::answered_if, crate::specs::Steps::request_answered))]
     fn refuse_shut(&mut self, ticket: u64, out: &mut TurnOut) -> Result<(), TurnError>
-        ensures { Gives result (responded ticket shut_already (record { state = self.old; out = out.old })) self.new out.new }
+        ensures { RefinesTotal result (responded ticket shut_already (record { state = self.old; out = out.old })) self.new out.new }
     {
         let Some(id) = self.close(ticket) else {
             return Ok(());
@@ -89,7 +89,7 @@ impl Desk {
     // Refuses a request of a row that the table doesn't have.
     #[tactic(auto, unfolding(crate::specs::Steps::responded, crate::specs::Steps::answered_if, crate::specs::Steps::request_answered))]
     fn refuse_unknown(&mut self, ticket: u64, out: &mut TurnOut) -> Result<(), TurnError>
-        ensures { Gives result (responded ticket unknown_request (record { state = self.old; out = out.old })) self.new out.new }
+        ensures { RefinesTotal result (responded ticket unknown_request (record { state = self.old; out = out.old })) self.new out.new }
     {
         let Some(id) = self.close(ticket) else {
             return Ok(());
@@ -102,7 +102,7 @@ impl Desk {
     #[tactic(auto, unfolding(crate::specs::Steps::responded, crate::specs::Steps::answered_if, crate::specs::Steps::request_answered))]
     fn answer_value(&mut self, ticket: u64, value: Json, out: &mut TurnOut) -> Result<(), TurnError>
         requires { is_plain value ≡ true }
-        ensures { Gives result (responded ticket (λ id. response_with id value) (record { state = self.old; out = out.old })) self.new out.new }
+        ensures { RefinesTotal result (responded ticket (λ id. response_with id value) (record { state = self.old; out = out.old })) self.new out.new }
     {
         let Some(id) = self.close(ticket) else {
             return Ok(());
@@ -117,7 +117,7 @@ impl Desk {
         row: RowId,
         out: &mut TurnOut,
     ) -> Result<(), TurnError>
-        ensures { Gives result (responded ticket (λ id. response_with id (default_of row)) (record { state = self.old; out = out.old })) self.new out.new }
+        ensures { RefinesTotal result (responded ticket (λ id. response_with id (default_of row)) (record { state = self.old; out = out.old })) self.new out.new }
     {
         let value = default_of(self.alloc, row)?;
         self.answer_value(ticket, value, out)
@@ -134,7 +134,7 @@ impl Desk {
         analysis: &A,
         out: &mut TurnOut,
     ) -> Result<(), TurnError>
-        ensures { Gives result (responded ticket (λ id. finding_reply id (A.answer snapshot.now (RequestAsk row params))) (record { state = self.old; out = out.old })) self.new out.new }
+        ensures { RefinesTotal result (responded ticket (λ id. finding_reply id (A.answer snapshot.now (RequestAsk row params))) (record { state = self.old; out = out.old })) self.new out.new }
     {
         let Some(id) = self.close(ticket) else {
             return Ok(());
@@ -153,7 +153,7 @@ impl Desk {
         analysis: &A,
         out: &mut TurnOut,
     ) -> Result<(), TurnError>
-        ensures { Gives result (responded ticket (λ id. finding_reply id (A.answer (P.scene scene.now).snapshot (RequestAsk row params))) (record { state = self.old; out = out.old })) self.new out.new }
+        ensures { RefinesTotal result (responded ticket (λ id. finding_reply id (A.answer (P.scene scene.now).snapshot (RequestAsk row params))) (record { state = self.old; out = out.old })) self.new out.new }
     {
         let snapshot = scene.snapshot()?;
         let answered = self.answer_on(&snapshot, ticket, row, params, analysis, out);
@@ -164,8 +164,8 @@ impl Desk {
 
 // What is planned for a request.
 impl Desk {
-    /// Hands over a job of this kind on this snapshot. After an `Err` the desk is spent.
-    #[tactic(auto, unfolding(session_port::specs::Working::ordered))]
+    /// Hands over a job of this kind on this snapshot. After an `Err` the desk is poisoned.
+    #[tactic(auto, unfolding(session_port::specs::TurnState::ordered))]
     pub fn hand_over(
         &mut self,
         kind: JobKind,
@@ -173,9 +173,9 @@ impl Desk {
         snapshot: GlobalStateSnapshot,
         out: &mut TurnOut,
     ) -> Result<(), TurnError>
-        ensures { Meets result (handed_over snapshot class kind (record { state = self.old; out = out.old })) self.new out.new }
+        ensures { Refines result (handed_over snapshot class kind (record { state = self.old; out = out.old })) self.new out.new }
     {
-        let number = match next_number(self.handed, Counter::Jobs) {
+        let number = match next_number(self.last_job, Counter::Jobs) {
             Ok(number) => number,
             Err(error) => {
                 drop(kind);
@@ -189,7 +189,7 @@ impl Desk {
             kind,
             snapshot,
         };
-        self.handed = number;
+        self.last_job = number;
         self.order(Command::Spawn(job), out)
     }
 
@@ -204,7 +204,7 @@ impl Desk {
         params: SharedJson,
         out: &mut TurnOut,
     ) -> Result<(), TurnError>
-        ensures { Meets result (dispatched (P.scene scene.now) class ticket row params (record { state = self.old; out = out.old })) self.new out.new }
+        ensures { Refines result (dispatched (P.scene scene.now) class ticket row params (record { state = self.old; out = out.old })) self.new out.new }
     {
         let snapshot = scene.snapshot()?;
         let kind = JobKind::Request {
@@ -226,7 +226,7 @@ impl Desk {
         out: &mut TurnOut,
     ) -> Result<(), TurnError>
         ensures { let reads = can_read (meaning_of A.decodes A.answer) row params in
-            Gives result (echoed reads ticket params (record { state = self.old; out = out.old })) self.new out.new }
+            RefinesTotal result (echoed reads ticket params (record { state = self.old; out = out.old })) self.new out.new }
     {
         if !params.as_json().is_plain() || !analysis.decodes(row, params.as_json()) {
             return self.refuse_params(ticket, out);
@@ -247,7 +247,7 @@ impl Desk {
         out: &mut TurnOut,
     ) -> Result<(), TurnError>
         ensures { let meaning = meaning_of A.decodes A.answer in
-            Gives result (queried meaning (P.scene scene.now) (can_read meaning row params) ticket row params (record { state = self.old; out = out.old })) self.new out.new }
+            RefinesTotal result (queried meaning (P.scene scene.now) (can_read meaning row params) ticket row params (record { state = self.old; out = out.old })) self.new out.new }
     {
         if !params.as_json().is_plain() || !analysis.decodes(row, params.as_json()) {
             return self.refuse_params(ticket, out);
@@ -268,7 +268,7 @@ impl Desk {
         out: &mut TurnOut,
     ) -> Result<(), TurnError>
         ensures { let reads = can_read (meaning_of A.decodes A.answer) row params in
-            Meets result (submitted (P.scene scene.now) reads class ticket row params (record { state = self.old; out = out.old })) self.new out.new }
+            Refines result (submitted (P.scene scene.now) reads class ticket row params (record { state = self.old; out = out.old })) self.new out.new }
     {
         if !params.as_json().is_plain() || !analysis.decodes(row, params.as_json()) {
             return self.refuse_params(ticket, out);
@@ -285,7 +285,7 @@ impl Desk {
         params: &SharedJson,
         out: &mut TurnOut,
     ) -> Result<(), TurnError>
-        ensures { Gives result (stated ticket (request_of row params.now) (record { state = self.old; out = out.old })) self.new out.new }
+        ensures { RefinesTotal result (stated ticket (request_of row params.now) (record { state = self.old; out = out.old })) self.new out.new }
     {
         match read_state_request(self.alloc, row, params.as_json())? {
             None => self.refuse_params(ticket, out),
@@ -305,7 +305,7 @@ impl Desk {
         analysis: &A,
         out: &mut TurnOut,
     ) -> Result<(), TurnError>
-        ensures { Meets result (planned (meaning_of A.decodes A.answer) (P.scene scene.now) plan ticket row params (record { state = self.old; out = out.old })) self.new out.new }
+        ensures { Refines result (planned (meaning_of A.decodes A.answer) (P.scene scene.now) plan ticket row params (record { state = self.old; out = out.old })) self.new out.new }
     {
         match plan {
             Plan::Shutdown => self.on_state(ticket, row, &params, out),
@@ -330,7 +330,7 @@ impl Desk {
         analysis: &A,
         out: &mut TurnOut,
     ) -> Result<(), TurnError>
-        ensures { Meets result (classed (meaning_of A.decodes A.answer) (P.scene scene.now) ticket row params (record { state = self.old; out = out.old })) self.new out.new }
+        ensures { Refines result (classed (meaning_of A.decodes A.answer) (P.scene scene.now) ticket row params (record { state = self.old; out = out.old })) self.new out.new }
     {
         let plan = plan(
             Some(row),
@@ -346,7 +346,7 @@ impl Desk {
 impl Desk {
     #[tactic(auto, unfolding(crate::specs::Steps::unknown))]
     fn on_unknown(&mut self, ticket: u64, method: Text, out: &mut TurnOut) -> Result<(), TurnError>
-        ensures { Gives result (unknown ticket method (record { state = self.old; out = out.old })) self.new out.new }
+        ensures { RefinesTotal result (unknown ticket method (record { state = self.old; out = out.old })) self.new out.new }
     {
         self.refuse_unknown(ticket, out)?;
         self.log(LogCode::UnknownRequest, method, out)
@@ -363,7 +363,7 @@ impl Desk {
         analysis: &A,
         out: &mut TurnOut,
     ) -> Result<(), TurnError>
-        ensures { Meets result (asked (meaning_of A.decodes A.answer) (P.scene scene.now) row method params (record { state = self.old; out = out.old })) self.new out.new }
+        ensures { Refines result (asked (meaning_of A.decodes A.answer) (P.scene scene.now) row method params (record { state = self.old; out = out.old })) self.new out.new }
     {
         let ticket = self.turns;
         match row {
@@ -379,7 +379,7 @@ impl Desk {
     // From now on no other request is taken.
     #[tactic(auto, unfolding(crate::specs::Steps::shut_down))]
     fn shut_down(&mut self, params: &Json, out: &mut TurnOut) -> Result<(), TurnError>
-        ensures { Gives result (shut_down params.now (record { state = self.old; out = out.old })) self.new out.new }
+        ensures { RefinesTotal result (shut_down params.now (record { state = self.old; out = out.old })) self.new out.new }
     {
         let ticket = self.turns;
         if !is_unit(params) {
@@ -399,7 +399,7 @@ impl Desk {
         analysis: &A,
         out: &mut TurnOut,
     ) -> Result<(), TurnError>
-        ensures { Meets result (request_admitted (meaning_of A.decodes A.answer) (P.scene scene.now) method params (record { state = self.old; out = out.old })) self.new out.new }
+        ensures { Refines result (request_admitted (meaning_of A.decodes A.answer) (P.scene scene.now) method params (record { state = self.old; out = out.old })) self.new out.new }
     {
         let row = row_of(method.as_str());
         if is_shutdown(row) {
@@ -420,7 +420,7 @@ impl Desk {
 
     // A request whose id waits already, under this ticket, is refused.
     fn refuse_pending(&mut self, ticket: u64, out: &mut TurnOut) -> Result<(), TurnError>
-        ensures { (id : RequestId) → id_of ticket self.old.pending ≡ Some id → Gives result (replied (already_pending id) (record { state = self.old; out = out.old })) self.new out.new }
+        ensures { (id : RequestId) → id_of ticket self.old.pending ≡ Some id → RefinesTotal result (replied (already_pending id) (record { state = self.old; out = out.old })) self.new out.new }
     {
         let Some(id) = self.pending.id_of(ticket) else {
             return Ok(());
@@ -430,7 +430,7 @@ impl Desk {
         self.reply(response, out)
     }
 
-    /// A request that this turn reads. After an `Err` the desk is spent.
+    /// A request that this turn reads. After an `Err` the desk is poisoned.
     #[tactic(auto, using(crate::proofs::Tickets::requested_again, crate::proofs::Tickets::requested_new))]
     pub fn on_request<P: Present, A: Analysis>(
         &mut self,
@@ -440,7 +440,7 @@ impl Desk {
         out: &mut TurnOut,
     ) -> Result<(), TurnError>
         requires { IsAbove self.old.turns self.old.pending }
-        ensures { Meets result (requested (meaning_of A.decodes A.answer) (P.scene scene.now) request (record { state = self.old; out = out.old })) self.new out.new }
+        ensures { Refines result (requested (meaning_of A.decodes A.answer) (P.scene scene.now) request (record { state = self.old; out = out.old })) self.new out.new }
     {
         let Request { id, method, params } = request;
         match self.note(id, &method)? {

@@ -5,18 +5,18 @@ ghost use Rattle.method_table.specs.Rows.{class_of};
 ghost use Rattle.session_port.specs.Jobs.{final_of, fits_kind, fitting_job, plain_result};
 ghost use Rattle.session_port.specs.Kinds.{ticket_of_job};
 ghost use Rattle.lsp_frame.specs.Pending.{id_of};
-ghost use Rattle.session_port.specs.Meets.{Meets, Gives};
-ghost use Rattle.session_port.specs.Working.{Working, logged};
+ghost use Rattle.session_port.specs.Refines.{Refines, RefinesTotal};
+ghost use Rattle.session_port.specs.TurnState.{TurnState, logged};
 ghost use Rattle.session_port.specs.Written.{Written};
 ghost use Rattle.session_port.specs.declared.fault.Counter.{Counter};
 ghost use Rattle.desk.specs.Desk.{Desk as DeskData, waiting_for};
 ghost use Rattle.desk.specs.Meaning.{meaning_of, Meaning};
-ghost use Rattle.desk.specs.Replies.{stopped_reply};
+ghost use Rattle.desk.specs.Replies.{outdated_reply};
 ghost use Rattle.desk.specs.Scene.{Scene};
-ghost use Rattle.desk.specs.Steps.{result_taken, delivered, stopped, stopped_for, responded};
+ghost use Rattle.desk.specs.Steps.{result_taken, delivered, outdated, outdated_for, responded};
 ghost use Rattle.desk.specs.WorkEnds.{ended_message, work_end_of, work_ended};
 
-use crate::replies::{finished_reply, stopped_reply};
+use crate::replies::{finished_reply, outdated_reply};
 use crate::scene::Present;
 use crate::state::Desk;
 use crate::state::ends::{WorkEnd, work_end};
@@ -27,7 +27,7 @@ use session_port::{Job, JobKind, JobResult, LogCode, TaskBody, TaskMsg, TurnErro
 
 // The same answer, of what ends none of the session's own work.
 fn ending_nothing(done: Result<(), TurnError>) -> Result<Option<WorkEnd>, TurnError>
-    ensures same { (machine : Result (Working DeskData) Counter) (new : DeskData) (written : Written) → Meets done machine new written → Meets result machine new written }
+    ensures same { (machine : Result (TurnState DeskData) Counter) (new : DeskData) (written : Written) → Refines done machine new written → Refines result machine new written }
     ensures nothing { IfOk result (λ end. end ≡ None) }
 {
     match done {
@@ -46,18 +46,18 @@ impl Desk {
         row: RowId,
         out: &mut TurnOut,
     ) -> Result<(), TurnError>
-        ensures { Gives result (responded ticket (stopped_reply (class_of row)) (record { state = self.old; out = out.old })) self.new out.new }
+        ensures { RefinesTotal result (responded ticket (outdated_reply (class_of row)) (record { state = self.old; out = out.old })) self.new out.new }
     {
         let Some(id) = self.close(ticket) else {
             return Ok(());
         };
-        let response = stopped_reply(self.alloc, class_of(row), id)?;
+        let response = outdated_reply(self.alloc, class_of(row), id)?;
         self.reply(response, out)
     }
 
     // The job of a request that waits has stopped, whose snapshot had this revision: the request is refused, or taken as one that is read
     // now, under the ticket that it has.
-    #[tactic(auto, unfolding(crate::specs::Steps::stopped_for))]
+    #[tactic(auto, unfolding(crate::specs::Steps::outdated_for))]
     fn take_again<P: Present, A: Analysis>(
         &mut self,
         scene: &P,
@@ -68,7 +68,7 @@ impl Desk {
         analysis: &A,
         out: &mut TurnOut,
     ) -> Result<(), TurnError>
-        ensures { Meets result (stopped_for (meaning_of A.decodes A.answer) (P.scene scene.now) revision (Some (record { ticket = ticket; row = row; params = params })) (record { state = self.old; out = out.old })) self.new out.new }
+        ensures { Refines result (outdated_for (meaning_of A.decodes A.answer) (P.scene scene.now) revision (Some (record { ticket = ticket; row = row; params = params })) (record { state = self.old; out = out.old })) self.new out.new }
     {
         if revision < scene.revision() && !retries(row) {
             drop(params);
@@ -78,7 +78,7 @@ impl Desk {
     }
 
     // A job stopped whose request waits.
-    #[tactic(auto, unfolding(crate::specs::Steps::stopped_for))]
+    #[tactic(auto, unfolding(crate::specs::Steps::outdated_for))]
     fn on_stopped<P: Present, A: Analysis>(
         &mut self,
         scene: &P,
@@ -86,7 +86,7 @@ impl Desk {
         analysis: &A,
         out: &mut TurnOut,
     ) -> Result<(), TurnError>
-        ensures { Meets result (stopped (meaning_of A.decodes A.answer) (P.scene scene.now) job.snapshot.revision job.kind (record { state = self.old; out = out.old })) self.new out.new }
+        ensures { Refines result (outdated (meaning_of A.decodes A.answer) (P.scene scene.now) job.snapshot.revision job.kind (record { state = self.old; out = out.old })) self.new out.new }
     {
         let Job { kind, snapshot, .. } = job;
         let revision = snapshot.revision();
@@ -127,7 +127,7 @@ impl Desk {
     ) -> Result<(), TurnError>
         requires own { ticket_of_job job.kind ≡ Some ticket }
         requires plain { plain_result outcome ≡ true }
-        ensures { Meets result (delivered (meaning_of A.decodes A.answer) (P.scene scene.now) (id_of ticket self.old.pending) job outcome (record { state = self.old; out = out.old })) self.new out.new }
+        ensures { Refines result (delivered (meaning_of A.decodes A.answer) (P.scene scene.now) (id_of ticket self.old.pending) job outcome (record { state = self.old; out = out.old })) self.new out.new }
     {
         if self.is_completed(ticket) {
             drop(job);
@@ -160,7 +160,7 @@ impl Desk {
         out: &mut TurnOut,
     ) -> Result<Option<WorkEnd>, TurnError>
         requires { fits_kind job.kind outcome ≡ true }
-        ensures meets { Meets result (delivered (meaning_of A.decodes A.answer) (P.scene scene.now) (waiting_for job self.old) job outcome (record { state = self.old; out = out.old })) self.new out.new }
+        ensures meets { Refines result (delivered (meaning_of A.decodes A.answer) (P.scene scene.now) (waiting_for job self.old) job outcome (record { state = self.old; out = out.old })) self.new out.new }
         ensures ends { IfOk result (λ end. end ≡ work_end_of job.kind outcome) }
     {
         let Some(slot) = job.kind.facts().slot else {
@@ -173,7 +173,7 @@ impl Desk {
 
     // A message of a job that fits none.
     fn on_strange(&mut self, number: u64, out: &mut TurnOut) -> Result<(), TurnError>
-        ensures { Gives result (logged LogCode.StrangeResult (decimal number) (record { state = self.old; out = out.old })) self.new out.new }
+        ensures { RefinesTotal result (logged LogCode.StrangeResult (decimal number) (record { state = self.old; out = out.old })) self.new out.new }
     {
         let text = Text::from_string(format!(in self.alloc; "{number}")?);
         self.log(LogCode::StrangeResult, text, out)
@@ -202,7 +202,7 @@ impl Desk {
         analysis: &A,
         out: &mut TurnOut,
     ) -> Result<Option<WorkEnd>, TurnError>
-        ensures meets { Meets result (result_taken (meaning_of A.decodes A.answer) (P.scene scene.now) (ended_message number outcome) (record { state = self.old; out = out.old })) self.new out.new }
+        ensures meets { Refines result (result_taken (meaning_of A.decodes A.answer) (P.scene scene.now) (ended_message number outcome) (record { state = self.old; out = out.old })) self.new out.new }
         ensures ends { IfOk result (λ end. end ≡ work_ended (ended_message number outcome) self.old.jobs) }
     {
         match self.take_ended(number, &outcome) {
@@ -231,7 +231,7 @@ impl Desk {
     #[tactic(auto, unfolding(crate::specs::Steps::job_ended, crate::specs::Steps::brought))]
     fn on_going(&mut self, message: &TaskMsg, out: &mut TurnOut) -> Result<(), TurnError>
         requires { final_of message.now.body ≡ None }
-        ensures { (meaning : Meaning) (scene : Scene) → Meets result (result_taken meaning scene message.now (record { state = self.old; out = out.old })) self.new out.new }
+        ensures { (meaning : Meaning) (scene : Scene) → Refines result (result_taken meaning scene message.now (record { state = self.old; out = out.old })) self.new out.new }
     {
         if self.fitting(message).is_some() {
             return Ok(());
@@ -239,7 +239,7 @@ impl Desk {
         self.on_strange(message.job, out)
     }
 
-    /// A message of a job, and what it ends of the session's own work: where it fits a job that is out. After an `Err` the desk is spent.
+    /// A message of a job, and what it ends of the session's own work: where it fits a job that is out. After an `Err` the desk is poisoned.
     pub fn on_task<P: Present, A: Analysis>(
         &mut self,
         scene: &P,
@@ -247,7 +247,7 @@ impl Desk {
         analysis: &A,
         out: &mut TurnOut,
     ) -> Result<Option<WorkEnd>, TurnError>
-        ensures meets { Meets result (result_taken (meaning_of A.decodes A.answer) (P.scene scene.now) message (record { state = self.old; out = out.old })) self.new out.new }
+        ensures meets { Refines result (result_taken (meaning_of A.decodes A.answer) (P.scene scene.now) message (record { state = self.old; out = out.old })) self.new out.new }
         ensures ends { IfOk result (λ end. end ≡ work_ended message self.old.jobs) }
     {
         match message {

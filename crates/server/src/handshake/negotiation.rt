@@ -42,7 +42,7 @@ impl Negotiation {
         }
     }
 
-    /// Accepts an `initialize`, or refuses it and begins anew. After an `Err` the negotiation is spent.
+    /// Accepts an `initialize`, or refuses it and begins anew. After an `Err` the negotiation is poisoned.
     fn accept<A: Analysis>(
         &mut self,
         alloc: Global,
@@ -69,7 +69,7 @@ impl Negotiation {
         }
     }
 
-    /// What the next message comes to, which isn't `exit`. After an `Err` the negotiation is spent.
+    /// What the next message comes to, which isn't `exit`. After an `Err` the negotiation is poisoned.
     pub(crate) fn take<A: Analysis>(
         &mut self,
         alloc: Global,

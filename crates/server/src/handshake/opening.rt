@@ -60,8 +60,8 @@ impl Talk {
 // Writes a reply.
 fn put_reply<S: Sink>(alloc: Global, response: Response, sink: &mut S) -> Result<(), SessionError>
     requires writable { AreWritable (ResponseMessage response) }
-    requires sink_fresh { S.spent sink.old ≡ false }
-    ensures sink_fresh { OnOk result (S.spent sink.new ≡ false) }
+    requires sink_usable { S.poisoned sink.old ≡ false }
+    ensures sink_usable { OnOk result (S.poisoned sink.new ≡ false) }
     ensures turns { S.turns sink.new ≡ after_ok result (λ _. added (S.turns sink.old) (reply_bytes response)) (S.turns sink.old) }
     ensures err { IfErr result IsWriteError }
     ensures sink_later { S.faults sink.old ≤ S.faults sink.new }
@@ -78,11 +78,11 @@ fn put_reply<S: Sink>(alloc: Global, response: Response, sink: &mut S) -> Result
 
 // Hands on what was written: the host takes an empty list of commands, as behind a turn.
 fn hand_on<H: Host<A>, A: Analysis>(alloc: Global, host: &mut H) -> Result<(), SessionError>
-    requires host_fresh { H.spent host.old ≡ false }
-    ensures host_fresh { OnOk result (H.spent host.new ≡ false) }
+    requires host_usable { H.poisoned host.old ≡ false }
+    ensures host_usable { OnOk result (H.poisoned host.new ≡ false) }
     ensures out { OnOk result (H.out host.new ≡ H.out host.old) }
     ensures calls { H.calls host.new ≡ after_ok result (λ _. added (H.calls host.old) (took [])) (H.calls host.old) }
-    ensures handed { OnOk result (H.handed host.new ≡ H.handed host.old) }
+    ensures last_job { OnOk result (H.last_job host.new ≡ H.last_job host.old) }
     ensures err { IfErr result IsHostError }
     ensures honest_stays { H.honest host.new ≡ H.honest host.old }
     ensures host_later { H.faults host.old ≤ H.faults host.new }
@@ -103,13 +103,13 @@ fn reply<H: Host<A>, S: Sink, A: Analysis>(
     sink: &mut S,
 ) -> Result<(), SessionError>
     requires writable { AreWritable (ResponseMessage response) }
-    requires host_fresh { H.spent host.old ≡ false }
-    requires sink_fresh { S.spent sink.old ≡ false }
-    ensures host_fresh { OnOk result (H.spent host.new ≡ false) }
-    ensures sink_fresh { OnOk result (S.spent sink.new ≡ false) }
+    requires host_usable { H.poisoned host.old ≡ false }
+    requires sink_usable { S.poisoned sink.old ≡ false }
+    ensures host_usable { OnOk result (H.poisoned host.new ≡ false) }
+    ensures sink_usable { OnOk result (S.poisoned sink.new ≡ false) }
     ensures out { OnOk result (H.out host.new ≡ H.out host.old) }
     ensures told { IsReplied response (told_of (H.calls host.old) (S.turns sink.old)) (told_of (H.calls host.new) (S.turns sink.new)) result }
-    ensures handed { OnOk result (H.handed host.new ≡ H.handed host.old) }
+    ensures last_job { OnOk result (H.last_job host.new ≡ H.last_job host.old) }
     ensures honest_stays { H.honest host.new ≡ H.honest host.old }
     ensures host_later { H.faults host.old ≤ H.faults host.new }
     ensures host_fault { result ≡ Err SessionError.HostFault → Rose (H.faults host.old) (H.faults host.new) }
@@ -124,16 +124,16 @@ fn reply<H: Host<A>, S: Sink, A: Analysis>(
 
 // What the host gives next, where no whole frame is held. What is no bytes is passed over.
 fn take_event<H: Host<A>, A: Analysis>(talk: &mut Talk, host: &mut H) -> Result<(), SessionError>
-    requires host_fresh { H.spent host.old ≡ false }
+    requires host_usable { H.poisoned host.old ≡ false }
     requires idle { H.out host.old ≡ map.empty }
     requires in_step { IsInStep talk.old.negotiation }
     requires waits { cut_of talk.old.reader.held ≡ NeedMore }
     requires sound { talk.old.reader.failed ≡ false }
     requires fits { fed_bytes talk.old.reader < 2 ^ 64 }
-    ensures host_fresh { OnOk result (H.spent host.new ≡ false) }
+    ensures host_usable { OnOk result (H.poisoned host.new ≡ false) }
     ensures idle { OnOk result (H.out host.new ≡ map.empty) }
     ensures event { (setup : Setup) (turns : Option (List (List ℕ))) → TalkAdvancesByEvent setup talk.old talk.new (told_of (H.calls host.old) turns) (told_of (H.calls host.new) turns) result }
-    ensures handed { H.handed host.new ≡ H.handed host.old }
+    ensures last_job { H.last_job host.new ≡ H.last_job host.old }
     ensures honest_stays { H.honest host.new ≡ H.honest host.old }
     ensures host_later { H.faults host.old ≤ H.faults host.new }
     ensures host_fault { result ≡ Err SessionError.HostFault → Rose (H.faults host.old) (H.faults host.new) }
@@ -171,16 +171,16 @@ fn advance<H: Host<A>, S: Sink, A: Analysis>(
     host: &mut H,
     sink: &mut S,
 ) -> Result<Turned, SessionError>
-    requires host_fresh { H.spent host.old ≡ false }
-    requires sink_fresh { S.spent sink.old ≡ false }
+    requires host_usable { H.poisoned host.old ≡ false }
+    requires sink_usable { S.poisoned sink.old ≡ false }
     requires idle { H.out host.old ≡ map.empty }
     requires in_step { IsInStep talk.old.negotiation }
     requires fits { fed_bytes talk.old.reader < 2 ^ 64 }
-    ensures host_fresh { OnOk result (H.spent host.new ≡ false) }
-    ensures sink_fresh { OnOk result (S.spent sink.new ≡ false) }
+    ensures host_usable { OnOk result (H.poisoned host.new ≡ false) }
+    ensures sink_usable { OnOk result (S.poisoned sink.new ≡ false) }
     ensures idle { OnOk result (H.out host.new ≡ map.empty) }
     ensures turn { let setup : Setup = record { threads = threads; info = A.server_info } in TalkAdvances setup talk.old talk.new (told_of (H.calls host.old) (S.turns sink.old)) (told_of (H.calls host.new) (S.turns sink.new)) result }
-    ensures handed { OnOk result (H.handed host.new ≡ H.handed host.old) }
+    ensures last_job { OnOk result (H.last_job host.new ≡ H.last_job host.old) }
     ensures honest_stays { H.honest host.new ≡ H.honest host.old }
     ensures host_later { H.faults host.old ≤ H.faults host.new }
     ensures host_fault { result ≡ Err SessionError.HostFault → Rose (H.faults host.old) (H.faults host.new) }
@@ -216,14 +216,14 @@ fn talk_on<H: Host<A>, S: Sink, A: Analysis>(
 ) -> Result<Option<Config>, SessionError>
     requires first { talk.old ≡ first_talk }
     requires idle { H.out host.old ≡ map.empty }
-    requires host_fresh { H.spent host.old ≡ false }
-    requires sink_fresh { S.spent sink.old ≡ false }
+    requires host_usable { H.poisoned host.old ≡ false }
+    requires sink_usable { S.poisoned sink.old ≡ false }
     ensures opens { let setup : Setup = record { threads = threads; info = A.server_info } in Opens setup (told_of (H.calls host.old) (S.turns sink.old)) (told_of (H.calls host.new) (S.turns sink.new)) (opening_of talk.new.reader result) }
     ensures idle { OnOk result (H.out host.new ≡ map.empty) }
-    ensures handed { OnOk result (H.handed host.new ≡ H.handed host.old) }
+    ensures last_job { OnOk result (H.last_job host.new ≡ H.last_job host.old) }
     ensures honest_stays { H.honest host.new ≡ H.honest host.old }
-    ensures host_fresh { OnOk result (H.spent host.new ≡ false) }
-    ensures sink_fresh { OnOk result (S.spent sink.new ≡ false) }
+    ensures host_usable { OnOk result (H.poisoned host.new ≡ false) }
+    ensures sink_usable { OnOk result (S.poisoned sink.new ≡ false) }
     ensures host_later { H.faults host.old ≤ H.faults host.new }
     ensures host_fault { result ≡ Err SessionError.HostFault → Rose (H.faults host.old) (H.faults host.new) }
     ensures sink_later { S.faults sink.old ≤ S.faults sink.new }
@@ -249,8 +249,8 @@ pub fn initialize<H: Host<A>, S: Sink, A: Analysis>(
 ) -> Result<Opening, SessionError>
     // No job was handed to the host before.
     requires idle { H.out host.old ≡ map.empty }
-    requires host_fresh { H.spent host.old ≡ false }
-    requires sink_fresh { S.spent sink.old ≡ false }
+    requires host_usable { H.poisoned host.old ≡ false }
+    requires sink_usable { S.poisoned sink.old ≡ false }
 
     // Each message is the handshake's step, over the inputs of the host's events; each reply is written before the next
     // event is asked for; and what ended it is its result.
@@ -258,10 +258,10 @@ pub fn initialize<H: Host<A>, S: Sink, A: Analysis>(
 
     // A session can begin on the same host and sink.
     ensures idle { OnOk result (H.out host.new ≡ map.empty) }
-    ensures handed { OnOk result (H.handed host.new ≡ H.handed host.old) }
+    ensures last_job { OnOk result (H.last_job host.new ≡ H.last_job host.old) }
     ensures honest_stays { H.honest host.new ≡ H.honest host.old }
-    ensures host_fresh { OnOk result (H.spent host.new ≡ false) }
-    ensures sink_fresh { OnOk result (S.spent sink.new ≡ false) }
+    ensures host_usable { OnOk result (H.poisoned host.new ≡ false) }
+    ensures sink_usable { OnOk result (S.poisoned sink.new ≡ false) }
 
     ensures host_later { H.faults host.old ≤ H.faults host.new }
     ensures host_fault { result ≡ Err SessionError.HostFault → Rose (H.faults host.old) (H.faults host.new) }

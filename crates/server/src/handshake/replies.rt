@@ -8,7 +8,7 @@ ghost use Rattle.server.specs.Replies.{encoding_name, synchronization, server_ca
 use analysis_host::{Analysis, ServerInfo};
 use dispatch::refusal;
 use lsp_frame::{RequestId, Response};
-use plain::{Json, Members, NoMemory, Text};
+use plain::{Json, JsonObject, NoMemory, Text};
 use ra_config::Config;
 use std::alloc::Global;
 use text_core::{PositionEncoding, WideEncoding};
@@ -33,17 +33,17 @@ fn text(alloc: Global, text: &str) -> Result<Json, NoMemory>
 fn synchronization(alloc: Global) -> Result<Json, NoMemory>
     ensures { IfOk result (λ json. json ≡ synchronization) }
 {
-    let mut members = Members::new(alloc);
+    let mut members = JsonObject::new(alloc);
     members.put(alloc, "change", Json::from_u32(2))?;
     members.put(alloc, "openClose", Json::from_bool(true))?;
-    members.put(alloc, "save", Members::new(alloc).into_json())?;
+    members.put(alloc, "save", JsonObject::new(alloc).into_json())?;
     Ok(members.into_json())
 }
 
 // What the server can do, by what it says itself.
 fn server_capabilities(
     alloc: Global,
-    mut own: Members,
+    mut own: JsonObject,
     encoding: PositionEncoding,
 ) -> Result<Json, NoMemory>
     ensures { IfOk result (λ json. json ≡ server_capabilities own encoding) }
@@ -69,10 +69,10 @@ fn initialize_result(
         version,
         capabilities,
     } = info;
-    let mut named = Members::new(alloc);
+    let mut named = JsonObject::new(alloc);
     named.put(alloc, "name", Json::from_text(name))?;
     named.put(alloc, "version", Json::from_text(version))?;
-    let mut members = Members::new(alloc);
+    let mut members = JsonObject::new(alloc);
     members.put(
         alloc,
         "capabilities",

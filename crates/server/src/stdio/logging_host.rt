@@ -57,7 +57,7 @@ fn print_lines<R: Log>(rt: &R, commands: &Items<Command>) {
 impl<'a, R: Log, H: Host<A>, A: Analysis> Host<A> for LoggingHost<'a, R, H> {
     ghost out = { λ h. H.out h.host };
 
-    ghost handed = { λ h. H.handed h.host };
+    ghost last_job = { λ h. H.last_job h.host };
 
     ghost honest = { λ h. H.honest h.host };
 
@@ -65,7 +65,11 @@ impl<'a, R: Log, H: Host<A>, A: Analysis> Host<A> for LoggingHost<'a, R, H> {
 
     ghost calls = { λ h. H.calls h.host };
 
-    ghost spent = { λ h. H.spent h.host };
+    ghost poisoned = { λ h. H.poisoned h.host };
+
+    ghost Origin = { H.Origin };
+
+    ghost origin = { λ h. H.origin h.host };
 
     fn next(&mut self) -> Result<HostEvent, HostError> {
         self.host.next()

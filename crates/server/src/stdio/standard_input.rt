@@ -124,7 +124,7 @@ impl<R: Read + Drop> Source for StandardInput<R> {
 
     ghost faults = { λ s. s.faults };
 
-    ghost spent = { λ _. false };
+    ghost poisoned = { λ _. false };
 
     fn read_piece(&mut self, max: usize) -> Result<Option<Bytes>, HostError>
         requires some { 1 ≤ max }

@@ -8,7 +8,7 @@ use session_port::{HostError, Sink};
 use std::io::{self, ErrorKind, Write};
 use std::marker::Model;
 
-/// Writes to a writer, such as standard output, and flushes it after each turn. After a failure it is spent, since a part
+/// Writes to a writer, such as standard output, and flushes it after each turn. After a failure it is poisoned, since a part
 /// of a turn may stand there.
 #[derive(Drop)]
 pub struct StandardOutput<W: Write + Drop> {
@@ -69,11 +69,11 @@ impl<W: Write + Drop> Sink for StandardOutput<W> {
 
     ghost faults = { λ s. s.faults };
 
-    ghost spent = { λ s. nat_lt 0 s.faults };
+    ghost poisoned = { λ s. nat_lt 0 s.faults };
 
     fn put_turn(&mut self, bytes: &[u8]) -> Result<(), HostError>
-        requires fresh { nat_lt 0 self.old.faults ≡ false }
-        ensures fresh { IfOk result (λ _. nat_lt 0 self.new.faults ≡ false) }
+        requires usable { nat_lt 0 self.old.faults ≡ false }
+        ensures usable { IfOk result (λ _. nat_lt 0 self.new.faults ≡ false) }
         ensures cause { HasCause self.old.faults self.new.faults result }
 
         // What the writer holds, if it tells.

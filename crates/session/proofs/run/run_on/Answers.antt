@@ -6,10 +6,11 @@ use Rattle.session.proofs.run.run_on.Goals as goal
 pub inputs-init : goal.inputs-init
 inputs-init g c = record {
   so_far = stretch-none _ _ _ _ _ _ _;
-  host_fresh = search rules;
-  sink_fresh = search rules;
-  handed = search rules;
+  host_usable = search rules;
+  sink_usable = search rules;
+  last_job = search rules;
   honest_stays = search rules;
+  origin_stays = search rules;
   host_later = search rules;
   sink_later = search rules;
 }
@@ -24,10 +25,11 @@ inputs-preserved g c =
     let on = rw c.in-Ok-Going.field-0-is at c.in-Ok-Going.ensures.turn in
     record {
       so_far = stretch-on _ _ _ _ _ _ _ _ _ _ _ _ _ _ _ _ _ _ c.inputs.invariant.so_far c.inputs.invariant.honest_stays on.stretch;
-      host_fresh = search rules;
-      sink_fresh = search rules;
-      handed = search rules;
+      host_usable = search rules;
+      sink_usable = search rules;
+      last_job = search rules;
       honest_stays = search rules;
+      origin_stays = search rules;
       host_later = search rules;
       sink_later = search rules;
     }

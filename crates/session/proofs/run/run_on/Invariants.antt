@@ -11,10 +11,11 @@ invariant-inputs g l = record {
       l.state (course_from l.fn.reader) (course_from l.reader) (fed_bytes l.fn.reader) (fed_bytes l.reader)
       (told_of (g.H.Host.calls l.fn.host) (g.S.Sink.turns l.fn.sink)) (told_of (g.H.Host.calls l.host) (g.S.Sink.turns l.sink))
       (g.H.Host.honest l.fn.host) (g.H.Host.out l.fn.host) (g.H.Host.out l.host);
-  host_fresh : g.H.Host.spent l.host ≡ false;
-  sink_fresh : g.S.Sink.spent l.sink ≡ false;
-  handed : g.H.Host.handed l.host ≡ l.state.desk.handed;
+  host_usable : g.H.Host.poisoned l.host ≡ false;
+  sink_usable : g.S.Sink.poisoned l.sink ≡ false;
+  last_job : g.H.Host.last_job l.host ≡ l.state.desk.last_job;
   honest_stays : g.H.Host.honest l.host ≡ g.H.Host.honest l.fn.host;
+  origin_stays : g.H.Host.origin l.host ≡ g.H.Host.origin l.fn.host;
   host_later : g.H.Host.faults l.fn.host ≤ g.H.Host.faults l.host;
   sink_later : g.S.Sink.faults l.fn.sink ≤ g.S.Sink.faults l.sink;
 }

@@ -15,9 +15,9 @@ order-requires g c =
     let same : c.into_commands.result ≡ turn.commands = search rules in
     let rising = (steps-hand meaning c.args.state.now turn c.take_input.new.state steps).rising in
     record {
-      fresh = c.requires.host_fresh;
-      rising = subst (λ cs. AreRising (g.H.Host.handed c.args.host.now) (spawned cs)) (sym same)
-          (subst (λ n. AreRising n (spawned turn.commands)) (sym c.requires.handed) rising);
+      usable = c.requires.host_usable;
+      rising = subst (λ cs. AreRising (g.H.Host.last_job c.args.host.now) (spawned cs)) (sym same)
+          (subst (λ n. AreRising n (spawned turn.commands)) (sym c.requires.last_job) rising);
     }
 
 pub returns-in-Ok-order-clause-turn : goal.returns-in-Ok-order-clause-turn
@@ -32,13 +32,13 @@ returns-in-Ok-order-clause-turn g c =
       out_is = grind (arith, common_steps);
     }
 
-pub returns-in-Ok-order-clause-handed : goal.returns-in-Ok-order-clause-handed
-returns-in-Ok-order-clause-handed g c =
+pub returns-in-Ok-order-clause-last_job : goal.returns-in-Ok-order-clause-last_job
+returns-in-Ok-order-clause-last_job g c =
     let meaning : Meaning = meaning_of g.A.Analysis.decodes g.A.Analysis.answer in
     let turn : Turn = record { input = c.args.input; messages = c.take_input.new.out.messages; commands = c.take_input.new.out.commands } in
     let steps : Steps meaning c.args.state.now turn c.take_input.new.state = search rules in
     let same : c.into_commands.result ≡ turn.commands = search rules in
-    let before : g.H.Host.handed c.args.host.now ≡ c.args.state.now.desk.handed = c.requires.handed in
+    let before : g.H.Host.last_job c.args.host.now ≡ c.args.state.now.desk.last_job = c.requires.last_job in
     let last = (steps-hand meaning c.args.state.now turn c.take_input.new.state steps).last in
     let h = c.in-Ok-order.ensures in
     grind (arith, common_steps, h, last, same, before)

@@ -3,7 +3,7 @@ use Rattle.std.specs.Prelude.{slice_range}
 use Rattle.std.proofs.lemmas.Grind.{common_steps}
 use Rattle.std.proofs.lemmas.List.{take_all}
 use Rattle.std.proofs.Math.Seq.{take-suc}
-use Rattle.text_core.specs.Kept.{text_of}
+use Rattle.text_core.specs.IndexInvariant.{text_of}
 use Rattle.text_core.specs.Starts.{starts_in}
 use Rattle.text_core.specs.declared.splices.Splice.{Splice}
 use Rattle.text_core.proofs.MadeLemmas.{HasStarts, IsNext, starts_begin, starts_next, starts_go_on, starts_end}

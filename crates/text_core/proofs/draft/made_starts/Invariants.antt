@@ -1,5 +1,5 @@
 use Rattle.std.proofs.Common.{take, string_bytes}
-use Rattle.text_core.specs.Kept.{text_of}
+use Rattle.text_core.specs.IndexInvariant.{text_of}
 use Rattle.text_core.proofs.MadeLemmas.{HasStarts}
 use Rattle.text_core.proofs.draft.made_starts.Given as goal
 

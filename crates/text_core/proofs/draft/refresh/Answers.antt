@@ -1,5 +1,5 @@
 use Rattle.std.proofs.Common.{◌≡◌, [], ap, sym, ◌∙◌, length, string_bytes}
-use Rattle.text_core.specs.Kept.{text_of}
+use Rattle.text_core.specs.IndexInvariant.{text_of}
 use Rattle.text_core.specs.Splices.{spliced}
 use Rattle.text_core.specs.Starts.{line_starts}
 use Rattle.text_core.proofs.KeptLemmas.{kept_new}

@@ -1,7 +1,7 @@
 use Rattle.std.proofs.Common.{◌≡◌, ◌+◌, ◌-◌, ◌≤◌, ◌++◌, ◌∷◌, [], length, Some, ap, sym, subst, ◌∙◌, arith, string_bytes}
 use Rattle.std.specs.List.{replace_range}
-use Rattle.text_core.specs.Ends.{HasEnds}
-use Rattle.text_core.specs.Kept.{IsKept, text_of}
+use Rattle.text_core.specs.CommonEnds.{HasEnds}
+use Rattle.text_core.specs.IndexInvariant.{IsKept, text_of}
 use Rattle.text_core.specs.Splices.{spliced}
 use Rattle.text_core.specs.declared.splices.Splice.{Splice}
 use Rattle.text_core.proofs.EndLemmas.{length_edit}

@@ -1,7 +1,7 @@
 use Rattle.std.proofs.Common.{◌≡◌, ◌+◌, ℕ, Bool, false, List, [], Option, None, ap, sym, subst, ◌∙◌, arith, string_bytes}
 use Rattle.std.specs.List.{fold}
-use Rattle.text_core.specs.Ends.{ComesFrom}
-use Rattle.text_core.specs.Kept.{IsKept, text_of}
+use Rattle.text_core.specs.CommonEnds.{ComesFrom}
+use Rattle.text_core.specs.IndexInvariant.{IsKept, text_of}
 use Rattle.text_core.specs.Rebuilds.{Progress, begun}
 use Rattle.text_core.specs.Splices.{spliced}
 use Rattle.text_core.specs.Whole.{HaveRanges, taken}

@@ -1,7 +1,7 @@
 use Rattle.std.proofs.Common.{ap, sym, subst, ◌∙◌, arith, string_bytes}
 use Rattle.std.specs.List.{fold}
 use Rattle.text_core.specs.Changes.{IsOther}
-use Rattle.text_core.specs.Ends.{ComesFrom}
+use Rattle.text_core.specs.CommonEnds.{ComesFrom}
 use Rattle.text_core.specs.Rebuilds.{begun}
 use Rattle.text_core.specs.Whole.{taken}
 use Rattle.text_core.proofs.editing.edit_index.Goals as goal

@@ -1,6 +1,6 @@
 use Rattle.std.proofs.Common.{ap, sym, ◌∙◌, arith}
 use Rattle.text_core.specs.Rebuilds.{Progress}
-use Rattle.text_core.specs.Kept.{progress}
+use Rattle.text_core.specs.IndexInvariant.{progress}
 use Rattle.text_core.proofs.FoldLemmas.{fold_more, fold_step}
 use Rattle.text_core.proofs.editing.take_changes.Goals as goal
 

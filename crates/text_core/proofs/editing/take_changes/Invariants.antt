@@ -1,7 +1,7 @@
 use Rattle.std.proofs.Common.{◌≡◌, ◌≤◌, ℕ, List, drop}
 use Rattle.std.specs.List.{fold}
-use Rattle.text_core.specs.Ends.{ComesFrom}
-use Rattle.text_core.specs.Kept.{IsKeptIn, progress, text_of}
+use Rattle.text_core.specs.CommonEnds.{ComesFrom}
+use Rattle.text_core.specs.IndexInvariant.{IsKeptIn, progress, text_of}
 use Rattle.text_core.specs.Whole.{taken}
 use Rattle.text_core.proofs.editing.take_changes.Given as goal
 

@@ -1,6 +1,6 @@
 use Rattle.std.proofs.Common.{◌≡◌, subst, sym, ap, ◌∙◌, min}
 use Rattle.std.specs.List.{replace_range}
-use Rattle.text_core.specs.Ends.{HasEnds, ComesFrom}
+use Rattle.text_core.specs.CommonEnds.{HasEnds, ComesFrom}
 use Rattle.text_core.proofs.EndLemmas.{both_ends, ends-first, ends-next}
 use Rattle.text_core.proofs.ends.ends_after.Goals as goal
 

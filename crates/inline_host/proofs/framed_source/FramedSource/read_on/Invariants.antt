@@ -6,7 +6,7 @@ use Rattle.inline_host.proofs.framed_source.FramedSource.read_on.Given as goal
 
 abbrev pub invariant-reading : goal.invariant-reading
 invariant-reading g l = record {
-  fresh : l.self.spent ≡ false;
+  usable : l.self.poisoned ≡ false;
   needs : cut_of l.self.held ≡ NeedMore;
   some : 0 < l.lacking;
   waiting : waiting l.self ≡ waiting l.fn.self;

@@ -5,7 +5,7 @@ use Rattle.inline_host.proofs.jobs_out.JobsOut.take.Given as goal
 
 abbrev pub invariant-loop-command : goal.invariant-loop-command
 invariant-loop-command l = record {
-  rising : AreRising l.self.handed (spawned (into_iter_items l.command-iterator));
+  rising : AreRising l.self.last_job (spawned (into_iter_items l.command-iterator));
   out : after_order (into_iter_items l.command-iterator) l.self.out ≡ after_order l.fn.commands l.fn.self.out;
-  handed : last_number l.self.handed (spawned (into_iter_items l.command-iterator)) ≡ last_number l.fn.self.handed (spawned l.fn.commands);
+  last_job : last_number l.self.last_job (spawned (into_iter_items l.command-iterator)) ≡ last_number l.fn.self.last_job (spawned l.fn.commands);
 }

@@ -5,5 +5,5 @@ use Rattle.inline_host.proofs.numbered_jobs.NumberedJobs.take.Given as goal
 abbrev pub invariant-loop-command : goal.invariant-loop-command
 invariant-loop-command l = record {
   out : after_order (drop l.command-index l.commands) l.self.out ≡ after_order l.commands l.fn.self.out;
-  handed : last_number l.self.handed (spawned (drop l.command-index l.commands)) ≡ last_number l.fn.self.handed (spawned l.commands);
+  last_job : last_number l.self.last_job (spawned (drop l.command-index l.commands)) ≡ last_number l.fn.self.last_job (spawned l.commands);
 }

@@ -11,9 +11,9 @@ invariant-messages g l = record {
   in_step : IsInStep l.talk.negotiation;
   fits : fed_bytes l.talk.reader < 2 ^ 64;
   idle : g.H.Host.out l.host ≡ map.empty;
-  host_fresh : g.H.Host.spent l.host ≡ false;
-  sink_fresh : g.S.Sink.spent l.sink ≡ false;
-  handed : g.H.Host.handed l.host ≡ g.H.Host.handed l.fn.host;
+  host_usable : g.H.Host.poisoned l.host ≡ false;
+  sink_usable : g.S.Sink.poisoned l.sink ≡ false;
+  last_job : g.H.Host.last_job l.host ≡ g.H.Host.last_job l.fn.host;
   honest_stays : g.H.Host.honest l.host ≡ g.H.Host.honest l.fn.host;
   host_later : g.H.Host.faults l.fn.host ≤ g.H.Host.faults l.host;
   sink_later : g.S.Sink.faults l.fn.sink ≤ g.S.Sink.faults l.sink;

@@ -1,6 +1,0 @@
-use denote.Param.Send.{sendable}
-use Rattle.crossing.proofs.snapshot_is_shared.Goals as goal
-use Rattle.crossing.proofs.Sent.{syncs}
-
-pub shares-requires-sync-T : goal.shares-requires-sync-T
-shares-requires-sync-T c κs = search (syncs, sendable) depth 20 fits 20000

@@ -1,8 +1,0 @@
-use Rattle.std.proofs.Common.{arith}
-use Rattle.revision_word.proofs.Moves.{looks}
-use Rattle.revision_word.proofs.word.Word.look.Goals as goal
-
-pub load-requires : goal.load-requires
-load-requires c =
-    let one = c.args.self.now.one_word in
-    (c.requires.0.0, omega arith, looks _ _ _)

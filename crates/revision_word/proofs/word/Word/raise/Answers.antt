@@ -1,8 +1,0 @@
-use Rattle.std.proofs.Common.{arith}
-use Rattle.revision_word.proofs.Moves.{raises}
-use Rattle.revision_word.proofs.word.Word.raise.Goals as goal
-
-pub store-requires : goal.store-requires
-store-requires c =
-    let one = c.args.self.now.one_word in
-    (c.requires.seat.0.0, omega arith, raises _ _ _ _ c.requires.seat.1 c.requires.rising)

@@ -1,8 +1,0 @@
-use Rattle.std.proofs.Common.{arith}
-use Rattle.revision_word.proofs.Moves.{splits}
-use Rattle.revision_word.proofs.word.Word.split.Goals as goal
-
-pub split_seat-requires : goal.split_seat-requires
-split_seat-requires c =
-    let one = c.args.self.now.one_word in
-    (c.requires.0.0, omega arith, splits _ _ c.requires.1.1)
