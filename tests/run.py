@@ -1,33 +1,71 @@
 #!/usr/bin/env python3
 """Runs the stored sessions: tests/run.py [-p PROGRAM].. [FILE ..]. tests/README.md says how a case is written."""
-import fcntl, os, pathlib, re, resource, signal, subprocess, sys, tempfile, termios, threading, time
+import fcntl, os, pathlib, resource, signal, subprocess, sys, tempfile, termios, threading, time
 from concurrent.futures import ThreadPoolExecutor
+
+sys.dont_write_bytecode = True
+from record import EVENTS, frame, raw, record_of, turns_told
 
 HERE = pathlib.Path(__file__).resolve().parent
 BUILT = HERE.parent / "crates/ra_serve/out/ra_serve"
-NAMED = {b"r": b"\r", b"n": b"\n", b"\\": b"\\"}
-SENT, WANTED, REST = (">", ">>"), ("<", "<<"), ("words", "pieces", "input", "output", "status", "!")
-
-def raw(text):
-    """The bytes of a text with the escapes \\r, \\n, \\\\ and \\xHH."""
-    return re.sub(rb"\\(?:x([0-9a-f]{2})|(.))", lambda m: bytes.fromhex(m[1].decode()) if m[1] else NAMED[m[2]], text)
+SENT, WANTED, REST = (">", ">>", "record"), ("<", "<<"), ("words", "pieces", "input", "output", "status", "!")
+TOLD = ("begin", "and", "order", *EVENTS)
 
 def bytes_of(word, rest):
-    return raw(rest) if len(word) == 2 else b"Content-Length: %d\r\n\r\n%s" % (len(rest), rest)
+    return rest if word == "record" else raw(rest) if len(word) == 2 else frame(rest)
 
-def cases_of(path):
-    """The cases of a file, each a name and its lines: those before the first line `case` begin each of them."""
+def lines_of(path, parts):
+    """The cases of a file, each a name and its lines: those before the first line `case` begin each of them. A line `part` begins
+    lines that have a name, in place of which a line `use` stands."""
     first, cases = [], []
+    lines = first
     for number, line in enumerate(path.read_bytes().split(b"\n"), 1):
         word, _, rest = line.partition(b" ")
+        times = 1
+        if word == b"times":
+            times, word, rest = (rest.split(b" ", 2) + [b""])[:3]
         word = word.decode()
         if word == "case":
-            cases.append((f"{path.stem}: {rest.decode()}", list(first)))
-        elif word in SENT + WANTED + REST:
-            (cases[-1][1] if cases else first).append((number, word, rest))
+            lines = list(first)
+            cases.append((f"{path.stem}: {rest.decode()}", lines))
+        elif word == "part":
+            lines = parts[rest] = []
+        elif word == "use" and rest in parts:
+            lines += parts[rest]
+        elif word == "bytewise":
+            lines += [(number, ">>", b"\\x%02x" % byte) for byte in raw(rest)]
+        elif word in SENT + WANTED + REST + TOLD:
+            lines += [(number, word, rest)] * int(times)
         elif word not in ("", "#"):
-            sys.exit(f"{path}:{number}: no line begins with {word!r}")
+            sys.exit(f"{path}:{number}: no line begins with {word!r}, or no part is named so")
     return cases or [(path.stem, first)]
+
+def turns_of(lines):
+    """What is wanted of the first turn, and behind each event: messages, and orders where some line tells one."""
+    turns = [(0, [], [])]
+    for number, word, rest in lines:
+        if word in EVENTS:
+            turns.append((number, [], []))
+        elif word == "<":
+            turns[-1][1].append(rest)
+        elif word == "order":
+            turns[-1][2].append(rest)
+    return turns
+
+def cases_of(path, parts):
+    """The cases of a file, each a name, its lines, and the turns that are wanted. One that begins with `begin` is told by events, which
+    make a record; its lines are those of a replay of it."""
+    for name, lines in lines_of(path, dict(parts)):
+        if not any(word == "begin" for _, word, _ in lines):
+            yield name, lines, []
+            continue
+        try:
+            record = record_of([(word, rest) for _, word, rest in lines])
+        except ValueError as wrong:
+            sys.exit(f"{path}: {name}: no event is told by {wrong}")
+        kept = [line for line in lines if line[1] in WANTED + REST]
+        yield name, [(0, "words", b"replay"), (0, "status", b"3"), (0, "record", record)] + kept, (
+            turns_of(lines) if any(word == "order" for _, word, _ in lines) else [])
 
 def give(program, lines, pieces, out):
     """Writes the input: all at once, in pieces of so many bytes, or each message once the answers before it are there."""
@@ -51,7 +89,7 @@ def give(program, lines, pieces, out):
 
 def run(program, lines, pieces):
     """The status, the output and the standard error of one run."""
-    one = {word: rest.decode() for _, word, rest in lines}
+    one = {word: rest.decode() for _, word, rest in lines if word in REST}
     output = one.get("output", "")
     limit = lambda: (signal.signal(signal.SIGXFSZ, signal.SIG_IGN), resource.setrlimit(resource.RLIMIT_FSIZE, (int(output),) * 2))
     (gone, closed), (said, err) = os.pipe(), os.pipe()
@@ -68,7 +106,17 @@ def run(program, lines, pieces):
         clock.cancel(), out.seek(0)
         return status, out.read(), errors.read()
 
-def difference(program, name, lines, pieces):
+def other_turn(program, at, lines, turns):
+    """What a turn writes or orders otherwise than a case wants, in words."""
+    told = run(program, [(0, "words", b"--explain")] + [line for line in lines if line[1] == "record"], "all")[1]
+    for (number, messages, orders), shown in zip(turns, turns_told(told) + [([], [])] * len(turns)):
+        for wants, has, what in [(messages, shown[0], "writes"), ([order for order in orders if order], shown[1], "orders")]:
+            if wants != has and (what == "writes" or orders):
+                return "\n".join([f"{at}\n  the turn of line {number or 'begin'} {what}",
+                                  *(f"    {line.decode()}" for line in has or [b"nothing"]), "  and not",
+                                  *(f"    {line.decode()}" for line in wants or [b"nothing"])])
+
+def difference(program, name, lines, turns, pieces):
     """What is otherwise than a case wants, in words."""
     status, found, errors = run(program, lines, pieces)
     at = f"{name} ({os.path.basename(program)}, pieces {pieces})"
@@ -83,14 +131,18 @@ def difference(program, name, lines, pieces):
         if wanted != line and any(word == "!" for _, word, _ in lines):
             return f"{at}\n  line {number or 'the last'} wants {wanted.decode() or 'no more'} on standard error\n  found  {line.decode() or 'nothing'}"
     wants = int(([b"0"] + [rest for _, word, rest in lines if word == "status"])[-1])
-    return None if status == wants else f"{at}\n  wants status {wants}, found {status}"
+    if status != wants:
+        return f"{at}\n  wants status {wants}, found {status}"
+    return other_turn(program, at, lines, turns) if turns else None
 
 def main(words):
     programs = [words[at + 1] for at in range(len(words)) if words[at] == "-p"] or [str(BUILT), f"{BUILT}.by-rattle"]
     all(map(os.path.exists, programs)) or sys.exit(f"one of {programs} is not there: a plain `rt ci` leaves them")
     files = [word for at, word in enumerate(words) if word != "-p" and words[at - 1:at] != ["-p"]]
-    cases = [case for path in files or sorted(HERE.glob("cases/**/*.case")) for case in cases_of(pathlib.Path(path))]
-    runs = [(program, name, lines, pieces.decode()) for name, lines in cases for program in programs
+    parts = {}
+    lines_of(HERE / "parts.case", parts)
+    cases = [case for path in files or sorted(HERE.glob("cases/**/*.case")) for case in cases_of(pathlib.Path(path), parts)]
+    runs = [(program, name, lines, turns, pieces.decode()) for name, lines, turns in cases for program in programs
             for pieces in dict.fromkeys(([b"all"] + [rest for _, word, rest in lines if word == "pieces"])[-1].split())]
     with ThreadPoolExecutor(os.cpu_count()) as pool:
         wrong = [text for text in pool.map(lambda one: difference(*one), runs) if text]

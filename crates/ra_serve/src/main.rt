@@ -9,18 +9,22 @@ const PROGRAM: Program<'static> = Program {
     help: "\
 ra_serve: a language server over standard input and output.
 
-usage: ra_serve lsp
-       ra_serve session
-       ra_serve --help | --version
+usage: ra_serve lsp | session | record | replay
+       ra_serve --explain | --help | --version
 
 `lsp` is what an editor starts: it reads framed messages of the Language Server Protocol, from `initialize` on, and
 writes framed responses. `session` begins behind that handshake; the root of its workspace is /w.
 
-status: 0 the session ended by `exit`               5 bad message
-        2 bad words                                 6 the host failed
-        3 input ended without `exit`                7 the output failed
-        4 bad frame                                 8 counter exhausted
-                                                    9 out of memory
+`record` reads what `session` reads, and writes the session's record in place of its responses. `replay` reads a
+record and writes what its session writes. `--explain` reads a record and writes a line for each event, message and
+order of each turn of its session.
+
+status: 0 the session ended by `exit`               7 the output failed
+        2 bad words                                 8 counter exhausted
+        3 input ended without `exit`                9 out of memory
+        4 bad frame                                10 bad record
+        5 bad message                              11 a session that has no record
+        6 the host failed                          12 a record of more than 256 MiB
 ",
     version: "ra_serve 0.1.0\n",
     keeps_record: true,

@@ -6,6 +6,11 @@ use Rattle.session_port.specs.Record.{HostCall, given_in}
 use Rattle.session.specs.Course.{course_of, stop_of, exit}
 use Rattle.session.specs.Headline.{EndsByCause}
 use Rattle.session.specs.Ran.{RanSession}
+use Rattle.session_record.specs.declared.start.StartConfig.{StartConfig}
+use Rattle.session_record.specs.declared.start.StartConfig.TheVariants.{New}
+use Rattle.session_replay.specs.Recording.{RecordsSession}
+use Rattle.session_replay.specs.Replaying.{Replays}
+use Rattle.session_replay.specs.declared.error.ReplayError.{ReplayError}
 use Rattle.session.specs.Meaning.{Meaning}
 use Rattle.session.specs.Run.{Told, empty_reader}
 use Rattle.session.specs.Texts.{same_text}
@@ -17,13 +22,15 @@ use Rattle.server.specs.Opening.{Opens}
 use Rattle.server.specs.Stages.{Setup}
 use Rattle.server.specs.declared.handshake.opening.Opening.{Opening}
 use Rattle.server.specs.declared.handshake.opening.Opening.TheVariants.{Begun, Left}
-use Rattle.server.specs.Status.{bad_words, status_of}
+use Rattle.server.specs.Status.{bad_words, status_of, status_of_replay}
 use Rattle.server.specs.declared.words.Asked.{Asked}
-use Rattle.server.specs.declared.words.Asked.TheVariants.{Session, Lsp, Unknown}
+use Rattle.server.specs.declared.words.Asked.TheVariants.{Session, Lsp, Record as RecordWord, Replay as ReplayWord}
+use Rattle.server.specs.declared.words.Asked.TheVariants.{Unknown}
 
 -- what one word asks for
 abbrev pub asked_by_word : List ℕ → Asked
 asked_by_word word = if same_text word (codes "session") then Session else if same_text word (codes "lsp") then Lsp
+    else if same_text word (codes "record") then RecordWord else if same_text word (codes "replay") then ReplayWord
     else Unknown
 
 -- what words ask for: a word alone is known or not
@@ -43,6 +50,10 @@ setup_of info = record { threads = thread_count; info = info }
 -- the settings of a session that begins without a handshake
 abbrev pub session_config : ConfigData
 session_config = config_at (codes "/w") thread_count
+
+-- how such a session begins, as its record says it
+abbrev pub session_start : StartConfig
+session_start = New (codes "/w") thread_count
 
 -- what follows a handshake: the session that it began, or nothing
 abbrev pub Follows : Meaning → Told → Told → Bool → Type 0 → Type 0 → Result Opening SessionError
@@ -91,6 +102,12 @@ pub record EndsWith (P : Result ⊤ SessionError → Type 0) (status : ℕ) : Ty
   pub status_is : status ≡ status_of outcome
   pub did : P outcome
 
+-- the same of a session that is recorded, or run again
+pub record EndsReplay (P : Result ⊤ ReplayError → Type 0) (status : ℕ) : Type 0 where
+  pub outcome : Result ⊤ ReplayError
+  pub status_is : status ≡ status_of_replay outcome
+  pub did : P outcome
+
 -- or the words are none that the program knows, and nothing was read or written
 pub record KnewNoWord (old new : Told) (status : ℕ) : Type 0 where
   pub status_is : status ≡ bad_words
@@ -102,4 +119,8 @@ Serves Session info meaning old new honest HostFailed SinkFailed status =
     EndsWith (RanSession meaning session_config empty_reader old new honest HostFailed SinkFailed) status
 Serves Lsp info meaning old new honest HostFailed SinkFailed status =
     EndsWith (Welcomed info meaning old new honest HostFailed SinkFailed) status
+Serves RecordWord info meaning old new honest HostFailed SinkFailed status =
+    EndsReplay (RecordsSession meaning session_start session_config old new honest HostFailed SinkFailed) status
+Serves ReplayWord info meaning old new honest HostFailed SinkFailed status =
+    EndsReplay (Replays meaning old new HostFailed SinkFailed) status
 Serves Unknown info meaning old new honest HostFailed SinkFailed status = KnewNoWord old new status

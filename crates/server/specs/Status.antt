@@ -3,6 +3,8 @@ use Rattle.std.specs.Prelude.{ℕ, List, [], codes, ⊤, Result, Ok, Err, ◌==�
 use Rattle.session.specs.SessionError.{SessionError}
 use Rattle.session.specs.SessionError.TheVariants.{ClientExited, BadFrame, BadMessage, HostFault, WriteFault, Exhausted}
 use Rattle.session.specs.SessionError.TheVariants.{NoMemory}
+use Rattle.session_replay.specs.declared.error.ReplayError.{ReplayError}
+use Rattle.session_replay.specs.declared.error.ReplayError.TheVariants.{Session, BadRecord, Unrecordable, TooLong}
 
 -- the words are none that the program knows
 abbrev pub bad_words : ℕ
@@ -17,6 +19,13 @@ status_of (Err HostFault) = 6
 status_of (Err WriteFault) = 7
 status_of (Err (Exhausted counter)) = 8
 status_of (Err NoMemory) = 9
+
+abbrev pub status_of_replay : Result ⊤ ReplayError → ℕ
+status_of_replay (Ok x) = 0
+status_of_replay (Err (Session error)) = status_of (Err error)
+status_of_replay (Err BadRecord) = 10
+status_of_replay (Err Unrecordable) = 11
+status_of_replay (Err TooLong) = 12
 
 -- what a program says of its status: nothing where all is well
 abbrev pub status_text : ℕ → List ℕ

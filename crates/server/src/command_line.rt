@@ -17,6 +17,8 @@ pub enum Words {
 pub(crate) enum Purpose {
     Help,
     Version,
+    /// A record is written out for people.
+    Explain,
     Serve,
     Unreadable,
 }
@@ -27,6 +29,7 @@ fn purpose_of_texts(texts: &[Text]) -> Purpose
     match texts {
         [word] if word.as_str() == "--help" => Purpose::Help,
         [word] if word.as_str() == "--version" => Purpose::Version,
+        [word] if word.as_str() == "--explain" => Purpose::Explain,
         _ => Purpose::Serve,
     }
 }

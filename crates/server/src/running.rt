@@ -6,14 +6,16 @@ ghost use Rattle.session.specs.Meaning.{meaning_of};
 ghost use Rattle.session.specs.Run.{told_of};
 ghost use Rattle.server.specs.CommandLine.{purpose_of, texts_of};
 ghost use Rattle.server.specs.Running.{Prints};
-ghost use Rattle.server.specs.Serving.{Serves, asked_by};
-ghost use Rattle.server.specs.declared.command_line.Purpose.TheVariants.{Help, Version, Serve, Unreadable};
+ghost use Rattle.session_explain.specs.Explaining.{Explains};
+ghost use Rattle.server.specs.Serving.{EndsReplay, Serves, asked_by};
+ghost use Rattle.server.specs.declared.command_line.Purpose.TheVariants.{Help, Version, Explain, Serve, Unreadable};
 ghost use Rattle.server.specs.Status.{bad_words};
 
 use crate::command_line::{Purpose, Words, purpose_of};
 use crate::serving::serve;
-use crate::statuses::{BAD_WORDS, NO_MEMORY, WRITE_FAULT};
+use crate::statuses::{BAD_WORDS, NO_MEMORY, WRITE_FAULT, status_of_replay};
 use analysis_host::Analysis;
+use session_explain::explain;
 use session_port::{Host, HostError, Sink};
 use std::alloc::Global;
 
@@ -41,7 +43,7 @@ fn print<S: Sink>(text: &str, sink: &mut S) -> u8
 }
 
 /// Does what the words of the command line ask for, on this host and this sink, and answers the status to end with:
-/// `--help` and `--version` print the program's texts, and all other words are served.
+/// `--help` and `--version` print the program's texts, `--explain` writes out a record, and all other words are served.
 pub fn run<H: Host<A>, S: Sink, A: Analysis>(
     alloc: Global,
     program: &Program<'_>,
@@ -63,6 +65,9 @@ pub fn run<H: Host<A>, S: Sink, A: Analysis>(
     ensures help_alone { purpose_of words.now ≡ Help → host.new ≡ host.old }
     ensures version_alone { purpose_of words.now ≡ Version → host.new ≡ host.old }
 
+    // A record is read from the host, its session is run, and a text is written of it.
+    ensures explained { purpose_of words.now ≡ Explain → EndsReplay (Explains (meaning_of A.decodes A.answer) (told_of (H.calls host.old) (S.turns sink.old)) (told_of (H.calls host.new) (S.turns sink.new)) (Rose (H.faults host.old) (H.faults host.new)) (Rose (S.faults sink.old) (S.faults sink.new))) result }
+
     // A word is no text: nothing is read or written.
     ensures not_text { purpose_of words.now ≡ Unreadable → (result ≡ bad_words) × (host.new ≡ host.old) × (sink.new ≡ sink.old) }
 
@@ -72,6 +77,7 @@ pub fn run<H: Host<A>, S: Sink, A: Analysis>(
     match purpose_of(words) {
         Purpose::Help => print(program.help, sink),
         Purpose::Version => print(program.version, sink),
+        Purpose::Explain => status_of_replay(explain(alloc, host, sink, analysis)),
         Purpose::Unreadable => BAD_WORDS,
         Purpose::Serve => serve(alloc, words.texts(), host, sink, analysis),
     }

@@ -5,11 +5,12 @@ ghost use Rattle.session_port.specs.Record.{Rose};
 ghost use Rattle.session.specs.Meaning.{meaning_of};
 ghost use Rattle.session.specs.Run.{empty_reader, told_of};
 ghost use Rattle.session.specs.Ran.{RanSession};
-ghost use Rattle.server.specs.Serving.{asked_by, session_config, EndsWith, Serves, Welcomed};
+ghost use Rattle.session_replay.specs.Recording.{RecordsSession};
+ghost use Rattle.server.specs.Serving.{asked_by, session_config, session_start, EndsWith, Serves, Welcomed};
 ghost use Rattle.server.specs.Status.{status_of, bad_words};
 
 use crate::handshake::{Opening, initialize};
-use crate::statuses::{BAD_WORDS, status_of};
+use crate::statuses::{BAD_WORDS, status_of, status_of_replay};
 use crate::words::{Asked, asked_by};
 use analysis_host::Analysis;
 use docs_vfs::VfsPath;
@@ -17,6 +18,7 @@ use plain::Text;
 use ra_config::Config;
 use session::{SessionError, main_loop, main_loop_from};
 use session_port::{Host, Sink};
+use session_replay::{ReplayError, record, replay};
 use std::alloc::{AllocError, Global};
 
 /// How many threads the program's sessions may use.
@@ -75,6 +77,28 @@ fn run_lsp<H: Host<A>, S: Sink, A: Analysis>(
     }
 }
 
+// One session, of which the record is written.
+fn run_record<H: Host<A>, S: Sink, A: Analysis>(
+    alloc: Global,
+    host: &mut H,
+    sink: &mut S,
+    analysis: &A,
+) -> Result<(), ReplayError>
+    requires idle { H.out host.old ≡ map.empty }
+    requires unused { H.last_job host.old ≡ 0 }
+    requires host_usable { H.poisoned host.old ≡ false }
+    requires sink_usable { S.poisoned sink.old ≡ false }
+    ensures records { RecordsSession (meaning_of A.decodes A.answer) session_start session_config (told_of (H.calls host.old) (S.turns sink.old)) (told_of (H.calls host.new) (S.turns sink.new)) (H.honest host.old) (Rose (H.faults host.old) (H.faults host.new)) (Rose (S.faults sink.old) (S.faults sink.new)) result }
+    ensures host_fault { result ≡ Err (ReplayError.Session SessionError.HostFault) → Rose (H.faults host.old) (H.faults host.new) }
+    ensures write_fault { result ≡ Err (ReplayError.Session SessionError.WriteFault) → Rose (S.faults sink.old) (S.faults sink.new) }
+{
+    match VfsPath::new(alloc, "/w") {
+        Ok(Some(root)) => record(alloc, root, THREADS, host, sink, analysis),
+        Ok(None) => Err(ReplayError::Session(SessionError::NoMemory)),
+        Err(_) => Err(ReplayError::Session(SessionError::NoMemory)),
+    }
+}
+
 /// Does what the words say, and answers the status to end with, on the host and the sink that are handed in: `session`
 /// runs one session, to its end, with `/w` as the root; `lsp` makes the handshake with the client, and then runs the
 /// session that it begins. All other words give the status 2.
@@ -104,6 +128,8 @@ pub fn serve<H: Host<A>, S: Sink, A: Analysis>(
     match asked_by(words) {
         Asked::Session => status_of(run_session(alloc, host, sink, analysis)),
         Asked::Lsp => status_of(run_lsp(alloc, host, sink, analysis)),
+        Asked::Record => status_of_replay(run_record(alloc, host, sink, analysis)),
+        Asked::Replay => status_of_replay(replay(alloc, host, sink, analysis)),
         Asked::Unknown => BAD_WORDS,
     }
 }

@@ -1,8 +1,9 @@
 // Statuses of the program.
 ghost use Rattle.std.specs.Prelude.{◌≡◌};
-ghost use Rattle.server.specs.Status.{status_of, status_text};
+ghost use Rattle.server.specs.Status.{status_of, status_of_replay, status_text};
 
 use session::SessionError;
+use session_replay::ReplayError;
 
 /// The status where the words are none that the program knows.
 pub const BAD_WORDS: u8 = 2;
@@ -26,6 +27,19 @@ pub fn status_of(outcome: Result<(), SessionError>) -> u8
         Err(SessionError::WriteFault) => WRITE_FAULT,
         Err(SessionError::Exhausted { .. }) => 8,
         Err(SessionError::NoMemory) => NO_MEMORY,
+    }
+}
+
+/// The status that a session ends with which is recorded, or run again.
+pub fn status_of_replay(outcome: Result<(), ReplayError>) -> u8
+    ensures { result ≡ status_of_replay outcome }
+{
+    match outcome {
+        Ok(()) => 0,
+        Err(ReplayError::Session(error)) => status_of(Err(error)),
+        Err(ReplayError::BadRecord) => 10,
+        Err(ReplayError::Unrecordable) => 11,
+        Err(ReplayError::TooLong) => 12,
     }
 }
 

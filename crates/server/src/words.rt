@@ -11,6 +11,10 @@ pub enum Asked {
     Session,
     /// A handshake, and the session that it begins.
     Lsp,
+    /// One session, of which the record is written.
+    Record,
+    /// The session of a record.
+    Replay,
     Unknown,
 }
 
@@ -21,6 +25,10 @@ fn asked_by_word(word: &str) -> Asked
         Asked::Session
     } else if word == "lsp" {
         Asked::Lsp
+    } else if word == "record" {
+        Asked::Record
+    } else if word == "replay" {
+        Asked::Replay
     } else {
         Asked::Unknown
     }

@@ -1,9 +1,8 @@
 // Clients by their names.
 
 /// The params of `initialize` of a client; nothing where none has this name. `refreshes` can be asked for all that is shown, `hints` for
-/// hints alone, and `none` for nothing; `saves` can be asked to tell of saved documents, `discovers` too, and its projects are
-/// discovered; `watches` can be asked to watch files, and `watches below` takes patterns below a folder; `takes` takes statuses,
-/// `shows` shows texts, and `logs` opens the logs too; fetches of `by hand` start only by hand, so that they stay on the queue.
+/// hints alone, and `none` for nothing; `saves` can be asked to tell of saved documents, and `watches` to watch files; `shows` shows texts,
+/// and `logs` opens the logs too; fetches of `by hand` start only by hand, so that they stay on the queue.
 pub fn params_of(client: &str) -> &'static str {
     match client {
         "refreshes" => {
@@ -16,17 +15,8 @@ pub fn params_of(client: &str) -> &'static str {
         "saves" => {
             r#"{"rootUri":"file:///w","capabilities":{"textDocument":{"synchronization":{"dynamicRegistration":true}}}}"#
         }
-        "discovers" => {
-            r#"{"rootUri":"file:///w","capabilities":{"textDocument":{"synchronization":{"dynamicRegistration":true}}},"initializationOptions":{"workspace":{"discoverConfig":{"command":["x"],"filesToWatch":["BUCK","TARGETS"],"progressLabel":"x"}}}}"#
-        }
         "watches" => {
             r#"{"rootUri":"file:///w","capabilities":{"workspace":{"didChangeWatchedFiles":{"dynamicRegistration":true}}}}"#
-        }
-        "watches below" => {
-            r#"{"rootUri":"file:///w","capabilities":{"workspace":{"didChangeWatchedFiles":{"dynamicRegistration":true,"relativePatternSupport":true}}}}"#
-        }
-        "takes" => {
-            r#"{"rootUri":"file:///w","capabilities":{"experimental":{"serverStatusNotification":true}}}"#
         }
         "logs" => {
             r#"{"rootUri":"file:///w","capabilities":{"experimental":{"openServerLogs":true}}}"#

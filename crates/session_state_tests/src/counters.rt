@@ -2,7 +2,8 @@
 use crate::asking::agree;
 use std::test::Fail;
 
-// What a session does with an event that needs one of a counter, where none is used, where one is left, and where none is.
+// What a session does with an event that needs one of a counter, where none is used, where one is left, and where none is. Refreshes,
+// registrations and a button need a number of a request.
 const NEEDS: &str = r#"left all then tell $/nothing null
 left one of turns then tell $/nothing null
 left none of turns then tell $/nothing null > no more turns
@@ -34,7 +35,15 @@ left none of files then file /w/a.rs
 left none of files then read /w/a.rs a > no more files
 left all then start then brought /w/Cargo.toml > loadWorkerrevise
 left one of loader settings then start then brought /w/Cargo.toml > load anewWorkerrevise
-left none of loader settings then start then brought /w/Cargo.toml > no more loader settings"#;
+left none of loader settings then start then brought /w/Cargo.toml > no more loader settings
+as refreshes then left one of outgoing then start then fetched > no more outgoing
+as hints then left one of outgoing then start then fetched > Content-Length: 72\r\n\r\n{"id":2147483647,"jsonrpc":"2.0","method":"workspace/inlayHint/refresh"}Content-Length: 106\r\n\r\n{"jsonrpc":"2.0","method":"window/showMessage","params":{"message":"Failed to load workspaces.","type":1}}fetch error
+as saves then left none of outgoing then start > no more outgoing
+as none then left none of outgoing then start > Worker
+as watches then left none of outgoing then start then brought /w/Cargo.toml > no more outgoing
+as none then left none of outgoing then start then brought /w/Cargo.toml > loadWorkerrevise
+as logs then left none of outgoing then start then fetched > no more outgoing
+as shows then left none of outgoing then start then fetched > Content-Length: 106\r\n\r\n{"jsonrpc":"2.0","method":"window/showMessage","params":{"message":"Failed to load workspaces.","type":1}}fetch error"#;
 
 #[test]
 fn counters_end(rt: HostRuntime) -> Result<(), Fail> {

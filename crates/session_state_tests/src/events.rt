@@ -24,7 +24,7 @@ impl Worded for VfsPath {
     }
 }
 
-/// `PATH TEXT`: a file of the loader. Without a text it is gone; `?` stands for bytes that are no text.
+/// `PATH TEXT`: a file of the loader. Without a text it is gone.
 impl Worded for LoadedFile {
     fn of(alloc: Global, words: &str) -> Option<Self> {
         let (path, text) = cut(words, " ");
@@ -35,12 +35,7 @@ impl Worded for LoadedFile {
                 contents: None,
             });
         }
-        let bytes = if text == "?" {
-            b"\xFF\xFE"
-        } else {
-            text.as_bytes()
-        };
-        let contents = Some(Bytes::from_slice(alloc, bytes).ok()?);
+        let contents = Some(Bytes::from_slice(alloc, text.as_bytes()).ok()?);
         Some(LoadedFile { path, contents })
     }
 }
@@ -57,13 +52,9 @@ impl Worded for FileId {
     }
 }
 
-/// Numbers of files, of which a comma stands between two, ask whether these are the sources of macros, a path whether its file is part of
-/// some crate.
+/// Numbers of files, of which a comma stands between two, ask whether these are the sources of macros.
 impl Worded for DeferredTask {
     fn of(alloc: Global, words: &str) -> Option<Self> {
-        if words.starts_with("/") {
-            return Some(DeferredTask::CheckIfIndexed(VfsPath::of(alloc, words)?));
-        }
         Some(DeferredTask::CheckProcMacroSources(list(alloc, words, ",")?))
     }
 }
@@ -130,7 +121,6 @@ fn message(alloc: Global, kind: &str, words: &str) -> Option<Message> {
             let params = SAVED.replace(alloc, "PATH", words).ok()?;
             call(alloc, None, "textDocument/didSave", params.as_str())
         }
-        "shutdown" => call(alloc, Some(1), "shutdown", "null"),
         _ => response(alloc, words),
     }
 }
@@ -186,8 +176,7 @@ fn crate_at(alloc: Global, root: &str) -> Option<CrateEntry> {
     })
 }
 
-/// Gives it the compiler of a version, if one is named, or the crate of a root file, or makes it one that is described as JSON or a file
-/// that is a workspace by itself.
+/// Gives it the crate of a root file, or makes it one that is described as JSON or a file that is a workspace by itself.
 impl Brought for ProjectWorkspace {
     fn change(&mut self, alloc: Global, kind: &str, words: &str) -> Option<()> {
         match kind {
@@ -197,9 +186,6 @@ impl Brought for ProjectWorkspace {
                 drop(self.manifest.take());
             }
             "alone" => self.kind = WorkspaceKind::DetachedFile,
-            _ if !words.is_empty() => {
-                drop(self.toolchain.replace(Text::from_str(alloc, words).ok()?));
-            }
             _ => {}
         }
         Some(())
@@ -236,8 +222,6 @@ fn workspaces(
 
 fn value(alloc: Global, kind: &str, words: &str) -> Option<JobValue> {
     match kind {
-        "null" => Some(JobValue::Json(Json::null())),
-        "roots" => Some(JobValue::Roots(list(alloc, words, ",")?)),
         "builds" => Some(JobValue::BuildData(Items::new(alloc))),
         "scripts" => Some(JobValue::BuildData(all_brought(
             alloc,
@@ -264,14 +248,13 @@ fn outcome(alloc: Global, kind: &str, words: &str) -> Option<JobResult> {
     }
 }
 
-/// The job that words name first, the second, the third, the fourth or the fifth, else the first; and what stands behind its name.
+/// The job that words name first, the second, the third or the fourth, else the first; and what stands behind its name.
 fn job_in(words: &str) -> (u64, &str) {
     let (name, rest) = cut(words, " ");
     match name {
         "second" => (2, rest),
         "third" => (3, rest),
         "fourth" => (4, rest),
-        "fifth" => (5, rest),
         _ => (1, words),
     }
 }
@@ -288,16 +271,16 @@ fn ended(alloc: Global, kind: &str, words: &str) -> Option<TaskMsg> {
 /// `ask` and `tell` with a method and its params, `answer` with the result in the response to the session's request 0,
 /// `loading` and `loaded` where files begin to load and are loaded, `reloaded` where they are by the loader's second settings, `file` and
 /// `read` with a path, and perhaps a text, where the loader tells that a file has changed and where it has read it first, with `and` before
-/// a second one, `open` where `/w/a.rs` is opened, `null`, `failed` and `stopped` as results of the first job, or of the `second`, the
-/// `third`, the `fourth` or the `fifth`, `fetched`, `builds` and `macros` as results that are no request's, `brought` where such a job
-/// brings the workspaces of some manifests, perhaps with the version of their compiler, `crate` where it brings one with the crate of a root
+/// a second one, `open` where `/w/a.rs` is opened, `failed` and `stopped` as results of the first job, or of the `second`, the
+/// `third` or the `fourth`, `fetched`, `builds` and `macros` as results that are no request's, `brought` where such a job
+/// brings the workspaces of some manifests, `crate` where it brings one with the crate of a root
 /// file, `described` where it brings one that is described as JSON, `alone` where it brings the file of a path that is a workspace by
-/// itself, `save` where the client saves the file of a path, `scripts` where build scripts made nothing, `roots` with the root files
-/// that a check found, `deferred` with tasks that were put off, `timer` with its ticket, and `shutdown` as a request.
+/// itself, `save` where the client saves the file of a path, `scripts` where build scripts made nothing, `deferred` with tasks that were
+/// put off, and `timer` with its ticket.
 pub fn event_of(alloc: Global, event: &str) -> Option<Event> {
     let (kind, words) = cut(event, " ");
     match kind {
-        "ask" | "tell" | "answer" | "open" | "save" | "shutdown" => {
+        "ask" | "tell" | "answer" | "open" | "save" => {
             Some(Event::Lsp(message(alloc, kind, words)?))
         }
         "loading" | "loaded" | "reloaded" | "file" | "read" => {

@@ -6,13 +6,9 @@
 #[cfg(test)]
 mod asking;
 #[cfg(test)]
-mod building;
-#[cfg(test)]
 mod calls;
 #[cfg(test)]
 mod causes;
-#[cfg(test)]
-mod checking;
 #[cfg(test)]
 mod clients;
 #[cfg(test)]
@@ -22,29 +18,9 @@ mod crates;
 #[cfg(test)]
 mod events;
 #[cfg(test)]
-mod fetching;
-#[cfg(test)]
-mod files;
-#[cfg(test)]
-mod methods;
-#[cfg(test)]
-mod refreshing;
-#[cfg(test)]
-mod registering;
-#[cfg(test)]
-mod reloading;
-#[cfg(test)]
-mod results;
+mod processing;
 #[cfg(test)]
 mod roots;
-#[cfg(test)]
-mod saving;
-#[cfg(test)]
-mod statuses;
-#[cfg(test)]
-mod switching;
-#[cfg(test)]
-mod timing;
 #[cfg(test)]
 mod told;
 #[cfg(test)]

@@ -74,20 +74,18 @@ fn processed(alloc: Global, state: &mut GlobalState) -> Option<String> {
 }
 
 impl Told for GlobalState {
-    /// The words `settings`, `at first`, `at second`, `root`, `shown`, `graph`, `cause`, `process` and `start` are no events: they ask for
-    /// the settings, for those of the first and of the second root, for the root of a file, for the workspaces and the crate graph that are
-    /// shown, for the fetch that waits in the queue, for the processing of files, and for turn 0. Nor are `text` with a path, which asks for
-    /// its text, and `call` with the name of a call.
+    /// The words `settings`, `at first`, `at second`, `root`, `graph`, `cause`, `process` and `start` are no events: they ask for
+    /// the settings, for those of the first and of the second root, for the root of a file, for the crate graph that is shown, for the
+    /// fetch that waits in the queue, for the processing of files, and for turn 0. Nor is `call` with the name of a call.
     fn told(&mut self, alloc: Global, event: &str) -> Option<String> {
         match event {
-            "settings" | "at first" | "at second" | "root" | "shown" | "graph" => {
+            "settings" | "at first" | "at second" | "root" | "graph" => {
                 present(alloc, self, event)
             }
             "cause" => cause(alloc, self),
             "process" => processed(alloc, self),
             "start" => start(alloc, self),
             _ => match cut(event, " ") {
-                ("text", _) => present(alloc, self, event),
                 ("call", name) => call(alloc, self, name),
                 _ => turn(alloc, self, event),
             },

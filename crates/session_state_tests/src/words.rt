@@ -15,7 +15,6 @@ use workspaces::FetchRequest;
 fn check_name(files: &[FileId]) -> &'static str {
     match files {
         [] => "check",
-        [file] if *file == FileId(0) => "check 0",
         _ => "another check",
     }
 }
@@ -37,41 +36,32 @@ fn job_name(job: &Job) -> &'static str {
     }
 }
 
-// The name of what a command asks for, and the path of the file behind it in some log lines.
-fn command_words(command: &Command) -> (&'static str, &str) {
+// The name of what a command asks for.
+fn command_name(command: &Command) -> &'static str {
     match command {
-        Command::Spawn(job) => (job_name(job), ""),
-        Command::Log(LogCode::UnknownSave, path) => ("unknown save ", path.as_str()),
-        Command::Log(LogCode::SecondSettingsFile, path) => ("further settings ", path.as_str()),
-        Command::Log(LogCode::FetchError, _) => ("fetch error", ""),
-        Command::Log(LogCode::BuildError, _) => ("build error", ""),
-        Command::Log(_, _) => ("log", ""),
-        Command::Revise(_) => ("revise", ""),
-        Command::Invalidate(_) => ("invalidate", ""),
-        Command::SetLoader { version: 1, .. } => ("load", ""),
-        Command::SetLoader { .. } => ("load anew", ""),
-        Command::Timer(1) => ("timer 1", ""),
-        Command::Timer(2) => ("timer 2", ""),
-        Command::Timer(3) => ("timer 3", ""),
-        Command::Timer(4) => ("timer 4", ""),
-        Command::Timer(5) => ("timer 5", ""),
-        Command::Timer(_) => ("another timer", ""),
-        Command::Defer(_) => ("defer", ""),
-        Command::SetChecks(_) => ("checks", ""),
-        Command::RestartCheck { .. } => ("restart check", ""),
-        Command::CancelCheck(_) => ("cancel check", ""),
-        Command::RunTest { .. } => ("run test", ""),
-        Command::StopTest => ("stop test", ""),
-        Command::Discover(_) => ("discover", ""),
-        Command::Stop => ("stop", ""),
+        Command::Spawn(job) => job_name(job),
+        Command::Log(LogCode::FetchError, _) => "fetch error",
+        Command::Log(_, _) => "log",
+        Command::Revise(_) => "revise",
+        Command::Invalidate(_) => "invalidate",
+        Command::SetLoader { version: 1, .. } => "load",
+        Command::SetLoader { .. } => "load anew",
+        Command::Timer(1) => "timer 1",
+        Command::Timer(_) => "another timer",
+        Command::Defer(_) => "defer",
+        Command::SetChecks(_) => "checks",
+        Command::RestartCheck { .. } => "restart check",
+        Command::CancelCheck(_) => "cancel check",
+        Command::RunTest { .. } => "run test",
+        Command::StopTest => "stop test",
+        Command::Discover(_) => "discover",
+        Command::Stop => "stop",
     }
 }
 
 fn push_words(text: &mut String, commands: &[Command]) -> Option<()> {
     for command in commands {
-        let (name, path) = command_words(command);
-        text.push_str(name).ok()?;
-        text.push_str(path).ok()?;
+        text.push_str(command_name(command)).ok()?;
     }
     Some(())
 }
@@ -142,16 +132,6 @@ fn source_root_name(snapshot: &GlobalStateSnapshot, path: &VfsPath) -> &'static 
     }
 }
 
-// How many workspaces a snapshot shows, and their version.
-fn shown_name(snapshot: &GlobalStateSnapshot) -> &'static str {
-    match (snapshot.workspaces().len(), snapshot.workspaces_version()) {
-        (0, 0) => "none yet",
-        (1, 1) => "one, first version",
-        (1, 2) => "one, second version",
-        _ => "other workspaces",
-    }
-}
-
 // How many crates a graph has, and what became of the macros of the first crate of which it is told.
 fn graph_name(data: &CrateData) -> &'static str {
     match (data.crates.len(), data.macros.get(0)) {
@@ -165,28 +145,14 @@ fn graph_name(data: &CrateData) -> &'static str {
     }
 }
 
-// The text of a path.
-fn text_at<'a>(snapshot: &'a GlobalStateSnapshot, path: &VfsPath) -> &'a str {
-    match snapshot.path_index(path) {
-        Ok(Some(index)) => index.text(),
-        Ok(None) => "excluded",
-        Err(_) => "none",
-    }
-}
-
-/// What a snapshot shows: of `root` the root in which `/w/a/b.rs` is, and of `text` the text of the path that is named.
+/// What a snapshot shows: of `root` the root in which `/w/a/b.rs` is.
 pub fn shown(alloc: Global, snapshot: &GlobalStateSnapshot, asked: &str) -> Option<String> {
-    if let Some(path) = asked.strip_prefix("text ") {
-        let path = VfsPath::new(alloc, path).ok()??;
-        return String::from_str(alloc, text_at(snapshot, &path)).ok();
-    }
     let path = VfsPath::new(alloc, "/w/a/b.rs").ok()??;
     let name = match asked {
         "settings" => settings_name(snapshot.config()),
         "at first" => root_name(snapshot.config(), 0),
         "at second" => root_name(snapshot.config(), 1),
         "root" => source_root_name(snapshot, &path),
-        "shown" => shown_name(snapshot),
         _ => graph_name(snapshot.crate_data()),
     };
     String::from_str(alloc, name).ok()

@@ -9,7 +9,7 @@ use lsp_frame::FrameReader;
 use plain::{Bytes, Items};
 use ra_config::Config;
 use session::{SessionError, main_loop_from};
-use session_port::{Host, HostEvent, LoadedFile, LoaderMsg, LoadingProgress, Sink};
+use session_port::{Host, HostEvent, Sink};
 use small_analysis::SmallAnalysis;
 use std::alloc::Global;
 use std::test::Fail;
@@ -45,35 +45,6 @@ pub fn given(alloc: Global, bytes: &str) -> Result<ScriptStep, Fail> {
     Ok(ScriptStep::Give(HostEvent::Bytes(bytes)))
 }
 
-fn loader(alloc: Global, message: LoaderMsg) -> Result<ScriptStep, Fail> {
-    let mut messages = Items::new(alloc);
-    messages.push(message)?;
-    Ok(ScriptStep::Give(HostEvent::Vfs(messages)))
-}
-
-fn progress(alloc: Global, n_done: LoadingProgress) -> Result<ScriptStep, Fail> {
-    loader(
-        alloc,
-        LoaderMsg::Progress {
-            n_total: 1,
-            n_done,
-            dir: None,
-            config_version: 1,
-        },
-    )
-}
-
-/// `PATH TEXT`: one file.
-fn files(alloc: Global, line: &str) -> Result<Items<LoadedFile>, Fail> {
-    let (path, text) = cut(line);
-    let mut files = Items::new(alloc);
-    files.push(LoadedFile {
-        path: VfsPath::new(alloc, path)?.ok_or("no path")?,
-        contents: Some(Bytes::from_slice(alloc, text.as_bytes())?),
-    })?;
-    Ok(files)
-}
-
 /// The number that a word is, or 0.
 fn number(word: &str) -> u64 {
     word.parse::<u64>().unwrap_or(0)
@@ -84,22 +55,10 @@ fn one(alloc: Global, number: u64) -> Result<Items<u64>, Fail> {
     Ok(Items::from_vec(Vec::from_slice(alloc, &[number])?))
 }
 
-/// `loading` and `loaded`, `file PATH TEXT`, `finish JOB`, `stop JOB REVISION`, or a message. Job 1 is the fetch that the
-/// start hands over.
+/// `finish JOB`, or a message. Job 1 is the fetch that the start hands over.
 fn step(alloc: Global, line: &str) -> Result<ScriptStep, Fail> {
-    let (word, rest) = cut(line);
-    match word {
-        "loading" => progress(alloc, LoadingProgress::Started),
-        "loaded" => progress(alloc, LoadingProgress::Finished),
-        "file" => {
-            let files = files(alloc, rest)?;
-            loader(alloc, LoaderMsg::Loaded { files })
-        }
-        "finish" => Ok(ScriptStep::Finish(one(alloc, number(rest))?)),
-        "stop" => {
-            let (job, revision) = cut(rest);
-            Ok(ScriptStep::Cancel(number(job), number(revision)))
-        }
+    match cut(line) {
+        ("finish", job) => Ok(ScriptStep::Finish(one(alloc, number(job))?)),
         _ => given(alloc, frame_of(alloc, line)?.as_str()),
     }
 }
@@ -162,49 +121,10 @@ pub fn sink(alloc: Global, fails: u64) -> Result<MemorySink, Fail> {
     Ok(MemorySink::new(alloc, one(alloc, fails)?))
 }
 
-/// The body of the frame that a turn wrote, if it wrote one.
-fn body(turn: &Bytes) -> &str {
-    match str::from_utf8(turn.as_slice()) {
-        Ok(text) => cut_head(text),
-        Err(_) => "no UTF-8",
-    }
-}
-
-fn cut_head(frame: &str) -> &str {
-    match frame.split_once("\r\n\r\n") {
-        Some((_, body)) => body,
-        None => "",
-    }
-}
-
 /// What a run ended with, in words; none where it ended well.
 pub fn told(alloc: Global, fault: Option<SessionError>) -> Result<String, Fail> {
     match fault {
         Some(fault) => Ok(format!(in alloc; "{fault}")?),
         None => Ok(String::new(alloc)),
     }
-}
-
-/// What was written, a body on each line.
-fn bodies(alloc: Global, sink: &MemorySink) -> Result<String, Fail> {
-    let mut text = String::new(alloc);
-    for turn in sink.turns() {
-        let body = body(turn);
-        if !body.is_empty() {
-            text.push_str(body)?;
-            text.push_str("\n")?;
-        }
-    }
-    Ok(text)
-}
-
-/// What a run of these lines writes, and a last line `failed` where it doesn't end well.
-pub fn written(alloc: Global, lines: &str) -> Result<String, Fail> {
-    let mut sink = sink(alloc, 0)?;
-    let fault = ran(alloc, 0, steps(alloc, lines)?, 0, &mut sink)?;
-    let mut text = bodies(alloc, &sink)?;
-    if fault.is_some() {
-        text.push_str("failed\n")?;
-    }
-    Ok(text)
 }

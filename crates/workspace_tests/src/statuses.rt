@@ -1,50 +1,11 @@
-// Compilers that are too old, and all that is told of a session.
-use crate::made::{all_agree, cut, path_at, push, put, text_of, workspace};
+// All that is told of a session.
+use crate::made::{path_at, push, put, text_of, workspace};
 use plain::Items;
-use project_model::{ProjectWorkspace, check_workspaces_msrv};
+use project_model::ProjectWorkspace;
 use status::{Health, StatusInput, current_status};
 use std::alloc::Global;
 use std::test::Fail;
 use test_support::expect;
-
-/// A workspace whose compiler has this version.
-fn with_toolchain(alloc: Global, version: &str) -> Option<ProjectWorkspace> {
-    let mut made = workspace(alloc, "json /w")?;
-    put(&mut made.toolchain, text_of(alloc, version));
-    Some(made)
-}
-
-/// The versions of compilers, and whether they are supported.
-const TOOLCHAINS: &str = "1.78.0 > supported
-1.78.1 > supported
-1.79.0 > supported
-2.0.0 > supported
-1.78.0+build > supported
-1.78.0-nightly > outdated
-1.78.1-nightly > supported
-1.77.2 > outdated
-1.77.9 > outdated
-0.99.0 > outdated
-nightly > supported
-1.77 > supported
- > supported";
-
-fn toolchain_agrees(alloc: Global, line: &str) -> bool {
-    let (version, want) = cut(line, " > ");
-    let mut list = Items::new(alloc);
-    push(&mut list, with_toolchain(alloc, version));
-    let texts = check_workspaces_msrv(alloc, list.as_slice());
-    drop(list);
-    match &texts {
-        Ok(texts) => texts.is_empty() == (want == "supported"),
-        Err(_) => false,
-    }
-}
-
-#[test]
-fn toolchains_from_the_oldest_on_are_supported(rt: HostRuntime) -> Result<(), Fail> {
-    all_agree(rt.alloc(), TOOLCHAINS, toolchain_agrees)
-}
 
 /// A workspace of which nothing could be read.
 fn with_errors(alloc: Global) -> Option<ProjectWorkspace> {

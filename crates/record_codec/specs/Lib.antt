@@ -1,0 +1,9 @@
+pub mod Front
+pub mod Codec
+pub mod Numbers
+pub mod Lists
+pub mod Cases
+pub mod Behind
+pub mod Spoken
+pub mod Leaves
+pub mod Meets

@@ -1,0 +1,10 @@
+pub mod Again
+pub mod AgainCourse
+pub mod AgainRuns
+pub mod AgainTurns
+pub mod Beginnings
+pub mod Fronts
+pub mod Gathered
+pub mod Recorded
+pub mod Repeated
+pub mod Running
