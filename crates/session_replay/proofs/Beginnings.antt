@@ -1,12 +1,12 @@
 -- A session of a record has settings to begin with.
 use Rattle.std.proofs.Common.{◌≡◌, ℕ, Bool, true, false, List, [], ◌∷◌, refl}
-use Rattle.std.specs.Prelude.{◌&&◌, Option, None, Some, is_some, IsSome, Result, Ok, Err}
+use Rattle.std.specs.Prelude.{◌&&◌, is_some, IsSome}
 use Rattle.std.specs.Result.{result_ok}
 use Rattle.serde_json.specs.Data.{Data}
 use Rattle.ra_config.specs.Initialize.{initial_config, config_with, roots_of, at_least_one, paths_of}
 use Rattle.session_port.specs.declared.event.HostEvent.{HostEvent}
 use Rattle.session_record.specs.Record.{can_be_recorded}
-use Rattle.session_record.specs.Start.{start_codec, params_codec, threads_codec, has_root}
+use Rattle.session_record.specs.Start.{start_codec, params_codec, has_root}
 use Rattle.session_record.specs.declared.start.StartConfig.{StartConfig}
 use Rattle.session_record.specs.declared.start.StartConfig.TheVariants.{New, Initialize}
 use Rattle.session_replay.specs.Beginning.{config_of}

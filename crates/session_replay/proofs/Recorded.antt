@@ -4,7 +4,7 @@ use Rattle.std.specs.Prelude.{⊤, Option, None, Result, Ok, Err, IfErr}
 use Rattle.ra_config.specs.Config.{ConfigData}
 use Rattle.session_port.specs.Record.{HostCall, added, after_ok}
 use Rattle.session_laws.specs.Meaning.{Meaning}
-use Rattle.session_laws.specs.Run.{Told, told_of}
+use Rattle.session_laws.specs.Run.{told_of}
 use Rattle.session_laws.specs.SessionError.TheVariants.{ClientExited, BadFrame, BadMessage, HostFault, WriteFault, Exhausted, NoMemory}
 use Rattle.session.proofs.Unstarted.{unstarted}
 use Rattle.session_record.specs.declared.start.StartConfig.{StartConfig}

@@ -1,5 +1,5 @@
 -- A record's session repeats each run that had its events.
-use Rattle.std.proofs.Common.{◌≡◌, ℕ, ◌<◌, Bool, false, List, [], ◌∷◌, ◌++◌, refl, sym, ap, ◌∙◌, subst}
+use Rattle.std.proofs.Common.{◌≡◌, ℕ, ◌<◌, false, List, [], ◌++◌, refl, sym, ap, ◌∙◌, subst}
 use Rattle.std.specs.Prelude.{⊤, Option, Some, Result, ◌^◌, replicate}
 use Rattle.session_port.specs.Record.{HostCall, given_in}
 use Rattle.session_port.specs.declared.event.HostEvent.{HostEvent}

@@ -1,6 +1,6 @@
 -- The session of a record is run.
 use Rattle.std.proofs.Common.{◌≡◌, ℕ, Bool, false, List, [], ◌∷◌, ◌++◌, refl, sym, ap, subst, ◌∙◌, arith}
-use Rattle.std.specs.Prelude.{⊤, Option, None, Some, IsSome, Result, Ok, Err}
+use Rattle.std.specs.Prelude.{⊤, Option, None, Some, IsSome, Result, Err}
 use Rattle.ra_config.specs.Config.{ConfigData}
 use Rattle.session_port.specs.Record.{HostCall, Rose, given_in}
 use Rattle.session_port.specs.declared.event.HostEvent.{HostEvent}

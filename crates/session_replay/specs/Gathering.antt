@@ -1,15 +1,13 @@
 -- The bytes that a host gives up to its end.
-use Rattle.std.specs.Prelude.{◌≡◌, ℕ, ◌≤◌, ◌<◌, ◌-◌, ◌^◌, List, [], ◌∷◌, ◌++◌, length, Bool, false, Option, Result, Ok, Err}
+use Rattle.std.specs.Prelude.{◌≡◌, ℕ, ◌≤◌, ◌<◌, ◌-◌, ◌^◌, List, [], ◌∷◌, ◌++◌, length, false, Option, Result, Ok, Err}
 use Rattle.std.specs.List.{list_any}
 use Rattle.host_fakes.specs.Script.{is_end}
 use Rattle.session_port.specs.Events.{event_bytes}
 use Rattle.session_port.specs.Record.{HostCall, grown}
 use Rattle.session_port.specs.declared.event.HostEvent.{HostEvent}
 use Rattle.session_port.specs.declared.event.HostEvent.TheVariants.{Ended}
-use Rattle.session_port.specs.declared.fault.Counter.{Counter}
 use Rattle.session_port.specs.declared.fault.Counter.TheVariants.{Turns}
 use Rattle.session_laws.specs.Run.{giving}
-use Rattle.session_laws.specs.SessionError.{SessionError}
 use Rattle.session_laws.specs.SessionError.TheVariants.{ClientExited, BadFrame, BadMessage, HostFault, WriteFault}
 use Rattle.session_laws.specs.SessionError.TheVariants.{Exhausted, NoMemory}
 use Rattle.session_replay.specs.declared.error.ReplayError.{ReplayError}

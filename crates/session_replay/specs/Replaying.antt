@@ -1,5 +1,5 @@
 -- A record that is read, and its session that is run again.
-use Rattle.std.specs.Prelude.{◌≡◌, ℕ, List, [], ◌++◌, Bool, true, false, ⊤, Option, Some, Result, Ok, Err, replicate}
+use Rattle.std.specs.Prelude.{◌≡◌, ℕ, List, [], ◌++◌, true, false, ⊤, Option, Some, Result, Ok, Err, replicate}
 use Rattle.ra_config.specs.Config.{ConfigData}
 use Rattle.session_port.specs.Record.{HostCall, given_in}
 use Rattle.session_port.specs.declared.event.HostEvent.{HostEvent}

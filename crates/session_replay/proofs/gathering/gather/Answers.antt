@@ -1,5 +1,5 @@
 use Rattle.std.proofs.Common.{rules}
-use Rattle.session_replay.proofs.Gathered.{taken-none, taken-next, gathers-end, gathers-stopped}
+use Rattle.session_replay.proofs.Gathered.{taken-next, gathers-stopped}
 use Rattle.session_replay.proofs.gathering.gather.Goals as goal
 
 pub loop-preserved : goal.loop-preserved

@@ -1,4 +1,3 @@
-use Rattle.session_record.specs.declared.start.StartConfig.TheVariants.{New}
 use Rattle.session_replay.proofs.recording.record.Given as goal
 
 abbrev pub ghosts-record_by : goal.ghosts-record_by
