@@ -9,14 +9,6 @@ use plain::{Items, Json, Text};
 use std::alloc::Global;
 use text_core::{LineEndings, SharedText};
 
-/// What stands before the first mark in a text, and what stands behind it.
-pub fn cut<'a>(text: &'a str, mark: &str) -> (&'a str, &'a str) {
-    match text.split_once(mark) {
-        Some(parts) => parts,
-        None => (text, ""),
-    }
-}
-
 /// Adds words to a text.
 pub fn add(text: &mut String, more: &str) {
     let _ = text.push_str(more);

@@ -1,7 +1,7 @@
 // Tables of texts that share what they have in common, and changes whose steps are counted.
 ghost use Rattle.std.specs.Prelude.{◌≡◌, ◌<◌};
 
-use crate::calls::{add, change_with, cut, entry_of, path_at};
+use crate::calls::{add, change_with, entry_of, path_at};
 use analysis_host::{AnalysisHost, TextTree};
 use shared_map::Steps;
 use std::alloc::Global;
@@ -9,7 +9,7 @@ use std::marker::Brand;
 use std::mem;
 use std::sync::ledger::{Blank, Ledger};
 use std::test::Fail;
-use test_support::expect;
+use test_support::{cut, expect};
 
 /// The table with a text at a path, or with none there where the text is `-`.
 fn with_text<L: Ledger>(

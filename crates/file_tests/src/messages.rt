@@ -2,13 +2,13 @@
 // answers none also where memory runs out.
 ghost use Rattle.notify.specs.Writing.{HoldsPlain};
 
-use crate::calls::{add, cut, json, text_of};
+use crate::calls::{add, json, text_of};
 use crate::forms::form;
 use notify::{MessageKind, Outgo, ProgressValue, TestReport, is_request, outgo_body};
 use plain::{Items, Json, Text};
 use std::alloc::Global;
 use std::test::Fail;
-use test_support::expect;
+use test_support::{cut, expect};
 
 /// `q` for a request and `n` for a notification.
 fn letter(message: &Outgo) -> &'static str {

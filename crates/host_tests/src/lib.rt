@@ -1,7 +1,12 @@
-//! Tests of what a host with threads stands on: the inbox and the revision word, with real threads.
+//! Tests of the port and of what a host stands on: jobs, hosts that follow a script, peers that are lent, records of sessions, and with real
+//! threads the inbox and the revision word.
 #![tactic(auto)]
 
 #[cfg(test)]
 mod atomic_revision_tests;
 #[cfg(test)]
 mod inbox_tests;
+#[cfg(test)]
+mod port_tests;
+#[cfg(test)]
+mod record_tests;

@@ -1,8 +1,0 @@
-use Rattle.std.proofs.Common.{◌≡◌, false}
-use Rattle.session_record_tests.proofs.recorders.take_events.Given as goal
-
-abbrev pub invariant-loop : goal.invariant-loop
-invariant-loop g l = record {
-  usable : g.H.Host.poisoned l.host ≡ false;
-  same : g.H.Host.origin l.host ≡ g.H.Host.origin l.fn.host;
-}

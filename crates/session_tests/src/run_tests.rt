@@ -1,0 +1,3 @@
+// Tests of runs of a session, by scripts.
+mod failures;
+mod scripts;

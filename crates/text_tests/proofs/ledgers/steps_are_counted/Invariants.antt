@@ -1,4 +1,0 @@
-use Rattle.text_tests.proofs.ledgers.steps_are_counted.Given as goal
-
-abbrev pub ghosts-counted : goal.ghosts-counted
-ghosts-counted a = record { name = a.blank.name; parts = a.blank.parts }
