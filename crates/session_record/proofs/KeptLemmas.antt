@@ -3,7 +3,7 @@ use Rattle.std.proofs.Common.{is_some, cond, Bool, Option, Some, None, subst, â—
 use Rattle.std.proofs.lemmas.List.{append-nil, length-append}
 use Rattle.record_codec.specs.Front.{and_left, and_right, and_both}
 use Rattle.record_codec.specs.Lists.{items_fit, spell_marked}
-use Rattle.session_record.specs.Events.{host_event_codec}
+use Rattle.event_codec.specs.Events.{host_event_codec}
 use Rattle.session_record.specs.Record.{magic, first_unfit}
 use Rattle.session_record.specs.Start.{start_codec}
 use Rattle.session_record.proofs.Unfit.{none_unfit}

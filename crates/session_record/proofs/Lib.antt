@@ -1,11 +1,6 @@
-pub mod Appending
-pub mod JsonLemmas
 pub mod KeptLemmas
-pub mod Loops
 pub mod PropLemmas
 pub mod RootLemmas
-pub mod SignedLemmas
 pub mod SinceLemmas
-pub mod TextLemmas
 pub mod Unfit
 pub mod Whole

@@ -2,7 +2,7 @@
 use Rattle.std.proofs.Common.{◌≡◌, List, [], ◌∷◌, length, true, refl, arith}
 use Rattle.record_codec.specs.Front.{and_left, and_right}
 use Rattle.record_codec.specs.Lists.{items_fit}
-use Rattle.session_record.specs.Events.{host_event_codec}
+use Rattle.event_codec.specs.Events.{host_event_codec}
 use Rattle.session_record.specs.Record.{first_unfit}
 use Rattle.session_port.specs.declared.event.HostEvent.{HostEvent}
 

@@ -1,7 +1,7 @@
 -- What a recorder keeps of a session while it goes on.
 use Rattle.std.specs.Prelude.{◌≡◌, ℕ, List, [], ◌∷◌, ◌++◌, length, true, false, Option, Some, None}
 use Rattle.record_codec.specs.Lists.{items_fit}
-use Rattle.session_record.specs.Events.{host_event_codec}
+use Rattle.event_codec.specs.Events.{host_event_codec}
 use Rattle.session_record.specs.Start.{start_codec}
 use Rattle.session_record.specs.Record.{magic, first_unfit}
 use Rattle.session_port.specs.declared.event.HostEvent.{HostEvent}

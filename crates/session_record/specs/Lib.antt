@@ -1,9 +1,3 @@
-pub mod Diagnostics
-pub mod Workspaces
-pub mod Jobs
-pub mod Loading
-pub mod News
-pub mod Events
 pub mod Start
 pub mod Record
 pub mod Keeping

@@ -6,7 +6,7 @@ use Rattle.record_codec.specs.Front.{Found}
 use Rattle.record_codec.specs.Codec.{Codec, ◌and◌}
 use Rattle.record_codec.specs.Lists.{items_fit, spell_marked, marked}
 use Rattle.record_codec.specs.Behind.{behind}
-use Rattle.session_record.specs.Events.{host_event_codec}
+use Rattle.event_codec.specs.Events.{host_event_codec}
 use Rattle.session_record.specs.Start.{start_codec}
 use Rattle.session_port.specs.declared.event.HostEvent.{HostEvent}
 use Rattle.session_record.specs.declared.start.StartConfig.{StartConfig}

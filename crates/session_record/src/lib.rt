@@ -3,19 +3,11 @@
 #![tactic(auto)]
 
 mod beginning;
-mod diagnostics;
-mod events;
 mod fault;
-mod jobs;
-mod leaves;
-mod loading;
-mod news;
 mod record;
-mod recorded;
 mod recorder;
 mod recording;
 mod start;
-mod workspaces;
 
 pub use beginning::Beginning;
 pub use fault::RecordFault;

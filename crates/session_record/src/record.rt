@@ -1,14 +1,14 @@
 // Records of whole sessions.
 ghost use Rattle.std.specs.Prelude.{◌≡◌, List, ◌∷◌, true, IfOk, IfErr};
 ghost use Rattle.record_codec.specs.Meets.{Appends};
-ghost use Rattle.session_record.specs.Events.{host_event_codec};
+ghost use Rattle.event_codec.specs.Events.{host_event_codec};
 ghost use Rattle.session_record.specs.Record.{session, recorded, can_be_recorded, Refuses, AppendsEvents, DecodesAll, IsSession, RefusesBytes};
 ghost use Rattle.session_port.specs.declared.event.HostEvent.{HostEvent as Event};
 ghost use Rattle.session_record.specs.declared.start.StartConfig.{StartConfig as Start};
 
 use crate::fault::RecordFault;
-use crate::recorded::{Recorded, decode_marked};
 use crate::start::StartConfig;
+use event_codec::{Recorded, decode_marked};
 use plain::Items;
 use record_codec::{Cursor, DecodeFault, EncodeFault};
 use session_port::HostEvent;

@@ -6,8 +6,8 @@ ghost use Rattle.session_record.specs.Record.{recorded, can_be_recorded, IsRecor
 
 use crate::fault::RecordFault;
 use crate::record::{MAGIC, encode_event};
-use crate::recorded::Recorded;
 use crate::start::StartConfig;
+use event_codec::Recorded;
 use plain::NoMemory;
 use record_codec::EncodeFault;
 use session_port::HostEvent;

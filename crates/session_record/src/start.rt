@@ -3,8 +3,8 @@ ghost use Rattle.std.specs.Prelude.{◌≡◌, IfOk};
 ghost use Rattle.record_codec.specs.Meets.{Encodes, Decodes};
 ghost use Rattle.session_record.specs.Start.{has_root, threads_codec, params_codec, start_codec};
 
-use crate::recorded::Recorded;
 use docs_vfs::VfsPath;
+use event_codec::Recorded;
 use plain::{Json, NoMemory};
 use ra_config::Config;
 use record_codec::{Cursor, DecodeFault, EncodeFault};

@@ -1,6 +1,6 @@
 use Rattle.std.proofs.Common.{◌≡◌, ◌+◌, ◌++◌, drop}
 use Rattle.record_codec.specs.Lists.{items_fit, spell_marked}
-use Rattle.session_record.specs.Events.{host_event_codec}
+use Rattle.event_codec.specs.Events.{host_event_codec}
 use Rattle.session_record.specs.Record.{first_unfit}
 use Rattle.session_record.proofs.record.encode_events.Given as goal
 

@@ -1,7 +1,7 @@
 // The codecs of what checks, a test run and discoveries of projects tell.
 ghost use Rattle.std.specs.Prelude.{◌≡◌};
 ghost use Rattle.record_codec.specs.Meets.{Encodes};
-ghost use Rattle.session_record.specs.News.{added_codec, check_progress_codec, flycheck_msg_codec, test_state_codec, test_output_codec, test_msg_codec, discover_msg_codec};
+ghost use Rattle.event_codec.specs.News.{added_codec, check_progress_codec, flycheck_msg_codec, test_state_codec, test_output_codec, test_msg_codec, discover_msg_codec};
 
 use crate::recorded::Recorded;
 use docs_vfs::VfsPath;

@@ -1,6 +1,6 @@
 use Rattle.std.proofs.Common.{◌≡◌, ◌++◌, drop}
 use Rattle.record_codec.specs.Lists.{items_fit, spell_items}
-use Rattle.session_record.proofs.recorded.encode_items.Given as goal
+use Rattle.event_codec.proofs.recorded.encode_items.Given as goal
 
 -- what was put, with what is left to put, is all; and all have spellings where the rest have
 abbrev pub invariant-loop-item : goal.invariant-loop-item

@@ -1,6 +1,6 @@
 // The codecs of workspaces, with what builds and macros made.
 ghost use Rattle.std.specs.Prelude.{◌≡◌};
-ghost use Rattle.session_record.specs.Workspaces.{root_codec, target_kind_codec, target_codec, package_codec, crate_entry_codec, macro_path_codec, build_scripts_codec, workspace_kind_codec, workspace_end, end_of_workspace, project_workspace_codec, macro_state_codec};
+ghost use Rattle.event_codec.specs.Workspaces.{root_codec, target_kind_codec, target_codec, package_codec, crate_entry_codec, macro_path_codec, build_scripts_codec, workspace_kind_codec, workspace_end, end_of_workspace, project_workspace_codec, macro_state_codec};
 ghost use Rattle.record_codec.specs.Meets.{Encodes, Decodes};
 
 use crate::recorded::Recorded;

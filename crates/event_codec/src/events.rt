@@ -1,6 +1,6 @@
 // The codecs of what a host gives.
 ghost use Rattle.std.specs.Prelude.{◌≡◌};
-ghost use Rattle.session_record.specs.Events.{host_event_codec};
+ghost use Rattle.event_codec.specs.Events.{host_event_codec};
 
 use crate::recorded::Recorded;
 use record_codec::{Cursor, DecodeFault, EncodeFault};

@@ -6,7 +6,7 @@ use Rattle.record_codec.specs.Codec.{Codec, ◌and◌, by_parts, nothing}
 use Rattle.record_codec.specs.Numbers.{number64, text}
 use Rattle.record_codec.specs.Cases.{◌or◌, last, by_cases, optional, outcome}
 use Rattle.record_codec.specs.Leaves.{path, json}
-use Rattle.session_record.specs.Diagnostics.{diagnostic_codec}
+use Rattle.event_codec.specs.Diagnostics.{diagnostic_codec}
 use Rattle.lsp_types.specs.declared.diagnostic.Diagnostic.{Diagnostic}
 use Rattle.session_port.specs.declared.news.CheckProgress.{CheckProgress}
 use Rattle.session_port.specs.declared.news.CheckProgress.TheVariants as check_progress

@@ -1,6 +1,6 @@
 // The codecs of deferred tasks and messages of a loader.
 ghost use Rattle.std.specs.Prelude.{◌≡◌};
-ghost use Rattle.session_record.specs.Loading.{deferred_task_codec, loaded_file_codec, loading_progress_codec, loader_msg_codec};
+ghost use Rattle.event_codec.specs.Loading.{deferred_task_codec, loaded_file_codec, loading_progress_codec, loader_msg_codec};
 
 use crate::recorded::Recorded;
 use record_codec::{Cursor, DecodeFault, EncodeFault};

@@ -5,9 +5,9 @@ use Rattle.record_codec.specs.Codec.{Codec, nothing}
 use Rattle.record_codec.specs.Numbers.{number64, counted}
 use Rattle.record_codec.specs.Lists.{list_of}
 use Rattle.record_codec.specs.Cases.{◌or◌, last, by_cases}
-use Rattle.session_record.specs.Jobs.{task_msg_codec}
-use Rattle.session_record.specs.Loading.{deferred_task_codec, loader_msg_codec}
-use Rattle.session_record.specs.News.{discover_msg_codec, flycheck_msg_codec, test_msg_codec}
+use Rattle.event_codec.specs.Jobs.{task_msg_codec}
+use Rattle.event_codec.specs.Loading.{deferred_task_codec, loader_msg_codec}
+use Rattle.event_codec.specs.News.{discover_msg_codec, flycheck_msg_codec, test_msg_codec}
 use Rattle.session_port.specs.declared.command.DeferredTask.{DeferredTask}
 use Rattle.session_port.specs.declared.news.DiscoverMsg.{DiscoverMsg}
 use Rattle.session_port.specs.declared.news.FlycheckMsg.{FlycheckMsg}

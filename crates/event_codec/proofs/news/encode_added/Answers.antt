@@ -2,10 +2,10 @@ use Rattle.record_codec.specs.Cases.{optional}
 use Rattle.record_codec.specs.Codec.{◌and◌}
 use Rattle.record_codec.specs.Leaves.{path, json}
 use Rattle.record_codec.specs.Numbers.{number64, text}
-use Rattle.session_record.specs.Diagnostics.{diagnostic_codec}
-use Rattle.session_record.specs.News.{added_codec}
-use Rattle.session_record.proofs.Appending.{appended}
-use Rattle.session_record.proofs.news.encode_added.Goals as goal
+use Rattle.event_codec.specs.Diagnostics.{diagnostic_codec}
+use Rattle.event_codec.specs.News.{added_codec}
+use Rattle.event_codec.proofs.Appending.{appended}
+use Rattle.event_codec.proofs.news.encode_added.Goals as goal
 
 pub returns : goal.returns
 unfolding added_codec

@@ -1,6 +1,6 @@
 use Rattle.record_codec.specs.Lists.{read_items}
-use Rattle.session_record.proofs.Loops.{goes_on}
-use Rattle.session_record.proofs.recorded.decode_items.Goals as goal
+use Rattle.event_codec.proofs.Loops.{goes_on}
+use Rattle.event_codec.proofs.recorded.decode_items.Goals as goal
 
 pub loop-preserved : goal.loop-preserved
 loop-preserved g c =

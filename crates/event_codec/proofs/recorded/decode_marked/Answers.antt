@@ -1,7 +1,7 @@
 use Rattle.std.proofs.Common.{◌<◌, length, arith}
 use Rattle.record_codec.specs.Lists.{read_marked}
-use Rattle.session_record.proofs.Loops.{marked_on}
-use Rattle.session_record.proofs.recorded.decode_marked.Goals as goal
+use Rattle.event_codec.proofs.Loops.{marked_on}
+use Rattle.event_codec.proofs.recorded.decode_marked.Goals as goal
 
 pub loop-preserved : goal.loop-preserved
 loop-preserved g c =

@@ -1,6 +1,6 @@
 // The codecs of what is wrong in a file.
 ghost use Rattle.std.specs.Prelude.{◌≡◌};
-ghost use Rattle.session_record.specs.Diagnostics.{position_codec, range_codec, related_codec, diagnostic_codec};
+ghost use Rattle.event_codec.specs.Diagnostics.{position_codec, range_codec, related_codec, diagnostic_codec};
 
 use crate::recorded::Recorded;
 use lsp_types::{Diagnostic, Related};

@@ -1,7 +1,7 @@
 // The codecs of messages of jobs.
 ghost use Rattle.std.specs.Prelude.{◌≡◌};
 ghost use Rattle.record_codec.specs.Meets.{Encodes};
-ghost use Rattle.session_record.specs.Jobs.{job_value_codec, job_result_codec, prime_report_codec, task_body_codec, task_msg_codec};
+ghost use Rattle.event_codec.specs.Jobs.{job_value_codec, job_result_codec, prime_report_codec, task_body_codec, task_msg_codec};
 
 use crate::recorded::Recorded;
 use plain::{Items, Text};

@@ -7,8 +7,8 @@ use Rattle.record_codec.specs.Numbers.{number32, number64, signed32, text}
 use Rattle.record_codec.specs.Lists.{list_of}
 use Rattle.record_codec.specs.Cases.{◌or◌, last, by_cases, optional, outcome}
 use Rattle.record_codec.specs.Leaves.{file, path, json}
-use Rattle.session_record.specs.Diagnostics.{diagnostic_codec}
-use Rattle.session_record.specs.Workspaces.{build_scripts_codec, macro_state_codec, project_workspace_codec}
+use Rattle.event_codec.specs.Diagnostics.{diagnostic_codec}
+use Rattle.event_codec.specs.Workspaces.{build_scripts_codec, macro_state_codec, project_workspace_codec}
 use Rattle.docs_vfs.specs.declared.file_kinds.FileId.{FileId}
 use Rattle.project_model.specs.declared.build.BuildScripts.{BuildScripts}
 use Rattle.lsp_types.specs.declared.diagnostic.Diagnostic.{Diagnostic}

@@ -1,9 +1,9 @@
 use Rattle.record_codec.specs.Codec.{◌and◌}
 use Rattle.record_codec.specs.Lists.{list_of}
 use Rattle.record_codec.specs.Numbers.{number64, text}
-use Rattle.session_record.specs.Jobs.{prime_report_codec}
-use Rattle.session_record.proofs.Appending.{appended}
-use Rattle.session_record.proofs.jobs.encode_prime_report.Goals as goal
+use Rattle.event_codec.specs.Jobs.{prime_report_codec}
+use Rattle.event_codec.proofs.Appending.{appended}
+use Rattle.event_codec.proofs.jobs.encode_prime_report.Goals as goal
 
 pub returns : goal.returns
 unfolding prime_report_codec

@@ -11,7 +11,7 @@ use record_codec::{Cursor, DecodeFault, EncodeFault, encode_counted, encode_leng
 use std::alloc::Global;
 
 /// A type whose values have spellings.
-pub(crate) trait Recorded {
+pub trait Recorded {
     ghost code: { Codec Self };
 
     /// Appends the spelling. After an error what was appended says nothing.
@@ -254,7 +254,7 @@ impl<T: Recorded + Drop> Recorded for Items<T> {
 }
 
 /// Reads items that stand behind a byte 1 each, up to a byte 0.
-pub(crate) fn decode_marked<T: Recorded + Drop>(
+pub fn decode_marked<T: Recorded + Drop>(
     alloc: Global,
     cursor: &mut Cursor<'_>,
 ) -> Result<Items<T>, DecodeFault>
