@@ -1,12 +1,12 @@
 // Maps by path that share what they have in common.
-ghost use Rattle.std.specs.Prelude.{◌≡◌, IfOk, OnOk, OnErr, option_copied};
+ghost use Rattle.std.specs.Prelude.{◌≡◌, IfOk, OnOk, OnErr, option_copied, map as each};
 ghost use Rattle.std.specs.FinMap as map;
 ghost use Rattle.shared_map.specs.AsMap.{set_in_map};
 ghost use Rattle.shared_map.specs.Costs.{IsQuick};
 
 use crate::text_entry::TextEntry;
 use docs_vfs::VfsPath;
-use plain::ExactClone;
+use plain::{ExactClone, Items};
 use shared_map::{SharedMap, Steps};
 use std::alloc::{AllocError, Global};
 use std::marker::Model;
@@ -26,6 +26,17 @@ impl<V: Drop> Drop for PathMap<V> {
 
 /// What a world keeps of each file by path: its text and its line endings.
 pub type TextTree = PathMap<TextEntry>;
+
+/// The paths of entries.
+fn paths_of<V>(alloc: Global, entries: &[&(VfsPath, V)]) -> Result<Items<VfsPath>, AllocError>
+    ensures { IfOk result (λ paths. paths ≡ each (λ entry. entry.now.0) entries.now) }
+{
+    let mut paths = Items::new(alloc);
+    for entry in entries {
+        paths.push(entry.0.clone()?)?;
+    }
+    Ok(paths)
+}
 
 impl<V> Model for PathMap<V> {
     ghost use Rattle.std.specs.FinMap as map;
@@ -59,6 +70,15 @@ impl<V> PathMap<V> {
         ensures { option_copied result ≡ map.get self.now path.now }
     {
         self.rows.get(path)
+    }
+
+    /// The paths in order.
+    pub fn paths(&self, alloc: Global) -> Result<Items<VfsPath>, AllocError>
+        ensures { IfOk result (λ paths. paths ≡ map.keys self.now) }
+    {
+        let _in_order = self.rows.len();
+        let entries = self.rows.entries()?;
+        paths_of(alloc, entries.as_slice())
     }
 
     /// The map with the value at the path, or with none at it. This one stays as it is. Each step is one node that is read.

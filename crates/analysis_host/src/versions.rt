@@ -5,7 +5,7 @@ ghost use Rattle.analysis_host.specs.Versions.{with_version};
 
 use crate::path_map::PathMap;
 use docs_vfs::VfsPath;
-use plain::ExactClone;
+use plain::{ExactClone, Items};
 use shared_map::Steps;
 use std::alloc::{AllocError, Global};
 use std::marker::{Brand, Model};
@@ -48,6 +48,13 @@ impl Versions {
         ensures { result ≡ map.get self.now path.now }
     {
         self.versions.get(path).copied()
+    }
+
+    /// The open paths in order.
+    pub fn paths(&self, alloc: Global) -> Result<Items<VfsPath>, AllocError>
+        ensures { IfOk result (λ paths. paths ≡ map.keys self.now) }
+    {
+        self.versions.paths(alloc)
     }
 
     /// The map with that path set, or without it. It shares with this one all nodes but those on the way to the path.

@@ -1,5 +1,10 @@
 -- What the messages of jobs end of the session's own work, and what it came to.
-use Rattle.std.specs.Prelude.{ℕ, List, codes, Option, None, Some, option_and_then, Result, Ok, Err}
+use Rattle.std.specs.Prelude.{◌≡◌, ℕ, List, [], codes, map as each, All, true, Option, None, Some, option_and_then}
+use Rattle.std.specs.Prelude.{Result, Ok, Err}
+use Rattle.docs_vfs.specs.declared.file_kinds.FileId.{FileId}
+use Rattle.lsp_types.specs.declared.diagnostic.Diagnostic.{Diagnostic}
+use Rattle.op_board.specs.declared.diagnostic.NativePass.{NativePass}
+use Rattle.plain.specs.Plain.{is_plain}
 use Rattle.project_model.specs.declared.build.BuildScripts.{BuildScripts}
 use Rattle.project_model.specs.declared.crates.MacroState.{MacroState}
 use Rattle.project_model.specs.declared.workspace.ProjectWorkspace.{ProjectWorkspace}
@@ -9,14 +14,16 @@ use Rattle.session_port.specs.declared.event.TaskBody.TheVariants.{Final}
 use Rattle.session_port.specs.declared.event.TaskMsg.{TaskMsg}
 use Rattle.session_port.specs.declared.job.Job.{Job}
 use Rattle.session_port.specs.declared.job.JobKind.{JobKind}
+use Rattle.session_port.specs.declared.job.JobKind.TheVariants as kinds
 use Rattle.session_port.specs.declared.job.JobResult.{JobResult}
 use Rattle.session_port.specs.declared.job.JobResult.TheVariants.{Value, Fault, Cancelled, NoMemory}
 use Rattle.session_port.specs.declared.job.JobValue.{JobValue}
 use Rattle.session_port.specs.declared.job.JobValue.TheVariants.{Roots, Workspaces, BuildData, ProcMacros}
+use Rattle.session_port.specs.declared.job.JobValue.TheVariants.{Diagnostics, Tests}
 use Rattle.session_port.specs.declared.kinds.JobGroup.{JobGroup}
 use Rattle.session_port.specs.declared.kinds.JobGroup.TheVariants as groups
 use Rattle.desk.specs.declared.state.ends.WorkEnd.{WorkEnd}
-use Rattle.desk.specs.declared.state.ends.WorkEnd.TheVariants.{Fetched, Built, Checked, Loaded}
+use Rattle.desk.specs.declared.state.ends.WorkEnd.TheVariants.{Fetched, Built, Checked, Loaded, Diagnosed, Tested}
 
 -- ---- what each kind of work comes to
 
@@ -63,6 +70,31 @@ check_end (Ok (Roots paths)) = Some (Checked paths)
 check_end (Ok other) = None
 check_end (Err reason) = None
 
+-- ---- lists of files
+
+-- an empty list for each of these files
+abbrev pub empty_lists : List FileId → List (FileId × List Diagnostic)
+empty_lists files = each (λ file. (file, [])) files
+
+-- what is wrong in files: the lists that were found, or, after a fault, none of them; a job that stopped or found no
+-- memory leaves those that there are
+abbrev pub lists_end : ℕ → NativePass → List FileId → JobResult → Option WorkEnd
+lists_end generation pass files (Value (Diagnostics lists)) = Some (Diagnosed generation pass lists)
+lists_end generation pass files (Value other) = None
+lists_end generation pass files (Fault code message) = Some (Diagnosed generation pass (empty_lists files))
+lists_end generation pass files (Cancelled saw) = None
+lists_end generation pass files NoMemory = None
+
+-- the tests of files, where they were found
+abbrev pub tests_end : List FileId → JobResult → Option WorkEnd
+tests_end files (Value (Tests tests)) = Some (Tested files tests)
+tests_end files other = None
+
+-- the JSON in an end is plain
+abbrev pub IsPlainEnd : WorkEnd → Type 0
+IsPlainEnd (Tested files tests) = All (λ test. is_plain test ≡ true) tests
+IsPlainEnd other = Unit {0}
+
 -- ---- what ends
 
 -- what a job of this group ends that came to this: a fetch, a run of build data, a load of macros and a check of
@@ -75,7 +107,9 @@ end_in groups.SourceChecks came = check_end came
 end_in other came = None
 
 abbrev pub work_end_of : JobKind → JobResult → Option WorkEnd
-work_end_of kind result = end_in (job_group kind) (value_or_reason result)
+work_end_of (kinds.Diagnostics generation pass files) result = lists_end generation pass files result
+work_end_of (kinds.Tests files) result = tests_end files result
+work_end_of other result = end_in (job_group other) (value_or_reason result)
 
 -- the message that the job with this number has ended so
 abbrev pub ended_message : ℕ → JobResult → TaskMsg

@@ -12,7 +12,7 @@ use Rattle.project_model.specs.declared.workspace.ProjectWorkspace.{ProjectWorks
 use Rattle.change_effects.specs.Filing.{filed_change, crate_file, crate_files, file_in, is_at_workspace, text_in, workspace_file, workspace_files}
 use Rattle.change_effects.specs.declared.effects.SettingsFile.{SettingsFile}
 use Rattle.session_port.specs.Jobs.{final_of, fits_job, fits_kind}
-use Rattle.session_port.specs.TurnState.{TurnState, and_then}
+use Rattle.session_port.specs.TurnState.{TurnState, and_then, written}
 use Rattle.session_port.specs.declared.event.TaskBody.{TaskBody}
 use Rattle.session_port.specs.declared.event.TaskBody.TheVariants.{Final}
 use Rattle.session_port.specs.declared.event.TaskMsg.{TaskMsg}
@@ -23,7 +23,7 @@ use Rattle.session_port.specs.declared.job.JobKind.TheVariants.{LoadProcMacros}
 use Rattle.session_port.specs.declared.job.JobResult.{JobResult}
 use Rattle.desk.specs.WorkEnds.{LoadEnd, work_end_of, work_ended, work_told}
 use Rattle.desk.specs.declared.state.ends.WorkEnd.{WorkEnd}
-use Rattle.desk.specs.declared.state.ends.WorkEnd.TheVariants.{Fetched, Built, Checked, Loaded}
+use Rattle.desk.specs.declared.state.ends.WorkEnd.TheVariants.{Fetched, Built, Checked, Loaded, Diagnosed, Tested}
 use Rattle.desk.specs.Meaning.{Meaning}
 use Rattle.desk.specs.Steps.{result_taken as taken_at_desk}
 use Rattle.desk_laws.proofs.Fitting.{fit-fits}
@@ -41,7 +41,10 @@ use Rattle.session_model.specs.Fetching.{fetch_kept}
 use Rattle.session_model.specs.Loading.{crates_loaded, load_kept}
 use Rattle.session_model.specs.Machine.{Turning, at_desk, at_files, at_workspaces, build_taken, files_done, knowing, crates_arrived, desk_in, end_taken}
 use Rattle.session_model.specs.Machine.{work_taken, fetch_taken, files_followed, files_in, files_part, files_processed, files_processed_if, in_state}
-use Rattle.session_model.specs.Machine.{load_taken, macros_taken, quiet_done, client_refreshed, settings_filed, some_processed, state_in, message_taken}
+use Rattle.op_board.specs.Acts.{step as after_act}
+use Rattle.op_board.specs.Acts.Act.{ForgetsAll}
+use Rattle.session_model.specs.Machine.{at_board}
+use Rattle.session_model.specs.Machine.{load_taken, macros_taken, refreshes_done, client_refreshed, settings_filed, some_processed, state_in, message_taken}
 use Rattle.session_model.specs.Machine.{with_client}
 use Rattle.session_model.specs.Machine.{with_desk, with_files, with_sources, with_state}
 use Rattle.session_model.specs.Asking.{is_refresh_due}
@@ -131,6 +134,8 @@ crates_with (Fetched found) workspaces = None
 crates_with (Built made) workspaces = None
 crates_with (Checked roots) workspaces = None
 crates_with (Loaded told) workspaces = crates_loaded told workspaces
+crates_with (Diagnosed generation pass lists) workspaces = None
+crates_with (Tested files tests) workspaces = None
 
 abbrev crates_by : Option WorkEnd → Workspaces → Option CrateData
 crates_by None workspaces = None
@@ -149,14 +154,16 @@ load-brings told w =
     from (Some crates) t b = record { roots = b.roots; current = b.current; taken = b.taken; revision = b.revision }
 
 work-brings : (end : WorkEnd) (w : TurnState State) → IfOk (work_taken end w) (λ v. Brings (crates_with end w.state.workspaces) w.state v.state)
-unfolding work_taken fetch_taken build_taken
+unfolding work_taken fetch_taken build_taken written
 work-brings (Fetched found) w =
-    let v : TurnState State = at_workspaces (fetch_kept found) w in ap (λ (s : State). s.files)
+    let v : TurnState State = at_board (after_act ForgetsAll) (at_workspaces (fetch_kept found) w) in ap (λ (s : State). s.files)
     (logged_if-same FetchError (fetch_fault v.state.client.settings v.state.workspaces) v)
 work-brings (Built made) w =
     let v : TurnState State = at_workspaces (build_kept made) w in ap (λ (s : State). s.files) (logged_if-same BuildError (build_fault v.state.workspaces) v)
 work-brings (Checked roots) w = refl
 work-brings (Loaded told) w = load-brings told w
+work-brings (Diagnosed generation pass lists) w = refl
+work-brings (Tested files tests) w = refl
 
 end-brings : (end : Option WorkEnd) (w : TurnState State) → IfOk (end_taken end w) (λ v. Brings (crates_by end w.state.workspaces) w.state v.state)
 unfolding end_taken
@@ -325,18 +332,18 @@ abbrev if_due : Bool → TurnState State → Result (TurnState State) Counter
 if_due due w = if due then client_refreshed w.state.client.settings.capabilities w else Ok w
 
 quiet-is : (facts : FactsBefore) (w : TurnState State) (due : Bool) → is_refresh_due facts.quiescent (is_quiescent w.state.files w.state.workspaces) facts.processed ≡
-    due → quiet_done facts w ≡ if_due due w
-unfolding quiet_done
+    due → refreshes_done facts w ≡ if_due due w
+unfolding refreshes_done
 quiet-is facts w due is = ap (λ b. if_due b w) is
 
 pub shown-anew : (t : Turning) (out : Written) → IsShownAnew t
-    → quiet_done t.facts (record { state = t.state; out = out }) ≡ client_refreshed t.state.client.settings.capabilities (record { state = t.state; out = out })
+    → refreshes_done t.facts (record { state = t.state; out = out }) ≡ client_refreshed t.state.client.settings.capabilities (record { state = t.state; out = out })
 shown-anew t out anew =
     quiet-is t.facts (record { state = t.state; out = out }) true
     (due-by t.facts.quiescent (is_quiescent t.state.files t.state.workspaces) t.facts.processed anew.quiescent anew.since)
 
 pub not-shown : (t : Turning) (out : Written) → (IsShownAnew t → ⊥)
-    → quiet_done t.facts (record { state = t.state; out = out }) ≡ Ok (record { state = t.state; out = out })
+    → refreshes_done t.facts (record { state = t.state; out = out }) ≡ Ok (record { state = t.state; out = out })
 not-shown t out none =
     let now = is_quiescent t.state.files t.state.workspaces in
     let due = is_refresh_due t.facts.quiescent now t.facts.processed in

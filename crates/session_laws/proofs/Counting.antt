@@ -26,7 +26,7 @@ use Rattle.session_port.specs.declared.event.LoaderMsg.TheVariants.{Changed, Loa
 use Rattle.session_port.specs.declared.fault.Counter.{Counter}
 use Rattle.session_port.specs.declared.fault.Counter.TheVariants as counters
 use Rattle.session_port.specs.declared.job.JobKind.{JobKind}
-use Rattle.method_table.specs.declared.class.PoolClass.TheVariants.{Worker}
+use Rattle.method_table.specs.declared.class.PoolClass.{PoolClass}
 use Rattle.client.specs.Client.{Client}
 use Rattle.client.specs.Folds.{after_asking}
 use Rattle.client.specs.Steps.{asked_for, request_at}
@@ -269,11 +269,11 @@ pub next-counts : {Y : Type 0} (of : Y → State) (needs before : Numbers) (n : 
 next-counts of needs before n counter f true is gives short = gives
 next-counts of needs before n counter f false is gives short = short (ltb-false n (2 ^ 64 - 1) is)
 
-pub job-counts : (snapshot : SnapshotData) (kind : JobKind) (w : TurnState State)
-    → Counts state_ahead (jobs 1) (held w.state) (at_desk (handed_over snapshot Worker kind) w)
+pub job-counts : (snapshot : SnapshotData) (class : PoolClass) (kind : JobKind) (w : TurnState State)
+    → Counts state_ahead (jobs 1) (held w.state) (at_desk (handed_over snapshot class kind) w)
 unfolding ordered
-job-counts snapshot kind w =
-    counts-within state_ahead (jobs 1) (held w.state) desk_in with_desk (handed_over snapshot Worker kind) w
+job-counts snapshot class kind w =
+    counts-within state_ahead (jobs 1) (held w.state) desk_in with_desk (handed_over snapshot class kind) w
     (next-counts (λ (v : TurnState Desk). with_desk v.state (ahead w.state)) (jobs 1) (held w.state) w.state.desk.last_job counters.Jobs _
     (ltb w.state.desk.last_job (2 ^ 64 - 1)) refl
     (gives-desk (jobs 1) (ahead w.state) (record w.state.desk { last_job = w.state.desk.last_job + 1 }) (omega arith) (omega arith)) (λ last. omega (arith, last)))

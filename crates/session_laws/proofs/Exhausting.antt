@@ -3,7 +3,7 @@ use Rattle.std.proofs.Common.{◌≡◌, ℕ, ◌+◌, ◌-◌, ◌^◌, ◌≤�
 use Rattle.std.proofs.lemmas.List.{length-append}
 use Rattle.std.proofs.lemmas.Result.{IfOk-at_ok}
 use Rattle.std.specs.FinMap as map
-use Rattle.std.specs.Prelude.{◌==◌, Err, IfErr, IfOk, if◌then◌else◌, is_some, ltb, None, Ok, Option, Result, Some}
+use Rattle.std.specs.Prelude.{◌==◌, Err, IfErr, IfOk, if◌then◌else◌, is_some, ltb, map as each, None, Ok, Option, Result, Some}
 use Rattle.docs_vfs.specs.FileUrls.{path_of}
 use Rattle.docs_vfs.specs.declared.file_kinds.ChangedFile.{ChangedFile}
 use Rattle.docs_vfs.specs.declared.file_url.UrlFault.{UrlFault}
@@ -24,7 +24,19 @@ use Rattle.session_port.specs.declared.command.DeferredTask.TheVariants.{CheckIf
 use Rattle.session_port.specs.declared.command.LogCode.{LogCode}
 use Rattle.session_port.specs.declared.command.LogCode.TheVariants.{BadPath, MalformedNotification, UnhandledNotification}
 use Rattle.session_port.specs.declared.command.Command.TheVariants.{Revise, Timer as SetTimer}
-use Rattle.method_table.specs.declared.class.PoolClass.TheVariants.{Worker}
+use Rattle.method_table.specs.declared.class.PoolClass.TheVariants.{Latency, Worker}
+use Rattle.docs_vfs.specs.Files.{path_at}
+use Rattle.docs_vfs.specs.declared.file_kinds.FileExcluded.{FileExcluded}
+use Rattle.docs_vfs.specs.declared.file_kinds.FileExcluded.TheVariants.{No, Yes}
+use Rattle.docs_vfs.specs.declared.file_kinds.FileId.{FileId}
+use Rattle.lsp_types.specs.declared.diagnostic.Diagnostic.{Diagnostic}
+use Rattle.op_board.specs.Acts.{step as after_act}
+use Rattle.op_board.specs.Acts.Act.{ForgetsAll, Takes}
+use Rattle.op_board.specs.Marked.{taken}
+use Rattle.serde_json.specs.Data.{Data}
+use Rattle.session_port.specs.declared.job.JobKind.{JobKind}
+use Rattle.session_port.specs.declared.news.FlycheckMsg.{FlycheckMsg}
+use Rattle.session_port.specs.declared.news.FlycheckMsg.TheVariants as checks
 use Rattle.session_files.specs.Folds.{changed_files, has_changed}
 use Rattle.session_port.specs.declared.event.TaskMsg.{TaskMsg}
 use Rattle.session_port.specs.declared.fault.Counter.{Counter}
@@ -45,9 +57,12 @@ use Rattle.client.specs.declared.handler.ReqHandler.TheVariants.{Ignore, OpenLog
 use Rattle.desk.specs.Desk.{Desk}
 use Rattle.desk.specs.WorkEnds.{work_ended}
 use Rattle.desk.specs.declared.state.ends.WorkEnd.{WorkEnd}
-use Rattle.desk.specs.declared.state.ends.WorkEnd.TheVariants.{Fetched, Built, Checked, Loaded}
+use Rattle.desk.specs.declared.state.ends.WorkEnd.TheVariants.{Fetched, Built, Checked, Loaded, Diagnosed, Tested}
 use Rattle.session_laws.proofs.WorkEnds.{work_kept, work-versions}
+use Rattle.session_laws.proofs.OwnJobs.{Asks, batch_due, due-same, quiet-is, quiet-split, refreshes-ask}
 use Rattle.session_laws.proofs.OwnJobs.{before-is, fetch_begun, fetch_part-leaves, load_behind, load-due-same, parts_from_fetch, step-split}
+use Rattle.session_model.specs.Diagnosing.{batch_counted, batch_kinds, deleted_cleared, is_batch_due, lists_cleared, lists_given, tests_told}
+use Rattle.session_model.specs.OwnJobs.{awaited_job, batch_jobs, batch_jobs_due, batch_jobs_if, before_quiet, parts_before_quiet}
 use Rattle.session_model.specs.OwnJobs.{OwnJob, before_fetch, build_job, checks_among_tasks, checks_back, fetch_job, fetch_jobs, jobs_due, load_job, own_job}
 use Rattle.session_model.specs.OwnJobs.{parts_before_fetch, run_jobs, run_jobs_behind}
 use Rattle.session_laws.proofs.Turns.{session_in}
@@ -55,6 +70,7 @@ use Rattle.desk.specs.Meaning.{Meaning}
 use Rattle.desk.specs.Reactions.{Reaction, cancel_row, message_row, request_row}
 use Rattle.desk.specs.Steps.{cancelled, counted as counted_at_desk, handed_over, jobs_kept as kept_at_desk, requested, result_taken as taken_at_desk}
 use Rattle.desk_laws.specs.Settled.{Settled}
+use Rattle.desk_laws.proofs.Results.{IfOk-weaker}
 use Rattle.desk_laws.proofs.Refusing.{TooMany, message-errs, request-errs}
 use Rattle.desk_laws.proofs.Settling.{cancel-settles, message-settles, message-turns, request-settles, request-turns}
 use Rattle.session_files.specs.SessionFiles.{SessionFiles}
@@ -80,6 +96,8 @@ use Rattle.session_model.specs.Machine.{work_taken, fetch_waits, settings_filed,
 use Rattle.session_model.specs.Machine.{fetch_taken, files_changed, files_done, files_followed, files_in, files_part, files_processed, files_processed_if}
 use Rattle.session_model.specs.Machine.{folders_taken, switch_followed, happened, in_state, desk_kept, knowing, load_handed_over, load_started, load_taken}
 use Rattle.session_model.specs.Machine.{loader_set, macros_taken, noticed, document_opened_at, quiet_done, quiet_part, received, client_refreshed}
+use Rattle.session_model.specs.Machine.{all_asked, all_published, at_board, batch_asked, batch_done, came_or_went, check_told, checks_told, files_published}
+use Rattle.session_model.specs.Machine.{found_added, marked_published, news_taken, published_at, refreshes_done}
 use Rattle.session_model.specs.Machine.{register_part, resumed}
 use Rattle.session_model.specs.Machine.{revised, roots_renewed, runs_started, save_noted, saved_at, saved_file, saves_registered, some_processed, state_in}
 use Rattle.session_model.specs.Machine.{status_changed, status_done, status_kept, status_part, status_told, step, switch_done, switch_part, switch_taken}
@@ -91,7 +109,7 @@ use Rattle.session_model.specs.Run.{turn_start}
 use Rattle.session_model.specs.Saving.{path_saved}
 use Rattle.session_model.specs.Sources.{change_for, client_with, further_files, parents_told}
 use Rattle.session_model.specs.State.{State, columns_in, discovers, excludes_in, goes_by_folders, may_start, scene_of, snapshot_of}
-use Rattle.session_model.specs.Status.{opens_logs, shown_of, status_message, status_now, takes_status}
+use Rattle.session_model.specs.Status.{is_quiescent, opens_logs, shown_of, status_message, status_now, takes_status}
 use Rattle.session_model.specs.Switching.{switch_made}
 use Rattle.session_model.specs.Timing.{bring_files, effects_for, fetch_planned, renewed_if}
 use Rattle.session_model.specs.declared.facts.FactsBefore.{FactsBefore}
@@ -99,6 +117,8 @@ use Rattle.session_model.specs.declared.heard.Heard.{Heard}
 use Rattle.session_model.specs.declared.heard.Heard.TheVariants.{Told, Malformed, Unhandled, Silent}
 use Rattle.session_model.specs.declared.input.Event.{Event}
 use Rattle.session_model.specs.declared.input.Event.TheVariants.{Lsp, Task, Vfs, Deferred, News, Timer}
+use Rattle.session_model.specs.declared.input.News.{News as NewsData}
+use Rattle.session_model.specs.declared.input.News.TheVariants as told_news
 use Rattle.session_model.specs.declared.input.Input.{Input}
 use Rattle.session_model.specs.declared.input.Input.TheVariants.{Start, Next}
 use Rattle.session_laws.specs.Invariant.{place_of_state}
@@ -160,9 +180,9 @@ refreshed-does can w =
     (λ u. does-then (requests 1) (requests 1) u (asked_if can.inlay_hints_refresh InlayHintRefresh u) (asked_if can.diagnostics_refresh DiagnosticRefresh)
     (asked_if-does can.inlay_hints_refresh InlayHintRefresh u) (asked_if-does can.diagnostics_refresh DiagnosticRefresh)))
 
-quiet-does : (facts : FactsBefore) (w : TurnState State) → Does (requests 4) w (quiet_done facts w)
-unfolding quiet_done
-quiet-does facts w =
+refreshes-do : (facts : FactsBefore) (w : TurnState State) → Does (requests 4) w (refreshes_done facts w)
+unfolding refreshes_done
+refreshes-do facts w =
     counts-if state_ahead (requests 4) (held w.state) _ (client_refreshed w.state.client.settings.capabilities w) (Ok w)
     (refreshed-does w.state.client.settings.capabilities w) (does-same (requests 4) w w refl)
 
@@ -232,9 +252,11 @@ unfolding files_followed effects_done settings_filed fetch_waits
 followed-same [] w = refl
 followed-same (change ∷ changes) w =
     let effects = effects_for w.state.client.settings (change ∷ changes) w.state.workspaces in
-    let filed = settings_filed effects.settings w in
+    let filed = settings_filed effects.settings (at_board (deleted_cleared (change ∷ changes)) w) in
     let settings = change_for effects.settings w.state.files.host.world.roots w.state.sources w.state.workspaces.present in
-    let put : TurnState State = record w { state = with_sources (parents_told w.state.sources) (with_client (client_with settings w.state.client) w.state) } in
+    let cleared : TurnState State = at_board (deleted_cleared (change ∷ changes)) w in
+    let put : TurnState State =
+    record cleared { state = with_sources (parents_told w.state.sources) (with_client (client_with settings w.state.client) cleared.state) } in
     let deferred = sources_deferred effects.macro_sources filed in
     held-workspaces deferred.state (fetch_planned deferred.state.desk.turns effects.fetch deferred.state.workspaces)
     (planned-runs deferred.state.desk.turns effects.fetch deferred.state.workspaces).versions
@@ -304,12 +326,12 @@ fetch-does may w = by_fetch (fetch_to_start may w.state.workspaces.fetches)
 
     by_fetch : (fetch : Option (List ℕ × FetchRequest)) → Does (jobs (length (fetch_job w.state fetch))) w (fetch_handed_over fetch now)
     by_fetch None = does-same (jobs 0) w now refl
-    by_fetch (Some fetch) = job-counts (snapshot_of now.state) _ now
+    by_fetch (Some fetch) = job-counts (snapshot_of now.state) Worker _ now
 
 load-does : (s : State) (load : Option MacroPaths) (w : TurnState State) → Does (jobs (length (load_job s load))) w (load_handed_over load w)
 unfolding load_handed_over
 load-does s None w = does-same (jobs 0) w w refl
-load-does s (Some paths) w = job-counts (snapshot_of w.state) _ w
+load-does s (Some paths) w = job-counts (snapshot_of w.state) Worker _ w
 
 -- no load starts where build data does
 run-does : (s : State) (build : Option ℕ) (w : TurnState State) → load_due build w.state.workspaces ≡ load_due build s.workspaces
@@ -320,7 +342,7 @@ run-does s None w same =
     (load_handed_over (load_due None w.state.workspaces) (at_workspaces (with_due_load None) w))) same
     (load-does (with_workspaces (with_due_load None s.workspaces) s) (load_due None w.state.workspaces) (at_workspaces (with_due_load None) w))
 run-does s (Some version) w same =
-    then-same (jobs 1) w (build_handed_over (Some version) w) (at_workspaces (with_due_load (Some version))) (λ v. refl) (job-counts (snapshot_of w.state) _ w)
+    then-same (jobs 1) w (build_handed_over (Some version) w) (at_workspaces (with_due_load (Some version))) (λ v. refl) (job-counts (snapshot_of w.state) Worker _ w)
 
 runs-do : (w : TurnState State) → Does (jobs (length (run_jobs w.state))) w (runs_started w)
 unfolding runs_started build_started
@@ -339,7 +361,91 @@ resumed-do s (CheckIfIndexed path ∷ tasks) w = resumed-do s tasks w
 resumed-do s (CheckProcMacroSources files ∷ tasks) w =
     jobs-then 1 (length (checks_among_tasks s tasks)) (length (own_job s (check_kind (snapshot_of s) files) ∷ checks_among_tasks s tasks)) w
     (at_desk (handed_over (snapshot_of w.state) Worker (check_kind (snapshot_of w.state) files)) w) (all_resumed tasks) (omega arith)
-    (job-counts (snapshot_of w.state) (check_kind (snapshot_of w.state) files) w) (resumed-do s tasks)
+    (job-counts (snapshot_of w.state) Worker (check_kind (snapshot_of w.state) files) w) (resumed-do s tasks)
+
+-- ---- batches
+
+asked-do : (s : State) (kinds : List JobKind) (w : TurnState State) → Does (jobs (length (each (awaited_job s) kinds))) w (all_asked kinds w)
+unfolding all_asked
+asked-do s [] w = does-same (jobs 0) w w refl
+asked-do s (kind ∷ kinds) w =
+    jobs-then 1 (length (each (awaited_job s) kinds)) (length (awaited_job s kind ∷ each (awaited_job s) kinds)) w
+    (at_desk (handed_over (snapshot_of w.state) Latency kind) w) (all_asked kinds) (omega arith)
+    (job-counts (snapshot_of w.state) Latency kind w) (asked-do s kinds)
+
+batch-asked-does : (w : TurnState State) → Does (jobs (length (batch_jobs w.state))) w (batch_asked w)
+unfolding batch_asked
+batch-asked-does w =
+    let v : TurnState State = at_board (batch_counted w.state.client.settings) w in
+    from-same (jobs (length (batch_jobs w.state))) w v (all_asked (batch_kinds w.state) v) refl (asked-do w.state (batch_kinds w.state) v)
+
+batch-cases : (b : Bool) (w : TurnState State) → Does (jobs (length (batch_jobs_if b w.state))) w (if b then batch_asked w else Ok w)
+batch-cases true w = batch-asked-does w
+batch-cases false w = does-same (jobs 0) w w refl
+
+batch-done-does : (came : Bool) (facts : FactsBefore) (w : TurnState State) → Does (jobs (length (batch_due came facts w.state))) w (batch_done came facts w)
+unfolding batch_done
+batch-done-does came facts w = batch-cases (is_batch_due facts.quiescent (is_quiescent w.state.files w.state.workspaces) facts.processed came) w
+
+-- the client may be asked anew for four things, and a batch hands over its jobs
+abbrev for_quiet : ℕ → Numbers
+for_quiet n = both (requests 4) (jobs n)
+
+quiet-does : (input : Input) (facts : FactsBefore) (w : TurnState State)
+    → Does (for_quiet (length (batch_due (came_or_went input) facts w.state))) w (quiet_done input facts w)
+unfolding quiet_done
+quiet-does input facts w =
+    let came : Bool = came_or_went input in
+    counts-then state_ahead state_ahead (requests 4) (jobs (length (batch_due came facts w.state))) (held w.state) (refreshes_done facts w)
+    (batch_done came facts) (refreshes-do facts w)
+    (λ v is. subst (λ (own : List OwnJob). Does (jobs (length own)) v (batch_done came facts v))
+    (IfOk-at_ok (λ v. batch_due came facts v.state ≡ batch_due came facts w.state) is
+    (IfOk-weaker (refreshes_done facts w) (Asks w) _ (refreshes-ask facts w) (λ v asks. due-same came facts w v asks)))
+    (batch-done-does came facts v))
+
+-- what is published, and what checks tell, is not counted
+published-same : (path : Option (List ℕ)) (file : FileId) (w : TurnState State) → held (published_at path file w).state ≡ held w.state
+unfolding published_at written
+published-same None file w = refl
+published-same (Some path) file w = refl
+
+all-published-same : (files : List FileId) (w : TurnState State) → held (all_published files w).state ≡ held w.state
+all-published-same [] w = refl
+all-published-same (file ∷ files) w =
+    let v : TurnState State = published_at (path_at w.state.files.table file) file w in
+    all-published-same files v ∙ published-same (path_at w.state.files.table file) file w
+
+files-published-same : (files : Option (List FileId)) (w : TurnState State) → held (files_published files w).state ≡ held w.state
+files-published-same None w = refl
+files-published-same (Some files) w = all-published-same files w
+
+marked-same : (w : TurnState State) → held (marked_published w).state ≡ held w.state
+unfolding marked_published
+marked-same w = files-published-same (taken w.state.board.marked) (at_board (after_act Takes) w)
+
+found-same : (id generation : ℕ) (of_package : Option (List ℕ)) (path : List ℕ) (diagnostic : Diagnostic) (fix : Option Data)
+    (file : Option (FileId × FileExcluded)) (w : TurnState State) → held (found_added id generation of_package path diagnostic fix file w).state ≡ held w.state
+unfolding found_added logged ordered
+found-same id generation of_package path diagnostic fix None w = refl
+found-same id generation of_package path diagnostic fix (Some (file, Yes)) w = refl
+found-same id generation of_package path diagnostic fix (Some (file, No)) w = refl
+
+check-same : (message : FlycheckMsg) (w : TurnState State) → held (check_told message w).state ≡ held w.state
+unfolding check_told
+check-same (checks.AddDiagnostic id generation of_package path diagnostic fix) w =
+    found-same id generation of_package path diagnostic fix (map.get w.state.files.ids path) w
+check-same (checks.ClearDiagnostics id of_package older_than) w = refl
+check-same (checks.Progress id progress) w = refl
+
+checks-same-held : (messages : List FlycheckMsg) (w : TurnState State) → held (checks_told messages w).state ≡ held w.state
+checks-same-held [] w = refl
+checks-same-held (message ∷ messages) w = checks-same-held messages (check_told message w) ∙ check-same message w
+
+news-same : (news : NewsData) (w : TurnState State) → held (news_taken news w).state ≡ held w.state
+unfolding news_taken
+news-same (told_news.Flycheck messages) w = checks-same-held messages w
+news-same (told_news.TestResult messages) w = refl
+news-same (told_news.DiscoverProject messages) w = refl
 
 -- ---- jobs for requests
 
@@ -388,11 +494,14 @@ kept-same end w = held-workspaces w.state (work_kept end w.state.workspaces) (wo
 
 -- but that of a load of macros may bring crate data into the world
 work-does : (end : WorkEnd) (w : TurnState State) → Does (revisions 1) w (work_taken end w)
-unfolding work_taken fetch_taken build_taken load_taken macros_taken
+unfolding work_taken fetch_taken build_taken load_taken macros_taken written
 work-does (Fetched found) w = does-same (revisions 1) w (fetch_taken found w)
-    (logged-same _ _ (at_workspaces (fetch_kept found) w) ∙ kept-same (Fetched found) w)
+    (logged-same _ _ (at_board (after_act ForgetsAll) (at_workspaces (fetch_kept found) w)) ∙ kept-same (Fetched found) w)
 work-does (Built made) w = does-same (revisions 1) w (build_taken made w) (logged-same _ _ (at_workspaces (build_kept made) w) ∙ kept-same (Built made) w)
 work-does (Checked roots) w = does-same (revisions 1) w (at_workspaces (check_kept roots) w) (kept-same (Checked roots) w)
+work-does (Diagnosed generation pass lists) w = does-same (revisions 1) w (at_board (lists_given generation pass lists) w) refl
+work-does (Tested files tests) w =
+    does-same (revisions 1) w (written (notification_of (tests_told w.state.files.table files tests)) w) refl
 work-does (Loaded told) w =
     let l : TurnState State = at_workspaces (load_kept told) w in
     let crates : Option CrateData = crates_loaded told w.state.workspaces in
@@ -508,7 +617,7 @@ changed-does meaning s n change (Ok path) one =
 closed-does : (needs : Numbers) (s : State) (uri : List ℕ) (o : Result (List ℕ) UrlFault) → Gives needs (turn_begun s) (document_closed_at o uri (turn_begun s))
 unfolding document_closed_at closed_document logged ordered
 closed-does needs s uri (Err fault) = gives-none needs (turn_begun s) (logged BadPath uri (turn_begun s)) refl
-closed-does needs s uri (Ok path) = files-do needs (turn_begun s) (λ f. Ok (closed_document path f))
+closed-does needs s uri (Ok path) = files-do needs (at_board (lists_cleared (map.get s.files.ids path)) (turn_begun s)) (λ f. Ok (closed_document path f))
     (gives-same needs (given (turn_begun s).state) (given (turn_begun s).state) refl)
 
 -- from here on an event gives no more than these and the revision of files that have changed behind it
@@ -639,7 +748,7 @@ told-does meaning s n (notices.DidChangeWatchedFiles changes) heard =
     let v : TurnState State = files_changed map.empty changes (turn_begun s) in
     holds-same meaning s n v (same-state (turn_begun s).state v.state (files-same map.empty changes (turn_begun s)))
 told-does meaning s n notices.CancelFlycheck heard = holds-same meaning s n (turn_begun s) refl
-told-does meaning s n notices.ClearFlycheck heard = holds-same meaning s n (turn_begun s) refl
+told-does meaning s n notices.ClearFlycheck heard = holds-same meaning s n (at_board (after_act ForgetsAll) (turn_begun s)) refl
 told-does meaning s n (notices.RunFlycheck uri) heard = holds-same meaning s n (turn_begun s) refl
 told-does meaning s n notices.AbortRunTest heard = holds-same meaning s n (turn_begun s) refl
 
@@ -695,7 +804,7 @@ event-does meaning s (Deferred tasks) =
     (resumed-do s tasks w))
 event-does meaning s (News news) =
     event-holds (for_event meaning s (Next (News news))) (turn_begun s) (happened meaning (News news) (turn_begun s))
-    (does-same (for_event meaning s (Next (News news))) (turn_begun s) (turn_begun s) refl)
+    (does-same (for_event meaning s (Next (News news))) (turn_begun s) (news_taken news (turn_begun s)) (news-same news (turn_begun s)))
 event-does meaning s (Timer ticket) =
     event-holds (for_event meaning s (Next (Timer ticket))) (turn_begun s) (happened meaning (Timer ticket) (turn_begun s))
     (does-same (for_event meaning s (Next (Timer ticket))) (turn_begun s) (timed ticket (turn_begun s))
@@ -782,14 +891,38 @@ event_part-does meaning s event =
     counts-within turning_ahead (for_event_part meaning s event) (given s) state_in with_state (event_taken meaning event) (turning (turn_start s))
     (taken_in-does meaning s event)
 
--- what comes before the session's own work: behind an event a switch, the files, and what the client shows
+-- behind an event a switch and the files
+abbrev for_before_quiet : Meaning → State → Event → Numbers
+for_before_quiet meaning s event = both (for_event_part meaning s event) (both for_switch none)
+
+before-quiet-does : (meaning : Meaning) (s : State) (event : Event)
+    → Counts turning_ahead (for_before_quiet meaning s event) (given s) (parts_before_quiet meaning (Next event) (turning (turn_start s)))
+unfolding switch_part
+before-quiet-does meaning s event =
+    counts-then turning_ahead turning_ahead (for_event_part meaning s event) (both for_switch none) (given s)
+    (event_part meaning event (turning (turn_start s))) _ (event_part-does meaning s event)
+    (λ t is. part-then for_switch none switch_done files_part t switch-does files_part-does)
+
+-- and then what is done in a quiescent session, and the files that are published
+quiet_part-does : (event : Event) (t : TurnState Turning)
+    → PartDoes (for_quiet (length (batch_jobs_due (Next event) t.state))) t (and_then (quiet_part (Next event) t) publish_part)
+unfolding quiet_part publish_part lifted
+quiet_part-does event t =
+    let needs : Numbers = for_quiet (length (batch_jobs_due (Next event) t.state)) in
+    parts-same needs t (in_state (quiet_done (Next event) t.state.facts) t)
+    (λ u. record { state = with_state (marked_published (session_in u)).state u.state; out = (marked_published (session_in u)).out })
+    (λ u. marked-same (session_in u))
+    (part-does needs (quiet_done (Next event) t.state.facts) t (quiet-does (Next event) t.state.facts (session_in t)))
+
+-- what comes before the session's own work
 abbrev for_parts_before : Meaning → Input → State → Numbers
 for_parts_before meaning Start s = both (revisions 1) (requests 2)
-for_parts_before meaning (Next event) s = both (for_event_part meaning s event) (both for_switch (requests 4))
+for_parts_before meaning (Next event) s =
+    both (for_before_quiet meaning s event) (for_quiet (length (batch_jobs_due (Next event) (before_quiet meaning (Next event) s))))
 
 parts-before-do : (meaning : Meaning) (s : State) (input : Input)
     → Counts turning_ahead (for_parts_before meaning input s) (given s) (parts_before_fetch meaning input (turning (turn_start s)))
-unfolding status_part register_part begin_part begun_fetches switch_part quiet_part
+unfolding status_part register_part begin_part begun_fetches
 parts-before-do meaning s Start =
     counts-behind turning_ahead (revisions 1) (requests 2) (given s) (held s) (parts_before_fetch meaning Start (turning (turn_start s))) (more-held s)
     (part-then (requests 1) (requests 1) status_done _ (turning (turn_start s)) status-does
@@ -797,12 +930,14 @@ parts-before-do meaning s Start =
     (λ t. part-does none begun_fetches t
     (does-same none (session_in t) (at_workspaces (with_fetches (start_up (discovers t.state.state.client.settings))) (session_in t)) refl))))
 parts-before-do meaning s (Next event) =
-    counts-then turning_ahead turning_ahead (for_event_part meaning s event) (both for_switch (requests 4)) (given s)
-    (event_part meaning event (turning (turn_start s))) _ (event_part-does meaning s event)
-    (λ t is. part-then for_switch (requests 4) switch_done _ t switch-does
-    (λ t. parts-then none (requests 4) t (files_part t) _ (files_part-does t)
-    (λ t. part-then (requests 4) none (quiet_done t.state.facts) publish_part t (quiet-does t.state.facts)
-    (λ t. gives-same none (held t.state.state) (held t.state.state) refl))))
+    let input : Input = Next event in
+    let first = parts_before_quiet meaning input (turning (turn_start s)) in
+    let rest : TurnState Turning → Result (TurnState Turning) Counter = λ w. and_then (quiet_part input w) publish_part in
+    let quiet : Turning → Numbers = λ before. for_quiet (length (batch_jobs_due input before)) in
+    subst (Counts turning_ahead (for_parts_before meaning input s) (given s)) (sym (quiet-split meaning event (turning (turn_start s))))
+    (counts-then turning_ahead turning_ahead (for_before_quiet meaning s event) (quiet (before_quiet meaning input s)) (given s) first rest
+    (before-quiet-does meaning s event)
+    (λ t is. subst (λ (before : Turning). PartDoes (quiet before) t (rest t)) (sym (quiet-is meaning input s t is)) (quiet_part-does event t)))
 
 -- the work itself, and behind an event a status
 abbrev for_work : ℕ → Numbers
@@ -853,7 +988,10 @@ few-own : (meaning : Meaning) (s : State) (input : Input)
     (needs_of meaning input (place_of_state s))
 few-own meaning s Start = at-most _ _ (omega arith) (omega arith) (omega arith) (omega arith) (omega arith) (omega arith) (omega arith)
 few-own meaning s (Next event) =
-    at-most _ _ (omega arith) (omega (arith, length-append (checks_back s (Next event)) (jobs_due (Next event) (before_fetch meaning (Next event) s))))
+    let checks : List OwnJob = checks_back s (Next event) in
+    let batch : List OwnJob = batch_jobs_due (Next event) (before_quiet meaning (Next event) s) in
+    let due : List OwnJob = jobs_due (Next event) (before_fetch meaning (Next event) s) in
+    at-most _ _ (omega arith) (omega (arith, length-append checks batch, length-append (checks ++ batch) due))
     (omega arith) (omega arith) (omega arith)
     (omega arith) (omega arith)
 

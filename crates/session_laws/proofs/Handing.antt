@@ -19,9 +19,11 @@ use Rattle.desk_laws.proofs.Results.{IfOk-and_then, IfOk-weaker, IfOk-within}
 use Rattle.workspaces.specs.Fetches.{fires, start_up}
 use Rattle.session_model.specs.Fetching.{with_fetches}
 use Rattle.session_model.specs.Machine.{Turning, all_resumed, begin_part, build_part, turn_closed, closing_part, turn_counted, event_part, fetch_part}
+use Rattle.session_model.specs.Machine.{batch_done, came_or_went, marked_published, publish_part, refreshes_done}
 use Rattle.session_model.specs.Machine.{fetch_started, files_done, files_part, happened, in_state, desk_kept, knowing, quiet_part, register_part, revised}
 use Rattle.session_model.specs.Machine.{runs_started, some_processed, state_in, at_workspaces, begun_fetches, quiet_done, saves_registered, status_done}
 use Rattle.session_model.specs.Machine.{status_part, step, switch_done, switch_part, event_taken, timer_set, turned, turning, with_desk, with_state}
+use Rattle.session_model.specs.OwnJobs.{batch_jobs_due, before_quiet, parts_before_quiet}
 use Rattle.session_model.specs.OwnJobs.{OwnJob, checks_among_tasks, checks_back, fetch_jobs, jobs_due, numbered_behind, own_jobs, parts_before_fetch, run_jobs}
 use Rattle.session_model.specs.Rows.{turn_row, turn_begun}
 use Rattle.session_model.specs.Run.{Steps, Turn, turn_start}
@@ -37,10 +39,12 @@ use Rattle.session_laws.proofs.Asides.{aside-speaks}
 use Rattle.session_laws.proofs.Beside.{beside-spawned}
 use Rattle.session_laws.proofs.Counting.{Counts, given, state_ahead}
 use Rattle.session_laws.proofs.Exhausting.{for_event_part, taken_in-does}
+use Rattle.session_laws.proofs.OwnJobs.{Asks, batch-done-over, batch_due, due-same, quiet-is, quiet-split, refreshes-ask}
 use Rattle.session_laws.proofs.OwnJobs.{FetchOver, HandedOver, HandsOver, before-is, checks-over, checks-same, fetch-over, fetch_begun, hands-none, hands-on}
 use Rattle.session_laws.proofs.OwnJobs.{parts_from_fetch, plus-none, run-jobs-same, runs-over, step-split}
 use Rattle.session_laws.proofs.Rows.{Behind, FilesDone, counted-is, files-done, taken-behind}
-use Rattle.session_laws.proofs.Saying.{asked_if-owes, quiet-owes, speaking, status-owes}
+use Rattle.session_laws.proofs.Batches.{both-ok}
+use Rattle.session_laws.proofs.Saying.{asked_if-owes, marked-owe, refreshes-owe, speaking, status-owes}
 use Rattle.session_laws.proofs.Switching.{SwitchDone, switch-does}
 use Rattle.session_laws.proofs.Telling.{Speaks}
 use Rattle.session_laws.proofs.Turns.{session_in}
@@ -176,9 +180,39 @@ files-over t =
     (part-over files_done t (IfOk-weaker (files_done w) (FilesDone w) (HandsOver w []) (files-done w) (λ v f. aside-over w v f.aside f.desk)))
     (λ v h. h)
 
-quiet-over : (t : TurnState Turning) → IfOk (quiet_part t) (λ v. HandsOver (session_in t) [] (session_in v))
+-- what the client is asked first hands over nothing, and leaves the batch that is due
+record Refreshes (w v : TurnState State) : Type 0 where
+  asks : Asks w v
+  hands : HandsOver w [] v
+
+refreshes-over : (facts : FactsBefore) (w : TurnState State) → IfOk (refreshes_done facts w) (Refreshes w)
+refreshes-over facts w =
+    IfOk-weaker (refreshes_done facts w) (λ v. Asks w v × Speaks w v) (Refreshes w)
+    (both-ok (refreshes_done facts w) (Asks w) (Speaks w) (refreshes-ask facts w) (refreshes-owe Speaks speaking facts w))
+    (λ v (asks, said). record { asks = asks; hands = aside-over w v (aside-speaks w v said) said.desk })
+
+quiet-done-over : (input : Input) (facts : FactsBefore) (w : TurnState State)
+    → IfOk (quiet_done input facts w) (HandsOver w (batch_due (came_or_went input) facts w.state))
+unfolding quiet_done
+quiet-done-over input facts w =
+    let came : Bool = came_or_went input in
+    let due : List OwnJob = batch_due came facts w.state in
+    IfOk-and_then (refreshes_done facts w) (batch_done came facts) (Refreshes w) (HandsOver w due) (refreshes-over facts w)
+    (λ v r. IfOk-weaker (batch_done came facts v) (HandsOver v (batch_due came facts v.state)) (HandsOver w due) (batch-done-over came facts v)
+    (λ u h. hands-on (spawned w.out.commands) w.state.desk.last_job [] due v u r.hands
+    (subst (λ (own : List OwnJob). HandsOver v own u) (due-same came facts w v r.asks) h)))
+
+quiet-over : (event : Event) (t : TurnState Turning)
+    → IfOk (quiet_part (Next event) t) (λ v. HandsOver (session_in t) (batch_jobs_due (Next event) t.state) (session_in v))
 unfolding quiet_part
-quiet-over t = speaks-over (quiet_done t.state.facts) t (quiet-owes Speaks speaking t.state.facts (session_in t))
+quiet-over event t =
+    IfOk-within state_in with_state (quiet_done (Next event) t.state.facts) t
+    (λ v. HandsOver (session_in t) (batch_jobs_due (Next event) t.state) (session_in v))
+    (quiet-done-over (Next event) t.state.facts (session_in t))
+
+publish-over : (t : TurnState Turning) → IfOk (publish_part t) (λ v. HandsOver (session_in t) [] (session_in v))
+unfolding publish_part
+publish-over t = speaks-over (λ w. Ok (marked_published w)) t (marked-owe Speaks speaking (session_in t))
 
 status-over : (t : TurnState Turning) → IfOk (status_part t) (λ v. HandsOver (session_in t) [] (session_in v))
 unfolding status_part
@@ -193,11 +227,30 @@ unfolding begin_part begun_fetches
 begin-over t = part-over begun_fetches t
     (hands-none (session_in t) (at_workspaces (with_fetches (start_up (discovers t.state.state.client.settings))) (session_in t)) refl refl)
 
--- before its fetch a turn has handed over the jobs of its row and the checks that come back
+-- a part and what it was before the next one
+is-then : (r : Result (TurnState Turning) Counter) (f : TurnState Turning → Result (TurnState Turning) Counter) (P Q : TurnState Turning → Type 0) → IfOk r P
+    → ((t : TurnState Turning) → r ≡ Ok t → P t → IfOk (f t) Q) → IfOk (and_then r f) Q
+is-then (Ok t) f P Q p next = next t refl p
+is-then (Err counter) f P Q p next = tt
+
+-- before what is done in a quiescent session a turn has handed over the jobs of its row and the checks that come back
+before-quiet-over : (meaning : Meaning) (s : State) (event : Event) → IfOk (parts_before_quiet meaning (Next event) (turning (turn_start s)))
+    (λ v. HandedOver (turn_row meaning (Next event) (place_of_state s)).jobs
+    (s.desk.last_job + length (turn_row meaning (Next event) (place_of_state s)).jobs) (checks_back s (Next event)) (session_in v))
+unfolding event_part
+before-quiet-over meaning s event =
+    let jobs : List Job = (turn_row meaning (Next event) (place_of_state s)).jobs in
+    let n : ℕ = s.desk.last_job + length jobs in
+    let own : List OwnJob = checks_back s (Next event) in
+    let Goal : TurnState Turning → Type 0 = λ v. HandedOver jobs n own (session_in v) in
+    IfOk-and_then (event_part meaning event (turning (turn_start s))) _ Goal Goal
+    (IfOk-within state_in with_state (event_taken meaning event) (turning (turn_start s)) Goal (event-over meaning s event))
+    (λ t h. none-on jobs n own t (switch_part t) files_part Goal h (switch-over t) (λ t h. none-is jobs n own t (files_part t) h (files-over t)))
+
+-- before its fetch it has handed over what a batch asks too
 before-over : (meaning : Meaning) (s : State) (input : Input) → IfOk (parts_before_fetch meaning input (turning (turn_start s)))
     (λ v. HandedOver (turn_row meaning input (place_of_state s)).jobs (s.desk.last_job + length (turn_row meaning input (place_of_state s)).jobs)
-    (checks_back s input) (session_in v))
-unfolding event_part
+    (checks_back s input ++ batch_jobs_due input (before_quiet meaning input s)) (session_in v))
 before-over meaning s Start =
     let n : ℕ = s.desk.last_job + 0 in
     let t : TurnState Turning = turning (turn_start s) in
@@ -205,15 +258,22 @@ before-over meaning s Start =
     none-on [] n [] t (status_part t) _ Goal (record { spawns = refl; last_job = plus-none s.desk.last_job ∙ plus-none n }) (status-over t)
     (λ t h. none-on [] n [] t (register_part t) begin_part Goal h (register-over t) (λ t h. none-is [] n [] t (begin_part t) h (begin-over t)))
 before-over meaning s (Next event) =
-    let jobs : List Job = (turn_row meaning (Next event) (place_of_state s)).jobs in
+    let input : Input = Next event in
+    let jobs : List Job = (turn_row meaning input (place_of_state s)).jobs in
     let n : ℕ = s.desk.last_job + length jobs in
-    let own : List OwnJob = checks_back s (Next event) in
-    let Goal : TurnState Turning → Type 0 = λ v. HandedOver jobs n own (session_in v) in
-    IfOk-and_then (event_part meaning event (turning (turn_start s))) _ Goal Goal
-    (IfOk-within state_in with_state (event_taken meaning event) (turning (turn_start s)) Goal (event-over meaning s event))
-    (λ t h. none-on jobs n own t (switch_part t) _ Goal h (switch-over t)
-    (λ t h. none-on jobs n own t (files_part t) _ Goal h (files-over t)
-    (λ t h. none-on jobs n own t (quiet_part t) _ Goal h (quiet-over t) (λ t h. h))))
+    let own : List OwnJob = checks_back s input in
+    let first = parts_before_quiet meaning input (turning (turn_start s)) in
+    let rest : TurnState Turning → Result (TurnState Turning) Counter = λ w. and_then (quiet_part input w) publish_part in
+    let Goal : TurnState Turning → Type 0 = λ v. HandedOver jobs n (own ++ batch_jobs_due input (before_quiet meaning input s)) (session_in v) in
+    subst (λ r. IfOk r Goal) (sym (quiet-split meaning event (turning (turn_start s))))
+    (is-then first rest (λ v. HandedOver jobs n own (session_in v)) Goal (before-quiet-over meaning s event)
+    (λ t is h. subst (λ (before : Turning). IfOk (rest t) (λ v. HandedOver jobs n (own ++ batch_jobs_due input before) (session_in v)))
+    (sym (quiet-is meaning input s t is))
+    (let batch : List OwnJob = batch_jobs_due input t.state in
+    IfOk-and_then (quiet_part input t) publish_part (λ v. HandedOver jobs n (own ++ batch) (session_in v)) (λ v. HandedOver jobs n (own ++ batch) (session_in v))
+    (IfOk-weaker (quiet_part input t) (λ v. HandsOver (session_in t) batch (session_in v)) _ (quiet-over event t)
+    (λ v more. hands-on jobs n own batch (session_in t) (session_in v) h more))
+    (λ v h. none-is jobs n (own ++ batch) v (publish_part v) h (publish-over v)))))
 
 -- ---- its own work
 
@@ -285,17 +345,12 @@ from-over jobs n own (Next event) t h =
 
 -- ---- whole turns
 
-is-then : (r : Result (TurnState Turning) Counter) (f : TurnState Turning → Result (TurnState Turning) Counter) (P Q : TurnState Turning → Type 0) → IfOk r P
-    → ((t : TurnState Turning) → r ≡ Ok t → P t → IfOk (f t) Q) → IfOk (and_then r f) Q
-is-then (Ok t) f P Q p next = next t refl p
-is-then (Err counter) f P Q p next = tt
-
 step-over : (meaning : Meaning) (s : State) (input : Input) → let asked = (turn_row meaning input (place_of_state s)).jobs in
     IfOk (step meaning input (turn_start s)) (λ w. spawned w.out.commands ≡ asked ++ numbered_behind (s.desk.last_job + length asked) (own_jobs meaning input s))
 step-over meaning s input =
     let jobs : List Job = (turn_row meaning input (place_of_state s)).jobs in
     let n : ℕ = s.desk.last_job + length jobs in
-    let own : List OwnJob = checks_back s input in
+    let own : List OwnJob = checks_back s input ++ batch_jobs_due input (before_quiet meaning input s) in
     let before = parts_before_fetch meaning input (turning (turn_start s)) in
     let Goal : TurnState State → Type 0 = λ w. spawned w.out.commands ≡ jobs ++ numbered_behind n (own_jobs meaning input s) in
     subst (λ r. IfOk r Goal) (sym (step-split meaning input s))

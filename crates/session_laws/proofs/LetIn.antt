@@ -21,7 +21,8 @@ use Rattle.workspaces.specs.Workspaces.{Workspaces}
 use Rattle.workspaces.specs.declared.follows.Follows.{Follows}
 use Rattle.workspaces.specs.declared.follows.Follows.TheVariants.{Nothing, CrateData as CratesAnew, Wait, GoOn}
 use Rattle.session_model.specs.Crates.{builds_crates}
-use Rattle.session_model.specs.Machine.{at_files, at_workspaces, crates_built, effects_done, event_taken, fetch_waits, files_followed, files_in}
+use Rattle.session_model.specs.Diagnosing.{deleted_cleared}
+use Rattle.session_model.specs.Machine.{at_board, at_files, at_workspaces, crates_built, effects_done, event_taken, fetch_waits, files_followed, files_in}
 use Rattle.session_model.specs.Machine.{files_processed, further_logged, loader_set, roots_renewed, settings_filed, sources_deferred, step, switch_done}
 use Rattle.session_model.specs.Machine.{switch_followed, switch_taken, warned, watchers_registered, with_client, with_files, with_sources, turn_closed}
 use Rattle.session_model.specs.Run.{Turn, Steps, turn_start}
@@ -64,7 +65,9 @@ follows-to [] w = record { host = refl; roots = refl; parents = inl (refl, refl)
 follows-to (file ∷ later) w =
     let effects : ChangeEffects = effects_for w.state.client.settings (file ∷ later) w.state.workspaces in
     let change = change_for effects.settings w.state.files.host.world.roots w.state.sources w.state.workspaces.present in
-    let put : TurnState State = record w { state = with_sources (parents_told w.state.sources) (with_client (filed_client effects.settings w.state) w.state) } in
+    let cleared : TurnState State = at_board (deleted_cleared (file ∷ later)) w in
+    let put : TurnState State =
+    record cleared { state = with_sources (parents_told w.state.sources) (with_client (filed_client effects.settings w.state) cleared.state) } in
     let filed : TurnState State = further_logged (further_files change) put in
     let same = still-same put.state (sources_deferred effects.macro_sources filed).state
     (deferred-same effects.macro_sources filed ∙ further-same (further_files change) put) in
@@ -125,6 +128,7 @@ still-says = record {
   asks = λ handler w out s. record { host = refl; sources = refl; settings = refl; errors = refl };
   runs = λ w workspaces same. record { host = refl; sources = refl; settings = refl; errors = refl };
   status = λ w status. record { host = refl; sources = refl; settings = refl; errors = refl };
+  board = λ w board. record { host = refl; sources = refl; settings = refl; errors = refl };
 }
 
 lets-in : (tells : Bool) → Owed (AltersTo tells)
@@ -135,6 +139,7 @@ lets-in tells = record {
     asks = λ handler w out s. alters-still tells w.state _ (still-says.asks handler w out s);
     runs = λ w workspaces same. alters-still tells w.state _ (still-says.runs w workspaces same);
     status = λ w status. alters-still tells w.state _ (still-says.status w status);
+    board = λ w board. alters-still tells w.state _ (still-says.board w board);
   };
   times = λ ticket w. ordered-alters tells _ w;
   desk = λ w desk out passes. alters-still tells w.state _ (record { host = refl; sources = refl; settings = refl; errors = refl });

@@ -1,11 +1,22 @@
 -- The jobs that a turn hands over: those of its row, and then the session's own.
 use Rattle.std.proofs.Common.{◌≡◌, ℕ, ◌+◌, List, [], ◌∷◌, ◌++◌, length, Bool, refl, sym, ap, ◌∙◌, subst, arith}
 use Rattle.std.proofs.lemmas.List.{append-nil, append_assoc, length-append}
-use Rattle.std.specs.Prelude.{Option, None, Some, Result, Ok, Err, IfOk}
+use Rattle.std.specs.Prelude.{◌==◌, map, true, false, Option, None, Some, is_some, Result, Ok, Err, IfOk, if◌then◌else◌}
 use Rattle.std.specs.Result.{result_unwrap_or}
-use Rattle.method_table.specs.declared.class.PoolClass.TheVariants.{Worker}
+use Rattle.client.specs.Steps.{asked_for}
+use Rattle.client.specs.declared.handler.ReqHandler.{ReqHandler}
+use Rattle.client.specs.declared.handler.ReqHandler.TheVariants.{Ignore}
+use Rattle.lsp_frame.specs.Outgoing.{Outgoing, number_limit}
+use Rattle.method_table.specs.declared.class.PoolClass.{PoolClass}
+use Rattle.method_table.specs.declared.class.PoolClass.TheVariants.{Latency, Worker}
+use Rattle.notify.specs.declared.outgo.Outgo.{Outgo}
+use Rattle.notify.specs.declared.outgo.Outgo.TheVariants.{CodeLensRefresh, DiagnosticRefresh, InlayHintRefresh, SemanticTokensRefresh}
+use Rattle.op_board.specs.Acts.{step as after_act}
+use Rattle.op_board.specs.Acts.Act.{Counts}
+use Rattle.op_board.specs.Board.{Board, next_generation}
+use Rattle.op_board.specs.Checks.{Checks, all_fixes}
 use Rattle.session_port.specs.Record.{spawned}
-use Rattle.session_port.specs.TurnState.{TurnState, and_then, ordered}
+use Rattle.session_port.specs.TurnState.{TurnState, and_then, ordered, written}
 use Rattle.session_port.specs.declared.command.DeferredTask.{DeferredTask}
 use Rattle.session_port.specs.declared.command.DeferredTask.TheVariants.{CheckIfIndexed, CheckProcMacroSources}
 use Rattle.session_port.specs.declared.fault.Counter.{Counter}
@@ -17,22 +28,29 @@ use Rattle.desk.specs.Desk.{Desk}
 use Rattle.desk.specs.Meaning.{Meaning}
 use Rattle.desk.specs.Steps.{handed_over}
 use Rattle.desk_laws.proofs.Appends.{spawned-append}
-use Rattle.desk_laws.proofs.Results.{IfOk-and_then, IfOk-next, IfOk-weaker, IfOk-within}
+use Rattle.desk_laws.proofs.Results.{IfOk-and_then, IfOk-if, IfOk-next, IfOk-weaker, IfOk-within}
 use Rattle.workspaces.specs.Fetches.{fetch_to_start, start_fetch}
 use Rattle.workspaces.specs.Workspaces.{Workspaces}
 use Rattle.workspaces.specs.declared.requests.FetchRequest.{FetchRequest}
 use Rattle.session_model.specs.Building.{build_due, with_due_build}
 use Rattle.session_model.specs.Checking.{check_kind}
+use Rattle.session_model.specs.Diagnosing.{batch_counted, batch_kinds, is_batch_due, lists_asked, shows_diagnostics, subscribed, tests_asked}
+use Rattle.session_model.specs.Asking.{is_refresh_due}
 use Rattle.session_model.specs.Fetching.{with_fetches}
 use Rattle.session_model.specs.Loading.{MacroPaths, load_due, load_kind, with_due_load}
+use Rattle.session_model.specs.Machine.{all_asked, asked_if, at_board, batch_asked, batch_done, client_in, client_refreshed, refreshes_done, with_client}
 use Rattle.session_model.specs.Machine.{Turning, all_resumed, at_desk, at_workspaces, build_handed_over, build_part, build_started, closing_part, desk_in}
 use Rattle.session_model.specs.Machine.{event_part, begin_part, fetch_handed_over, fetch_part, fetch_started, files_part, load_handed_over, load_started}
 use Rattle.session_model.specs.Machine.{prime_part, publish_part, quiet_part, register_part, resumed, runs_started, state_in, status_part, step, switch_part}
 use Rattle.session_model.specs.Machine.{turned, turning, with_desk, with_state, with_workspaces}
+use Rattle.session_model.specs.OwnJobs.{awaited_job, batch_jobs, batch_jobs_if, before_quiet, parts_before_quiet}
 use Rattle.session_model.specs.OwnJobs.{OwnJob, before_fetch, build_job, checks_among_tasks, fetch_job, load_job, numbered_behind, own_job, parts_before_fetch}
 use Rattle.session_model.specs.OwnJobs.{run_jobs}
 use Rattle.session_model.specs.Run.{turn_start}
 use Rattle.session_model.specs.State.{State, fetch_kind, may_start, snapshot_of}
+use Rattle.session_model.specs.Status.{is_quiescent}
+use Rattle.session_model.specs.declared.facts.FactsBefore.{FactsBefore}
+use Rattle.session_model.specs.declared.input.Event.{Event}
 use Rattle.session_model.specs.declared.input.Input.{Input}
 use Rattle.session_model.specs.declared.input.Input.TheVariants.{Start, Next}
 
@@ -77,14 +95,21 @@ hands-on jobs given first later v u p q = record {
 }
 
 -- one job
+abbrev job_as : PoolClass → State → JobKind → OwnJob
+job_as class s kind = record { class = class; kind = kind; snapshot = snapshot_of s }
+
+one-as : (class : PoolClass) (kind : JobKind) (w : TurnState State) → IfOk (at_desk (handed_over (snapshot_of w.state) class kind) w)
+    (λ v. HandsOver w (job_as class w.state kind ∷ []) v × (v.state ≡ with_desk v.state.desk w.state))
+unfolding ordered
+one-as class kind w =
+    let Done : TurnState State → Type 0 = λ v. HandsOver w (job_as class w.state kind ∷ []) v × (v.state ≡ with_desk v.state.desk w.state) in
+    IfOk-within desk_in with_desk (handed_over (snapshot_of w.state) class kind) w Done
+    (IfOk-next w.state.desk.last_job JobsCounter _ (λ v. Done (record { state = with_desk v.state w.state; out = v.out }))
+    (record { spawns = spawned-append w.out.commands _; last_job = plus-one w.state.desk.last_job (job_as class w.state kind) }, refl))
+
 one-over : (kind : JobKind) (w : TurnState State) → IfOk (at_desk (handed_over (snapshot_of w.state) Worker kind) w)
     (λ v. HandsOver w (own_job w.state kind ∷ []) v × (v.state ≡ with_desk v.state.desk w.state))
-unfolding ordered
-one-over kind w =
-    let Done : TurnState State → Type 0 = λ v. HandsOver w (own_job w.state kind ∷ []) v × (v.state ≡ with_desk v.state.desk w.state) in
-    IfOk-within desk_in with_desk (handed_over (snapshot_of w.state) Worker kind) w Done
-    (IfOk-next w.state.desk.last_job JobsCounter _ (λ v. Done (record { state = with_desk v.state w.state; out = v.out }))
-    (record { spawns = spawned-append w.out.commands _; last_job = plus-one w.state.desk.last_job (own_job w.state kind) }, refl))
+one-over kind w = one-as Worker kind w
 
 -- ---- checks that come back
 
@@ -107,6 +132,116 @@ checks-over (CheckProcMacroSources files ∷ tasks) w =
     (λ v (hands, state). IfOk-weaker (all_resumed tasks v) (HandsOver v (checks_among_tasks v.state tasks)) _ (checks-over tasks v)
     (λ u more. hands-on (spawned w.out.commands) w.state.desk.last_job (first ∷ []) (checks_among_tasks w.state tasks) v u hands
     (subst (λ (own : List OwnJob). HandsOver v own u) (ap (λ (s : State). checks_among_tasks s tasks) state ∙ checks-same v.state.desk w.state tasks) more)))
+
+-- ---- batches
+
+awaited-same : (s t : State) (kinds : List JobKind) → snapshot_of s ≡ snapshot_of t → map (awaited_job s) kinds ≡ map (awaited_job t) kinds
+awaited-same s t [] same = refl
+awaited-same s t (kind ∷ kinds) same =
+    λ i. (record { class = Latency; kind = kind; snapshot = same i }) ∷ awaited-same s t kinds same i
+
+asked-over : (kinds : List JobKind) (w : TurnState State) → IfOk (all_asked kinds w) (HandsOver w (map (awaited_job w.state) kinds))
+unfolding all_asked
+asked-over [] w = hands-none w w refl refl
+asked-over (kind ∷ kinds) w =
+    let first : OwnJob = awaited_job w.state kind in
+    let later : List OwnJob = map (awaited_job w.state) kinds in
+    IfOk-and_then (at_desk (handed_over (snapshot_of w.state) Latency kind) w) (all_asked kinds)
+    (λ v. HandsOver w (first ∷ []) v × (v.state ≡ with_desk v.state.desk w.state)) (HandsOver w (first ∷ later)) (one-as Latency kind w)
+    (λ v (hands, state). IfOk-weaker (all_asked kinds v) (HandsOver v (map (awaited_job v.state) kinds)) _ (asked-over kinds v)
+    (λ u more. hands-on (spawned w.out.commands) w.state.desk.last_job (first ∷ []) later v u hands
+    (subst (λ (own : List OwnJob). HandsOver v own u) (awaited-same v.state w.state kinds (ap snapshot_of state)) more)))
+
+-- a batch leaves what checks have found
+checks-counted : (shown left : Bool) (board : Board) → (if shown then (if left then after_act Counts board else board) else board).checks ≡ board.checks
+checks-counted true true board = refl
+checks-counted true false board = refl
+checks-counted false left board = refl
+
+batch-over : (w : TurnState State) → IfOk (batch_asked w) (HandsOver w (batch_jobs w.state))
+unfolding batch_asked
+batch-over w =
+    let v : TurnState State = at_board (batch_counted w.state.client.settings) w in
+    let same : snapshot_of v.state ≡ snapshot_of w.state =
+    ap (λ (checks : Checks). record (snapshot_of w.state) { check_fixes = all_fixes checks })
+    (checks-counted (shows_diagnostics w.state.client.settings) (is_some (next_generation w.state.board)) w.state.board) in
+    IfOk-weaker (all_asked (batch_kinds w.state) v) (HandsOver v (map (awaited_job v.state) (batch_kinds w.state))) _
+    (asked-over (batch_kinds w.state) v)
+    (λ u h. subst (λ (own : List OwnJob). HandsOver w own u) (awaited-same v.state w.state (batch_kinds w.state) same)
+    (record { spawns = h.spawns; last_job = h.last_job }))
+
+batch-cases : (b : Bool) (w : TurnState State) → IfOk (if b then batch_asked w else Ok w) (HandsOver w (batch_jobs_if b w.state))
+batch-cases true w = batch-over w
+batch-cases false w = hands-none w w refl refl
+
+-- where one is due, by what was known
+abbrev pub batch_due : Bool → FactsBefore → State → List OwnJob
+batch_due came facts s = batch_jobs_if (is_batch_due facts.quiescent (is_quiescent s.files s.workspaces) facts.processed came) s
+
+pub batch-done-over : (came : Bool) (facts : FactsBefore) (w : TurnState State) → IfOk (batch_done came facts w) (HandsOver w (batch_due came facts w.state))
+unfolding batch_done
+batch-done-over came facts w = batch-cases (is_batch_due facts.quiescent (is_quiescent w.state.files w.state.workspaces) facts.processed came) w
+
+-- what the client is asked before it leaves all but the requests to the client
+pub record Asks (w v : TurnState State) : Type 0 where
+  pub state : v.state ≡ with_client (record w.state.client { asked = v.state.client.asked }) w.state
+
+asks-none : (w : TurnState State) → Asks w w
+asks-none w = record { state = refl }
+
+asks-on : (w v u : TurnState State) → Asks w v → Asks v u → Asks w u
+asks-on w v u p q = record {
+  state = q.state ∙ ap (λ (s : State). with_client (record s.client { asked = u.state.client.asked }) s) p.state;
+}
+
+asked_if-asks : (wanted : Bool) (message : Outgo) (w : TurnState State) → IfOk (asked_if wanted message w) (Asks w)
+unfolding asked_if asked_for written
+asked_if-asks false message w = asks-none w
+asked_if-asks true message w =
+    IfOk-within client_in with_client (asked_for message Ignore) w (Asks w)
+    (IfOk-if (w.state.client.asked.given == number_limit) _ _ _ tt (record { state = refl }))
+
+asks-then : (r : Result (TurnState State) Counter) (f : TurnState State → Result (TurnState State) Counter) (w : TurnState State) → IfOk r (Asks w)
+    → ((v : TurnState State) → IfOk (f v) (Asks v)) → IfOk (and_then r f) (Asks w)
+asks-then r f w first next = IfOk-and_then r f (Asks w) (Asks w) first (λ v p. IfOk-weaker (f v) (Asks v) (Asks w) (next v) (λ u q. asks-on w v u p q))
+
+pub refreshes-ask : (facts : FactsBefore) (w : TurnState State) → IfOk (refreshes_done facts w) (Asks w)
+unfolding refreshes_done client_refreshed
+refreshes-ask facts w =
+    let can = w.state.client.settings.capabilities in
+    IfOk-if (is_refresh_due facts.quiescent (is_quiescent w.state.files w.state.workspaces) facts.processed) _ (Ok w) (Asks w)
+    (asks-then (asked_if can.semantic_tokens_refresh SemanticTokensRefresh w) _ w (asked_if-asks can.semantic_tokens_refresh SemanticTokensRefresh w)
+    (λ v. asks-then (asked_if can.code_lens_refresh CodeLensRefresh v) _ v (asked_if-asks can.code_lens_refresh CodeLensRefresh v)
+    (λ u. asks-then (asked_if can.inlay_hints_refresh InlayHintRefresh u) _ u (asked_if-asks can.inlay_hints_refresh InlayHintRefresh u)
+    (asked_if-asks can.diagnostics_refresh DiagnosticRefresh))))
+    (asks-none w)
+
+-- and so the batch that is due
+lists-same : (generation : Option ℕ) (s : State) (asked : Outgoing ReqHandler)
+    → lists_asked generation (with_client (record s.client { asked = asked }) s) ≡ lists_asked generation s
+lists-same None s asked = refl
+lists-same (Some generation) s asked = refl
+
+kinds-same : (s : State) (asked : Outgoing ReqHandler) → batch_kinds (with_client (record s.client { asked = asked }) s) ≡ batch_kinds s
+unfolding batch_kinds
+kinds-same s asked =
+    ap (λ (lists : List JobKind). (if shows_diagnostics s.client.settings then lists else [])
+    ++ (if s.client.settings.capabilities.test_explorer then tests_asked (subscribed s.files) else []))
+    (lists-same (next_generation s.board) s asked)
+
+jobs-same : (b : Bool) (s : State) (asked : Outgoing ReqHandler) → batch_jobs_if b (with_client (record s.client { asked = asked }) s) ≡ batch_jobs_if b s
+jobs-same false s asked = refl
+jobs-same true s asked =
+    let t : State = with_client (record s.client { asked = asked }) s in
+    ap (map (awaited_job t)) (kinds-same s asked) ∙ awaited-same t s (batch_kinds s) refl
+
+pub due-same : (came : Bool) (facts : FactsBefore) (w v : TurnState State) → Asks w v → batch_due came facts v.state ≡ batch_due came facts w.state
+due-same came facts w v asks =
+    ap (batch_due came facts) asks.state
+    ∙ jobs-same (is_batch_due facts.quiescent (is_quiescent w.state.files w.state.workspaces) facts.processed came) w.state v.state.client.asked
+
+asks-over : (w v : TurnState State) → Asks w v → spawned v.out.commands ≡ spawned w.out.commands → HandsOver w [] v
+asks-over w v asks spawns = hands-none w v spawns (ap (λ (s : State). s.desk) asks.state)
 
 -- ---- work that is due
 
@@ -246,6 +381,12 @@ four-split : (r : Result (TurnState Turning) Counter) (f g h k : TurnPart)
 four-split (Ok a) f g h k = three-split (f a) g h k
 four-split (Err counter) f g h k = refl
 
+pub quiet-split : (meaning : Meaning) (event : Event) (w : TurnState Turning)
+    → parts_before_fetch meaning (Next event) w
+    ≡ and_then (parts_before_quiet meaning (Next event) w) (λ w. and_then (quiet_part (Next event) w) publish_part)
+quiet-split meaning event w =
+    three-split (event_part meaning event w) switch_part files_part (λ w. and_then (quiet_part (Next event) w) publish_part)
+
 five-split : (r : Result (TurnState Turning) Counter) (f g h i k : TurnPart)
     → and_then r (λ a. and_then (f a) (λ b. and_then (g b) (λ c. and_then (h c) (λ d. and_then (i d) k))))
     ≡ and_then (and_then r (λ a. and_then (f a) (λ b. and_then (g b) (λ c. and_then (h c) i)))) k
@@ -258,8 +399,12 @@ unfolding step
 step-split meaning Start s =
     ap (λ r. and_then r turned) (three-split (status_part (turning (turn_start s))) register_part begin_part (parts_from_fetch Start))
 step-split meaning (Next event) s =
-    ap (λ r. and_then r turned) (five-split (event_part meaning event (turning (turn_start s))) switch_part files_part quiet_part publish_part
+    ap (λ r. and_then r turned) (five-split (event_part meaning event (turning (turn_start s))) switch_part files_part (quiet_part (Next event)) publish_part
     (parts_from_fetch (Next event)))
+
+pub quiet-is : (meaning : Meaning) (input : Input) (s : State) (t : TurnState Turning) → parts_before_quiet meaning input (turning (turn_start s)) ≡ Ok t
+    → before_quiet meaning input s ≡ t.state
+quiet-is meaning input s t is = ap (λ r. (result_unwrap_or r (turning (turn_start s))).state) is
 
 pub before-is : (meaning : Meaning) (input : Input) (s : State) (t : TurnState Turning) → parts_before_fetch meaning input (turning (turn_start s)) ≡ Ok t
     → before_fetch meaning input s ≡ t.state.state

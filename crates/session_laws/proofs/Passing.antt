@@ -12,7 +12,7 @@ use Rattle.lsp_frame.specs.declared.message.Request.{Request}
 use Rattle.lsp_frame.specs.declared.message.RequestId.{RequestId}
 use Rattle.lsp_frame.specs.declared.message.Response.{Response}
 use Rattle.analysis_host.specs.SnapshotData.{SnapshotData}
-use Rattle.method_table.specs.declared.class.PoolClass.TheVariants.{Worker}
+use Rattle.method_table.specs.declared.class.PoolClass.{PoolClass}
 use Rattle.project_model.specs.declared.crates.CrateData.{CrateData}
 use Rattle.session_port.specs.declared.command.Command.{Command}
 use Rattle.session_port.specs.declared.command.Command.TheVariants.{Log, Defer}
@@ -112,9 +112,9 @@ message-passes meaning scene message w = IfOk-weaker (result_taken meaning scene
 pub cancelled-passes : (id : RequestId) (w : TurnState Desk) → FromDesk w (cancelled id w)
 cancelled-passes id w = (cancel-settles id w).others
 
-pub spawned-passes : (snapshot : SnapshotData) (kind : JobKind) (w : TurnState Desk) → IfOk (handed_over snapshot Worker kind w) (FromDesk w)
+pub spawned-passes : (snapshot : SnapshotData) (class : PoolClass) (kind : JobKind) (w : TurnState Desk) → IfOk (handed_over snapshot class kind w) (FromDesk w)
 unfolding ordered
-spawned-passes snapshot kind w =
+spawned-passes snapshot class kind w =
     IfOk-next w.state.last_job Jobs _ (FromDesk w) (λ number_of passes. passed-append number_of w.out.commands _ (passes.jobs _))
 
 pub counted-passes : (w : TurnState Desk) → IfOk (counted w) (FromDesk w)

@@ -20,7 +20,8 @@ use Rattle.session_files.proofs.SoundLemmas.{processing_does, taken_none}
 use Rattle.workspaces.specs.Fetches.{is_served, waits_from}
 use Rattle.workspaces.specs.Workspaces.{Workspaces}
 use Rattle.workspaces.specs.declared.requests.FetchRequest.{FetchRequest}
-use Rattle.session_model.specs.Machine.{at_files, effects_done, fetch_waits, files_followed, files_in, files_processed, further_logged, settings_filed}
+use Rattle.session_model.specs.Diagnosing.{deleted_cleared}
+use Rattle.session_model.specs.Machine.{at_board, at_files, effects_done, fetch_waits, files_followed, files_in, files_processed, further_logged, settings_filed}
 use Rattle.session_model.specs.Machine.{sources_deferred, with_client, with_files, with_sources}
 use Rattle.session_model.specs.Sources.{change_for, client_with, further_files, parents_told}
 use Rattle.session_model.specs.State.{State}
@@ -79,7 +80,9 @@ follows [] w = record { desk = nothing-settles (at w); shows = record { present 
 follows (change ∷ changes) w =
     let effects : ChangeEffects = effects_for w.state.client.settings (change ∷ changes) w.state.workspaces in
     let settings = change_for effects.settings w.state.files.host.world.roots w.state.sources w.state.workspaces.present in
-    let put : TurnState State = record w { state = with_sources (parents_told w.state.sources) (with_client (client_with settings w.state.client) w.state) } in
+    let cleared : TurnState State = at_board (deleted_cleared (change ∷ changes)) w in
+    let put : TurnState State =
+    record cleared { state = with_sources (parents_told w.state.sources) (with_client (client_with settings w.state.client) cleared.state) } in
     let filed : TurnState State = further_logged (further_files settings) put in
     let same = deferred-same effects.macro_sources filed ∙ further-same (further_files settings) put in
     record {

@@ -27,7 +27,8 @@ use Rattle.session_files.specs.Steps.{close_noted, closed_document}
 use Rattle.workspaces.specs.Workspaces.{Workspaces}
 use Rattle.workspaces.specs.declared.follows.Follows.{Follows}
 use Rattle.session_model.specs.Hearing.{heard_of, told_by}
-use Rattle.session_model.specs.Machine.{at_workspaces, document_closed_at, turn_counted, file_changed, files_changed, files_in, happened, loader_set, noticed}
+use Rattle.session_model.specs.Diagnosing.{lists_cleared}
+use Rattle.session_model.specs.Machine.{at_board, at_workspaces, document_closed_at, turn_counted, file_changed, files_changed, files_in, happened, loader_set, noticed}
 use Rattle.session_model.specs.Machine.{received}
 use Rattle.session_model.specs.Machine.{roots_renewed, step, switch_done, switch_taken, event_taken, told, with_files}
 use Rattle.session_model.specs.Run.{Steps, Turn, turn_start}
@@ -169,7 +170,7 @@ closed-reads : (o : Result (List ℕ) UrlFault) (uri : List ℕ) (w : TurnState 
 unfolding document_closed_at closed_document ordered
 closed-reads (Err fault) uri w none = logged-owes SameFiles same-files.saying _ uri w ∙ none
 closed-reads (Ok path) uri w none =
-    IfOk-within files_in with_files (λ f. Ok (closed_document path f)) w (Reads (path ∷ []))
+    IfOk-within files_in with_files (λ f. Ok (closed_document path f)) (at_board (lists_cleared (finmap.get w.state.files.ids path)) w) (Reads (path ∷ []))
     (let noted = close_noted path (record { state = w.state.files; out = w.out }) in
     filter_map-append file_to_read noted.out.commands (Invalidate path ∷ [])
     ∙ ap (λ fs. fs ++ path ∷ []) (passes-files w.out noted.out (close-noted-passes path (record { state = w.state.files; out = w.out })) ∙ none))

@@ -4,15 +4,22 @@ use Rattle.std.specs.Prelude.{Option, None, Some, is_some, Result, Ok, Err, IfOk
 use Rattle.std.specs.FinMap as map
 use Rattle.plain.specs.Texts.{text_cmp}
 use Rattle.docs_vfs.specs.FileUrls.{path_of}
+use Rattle.docs_vfs.specs.Files.{path_at}
 use Rattle.docs_vfs.specs.declared.file_kinds.ChangedFile.{ChangedFile}
+use Rattle.docs_vfs.specs.declared.file_kinds.FileExcluded.{FileExcluded}
+use Rattle.docs_vfs.specs.declared.file_kinds.FileExcluded.TheVariants.{No, Yes}
 use Rattle.docs_vfs.specs.declared.file_kinds.FileId.{FileId}
 use Rattle.docs_vfs.specs.declared.file_url.UrlFault.{UrlFault}
+use Rattle.lsp_types.specs.declared.diagnostic.Diagnostic.{Diagnostic}
 use Rattle.ra_config.specs.declared.capabilities.Capabilities.{Capabilities}
+use Rattle.serde_json.specs.Data.{Data}
 use Rattle.session_port.specs.declared.command.Command.TheVariants.{Invalidate}
 use Rattle.session_port.specs.declared.command.DeferredTask.TheVariants.{CheckProcMacroSources}
 use Rattle.session_port.specs.declared.command.LogCode.{LogCode}
-use Rattle.session_port.specs.declared.command.LogCode.TheVariants.{SecondSettingsFile, UnknownSave}
+use Rattle.session_port.specs.declared.command.LogCode.TheVariants.{CheckUnknownFile, SecondSettingsFile, UnknownSave}
 use Rattle.session_port.specs.declared.fault.Counter.{Counter}
+use Rattle.session_port.specs.declared.news.FlycheckMsg.{FlycheckMsg}
+use Rattle.session_port.specs.declared.news.FlycheckMsg.TheVariants as checks
 use Rattle.session_port.specs.TurnState.{TurnState, and_then, logged, ordered, written}
 use Rattle.session_port.specs.Written.{Written}
 use Rattle.change_effects.specs.declared.effects.ChangeEffects.{ChangeEffects}
@@ -32,9 +39,16 @@ use Rattle.status.specs.declared.status.Status.{Status}
 use Rattle.workspaces.specs.Workspaces.{Workspaces}
 use Rattle.workspaces.specs.declared.follows.Follows.{Follows}
 use Rattle.workspaces.specs.declared.follows.Follows.TheVariants.{Nothing, CrateData as CratesAnew, Wait, GoOn}
+use Rattle.op_board.specs.Acts.{step as after_act}
+use Rattle.op_board.specs.Acts.Act.{Takes}
+use Rattle.op_board.specs.Board.{Board}
+use Rattle.op_board.specs.Marked.{taken}
 use Rattle.session_model.specs.Crates.{is_unknown}
+use Rattle.session_model.specs.Diagnosing.{deleted_cleared, publication}
+use Rattle.session_model.specs.Machine.{all_published, at_board, check_told, checks_told, files_published, found_added, marked_published, news_taken}
+use Rattle.session_model.specs.Machine.{published_at, with_board}
 use Rattle.session_model.specs.Machine.{asked_if, at_client, client_in, effects_done, fetch_waits, file_changed, files_changed, files_followed, further_logged}
-use Rattle.session_model.specs.Machine.{loader_set, quiet_done, client_refreshed, roots_renewed, save_noted, saved_at, settings_filed, sources_deferred}
+use Rattle.session_model.specs.Machine.{loader_set, refreshes_done, client_refreshed, roots_renewed, save_noted, saved_at, settings_filed, sources_deferred}
 use Rattle.session_model.specs.Machine.{status_changed, status_done, status_kept, status_told, switch_followed, text_shown, warned, watchers_registered}
 use Rattle.session_model.specs.Machine.{with_client, with_sources, with_status, with_workspaces}
 use Rattle.session_model.specs.Saving.{path_saved}
@@ -43,6 +57,8 @@ use Rattle.session_model.specs.State.{Sources, State}
 use Rattle.session_model.specs.Status.{opens_logs, shown_of, status_message, status_now, takes_status}
 use Rattle.session_model.specs.Timing.{effects_for, fetch_planned}
 use Rattle.session_model.specs.declared.facts.FactsBefore.{FactsBefore}
+use Rattle.session_model.specs.declared.input.News.{News as NewsData}
+use Rattle.session_model.specs.declared.input.News.TheVariants as told_news
 use Rattle.session_laws.proofs.Passing.{Asks, Says, asked-says, says-deferred, says-logged, says-none, says-notified}
 use Rattle.session_laws.proofs.Running.{SameRuns, planned-runs, same-runs, save-runs}
 use Rattle.session_laws.proofs.Telling.{Speaks, speaks-on, tells-none}
@@ -59,6 +75,8 @@ pub record Saying (R : TurnState State → TurnState State → Type 0) : Type 0 
   pub runs : (w : TurnState State) (workspaces : Workspaces) → SameRuns w.state.desk.turns w.state.workspaces workspaces
       → R w (record w { state = with_workspaces workspaces w.state })
   pub status : (w : TurnState State) (status : Status) → R w (record w { state = with_status status w.state })
+  -- the board of diagnostics is another
+  pub board : (w : TurnState State) (board : Board) → R w (record w { state = with_board board w.state })
 
 -- the settings and the sources may become others
 abbrev pub MayFile : (TurnState State → TurnState State → Type 0) → Type 0
@@ -93,7 +111,7 @@ module _ (R : TurnState State → TurnState State → Type 0) (owed : Saying R) 
   logged_if-owes code None w = none-owes w
   logged_if-owes code (Some text) w = logged-owes code text w
 
-  notified-owes : (message : Outgo) (w : TurnState State) → R w (written (notification_of message) w)
+  pub notified-owes : (message : Outgo) (w : TurnState State) → R w (written (notification_of message) w)
   unfolding written
   notified-owes message w = owed.says w _ (says-notified message w)
 
@@ -130,14 +148,17 @@ module _ (R : TurnState State → TurnState State → Type 0) (owed : Saying R) 
   files-followed-owe may (change ∷ changes) w =
       let effects : ChangeEffects = effects_for w.state.client.settings (change ∷ changes) w.state.workspaces in
       let settings = change_for effects.settings w.state.files.host.world.roots w.state.sources w.state.workspaces.present in
-      let put : TurnState State = record w { state = with_sources (parents_told w.state.sources) (with_client (client_with settings w.state.client) w.state) } in
+      let cleared : TurnState State = at_board (deleted_cleared (change ∷ changes)) w in
+      let put : TurnState State =
+      record cleared { state = with_sources (parents_told w.state.sources) (with_client (client_with settings w.state.client) cleared.state) } in
       let filed : TurnState State = further_logged (further_files settings) put in
       let deferred : TurnState State = sources_deferred effects.macro_sources filed in
-      owed.on w put _ (may w (client_with settings w.state.client) (parents_told w.state.sources))
+      owed.on w cleared _ (owed.board w (deleted_cleared (change ∷ changes) w.state.board))
+      (owed.on cleared put _ (may cleared (client_with settings w.state.client) (parents_told w.state.sources))
       (owed.on put filed _ (further-owes (further_files settings) put)
       (owed.on filed deferred _ (deferred-owes effects.macro_sources filed)
       (owed.runs deferred (fetch_planned deferred.state.desk.turns effects.fetch deferred.state.workspaces)
-      (planned-runs deferred.state.desk.turns effects.fetch deferred.state.workspaces))))
+      (planned-runs deferred.state.desk.turns effects.fetch deferred.state.workspaces)))))
 
   -- ---- files that were saved, and files that are to be read anew
 
@@ -179,9 +200,30 @@ module _ (R : TurnState State → TurnState State → Type 0) (owed : Saying R) 
       (λ u. owes-then (asked_if can.inlay_hints_refresh InlayHintRefresh u) _ u (asked_if-owes can.inlay_hints_refresh InlayHintRefresh u)
       (asked_if-owes can.diagnostics_refresh DiagnosticRefresh)))
 
-  pub quiet-owes : (facts : FactsBefore) (w : TurnState State) → IfOk (quiet_done facts w) (R w)
-  unfolding quiet_done
-  quiet-owes facts w = IfOk-if _ _ (Ok w) (R w) (refreshed-owes w.state.client.settings.capabilities w) (none-owes w)
+  pub refreshes-owe : (facts : FactsBefore) (w : TurnState State) → IfOk (refreshes_done facts w) (R w)
+  unfolding refreshes_done
+  refreshes-owe facts w = IfOk-if _ _ (Ok w) (R w) (refreshed-owes w.state.client.settings.capabilities w) (none-owes w)
+
+  published-owes : (path : Option (List ℕ)) (file : FileId) (w : TurnState State) → R w (published_at path file w)
+  unfolding published_at
+  published-owes None file w = none-owes w
+  published-owes (Some path) file w = notified-owes (publication w.state.files w.state.board file path) w
+
+  all-published-owe : (files : List FileId) (w : TurnState State) → R w (all_published files w)
+  all-published-owe [] w = none-owes w
+  all-published-owe (file ∷ files) w =
+      let v : TurnState State = published_at (path_at w.state.files.table file) file w in
+      owed.on w v _ (published-owes (path_at w.state.files.table file) file w) (all-published-owe files v)
+
+  files-published-owe : (files : Option (List FileId)) (w : TurnState State) → R w (files_published files w)
+  files-published-owe None w = none-owes w
+  files-published-owe (Some files) w = all-published-owe files w
+
+  pub marked-owe : (w : TurnState State) → R w (marked_published w)
+  unfolding marked_published
+  marked-owe w =
+      let v : TurnState State = at_board (after_act Takes) w in
+      owed.on w v _ (owed.board w (after_act Takes w.state.board)) (files-published-owe (taken w.state.board.marked) v)
 
   shown-owes : (button : Bool) (text : Option (List ℕ × MessageKind)) (w : TurnState State) → IfOk (text_shown button text w) (R w)
   unfolding text_shown
@@ -217,6 +259,32 @@ module _ (R : TurnState State → TurnState State → Type 0) (owed : Saying R) 
       (owes-then (watchers_registered v) (λ u. Ok (roots_renewed (loader_set version u))) v (asked_if-owes _ _ v) (renews version))
       (λ x p. owed.on w v x (warned-owes msrv w) p)
 
+  -- ---- news of checks
+
+  found-owes : (id generation : ℕ) (of_package : Option (List ℕ)) (path : List ℕ) (diagnostic : Diagnostic) (fix : Option Data)
+      (file : Option (FileId × FileExcluded)) (w : TurnState State) → R w (found_added id generation of_package path diagnostic fix file w)
+  unfolding found_added
+  found-owes id generation of_package path diagnostic fix None w = logged-owes CheckUnknownFile path w
+  found-owes id generation of_package path diagnostic fix (Some (file, Yes)) w = none-owes w
+  found-owes id generation of_package path diagnostic fix (Some (file, No)) w = owed.board w _
+
+  check-owes : (message : FlycheckMsg) (w : TurnState State) → R w (check_told message w)
+  unfolding check_told
+  check-owes (checks.AddDiagnostic id generation of_package path diagnostic fix) w =
+      found-owes id generation of_package path diagnostic fix (map.get w.state.files.ids path) w
+  check-owes (checks.ClearDiagnostics id of_package older_than) w = owed.board w _
+  check-owes (checks.Progress id progress) w = none-owes w
+
+  checks-owe : (messages : List FlycheckMsg) (w : TurnState State) → R w (checks_told messages w)
+  checks-owe [] w = none-owes w
+  checks-owe (message ∷ messages) w = owed.on w (check_told message w) _ (check-owes message w) (checks-owe messages (check_told message w))
+
+  pub news-owe : (news : NewsData) (w : TurnState State) → R w (news_taken news w)
+  unfolding news_taken
+  news-owe (told_news.Flycheck messages) w = checks-owe messages w
+  news-owe (told_news.TestResult messages) w = none-owes w
+  news-owe (told_news.DiscoverProject messages) w = none-owes w
+
 -- what the client and the host are told
 pub speaking : Saying Speaks
 speaking = record {
@@ -231,6 +299,13 @@ speaking = record {
   };
   runs = λ w workspaces same. record { tells = tells-none w.out; desk = refl; files = refl; runs = same };
   status = λ w status. record {
+    tells = tells-none w.out;
+    desk = refl;
+    files = refl;
+    runs =
+        same-runs w.state.desk.turns w.state.workspaces w.state.workspaces refl;
+  };
+  board = λ w board. record {
     tells = tells-none w.out;
     desk = refl;
     files = refl;

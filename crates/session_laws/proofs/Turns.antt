@@ -6,7 +6,7 @@ use Rattle.session_port.specs.declared.fault.Counter.{Counter}
 use Rattle.desk.specs.Meaning.{Meaning}
 use Rattle.desk_laws.proofs.Results.{IfOk-and_then, IfOk-weaker, IfOk-within}
 use Rattle.session_model.specs.Machine.{begin_part, begun_fetches, build_part, closing_part, event_part, event_taken, facts_before, fetch_part, fetch_started}
-use Rattle.session_model.specs.Machine.{files_done, files_part, in_state, knowing, later_parts, prime_part, publish_part, quiet_done, quiet_part, register_part}
+use Rattle.session_model.specs.Machine.{files_done, files_part, in_state, knowing, later_parts, marked_published, prime_part, publish_part, quiet_done, quiet_part, register_part}
 use Rattle.session_model.specs.Machine.{runs_started, saves_registered, some_processed, start_parts, state_in, status_done, status_part, step, switch_done}
 use Rattle.session_model.specs.Machine.{switch_part, turn_closed, turned, Turning, turning, with_state}
 use Rattle.session_model.specs.Run.{turn_start}
@@ -44,7 +44,8 @@ Keeps R S = (w v : TurnState State) → S w → R w v → S v
 
 -- what the parts behind the files do, and those of the start
 pub record Parts (R : TurnState State → TurnState State → Type 0) : Type 0 where
-  pub quiet : (facts : FactsBefore) (w : TurnState State) → IfOk (quiet_done facts w) (R w)
+  pub quiet : (input : Input) (facts : FactsBefore) (w : TurnState State) → IfOk (quiet_done input facts w) (R w)
+  pub publish : (w : TurnState State) → R w (marked_published w)
   pub fetch : (may : Bool) (w : TurnState State) → IfOk (fetch_started may w) (R w)
   pub runs : (w : TurnState State) → IfOk (runs_started w) (R w)
   pub status : (w : TurnState State) → IfOk (status_done w) (R w)
@@ -86,14 +87,15 @@ module _ (R : TurnState State → TurnState State → Type 0) (parts : Parts R) 
 
     -- behind a switch and the files
     later : (event : Event) (t : TurnState Turning) → Going S facts t
-        → IfOk (and_then (quiet_part t) (λ t. and_then (publish_part t) (λ t. and_then (fetch_part (Next event) t)
+        → IfOk (and_then (quiet_part (Next event) t) (λ t. and_then (publish_part t) (λ t. and_then (fetch_part (Next event) t)
         (λ t. and_then (build_part t) (λ t. and_then (prime_part t) (λ t. and_then (status_part t) closing_part)))))) Ends
-    unfolding quiet_part fetch_part build_part status_part
+    unfolding quiet_part publish_part fetch_part build_part status_part
     later event t g =
-        goes-on (quiet_done t.state.facts) _ t g (parts.quiet t.state.facts)
+        goes-on (quiet_done (Next event) t.state.facts) _ t g (parts.quiet (Next event) t.state.facts)
+        (λ t g. goes-on (λ w. Ok (marked_published w)) _ t g parts.publish
         (λ t g. goes-on (fetch_started (may_start (Next event) t.state.state.client.settings)) _ t g (parts.fetch _)
         (λ t g. goes-on runs_started _ t g parts.runs
-        (λ t g. goes-on status_done closing_part t g parts.status closing)))
+        (λ t g. goes-on status_done closing_part t g parts.status closing))))
 
     starting : (t : TurnState Turning) → Going S facts t → IfOk (start_parts t) Ends
     unfolding status_part register_part begin_part fetch_part

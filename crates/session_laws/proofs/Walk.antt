@@ -7,7 +7,10 @@ use Rattle.docs_vfs.specs.declared.file_url.UrlFault.{UrlFault}
 use Rattle.lsp_frame.specs.declared.message.Request.{Request}
 use Rattle.lsp_frame.specs.declared.message.Response.{Response}
 use Rattle.lsp_frame.specs.declared.message.Message.TheVariants.{Request as RequestMessage, Notification as NotificationMessage, Response as ResponseMessage}
-use Rattle.method_table.specs.declared.class.PoolClass.TheVariants.{Worker}
+use Rattle.method_table.specs.declared.class.PoolClass.{PoolClass}
+use Rattle.method_table.specs.declared.class.PoolClass.TheVariants.{Latency, Worker}
+use Rattle.op_board.specs.Acts.{step as after_act}
+use Rattle.op_board.specs.Acts.Act.{ForgetsAll}
 use Rattle.project_model.specs.declared.crates.CrateData.{CrateData}
 use Rattle.session_port.specs.declared.command.Command.TheVariants.{Revise, Timer as SetTimer}
 use Rattle.session_port.specs.declared.command.DeferredTask.{DeferredTask}
@@ -32,7 +35,7 @@ use Rattle.notify.specs.declared.outgo.Outgo.TheVariants.{Configuration}
 use Rattle.desk.specs.Desk.{Desk}
 use Rattle.desk.specs.WorkEnds.{BuildEnd, FetchEnd, LoadEnd, work_ended}
 use Rattle.desk.specs.declared.state.ends.WorkEnd.{WorkEnd}
-use Rattle.desk.specs.declared.state.ends.WorkEnd.TheVariants.{Fetched, Built, Checked, Loaded}
+use Rattle.desk.specs.declared.state.ends.WorkEnd.TheVariants.{Fetched, Built, Checked, Loaded, Diagnosed, Tested}
 use Rattle.desk.specs.Meaning.{Meaning}
 use Rattle.desk.specs.Steps.{cancelled, counted as counted_at_desk, handed_over, jobs_kept as kept_at_desk, requested, result_taken as taken_at_desk}
 use Rattle.desk_laws.proofs.Results.{IfOk-and_then, IfOk-if, IfOk-weaker, IfOk-within}
@@ -47,12 +50,14 @@ use Rattle.workspaces.specs.declared.requests.FetchRequest.{FetchRequest}
 use Rattle.session_model.specs.Building.{build_due, build_kept, request_told, with_due_build}
 use Rattle.session_model.specs.Checking.{check_kept, check_kind}
 use Rattle.session_model.specs.Crates.{builds_crates, crate_data}
+use Rattle.session_model.specs.Diagnosing.{batch_counted, batch_kinds, is_batch_due, lists_cleared, lists_given, tests_told}
 use Rattle.session_model.specs.Fetching.{fetch_kept, folders_told_if, settings_told, with_fetches}
 use Rattle.session_model.specs.Hearing.{heard_of, told_by}
 use Rattle.session_model.specs.Loading.{MacroPaths, crates_loaded, load_due, load_kept, load_kind, with_due_load}
 use Rattle.session_model.specs.Machine.{all_resumed, answer_taken, request_taken, at_client, at_desk, at_files, at_workspaces, batched, begun_fetches}
 use Rattle.session_model.specs.Machine.{loader_taken, build_handed_over, build_started, build_taken, document_changed_at, client_in, turn_closed}
-use Rattle.session_model.specs.Machine.{document_closed_at}
+use Rattle.session_model.specs.Machine.{all_asked, at_board, batch_asked, batch_done, came_or_went, document_closed_at}
+use Rattle.session_model.specs.Machine.{quiet_done, refreshes_done}
 use Rattle.session_model.specs.Machine.{turn_counted, crates_arrived, crates_built, desk_in, end_taken, work_taken, facts_before, fetch_handed_over}
 use Rattle.session_model.specs.Machine.{fetch_started}
 use Rattle.session_model.specs.Machine.{fetch_taken, files_done, files_followed, files_in, files_processed, files_processed_if, folders_taken, switch_followed}
@@ -62,7 +67,7 @@ use Rattle.session_model.specs.Machine.{revised, runs_started, saves_registered,
 use Rattle.session_model.specs.Machine.{with_desk, with_files, with_workspaces}
 use Rattle.session_model.specs.Run.{turn_start}
 use Rattle.session_model.specs.State.{State, columns_in, discovers, excludes_in, fetch_kind, goes_by_folders, scene_of, snapshot_of}
-use Rattle.session_model.specs.Status.{build_fault, fetch_fault}
+use Rattle.session_model.specs.Status.{build_fault, fetch_fault, is_quiescent}
 use Rattle.session_model.specs.Timing.{bring_files, renewed_if}
 use Rattle.session_model.specs.declared.facts.FactsBefore.{FactsBefore}
 use Rattle.session_model.specs.declared.heard.Heard.{Heard}
@@ -77,7 +82,8 @@ use Rattle.session_laws.proofs.Passing.{folders-pass, spawned-passes, kept-passe
 use Rattle.session_laws.proofs.Passing.{processed-passes, requested-passes}
 use Rattle.session_laws.proofs.Running.{versions_of, begin-runs, fire-runs, folders-runs, renewed-runs, request-runs, settings-runs}
 use Rattle.session_laws.proofs.Saying.{MayRenew, MayReread, Saying, asked_if-owes, asking-owes, files-followed-owe, logged-owes, logged_if-owes, none-owes}
-use Rattle.session_laws.proofs.Saying.{owes-if, owes-then, quiet-owes, saved-owes, status-owes, switch-followed-owes, watched-owe}
+use Rattle.session_laws.proofs.Saying.{marked-owe, news-owe, notified-owes, owes-if, owes-then, refreshes-owe, saved-owes, status-owes, switch-followed-owes}
+use Rattle.session_laws.proofs.Saying.{watched-owe}
 use Rattle.session_laws.proofs.Telling.{after-parents, answered-does, folders-do}
 use Rattle.session_laws.proofs.Turns.{Begins, Closes, Keeps, Parts, turn-ends}
 use Rattle.session_laws.proofs.WorkEnds.{build-leaves, fetch-leaves, load-leaves}
@@ -119,6 +125,7 @@ by-passing R on keeps = record {
   asks = λ handler w out s. keeps w _ (record { out = s.passes; versions = refl });
   runs = λ w workspaces same. keeps w _ (record { out = passes-none w.out; versions = same.versions });
   status = λ w status. keeps w _ (record { out = passes-none w.out; versions = refl });
+  board = λ w board. keeps w _ (record { out = passes-none w.out; versions = refl });
 }
 
 -- a step of the files, which enters the world
@@ -190,8 +197,8 @@ module _ (R : TurnState State → TurnState State → Type 0) (owed : Owed R) wh
       let files : TurnState SessionFiles = record { state = w.state.files; out = w.out } in
       IfOk-within files_in with_files work w (R w) (IfOk-weaker (work files) (Stays files) _ stays (λ v p. owed.files w v.state v.out p.1 p.0))
 
-  spawned-owes : (kind : JobKind) (w : TurnState State) → IfOk (at_desk (handed_over (snapshot_of w.state) Worker kind) w) (R w)
-  spawned-owes kind w = desk-owes _ w (spawned-passes (snapshot_of w.state) kind (record { state = w.state.desk; out = w.out }))
+  spawned-owes : (class : PoolClass) (kind : JobKind) (w : TurnState State) → IfOk (at_desk (handed_over (snapshot_of w.state) class kind) w) (R w)
+  spawned-owes class kind w = desk-owes _ w (spawned-passes (snapshot_of w.state) class kind (record { state = w.state.desk; out = w.out }))
 
   processed_if-owes : (b : Bool) (w : TurnState State) → IfOk (files_processed_if b w) (R w)
   unfolding files_processed_if
@@ -216,11 +223,13 @@ module _ (R : TurnState State → TurnState State → Type 0) (owed : Owed R) wh
   unfolding document_closed_at closed_document ordered
   closed-at-owes may (Err fault) uri w = logged-owes R owed.saying _ uri w
   closed-at-owes may (Ok path) uri w =
+      let cleared : TurnState State = at_board (lists_cleared (map.get w.state.files.ids path)) w in
       let noted : Written = (close_noted path (record { state = w.state.files; out = w.out })).out in
-      let v : TurnState State = record { state = with_files (after_closing path w.state.files) w.state; out = noted } in
-      IfOk-within files_in with_files (λ f. Ok (closed_document path f)) w (R w)
-      (owed.saying.on w v _ (owed.files w (after_closing path w.state.files) noted (closing_keeps path w.state.files).host
-      (close-noted-passes path (record { state = w.state.files; out = w.out }))) (may path v))
+      let v : TurnState State = record { state = with_files (after_closing path w.state.files) cleared.state; out = noted } in
+      IfOk-within files_in with_files (λ f. Ok (closed_document path f)) cleared (R w)
+      (owed.saying.on w cleared _ (owed.saying.board w (lists_cleared (map.get w.state.files.ids path) w.state.board))
+      (owed.saying.on cleared v _ (owed.files cleared (after_closing path w.state.files) noted (closing_keeps path w.state.files).host
+      (close-noted-passes path (record { state = w.state.files; out = w.out }))) (may path v)))
 
   folders-owe : MayTell R → (added removed : List (List ℕ)) (w : TurnState State) → IfOk (folders_taken added removed w) (R w)
   folders-owe tells added removed w =
@@ -245,7 +254,7 @@ module _ (R : TurnState State → TurnState State → Type 0) (owed : Owed R) wh
   told-owes (notices.DidChangeWatchedFiles urls) may tells w = watched-owe R owed.saying (may refl) map.empty urls w
   told-owes (notices.CancelProgress token) may tells w = none w
   told-owes notices.CancelFlycheck may tells w = none w
-  told-owes notices.ClearFlycheck may tells w = none w
+  told-owes notices.ClearFlycheck may tells w = owed.saying.board w (after_act ForgetsAll w.state.board)
   told-owes (notices.RunFlycheck uri) may tells w = none w
   told-owes notices.AbortRunTest may tells w = none w
 
@@ -285,9 +294,11 @@ module _ (R : TurnState State → TurnState State → Type 0) (owed : Owed R) wh
   fetch-taken-owes : (found : FetchEnd) (w : TurnState State) → R w (fetch_taken found w)
   unfolding fetch_taken
   fetch-taken-owes found w =
-      let v : TurnState State = at_workspaces (fetch_kept found) w in
-      owed.saying.on w v _ (owed.workspaces w (fetch_kept found w.state.workspaces) (fetch-leaves found w.state.workspaces).2)
-      (logged_if-owes R owed.saying FetchError (fetch_fault v.state.client.settings v.state.workspaces) v)
+      let kept : TurnState State = at_workspaces (fetch_kept found) w in
+      let v : TurnState State = at_board (after_act ForgetsAll) kept in
+      owed.saying.on w kept _ (owed.workspaces w (fetch_kept found w.state.workspaces) (fetch-leaves found w.state.workspaces).2)
+      (owed.saying.on kept v _ (owed.saying.board kept (after_act ForgetsAll w.state.board))
+      (logged_if-owes R owed.saying FetchError (fetch_fault v.state.client.settings v.state.workspaces) v))
 
   build-taken-owes : (made : BuildEnd) (w : TurnState State) → R w (build_taken made w)
   unfolding build_taken
@@ -318,6 +329,8 @@ module _ (R : TurnState State → TurnState State → Type 0) (owed : Owed R) wh
   work-owes (Built made) w = build-taken-owes made w
   work-owes (Checked roots) w = owed.workspaces w (check_kept roots w.state.workspaces) refl
   work-owes (Loaded told) w = load-owes told w
+  work-owes (Diagnosed generation pass lists) w = owed.saying.board w (lists_given generation pass lists w.state.board)
+  work-owes (Tested files tests) w = notified-owes R owed.saying (tests_told w.state.files.table files tests) w
 
   end-owes : (end : Option WorkEnd) (w : TurnState State) → IfOk (end_taken end w) (R w)
   unfolding end_taken
@@ -339,7 +352,7 @@ module _ (R : TurnState State → TurnState State → Type 0) (owed : Owed R) wh
   resumed-owes : (task : DeferredTask) (w : TurnState State) → IfOk (resumed task w) (R w)
   unfolding resumed
   resumed-owes (CheckIfIndexed path) w = none w
-  resumed-owes (CheckProcMacroSources files) w = spawned-owes (check_kind (snapshot_of w.state) files) w
+  resumed-owes (CheckProcMacroSources files) w = spawned-owes Worker (check_kind (snapshot_of w.state) files) w
 
   all-resumed-owe : (tasks : List DeferredTask) (w : TurnState State) → IfOk (all_resumed tasks w) (R w)
   all-resumed-owe [] w = none w
@@ -354,7 +367,7 @@ module _ (R : TurnState State → TurnState State → Type 0) (owed : Owed R) wh
   happened-owes meaning (Task batch) may tells w = batch-owes meaning batch w
   happened-owes meaning (Vfs messages) may tells w = brought-owes messages w
   happened-owes meaning (Deferred tasks) may tells w = all-resumed-owe tasks w
-  happened-owes meaning (News news) may tells w = none w
+  happened-owes meaning (News news) may tells w = news-owe R owed.saying news w
   happened-owes meaning (Timer ticket) may tells w = owed.workspaces w (with_fetches (fire ticket) w.state.workspaces)
       (fire-runs 0 ticket w.state.workspaces).versions
 
@@ -392,7 +405,7 @@ module _ (R : TurnState State → TurnState State → Type 0) (owed : Owed R) wh
       → IfOk (at_desk (handed_over (snapshot_of (at_workspaces step w).state) Worker kind) (at_workspaces step w)) (R w)
   starts step kind w same =
       let v : TurnState State = at_workspaces step w in
-      IfOk-weaker _ (R v) (R w) (spawned-owes kind v) (λ u q. owed.saying.on w v u (owed.workspaces w (step w.state.workspaces) same) q)
+      IfOk-weaker _ (R v) (R w) (spawned-owes Worker kind v) (λ u q. owed.saying.on w v u (owed.workspaces w (step w.state.workspaces) same) q)
 
   fetch-spawned : (may : Bool) (request : Option (List ℕ × FetchRequest)) (w : TurnState State)
       → IfOk (fetch_handed_over request (at_workspaces (with_fetches (start_fetch may)) w)) (R w)
@@ -447,12 +460,38 @@ module _ (R : TurnState State → TurnState State → Type 0) (owed : Owed R) wh
       owed.saying.on v _ _ (owes-if R owed.saying (revision == facts.revision) v v (ordered (Revise revision) v) (none v) (revises revision v))
       (timer-owes (revised facts.revision v)))
 
+  -- ---- batches
+
+  all-asked-owe : (kinds : List JobKind) (w : TurnState State) → IfOk (all_asked kinds w) (R w)
+  unfolding all_asked
+  all-asked-owe [] w = none w
+  all-asked-owe (kind ∷ kinds) w =
+      two-owe (at_desk (handed_over (snapshot_of w.state) Latency kind) w) (all_asked kinds) w (spawned-owes Latency kind w) (all-asked-owe kinds)
+
+  batch-asked-owes : (w : TurnState State) → IfOk (batch_asked w) (R w)
+  unfolding batch_asked
+  batch-asked-owes w =
+      let v : TurnState State = at_board (batch_counted w.state.client.settings) w in
+      IfOk-weaker (all_asked (batch_kinds w.state) v) (R v) (R w) (all-asked-owe (batch_kinds w.state) v)
+      (λ u q. owed.saying.on w v u (owed.saying.board w (batch_counted w.state.client.settings w.state.board)) q)
+
+  pub batch-done-owes : (came : Bool) (facts : FactsBefore) (w : TurnState State) → IfOk (batch_done came facts w) (R w)
+  unfolding batch_done
+  batch-done-owes came facts w = IfOk-if (is_batch_due facts.quiescent (is_quiescent w.state.files w.state.workspaces) facts.processed came) (batch_asked w) (Ok w) (R w) (batch-asked-owes w) (none w)
+
+  quiet-owes : (input : Input) (facts : FactsBefore) (w : TurnState State) → IfOk (quiet_done input facts w) (R w)
+  unfolding quiet_done
+  quiet-owes input facts w =
+      two-owe (refreshes_done facts w) (batch_done (came_or_went input) facts) w (refreshes-owe R owed.saying facts w)
+      (batch-done-owes (came_or_went input) facts)
+
   -- ---- whole turns
 
   parts_owed : Parts R
   unfolding saves_registered begun_fetches
   parts_owed = record {
-    quiet = quiet-owes R owed.saying;
+    quiet = quiet-owes;
+    publish = marked-owe R owed.saying;
     fetch = fetch-owes;
     runs = runs-owe;
     status = status-owes R owed.saying;

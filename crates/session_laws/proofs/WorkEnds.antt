@@ -2,6 +2,8 @@
 use Rattle.std.proofs.Common.{◌≡◌, ℕ, List, [], Bool, ◌&&◌, true, false, refl, sym, ap, subst}
 use Rattle.std.specs.Prelude.{codes, Option, None, Some, option_and_then, Result, Ok, Err, if◌then◌else◌}
 use Rattle.std.specs.FinMap as map
+use Rattle.docs_vfs.specs.declared.file_kinds.FileId.{FileId}
+use Rattle.op_board.specs.declared.diagnostic.NativePass.{NativePass}
 use Rattle.session_port.specs.Jobs.{Jobs, jobs_after, final_of, fits_job, fits_kind, fitting_job, if_value, is_sound, without_ended, without_fitting}
 use Rattle.session_port.specs.Kinds.{is_same_kind, kind_of}
 use Rattle.session_port.specs.declared.event.TaskBody.{TaskBody}
@@ -9,16 +11,17 @@ use Rattle.session_port.specs.declared.event.TaskBody.TheVariants.{Final}
 use Rattle.session_port.specs.declared.event.TaskMsg.{TaskMsg}
 use Rattle.session_port.specs.declared.job.Job.{Job}
 use Rattle.session_port.specs.declared.job.JobKind.{JobKind}
+use Rattle.session_port.specs.declared.job.JobKind.TheVariants as job_kinds
 use Rattle.session_port.specs.declared.job.JobKind.TheVariants.{ProcMacroSources, FetchWorkspaces, FetchBuildData, LoadProcMacros}
 use Rattle.session_port.specs.declared.job.JobResult.{JobResult}
 use Rattle.session_port.specs.declared.job.JobResult.TheVariants.{Value, Fault, Cancelled, NoMemory}
 use Rattle.session_port.specs.declared.job.JobValue.{JobValue}
-use Rattle.session_port.specs.declared.job.JobValue.TheVariants.{Roots, Workspaces as WorkspacesValue, BuildData, ProcMacros}
+use Rattle.session_port.specs.declared.job.JobValue.TheVariants.{Diagnostics, Roots, Tests, Workspaces as WorkspacesValue, BuildData, ProcMacros}
 use Rattle.session_port.specs.declared.kinds.ValueKind.{ValueKind}
 use Rattle.session_port.specs.declared.kinds.ValueKind.TheVariants as kinds
-use Rattle.desk.specs.WorkEnds.{BuildEnd, FetchEnd, LoadEnd, build_end, check_end, fetch_end, load_end, value_or_reason, work_end_of, work_ended, work_told}
+use Rattle.desk.specs.WorkEnds.{BuildEnd, FetchEnd, LoadEnd, build_end, check_end, fetch_end, lists_end, load_end, tests_end, value_or_reason, work_end_of, work_ended, work_told}
 use Rattle.desk.specs.declared.state.ends.WorkEnd.{WorkEnd}
-use Rattle.desk.specs.declared.state.ends.WorkEnd.TheVariants.{Fetched, Built, Checked, Loaded}
+use Rattle.desk.specs.declared.state.ends.WorkEnd.TheVariants.{Fetched, Built, Checked, Loaded, Diagnosed, Tested}
 use Rattle.desk_laws.proofs.Fitting.{fit-fits, fit-out}
 use Rattle.workspaces.specs.Builds.{end_build}
 use Rattle.workspaces.specs.Fetches.{end_fetch}
@@ -39,6 +42,8 @@ work_kept (Fetched found) workspaces = fetch_kept found workspaces
 work_kept (Built made) workspaces = build_kept made workspaces
 work_kept (Checked roots) workspaces = check_kept roots workspaces
 work_kept (Loaded told) workspaces = load_kept told workspaces
+work_kept (Diagnosed generation pass lists) workspaces = workspaces
+work_kept (Tested files tests) workspaces = workspaces
 
 abbrev pub end_kept : Option WorkEnd → Workspaces → Workspaces
 end_kept None workspaces = workspaces
@@ -88,6 +93,8 @@ work-versions (Fetched found) workspaces = (fetch-leaves found workspaces).2
 work-versions (Built made) workspaces = (build-leaves made workspaces).2
 work-versions (Checked roots) workspaces = refl
 work-versions (Loaded told) workspaces = (load-leaves told workspaces).2
+work-versions (Diagnosed generation pass lists) workspaces = refl
+work-versions (Tested files tests) workspaces = refl
 
 -- ---- what is in progress is out
 
@@ -215,6 +222,22 @@ check-runs turns (Ok (Roots paths)) workspaces = record { fetching = refl; build
 check-runs turns (Ok other) workspaces = same-runs turns workspaces workspaces refl
 check-runs turns (Err reason) workspaces = same-runs turns workspaces workspaces refl
 
+-- neither do lists of diagnostics and of tests that come
+lists-keep : (generation : ℕ) (pass : NativePass) (files : List FileId) (result : JobResult) (workspaces : Workspaces)
+    → end_kept (lists_end generation pass files result) workspaces ≡ workspaces
+lists-keep generation pass files (Value (Diagnostics lists)) workspaces = refl
+lists-keep generation pass files (Value other) workspaces = refl
+lists-keep generation pass files (Fault code message) workspaces = refl
+lists-keep generation pass files (Cancelled saw) workspaces = refl
+lists-keep generation pass files NoMemory workspaces = refl
+
+tests-keep : (files : List FileId) (result : JobResult) (workspaces : Workspaces) → end_kept (tests_end files result) workspaces ≡ workspaces
+tests-keep files (Value (Tests tests)) workspaces = refl
+tests-keep files (Value other) workspaces = refl
+tests-keep files (Fault code message) workspaces = refl
+tests-keep files (Cancelled saw) workspaces = refl
+tests-keep files NoMemory workspaces = refl
+
 -- ---- a message
 
 -- a job that is out ends with a result of its kind
@@ -236,6 +259,12 @@ result-runs turns workspaces n job out (LoadProcMacros paths ignored) result its
     let end = load-has-end result fit in
     subst (λ (o : Option WorkEnd). RunsTo turns workspaces out (end_kept o workspaces) (map.remove out n)) (sym end.1)
     (told-runs turns end.0 workspaces n job out there (ap is_fetch its) (ap is_build its) (ap is_load its))
+result-runs turns workspaces n job out (job_kinds.Diagnostics generation pass files) result its there fit =
+    off-runs turns workspaces (end_kept (lists_end generation pass files result) workspaces) n job out
+    (same-runs turns workspaces _ (lists-keep generation pass files result workspaces)) there (ap is_fetch its) (ap is_build its) (ap is_load its)
+result-runs turns workspaces n job out (job_kinds.Tests files) result its there fit =
+    off-runs turns workspaces (end_kept (tests_end files result) workspaces) n job out
+    (same-runs turns workspaces _ (tests-keep files result workspaces)) there (ap is_fetch its) (ap is_build its) (ap is_load its)
 result-runs turns workspaces n job out other result its there fit =
     off-runs turns workspaces workspaces n job out (same-runs turns workspaces workspaces refl) there (ap is_fetch its) (ap is_build its) (ap is_load its)
 

@@ -1,5 +1,5 @@
 // Documents, the loader's files, and the world that is made of them.
-ghost use Rattle.std.specs.Prelude.{◌≡◌, ◌<◌, ◌^◌, length, Ok, IfOk};
+ghost use Rattle.std.specs.Prelude.{◌≡◌, ◌<◌, ◌^◌, length, is_ok, Ok, IfOk};
 ghost use Rattle.docs_vfs.specs.FileUrls.{path_of};
 ghost use Rattle.session_port.specs.Refines.{Refines, RefinesTotal};
 ghost use Rattle.session_model.specs.FilesFolds.{changed_files, has_changed};
@@ -8,10 +8,12 @@ ghost use Rattle.session_model.specs.Machine.{at_files, loader_taken, document_c
 ghost use Rattle.session_model.specs.State.{columns_in, excludes_in};
 ghost use Rattle.session_model.specs.Timing.{bring_files, brings_files};
 
+use crate::answering::answering;
 use crate::timing::{do_effects, effects_for, renew_timer_if};
 use docs_vfs::{ChangedFile, VfsPath, path_named};
 use notify::{DidChange, DidOpen};
 use plain::{Items, Text};
+use session_diagnostics::{clear_deleted, clear_file};
 use session_model::TurnError;
 use session_port::{LoaderMsg, LogCode, TurnOut};
 use session_store::{Store, log};
@@ -48,19 +50,26 @@ fn open_at(
     store.files.open(excludes, path, version, text, out)
 }
 
-// A document is open at the path of its URL.
+// A document is open at the path of its URL. Answers whether it has one.
 #[tactic(auto, unfolding(session_model::specs::Machine::document_opened_at))]
 pub(crate) fn on_open(
     store: &mut Store,
     document: DidOpen,
     out: &mut TurnOut,
-) -> Result<(), TurnError>
+) -> Result<bool, TurnError>
     requires { length document.text < 2 ^ 32 }
-    ensures { Refines result (document_opened_at (path_of document.uri) document (record { state = store.old; out = out.old })) store.new out.new }
+    ensures meets { Refines result (document_opened_at (path_of document.uri) document (record { state = store.old; out = out.old })) store.new out.new }
+    ensures came { IfOk result (λ came. came ≡ is_ok (path_of document.uri)) }
 {
     match path_named(store.alloc, document.uri.as_str())? {
-        Some(path) => open_at(store, path, document.version, document.text, out),
-        None => log(LogCode::BadPath, document.uri, out),
+        Some(path) => {
+            open_at(store, path, document.version, document.text, out)?;
+            Ok(true)
+        }
+        None => {
+            log(LogCode::BadPath, document.uri, out)?;
+            Ok(false)
+        }
     }
 }
 
@@ -92,20 +101,25 @@ pub(crate) fn on_change(
     }
 }
 
+// The document at a path is closed in the files.
 fn close_at(store: &mut Store, path: VfsPath, out: &mut TurnOut) -> Result<(), TurnError>
     ensures { Refines result (at_files (λ f. Ok (closed_document path f)) (record { state = store.old; out = out.old })) store.new out.new }
 {
     store.files.close(path, out)
 }
 
-// A document is closed at the path of its URL.
+// A document is closed at the path of its URL, and the lists of its file are emptied. Answers whether it has one.
 #[tactic(auto, unfolding(session_model::specs::Machine::document_closed_at))]
-pub(crate) fn on_close(store: &mut Store, uri: Text, out: &mut TurnOut) -> Result<(), TurnError>
-    ensures { Refines result (document_closed_at (path_of uri) uri (record { state = store.old; out = out.old })) store.new out.new }
+pub(crate) fn on_close(store: &mut Store, uri: Text, out: &mut TurnOut) -> Result<bool, TurnError>
+    ensures meets { Refines result (document_closed_at (path_of uri) uri (record { state = store.old; out = out.old })) store.new out.new }
+    ensures went { IfOk result (λ went. went ≡ is_ok (path_of uri)) }
 {
     match path_named(store.alloc, uri.as_str())? {
-        Some(path) => close_at(store, path, out),
-        None => log(LogCode::BadPath, uri, out),
+        Some(path) => {
+            clear_file(store, &path)?;
+            answering(close_at(store, path, out), true)
+        }
+        None => answering(log(LogCode::BadPath, uri, out), false),
     }
 }
 
@@ -157,6 +171,7 @@ fn follow_files(
         changed.as_slice(),
         &store.workspaces,
     )?;
+    clear_deleted(store, changed.as_slice())?;
     do_effects(store, effects, out)
 }
 

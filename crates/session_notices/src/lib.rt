@@ -2,6 +2,7 @@
 //! files and answers.
 #![tactic(auto)]
 
+mod answering;
 mod asking;
 mod causes;
 mod filing;

@@ -64,12 +64,13 @@ fn log_fetch(settings: &Config, workspaces: &Workspaces, out: &mut TurnOut) -> R
     log_if(LogCode::FetchError, errors, out)
 }
 
-/// What a fetch came to is kept, where one is in progress, and its errors are logged.
+/// What a fetch came to is kept, where one is in progress, and its errors are logged. What checks have found is forgotten.
 #[tactic(auto, unfolding(session_model::specs::Machine::fetch_taken))]
 pub fn take_fetch(store: &mut Store, found: FetchEnd, out: &mut TurnOut) -> Result<(), TurnError>
     ensures { RefinesTotal result (fetch_taken found (record { state = store.old; out = out.old })) store.new out.new }
 {
     end_fetch(&mut store.workspaces, found)?;
+    store.board.clear_check_all()?;
     log_fetch(store.client.settings(), &store.workspaces, out)
 }
 

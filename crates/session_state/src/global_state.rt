@@ -5,7 +5,8 @@ ghost use Rattle.lsp_frame.specs.Written.{AreWritable};
 ghost use Rattle.lsp_frame.specs.declared.message.Message.TheVariants.{Response as ResponseMessage};
 ghost use Rattle.notify.specs.Writing.{HoldsPlain};
 ghost use Rattle.lsp_frame.specs.Outgoing.{number_limit};
-ghost use Rattle.session_port.specs.Refines.{Refines};
+ghost use Rattle.session_port.specs.Refines.{Refines, RefinesTotal};
+ghost use Rattle.docs_vfs.specs.Files.{path_at};
 ghost use Rattle.session_port.specs.TurnState.{written};
 ghost use Rattle.session_model.specs.ClientSteps.{asked_for, notification_of};
 ghost use Rattle.session_model.specs.Meaning.{Meaning, meaning_of};
@@ -13,13 +14,14 @@ ghost use Rattle.session_model.specs.DeskSteps.{responded, cancelled};
 ghost use Rattle.session_model.specs.FilesFolds.{has_changed};
 ghost use Rattle.workspaces.specs.Fetches.{fetch_to_start, start_fetch};
 ghost use Rattle.session_model.specs.Fetching.{with_fetches};
-ghost use Rattle.session_model.specs.Machine.{answer_taken, at_client, files_processed, step, with_workspaces};
+ghost use Rattle.session_model.specs.Machine.{answer_taken, at_client, files_processed, published_at, step, with_workspaces};
 ghost use Rattle.session_model.specs.State.{snapshot_of, fresh, fresh_at};
 ghost use Rattle.session_model.specs.Status.{is_quiescent};
 ghost use Rattle.session_model.specs.declared.input.Input.TheVariants.{Start, Next};
 
 use crate::turns;
 use analysis_host::{Analysis, GlobalStateSnapshot};
+use docs_vfs::FileId;
 use lsp_frame::{RequestId, Response};
 use notify::Outgo;
 use plain::{NoMemory, Text};
@@ -146,6 +148,13 @@ impl GlobalState {
         ensures same { self.new ≡ self.old }
     {
         self.store.client.tell(message, out)
+    }
+
+    /// Tells the client what is wrong in a file: an empty message as a space.
+    pub fn publish_diagnostics(&mut self, file: FileId, out: &mut TurnOut) -> Result<(), TurnError>
+        ensures { RefinesTotal result (published_at (path_at self.old.files.table file) file (record { state = self.old; out = out.old })) self.new out.new }
+    {
+        session_diagnostics::publish(&self.store, file, out)
     }
 
     /// The client answers what it was asked. Other settings than before ask for a fetch. That no request has the answer's id

@@ -1,16 +1,22 @@
 // Messages of the client and of jobs: which is what.
-ghost use Rattle.std.specs.Prelude.{◌≡◌};
+ghost use Rattle.std.specs.Prelude.{◌≡◌, IfOk, IfSome};
 ghost use Rattle.lsp_frame.specs.Pending.{IsAbove};
 ghost use Rattle.session_port.specs.Refines.{Refines};
 ghost use Rattle.session_model.specs.Meaning.{meaning_of};
 ghost use Rattle.session_model.specs.Building.{is_rebuild, asks_to_rebuild};
+ghost use Rattle.session_model.specs.Diagnosing.{opens_or_closes};
 ghost use Rattle.session_model.specs.Fetching.{is_reload, reloads};
+ghost use Rattle.session_model.specs.Inputs.{notice_in};
 ghost use Rattle.session_model.specs.Machine.{request_taken, batched, end_taken, files_processed_if, load_taken, received, message_taken, work_taken};
+ghost use Rattle.session_model.specs.WorkEnds.{IsPlainEnd};
+ghost use Rattle.session_model.specs.declared.input.Event.TheVariants.{Lsp};
+ghost use Rattle.session_model.specs.declared.input.Input.TheVariants.{Next};
 
 use analysis_host::Analysis;
 use lsp_frame::{Message, Request};
 use method_table::{REBUILD_PROC_MACROS, RELOAD_WORKSPACE, RowId, is_unit, row_of};
 use plain::Items;
+use session_diagnostics::{take_lists, take_tests};
 use session_model::{Desk, LoadEnd, TurnError, WorkEnd};
 use session_notices::{complete_request, on_notification, process_changes};
 use session_port::{TaskMsg, TurnOut};
@@ -69,26 +75,35 @@ fn on_request<A: Analysis>(
 {
     let reloads = reloads(&store.desk, &request);
     let rebuilds = rebuilds(&store.desk, &request);
+    store.gather_fixes()?;
     store.ask(request, analysis, out)?;
     reload_if(&mut store.workspaces, reloads)?;
     rebuild_macros_if(&mut store.workspaces, rebuilds)?;
     Ok(())
 }
 
+// A message of the client. Answers whether it opens or closes a document.
 #[tactic(auto, unfolding(session_model::specs::Machine::received))]
 pub(crate) fn on_message<A: Analysis>(
     store: &mut Store,
     message: Message,
     analysis: &A,
     out: &mut TurnOut,
-) -> Result<(), TurnError>
+) -> Result<bool, TurnError>
     requires { IsAbove store.old.desk.turns store.old.desk.pending }
-    ensures { Refines result (received (meaning_of A.decodes A.answer) message (record { state = store.old; out = out.old })) store.new out.new }
+    ensures meets { Refines result (received (meaning_of A.decodes A.answer) message (record { state = store.old; out = out.old })) store.new out.new }
+    ensures came_or_went { IfOk result (λ came_or_went. came_or_went ≡ opens_or_closes (notice_in (Next (Lsp message)))) }
 {
     match message {
-        Message::Request(request) => on_request(store, request, analysis, out),
+        Message::Request(request) => {
+            on_request(store, request, analysis, out)?;
+            Ok(false)
+        }
         Message::Notification(notification) => on_notification(store, notification, out),
-        Message::Response(response) => complete_request(store, response, out),
+        Message::Response(response) => {
+            complete_request(store, response, out)?;
+            Ok(false)
+        }
     }
 }
 
@@ -112,9 +127,10 @@ fn take_load(store: &mut Store, told: LoadEnd, out: &mut TurnOut) -> Result<(), 
     process_if(store, came, out)
 }
 
-// What a job ends of the session's own work is told to the workspaces.
+// What a job ends of the session's own work: the workspaces, the board or the client are told.
 #[tactic(auto, unfolding(session_model::specs::Machine::work_taken))]
 fn take_work(store: &mut Store, end: WorkEnd, out: &mut TurnOut) -> Result<(), TurnError>
+    requires { IsPlainEnd end }
     ensures { Refines result (work_taken end (record { state = store.old; out = out.old })) store.new out.new }
 {
     match end {
@@ -125,11 +141,21 @@ fn take_work(store: &mut Store, end: WorkEnd, out: &mut TurnOut) -> Result<(), T
             Ok(())
         }
         WorkEnd::Loaded(told) => take_load(store, told, out),
+        WorkEnd::Diagnosed {
+            generation,
+            pass,
+            lists,
+        } => {
+            take_lists(&mut store.board, generation, pass, lists)?;
+            Ok(())
+        }
+        WorkEnd::Tested { files, tests } => take_tests(store, files, tests, out),
     }
 }
 
 #[tactic(auto, unfolding(session_model::specs::Machine::end_taken))]
 fn take_end(store: &mut Store, end: Option<WorkEnd>, out: &mut TurnOut) -> Result<(), TurnError>
+    requires { IfSome end IsPlainEnd }
     ensures { Refines result (end_taken end (record { state = store.old; out = out.old })) store.new out.new }
 {
     match end {
@@ -138,7 +164,7 @@ fn take_end(store: &mut Store, end: Option<WorkEnd>, out: &mut TurnOut) -> Resul
     }
 }
 
-// A message of a job. What it ends is told to the workspaces.
+// A message of a job. What it ends of the session's own work is done.
 #[tactic(auto, unfolding(session_model::specs::Machine::message_taken))]
 fn on_task<A: Analysis>(
     store: &mut Store,
@@ -148,6 +174,7 @@ fn on_task<A: Analysis>(
 ) -> Result<(), TurnError>
     ensures { Refines result (message_taken (meaning_of A.decodes A.answer) message (record { state = store.old; out = out.old })) store.new out.new }
 {
+    store.gather_fixes()?;
     let end = store.bring(message, analysis, out)?;
     take_end(store, end, out)
 }

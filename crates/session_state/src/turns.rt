@@ -1,13 +1,14 @@
 // The turns of a session.
-ghost use Rattle.std.specs.Prelude.{◌≡◌, OnOk};
+ghost use Rattle.std.specs.Prelude.{◌≡◌, IfOk, OnOk};
 ghost use Rattle.lsp_frame.specs.Pending.{IsAbove};
 ghost use Rattle.session_port.specs.Refines.{Refines, RefinesTotal};
 ghost use Rattle.session_model.specs.Meaning.{Meaning, meaning_of};
-ghost use Rattle.session_model.specs.Machine.{turn_closed, turn_counted, facts_before, happened, desk_kept, revised, step, event_taken};
+ghost use Rattle.session_model.specs.Machine.{came_or_went, turn_closed, turn_counted, facts_before, happened, desk_kept, revised, step, event_taken};
 ghost use Rattle.session_model.specs.declared.input.Input.TheVariants.{Start, Next};
 
 use crate::messages::{on_batch, on_message};
 use analysis_host::Analysis;
+use session_diagnostics::{publish_marked, start_batch, take_news};
 use session_model::{Event, FactsBefore, TurnError};
 use session_notices::{on_loader, process, set_timer};
 use session_port::{Command, TurnOut};
@@ -26,41 +27,53 @@ fn count(store: &mut Store, out: &mut TurnOut) -> Result<(), TurnError>
     store.desk.count(out)
 }
 
+// An event. Answers whether a document came or went with it.
 #[tactic(auto, unfolding(session_model::specs::Machine::happened))]
 fn on_event<A: Analysis>(
     store: &mut Store,
     event: Event,
     analysis: &A,
     out: &mut TurnOut,
-) -> Result<(), TurnError>
+) -> Result<bool, TurnError>
     requires { IsAbove store.old.desk.turns store.old.desk.pending }
-    ensures { Refines result (happened (meaning_of A.decodes A.answer) event (record { state = store.old; out = out.old })) store.new out.new }
+    ensures meets { Refines result (happened (meaning_of A.decodes A.answer) event (record { state = store.old; out = out.old })) store.new out.new }
+    ensures came_or_went { IfOk result (λ came. came ≡ came_or_went (Next event)) }
 {
     match event {
         Event::Lsp(message) => on_message(store, message, analysis, out),
-        Event::Task(batch) => on_batch(store, batch, analysis, out),
-        Event::Vfs(messages) => on_loader(store, messages, out),
-        Event::Deferred(tasks) => resume_all(store, tasks, out),
+        Event::Task(batch) => {
+            on_batch(store, batch, analysis, out)?;
+            Ok(false)
+        }
+        Event::Vfs(messages) => {
+            on_loader(store, messages, out)?;
+            Ok(false)
+        }
+        Event::Deferred(tasks) => {
+            resume_all(store, tasks, out)?;
+            Ok(false)
+        }
         Event::News(news) => {
-            drop(news);
-            Ok(())
+            take_news(store, news, out)?;
+            Ok(false)
         }
         Event::Timer(ticket) => {
             store.workspaces.fire(ticket)?;
-            Ok(())
+            Ok(false)
         }
     }
 }
 
-// The turn is counted, and its event is taken in.
+// The turn is counted, and its event is taken in. Answers whether a document came or went with it.
 #[tactic(auto, unfolding(session_model::specs::Machine::event_taken))]
 fn take_in<A: Analysis>(
     store: &mut Store,
     event: Event,
     analysis: &A,
     out: &mut TurnOut,
-) -> Result<(), TurnError>
-    ensures { Refines result (event_taken (meaning_of A.decodes A.answer) event (record { state = store.old; out = out.old })) store.new out.new }
+) -> Result<bool, TurnError>
+    ensures meets { Refines result (event_taken (meaning_of A.decodes A.answer) event (record { state = store.old; out = out.old })) store.new out.new }
+    ensures came_or_went { IfOk result (λ came. came ≡ came_or_went (Next event)) }
 {
     count(store, out)?;
     on_event(store, event, analysis, out)
@@ -133,7 +146,7 @@ pub(crate) fn start(store: &mut Store, out: &mut TurnOut) -> Result<(), TurnErro
 }
 
 // One turn. After an `Err` the state is poisoned.
-#[tactic(auto, unfolding(session_model::specs::Machine::step, session_model::specs::Machine::event_part, session_model::specs::Machine::switch_part, session_model::specs::Machine::files_part, session_model::specs::Machine::quiet_part, session_model::specs::Machine::fetch_part, session_model::specs::Machine::build_part, session_model::specs::Machine::status_part, session_model::specs::Machine::closing_part, session_port::specs::TurnState::lifted))]
+#[tactic(auto, unfolding(session_model::specs::Machine::step, session_model::specs::Machine::event_part, session_model::specs::Machine::switch_part, session_model::specs::Machine::files_part, session_model::specs::Machine::quiet_part, session_model::specs::Machine::quiet_done, session_model::specs::Machine::publish_part, session_model::specs::Machine::fetch_part, session_model::specs::Machine::build_part, session_model::specs::Machine::status_part, session_model::specs::Machine::closing_part, session_port::specs::TurnState::lifted))]
 pub(crate) fn handle_event<A: Analysis>(
     store: &mut Store,
     event: Event,
@@ -143,11 +156,13 @@ pub(crate) fn handle_event<A: Analysis>(
     ensures { Refines result (step (meaning_of A.decodes A.answer) (Next event) (record { state = store.old; out = out.old })) store.new out.new }
 {
     let before = facts(store, out);
-    take_in(store, event, analysis, out)?;
+    let came_or_went = take_in(store, event, analysis, out)?;
     switch_workspaces(store, out)?;
     let processed = process(store, out)?;
     let facts = knowing(before, processed);
     refresh(store, facts, out)?;
+    start_batch(store, came_or_went, facts, out)?;
+    publish_marked(store, out)?;
     let may = may_fetch(store.client.settings());
     start_fetch(store, may, out)?;
     start_runs(store, out)?;

@@ -3,7 +3,7 @@ ghost use Rattle.std.specs.Prelude.{◌≡◌};
 ghost use Rattle.notify.specs.Writing.{HoldsPlain};
 ghost use Rattle.session_port.specs.Refines.{Refines};
 ghost use Rattle.session_model.specs.Asking.{is_refresh_due};
-ghost use Rattle.session_model.specs.Machine.{asked_if, quiet_done, client_refreshed};
+ghost use Rattle.session_model.specs.Machine.{asked_if, client_refreshed, refreshes_done};
 ghost use Rattle.session_model.specs.Status.{is_quiescent};
 
 use notify::Outgo;
@@ -53,9 +53,9 @@ fn is_refresh_due(files: &SessionFiles, workspaces: &Workspaces, facts: FactsBef
 }
 
 /// In a session that has come to be quiescent, and in one that is and whose files were processed behind the event.
-#[tactic(auto, unfolding(session_model::specs::Machine::quiet_done))]
+#[tactic(auto, unfolding(session_model::specs::Machine::refreshes_done))]
 pub fn refresh(store: &mut Store, facts: FactsBefore, out: &mut TurnOut) -> Result<(), TurnError>
-    ensures { Refines result (quiet_done facts (record { state = store.old; out = out.old })) store.new out.new }
+    ensures { Refines result (refreshes_done facts (record { state = store.old; out = out.old })) store.new out.new }
 {
     if is_refresh_due(&store.files, &store.workspaces, facts) {
         return ask_refreshes(store, out);

@@ -7,6 +7,7 @@ use Rattle.session_port.specs.TurnState.{TurnState, lifted, put_back}
 use Rattle.session_port.specs.Written.{Written}
 use Rattle.session_port.specs.declared.fault.Counter.{Counter}
 use Rattle.session_port.specs.declared.fault.TurnError.{TurnError}
+use Rattle.session_model.specs.Board.{Board}
 use Rattle.session_model.specs.Client.{Client}
 use Rattle.session_model.specs.Desk.{Desk}
 use Rattle.session_model.specs.Machine.{at_desk, desk_in, with_desk}
@@ -35,18 +36,21 @@ desk_gives step before after desk desk_now out out_now was is h =
     ∙ ap (λ (s : State). Ok (record { state = s; out = out_now })) (sym is)
 
 -- the same of a step that meets the present
-scene_met : (state : State) (client : Client) (files : SessionFiles) (workspaces : Workspaces)
-    → state.client ≡ client → state.files ≡ files → state.workspaces ≡ workspaces → scene_in client files workspaces ≡ scene_of state
-scene_met state client files workspaces c f w =
-    ap (λ (x : Client). scene_in x files workspaces) (sym c)
-    ∙ ap (λ (x : SessionFiles). scene_in state.client x workspaces) (sym f)
-    ∙ ap (λ (x : Workspaces). scene_in state.client state.files x) (sym w)
+scene_met : (state : State) (client : Client) (files : SessionFiles) (workspaces : Workspaces) (board : Board)
+    → state.client ≡ client → state.files ≡ files → state.workspaces ≡ workspaces → state.board ≡ board
+    → scene_in client files workspaces board ≡ scene_of state
+scene_met state client files workspaces board c f w b =
+    ap (λ (x : Client). scene_in x files workspaces board) (sym c)
+    ∙ ap (λ (x : SessionFiles). scene_in state.client x workspaces board) (sym f)
+    ∙ ap (λ (x : Workspaces). scene_in state.client state.files x board) (sym w)
+    ∙ ap (λ (x : Board). scene_in state.client state.files state.workspaces x) (sym b)
 
 pub present_meets : {T : Type 0} (step : Scene → TurnState Desk → Result (TurnState Desk) Counter) (result : Result T TurnError) (before after : State)
-    (client : Client) (files : SessionFiles) (workspaces : Workspaces) (desk desk_now : Desk) (out out_now : Written)
-    → before.client ≡ client → before.files ≡ files → before.workspaces ≡ workspaces → before.desk ≡ desk → after ≡ record before { desk = desk_now }
-    → Refines result (step (scene_in client files workspaces) (record { state = desk; out = out })) desk_now out_now
+    (client : Client) (files : SessionFiles) (workspaces : Workspaces) (board : Board) (desk desk_now : Desk) (out out_now : Written)
+    → before.client ≡ client → before.files ≡ files → before.workspaces ≡ workspaces → before.board ≡ board → before.desk ≡ desk
+    → after ≡ record before { desk = desk_now }
+    → Refines result (step (scene_in client files workspaces board) (record { state = desk; out = out })) desk_now out_now
     → Refines result (at_desk (step (scene_of before)) (record { state = before; out = out })) after out_now
-present_meets step result before after client files workspaces desk desk_now out out_now c f w was is h =
+present_meets step result before after client files workspaces board desk desk_now out out_now c f w b was is h =
     desk_meets (step (scene_of before)) result before after desk desk_now out out_now was is
-    (subst (λ (x : Scene). Refines result (step x (record { state = desk; out = out })) desk_now out_now) (scene_met before client files workspaces c f w) h)
+    (subst (λ (x : Scene). Refines result (step x (record { state = desk; out = out })) desk_now out_now) (scene_met before client files workspaces board c f w b) h)

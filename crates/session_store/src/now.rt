@@ -3,19 +3,19 @@ ghost use Rattle.std.specs.Prelude.{◌≡◌};
 ghost use Rattle.session_model.specs.State.{macros_loaded_in, scene_in};
 
 use analysis_host::{GlobalStateSnapshot, SnapshotParts};
-use plain::Items;
+use op_board::DiagnosticCollection;
 use session_model::{Client, Present, SessionFiles};
-use std::alloc::{AllocError, Global};
+use std::alloc::AllocError;
 use std::sync::Arc;
 use workspaces::Workspaces;
 
 /// The parts of a session that a snapshot shows, lent.
 #[derive(Clone, Copy)]
 pub(crate) struct Now<'a> {
-    pub(crate) alloc: Global,
     pub(crate) client: &'a Client,
     pub(crate) files: &'a SessionFiles,
     pub(crate) workspaces: &'a Workspaces,
+    pub(crate) board: &'a DiagnosticCollection,
 }
 
 /// Whether all macros are there that are wanted: none are, or the last load succeeded.
@@ -26,14 +26,14 @@ fn are_macros_loaded(client: &Client, workspaces: &Workspaces) -> bool
 }
 
 impl<'a> Present for Now<'a> {
-    ghost scene = { λ n. scene_in n.client.now n.files.now n.workspaces.now };
+    ghost scene = { λ n. scene_in n.client.now n.files.now n.workspaces.now n.board.now };
 
     fn snapshot(&self) -> Result<GlobalStateSnapshot, AllocError> {
         GlobalStateSnapshot::new(SnapshotParts {
             world: self.files.world()?,
             file_ids: self.files.file_ids()?,
             versions: self.files.versions()?,
-            check_fixes: Arc::new(self.alloc, Items::new(self.alloc))?,
+            check_fixes: self.board.share_fixes()?,
             config: Arc::try_clone(self.client.settings())?,
             proc_macros_loaded: are_macros_loaded(self.client, self.workspaces),
             workspaces: self.workspaces.share_present()?,

@@ -1,5 +1,5 @@
 // The state of a session, and what its subjects share.
-ghost use Rattle.std.specs.Prelude.{◌≡◌, ◌≤◌, [], IfOk, Ok};
+ghost use Rattle.std.specs.Prelude.{◌≡◌, ◌≤◌, [], IfOk, IfSome, Ok};
 ghost use Rattle.lsp_frame.specs.Pending.{IsAbove};
 ghost use Rattle.lsp_frame.specs.Outgoing.{number_limit};
 ghost use Rattle.session_port.specs.Refines.{Refines};
@@ -7,14 +7,15 @@ ghost use Rattle.session_model.specs.DeskSteps.{handed_over, requested, result_t
 ghost use Rattle.session_model.specs.Machine.{at_desk};
 ghost use Rattle.session_model.specs.Meaning.{meaning_of};
 ghost use Rattle.session_model.specs.State.{scene_of, snapshot_of, first_status, fresh, fresh_at};
-ghost use Rattle.session_model.specs.WorkEnds.{work_ended};
-ghost use Rattle.method_table.specs.declared.class.PoolClass.TheVariants.{Worker};
+ghost use Rattle.session_model.specs.WorkEnds.{IsPlainEnd, work_ended};
+ghost use Rattle.method_table.specs.declared.class.PoolClass.TheVariants.{Latency, Worker};
 
 use crate::now::Now;
 use analysis_host::{Analysis, GlobalStateSnapshot};
 use docs_vfs::SourceRoots;
 use lsp_frame::Request;
 use method_table::PoolClass;
+use op_board::DiagnosticCollection;
 use plain::{Items, NoMemory};
 use ra_config::Config;
 use session_model::{Client, Counters, Desk, Present, SessionFiles, TurnError, WorkEnd};
@@ -35,6 +36,8 @@ pub struct Store {
     pub roots: SourceRoots,
     /// Their parents, where the settings have others.
     pub parents: Option<Items<(u32, u32)>>,
+    /// What is wrong in files, and of which files the client is to be told.
+    pub board: DiagnosticCollection,
     /// The status that was told last.
     pub status: Status,
 }
@@ -49,6 +52,7 @@ impl Drop for Store {
             workspaces: _,
             roots: _,
             parents: _,
+            board: _,
             status: _,
         } = self;
     }
@@ -88,6 +92,7 @@ fn first_status() -> Status
 impl Model for Store {
     ghost use Rattle.docs_vfs.specs.contracts.file_table.FileTable as files_of;
     ghost use Rattle.session_model.specs.HandlerCode as handler;
+    ghost use Rattle.op_board.specs.contracts.board.DiagnosticCollection as board_of;
     ghost use Rattle.session_port.specs.contracts.job.Job as job;
     ghost use Rattle.status.specs.contracts.status.Status as status_of;
     ghost use Rattle.workspaces.specs.contracts.state.Workspaces as workspaces_of;
@@ -96,9 +101,9 @@ impl Model for Store {
 
     ghost Value = { State };
 
-    ghost coded = { state_code handler.the_row.coded files_of.the_row.coded job.the_row.coded workspaces_of.the_row.coded status_of.the_row.coded };
+    ghost coded = { state_code handler.the_row.coded files_of.the_row.coded job.the_row.coded workspaces_of.the_row.coded board_of.the_row.coded status_of.the_row.coded };
 
-    ghost view = { λ g. record { client = g.client; files = g.files; desk = g.desk; workspaces = g.workspaces; sources = record { roots = g.roots; parents = g.parents }; status = g.status } };
+    ghost view = { λ g. record { client = g.client; files = g.files; desk = g.desk; workspaces = g.workspaces; sources = record { roots = g.roots; parents = g.parents }; board = g.board; status = g.status } };
 }
 
 impl Store {
@@ -136,8 +141,16 @@ impl Store {
             workspaces,
             roots,
             parents: None,
+            board: DiagnosticCollection::new(alloc),
             status: first_status(),
         })
+    }
+
+    /// Gathers what checks offer to mend, so that the snapshots to come share it.
+    pub fn gather_fixes(&mut self) -> Result<(), NoMemory>
+        ensures { self.new ≡ self.old }
+    {
+        self.board.gather_fixes()
     }
 
     /// The snapshot of the present.
@@ -145,10 +158,10 @@ impl Store {
         ensures { IfOk result (λ snapshot. snapshot ≡ snapshot_of self.now) }
     {
         let now = Now {
-            alloc: self.alloc,
             client: &self.client,
             files: &self.files,
             workspaces: &self.workspaces,
+            board: &self.board,
         };
         now.snapshot()
     }
@@ -167,10 +180,10 @@ impl Store {
         ensures { Refines result (at_desk (requested (meaning_of A.decodes A.answer) (scene_of self.old) request) (record { state = self.old; out = out.old })) self.new out.new }
     {
         let now = Now {
-            alloc: self.alloc,
             client: &self.client,
             files: &self.files,
             workspaces: &self.workspaces,
+            board: &self.board,
         };
         self.desk.on_request(&now, request, analysis, out)
     }
@@ -184,12 +197,13 @@ impl Store {
     ) -> Result<Option<WorkEnd>, TurnError>
         ensures meets { Refines result (at_desk (result_taken (meaning_of A.decodes A.answer) (scene_of self.old) message) (record { state = self.old; out = out.old })) self.new out.new }
         ensures ends { IfOk result (λ end. end ≡ work_ended message self.old.desk.jobs) }
+        ensures plain { IfOk result (λ end. IfSome end IsPlainEnd) }
     {
         let now = Now {
-            alloc: self.alloc,
             client: &self.client,
             files: &self.files,
             workspaces: &self.workspaces,
+            board: &self.board,
         };
         self.desk.on_task(&now, message, analysis, out)
     }
@@ -197,6 +211,19 @@ impl Store {
 
 // Jobs of the session's own.
 impl Store {
+    /// Hands over a job of this class on a snapshot.
+    fn hand_over_as(
+        &mut self,
+        class: PoolClass,
+        kind: JobKind,
+        snapshot: GlobalStateSnapshot,
+        out: &mut TurnOut,
+    ) -> Result<(), TurnError>
+        ensures { Refines result (at_desk (handed_over snapshot class kind) (record { state = self.old; out = out.old })) self.new out.new }
+    {
+        self.desk.hand_over(kind, class, snapshot, out)
+    }
+
     /// Hands over a job on a snapshot.
     pub fn hand_over_on(
         &mut self,
@@ -206,7 +233,7 @@ impl Store {
     ) -> Result<(), TurnError>
         ensures { Refines result (at_desk (handed_over snapshot Worker kind) (record { state = self.old; out = out.old })) self.new out.new }
     {
-        self.desk.hand_over(kind, PoolClass::Worker, snapshot, out)
+        self.hand_over_as(PoolClass::Worker, kind, snapshot, out)
     }
 
     /// The same on the present snapshot.
@@ -221,5 +248,19 @@ impl Store {
             }
         };
         self.hand_over_on(kind, snapshot, out)
+    }
+
+    /// The same for a client that waits for it.
+    pub fn hand_over_awaited(&mut self, kind: JobKind, out: &mut TurnOut) -> Result<(), TurnError>
+        ensures { Refines result (at_desk (handed_over (snapshot_of self.old) Latency kind) (record { state = self.old; out = out.old })) self.new out.new }
+    {
+        let snapshot = match self.snapshot() {
+            Ok(snapshot) => snapshot,
+            Err(_) => {
+                drop(kind);
+                return Err(TurnError::NoMemory);
+            }
+        };
+        self.hand_over_as(PoolClass::Latency, kind, snapshot, out)
     }
 }

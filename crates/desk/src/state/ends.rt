@@ -1,9 +1,11 @@
 // What the messages of jobs end of the session's own work.
 ghost use Rattle.std.specs.Prelude.{◌≡◌, IfOk};
-ghost use Rattle.desk.specs.WorkEnds.{build_end, check_end, end_in, fetch_end, load_end, value_or_reason, work_end_of};
+ghost use Rattle.desk.specs.WorkEnds.{build_end, check_end, empty_lists, end_in, fetch_end, lists_end, load_end, tests_end, value_or_reason, work_end_of};
 
-use docs_vfs::VfsPath;
-use plain::{Items, NoMemory, Text};
+use docs_vfs::{FileId, VfsPath};
+use lsp_types::Diagnostic;
+use op_board::NativePass;
+use plain::{Items, Json, NoMemory, Text};
 use project_model::{BuildScripts, MacroState, ProjectWorkspace};
 use session_port::{JobGroup, JobKind, JobResult, JobValue};
 use std::alloc::Global;
@@ -28,6 +30,17 @@ pub enum WorkEnd {
     Checked(Items<VfsPath>),
     /// A load of macros.
     Loaded(LoadEnd),
+    /// A part of a batch: what this pass found wrong in files, file by file.
+    Diagnosed {
+        generation: u64,
+        pass: NativePass,
+        lists: Items<(FileId, Items<Diagnostic>)>,
+    },
+    /// A search for the tests of these files, each test as the client is to read it.
+    Tested {
+        files: Items<FileId>,
+        tests: Items<Json>,
+    },
 }
 
 // The value of a job, or why there is none.
@@ -97,6 +110,58 @@ fn end_in(group: JobGroup, came: Result<JobValue, Text>) -> Option<WorkEnd>
     }
 }
 
+// An empty list for each of these files.
+fn empty_lists(
+    alloc: Global,
+    files: &[FileId],
+) -> Result<Items<(FileId, Items<Diagnostic>)>, NoMemory>
+    ensures { IfOk result (λ lists. lists ≡ empty_lists files.now) }
+{
+    let mut lists = Items::new(alloc);
+    for file in files {
+        lists.push((*file, Items::new(alloc)))?;
+    }
+    Ok(lists)
+}
+
+// What a part of a batch comes to.
+fn lists_end(
+    alloc: Global,
+    generation: u64,
+    pass: NativePass,
+    files: &[FileId],
+    outcome: JobResult,
+) -> Result<Option<WorkEnd>, NoMemory>
+    ensures { IfOk result (λ end. end ≡ lists_end generation pass files.now outcome) }
+{
+    match outcome {
+        JobResult::Value(JobValue::Diagnostics(lists)) => Ok(Some(WorkEnd::Diagnosed {
+            generation,
+            pass,
+            lists,
+        })),
+        JobResult::Fault { .. } => Ok(Some(WorkEnd::Diagnosed {
+            generation,
+            pass,
+            lists: empty_lists(alloc, files)?,
+        })),
+        _ => Ok(None),
+    }
+}
+
+// What a search for tests comes to.
+fn tests_end(files: &Items<FileId>, outcome: JobResult) -> Result<Option<WorkEnd>, NoMemory>
+    ensures { IfOk result (λ end. end ≡ tests_end files.now outcome) }
+{
+    match outcome {
+        JobResult::Value(JobValue::Tests(tests)) => Ok(Some(WorkEnd::Tested {
+            files: files.clone()?,
+            tests,
+        })),
+        _ => Ok(None),
+    }
+}
+
 // What a job of this kind ends that came to this.
 pub(super) fn work_end(
     alloc: Global,
@@ -105,6 +170,16 @@ pub(super) fn work_end(
 ) -> Result<Option<WorkEnd>, NoMemory>
     ensures { IfOk result (λ end. end ≡ work_end_of kind.now outcome) }
 {
-    let came = value_or_reason(alloc, outcome)?;
-    Ok(end_in(kind.facts().group, came))
+    match kind {
+        JobKind::Diagnostics {
+            generation,
+            pass,
+            files,
+        } => lists_end(alloc, *generation, *pass, files.as_slice(), outcome),
+        JobKind::Tests { files } => tests_end(files, outcome),
+        kind => {
+            let came = value_or_reason(alloc, outcome)?;
+            Ok(end_in(kind.facts().group, came))
+        }
+    }
 }

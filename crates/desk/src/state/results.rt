@@ -14,7 +14,7 @@ ghost use Rattle.desk.specs.Meaning.{meaning_of, Meaning};
 ghost use Rattle.desk.specs.Replies.{outdated_reply};
 ghost use Rattle.desk.specs.Scene.{Scene};
 ghost use Rattle.desk.specs.Steps.{result_taken, delivered, outdated, outdated_for, responded};
-ghost use Rattle.desk.specs.WorkEnds.{ended_message, work_end_of, work_ended};
+ghost use Rattle.desk.specs.WorkEnds.{IsPlainEnd, ended_message, work_end_of, work_ended};
 
 use crate::replies::{finished_reply, outdated_reply};
 use crate::scene::Present;
@@ -29,6 +29,7 @@ use session_port::{Job, JobKind, JobResult, LogCode, TaskBody, TaskMsg, TurnErro
 fn ending_nothing(done: Result<(), TurnError>) -> Result<Option<WorkEnd>, TurnError>
     ensures same { (machine : Result (TurnState DeskData) Counter) (new : DeskData) (written : Written) → Refines done machine new written → Refines result machine new written }
     ensures nothing { IfOk result (λ end. end ≡ None) }
+    ensures plain { IfOk result (λ end. IfSome end IsPlainEnd) }
 {
     match done {
         Ok(()) => Ok(None),
@@ -150,7 +151,7 @@ impl Desk {
     }
 
     // What a job came to that is off: the result of its request, or the end of the session's own work.
-    #[tactic(auto, using(session_port::proofs::Facts::plain_fits, crate::proofs::Slots::ticket_of_slot, crate::proofs::Slots::slot_ends_nothing), unfolding(crate::specs::Steps::delivered))]
+    #[tactic(auto, using(session_port::proofs::Facts::plain_fits, crate::proofs::Slots::ticket_of_slot, crate::proofs::Slots::slot_ends_nothing, crate::proofs::PlainEnds::plain_ends), unfolding(crate::specs::Steps::delivered))]
     fn take_result<P: Present, A: Analysis>(
         &mut self,
         scene: &P,
@@ -162,6 +163,7 @@ impl Desk {
         requires { fits_kind job.kind outcome ≡ true }
         ensures meets { Refines result (delivered (meaning_of A.decodes A.answer) (P.scene scene.now) (waiting_for job self.old) job outcome (record { state = self.old; out = out.old })) self.new out.new }
         ensures ends { IfOk result (λ end. end ≡ work_end_of job.kind outcome) }
+        ensures plain { IfOk result (λ end. IfSome end IsPlainEnd) }
     {
         let Some(slot) = job.kind.facts().slot else {
             let end = work_end(self.alloc, &job.kind, outcome);
@@ -204,6 +206,7 @@ impl Desk {
     ) -> Result<Option<WorkEnd>, TurnError>
         ensures meets { Refines result (result_taken (meaning_of A.decodes A.answer) (P.scene scene.now) (ended_message number outcome) (record { state = self.old; out = out.old })) self.new out.new }
         ensures ends { IfOk result (λ end. end ≡ work_ended (ended_message number outcome) self.old.jobs) }
+        ensures plain { IfOk result (λ end. IfSome end IsPlainEnd) }
     {
         match self.take_ended(number, &outcome) {
             None => {
@@ -249,6 +252,7 @@ impl Desk {
     ) -> Result<Option<WorkEnd>, TurnError>
         ensures meets { Refines result (result_taken (meaning_of A.decodes A.answer) (P.scene scene.now) message (record { state = self.old; out = out.old })) self.new out.new }
         ensures ends { IfOk result (λ end. end ≡ work_ended message self.old.jobs) }
+        ensures plain { IfOk result (λ end. IfSome end IsPlainEnd) }
     {
         match message {
             TaskMsg {

@@ -9,5 +9,5 @@ pub returns-clause-meets : goal.returns-clause-meets
 returns-clause-meets g c =
     present_meets (λ (scene : Scene). result_taken (meaning_of g.A.Analysis.decodes g.A.Analysis.answer) scene c.args.message) c.on_task.result c.args.self.now
     _
-    c.self.inside.client c.self.inside.files c.self.inside.workspaces c.self.inside.desk c.on_task.new.self _ _
-    (search rules) (search rules) (search rules) (search rules) (search rules) c.on_task.ensures.meets
+    c.self.inside.client c.self.inside.files c.self.inside.workspaces c.self.inside.board c.self.inside.desk c.on_task.new.self _ _
+    (search rules) (search rules) (search rules) (search rules) (search rules) (search rules) c.on_task.ensures.meets
