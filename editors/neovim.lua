@@ -1,5 +1,5 @@
 -- `ra_serve` for Rust files in Neovim; in init.lua, with your own PATH.
--- Tried: Neovim 0.7.2 (hover by `K`, before and after an edit).
+-- Tried: Neovim 0.7.2 (hover by `K`, before and after an edit; diagnostics that come and go).
 -- Not tried: newer ones, which take the way by `vim.lsp.start`.
 local cmd = { "PATH/bin/ra_serve", "lsp" }
 
