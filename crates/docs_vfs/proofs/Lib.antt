@@ -1,5 +1,6 @@
 pub mod ChangeLaws
 pub mod CutLemmas
+mod EqualUrls
 pub mod Escapes
 pub mod Faults
 pub mod FrontLemmas

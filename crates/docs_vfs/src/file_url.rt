@@ -231,6 +231,12 @@ pub fn url_names_its_path(path: &VfsPath)
     are_bytes(text);
 }
 
+/// Paths with one URL are one path.
+pub fn equal_urls_name_equal_paths()
+    ensures law { (one other : List ℕ) → All (λ b. b < 256) one → All (λ b. b < 256) other
+        → url_of one ≡ url_of other → one ≡ other }
+{}
+
 /// The bytes that the URL of a path escapes.
 pub fn url_escapes_are_listed()
     ensures law { (b : ℕ) → should_percent_encode ESCAPED b ≡ is_escaped b }

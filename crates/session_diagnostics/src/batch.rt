@@ -141,9 +141,13 @@ fn batch_kinds(store: &mut Store) -> Result<Items<JobKind>, AllocError>
     ensures after { OnOk result (store.new ≡ with_board (batch_counted store.old.client.settings store.old.board) store.old) }
 {
     let mut kinds = Items::new(store.alloc);
+    let explores = store.client.settings().test_explorer();
+    if !explores && !shows_diagnostics(store.client.settings()) {
+        return Ok(kinds);
+    }
     let files = subscribed(store.alloc, &store.files)?;
     add_lists(store, &mut kinds, files.as_slice())?;
-    if store.client.settings().test_explorer() {
+    if explores {
         ask_tests(&mut kinds, files)?;
     }
     Ok(kinds)
