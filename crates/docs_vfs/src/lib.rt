@@ -26,7 +26,8 @@ pub use file_laws::{
 };
 pub use file_table::FileTable;
 pub use file_url::{
-    UrlFault, equal_urls_name_equal_paths, path_named, path_of_url, url_escapes_are_listed, url_names_its_path, url_of_path,
+    UrlFault, equal_urls_name_equal_paths, path_named, path_of_url, url_escapes_are_listed,
+    url_names_its_path, url_of_path,
 };
 pub use mem_docs::{DocumentData, MemDocs, Paths};
 pub use path::VfsPath;
