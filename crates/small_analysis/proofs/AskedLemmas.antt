@@ -1,12 +1,12 @@
 -- The partners that are kept are those that all brackets have.
-use Rattle.std.proofs.Common.{◌≡◌, ℕ, ◌+◌, Bool, true, false, cond, List, [], ◌∷◌, refl, ap, sym, subst, ◌∙◌, eq-eqb}
-use Rattle.std.specs.Prelude.{Some, is_some, ◌==◌}
+use Rattle.std.proofs.Common.{◌≡◌, ℕ, ◌+◌, Bool, true, false, cond, List, refl, ap, sym, subst, ◌∙◌, eq-eqb}
+use Rattle.std.specs.Prelude.{Option, None, Some, is_some, ◌==◌}
 use Rattle.std.specs.Cmp.{nat_cmp_total, unsigned_tied}
 use Rattle.std.specs.FinMap as map
 use Rattle.std.specs.Ordering.{nat_cmp}
 use Rattle.std.proofs.lemmas.Bool.{eqb-true, false≢true}
-use Rattle.small_analysis.specs.Asked.{Places, closed_asked, is_asked, with_asked, with_partner, IsAsked, KeepsAsked}
-use Rattle.small_analysis.specs.Brackets.{Brackets, bracket_near, brackets_before, closed, closes, is_opener, located, with_byte}
+use Rattle.small_analysis.specs.Asked.{Places, is_asked, paired_asked, with_partner, IsAsked, KeepsAsked}
+use Rattle.small_analysis.specs.Brackets.{Brackets, bracket_near, brackets_before, located, opener_of, openers_with, paired}
 use Rattle.small_analysis.specs.Positions.{place_in}
 use Rattle.small_analysis.specs.declared.brackets.Bracket.{Bracket}
 use Rattle.text_core.specs.declared.position.Position.{Position}
@@ -17,7 +17,7 @@ abbrev Partners : Type 0
 Partners = map.FinMap nat_cmp Bracket
 
 -- a value at a place, as numbers are compared
-at_place : {X : Type 0} (m : map.FinMap nat_cmp X) (place : ℕ) (x : X) (q : ℕ) → map.get (map.insert m place x) q ≡ cond (q == place) (Some x) (map.get m q)
+pub at_place : {X : Type 0} (m : map.FinMap nat_cmp X) (place : ℕ) (x : X) (q : ℕ) → map.get (map.insert m place x) q ≡ cond (q == place) (Some x) (map.get m q)
 at_place m place x q =
     map.get-insert nat_cmp_total m place x q ∙ ap (λ b. cond b (Some x) (map.get m q)) (unsigned_tied q place)
 
@@ -73,39 +73,26 @@ module _ (asked : Places) where
               keeps q is ∙ sym (at_place all place partner q ∙ ap (λ b. cond b (Some partner) (map.get all q)) other)
 
   -- the brackets of a text, and the same with the partners that are asked for
-  pub record Keeps (all kept : Brackets) : Type 0 where
-    pub openers : kept.openers ≡ all.openers
-    pub partners : KeepsAsked asked all.partners kept.partners
+  pub record Keeps (all : Brackets) (stack : List Bracket) (kept : Partners) : Type 0 where
+    pub openers : stack ≡ all.openers
+    pub partners : KeepsAsked asked all.partners kept
 
-  abbrev brackets : List Bracket → Partners → Brackets
-  brackets openers partners = record { openers = openers; partners = partners }
+  pair_kept : (here : Bracket) (opener : Option Bracket) (all kept : Partners) → KeepsAsked asked all kept
+      → KeepsAsked asked (paired here opener all) (paired_asked asked here opener kept)
+  pair_kept here None all kept keeps = keeps
+  pair_kept here (Some opener) all kept keeps = partner_kept _ _ here.place opener (partner_kept all kept opener.place here keeps)
 
-  closed_kept : (here : Bracket) (openers : List Bracket) (all kept : Partners) → KeepsAsked asked all kept
-      → Keeps (closed here (brackets openers all) openers) (closed_asked asked here (brackets openers kept) openers)
-  closed_kept here [] all kept keeps = record { openers = refl; partners = keeps }
-  closed_kept here (top ∷ below) all kept keeps = by_kind (closes top.byte here.byte)
-    where
-      by_kind : (b : Bool) → Keeps (cond b (brackets below (map.insert (map.insert all top.place here) here.place top)) (brackets (top ∷ below) all))
-          (cond b (brackets below (with_partner asked (with_partner asked kept top.place here) here.place top)) (brackets (top ∷ below) kept))
-      by_kind true = record { openers = refl; partners = partner_kept _ _ here.place top (partner_kept all kept top.place here keeps) }
-      by_kind false = record { openers = refl; partners = keeps }
-
-  same_openers : (here : Bracket) (openers : List Bracket) (all kept : Partners) → KeepsAsked asked all kept
-      → Keeps (with_byte here (brackets openers all)) (with_asked asked here (brackets openers kept))
-  same_openers here openers all kept keeps = by_byte (is_opener here.byte)
-    where
-      by_byte : (b : Bool) → Keeps (cond b (brackets (here ∷ openers) all) (closed here (brackets openers all) openers))
-          (cond b (brackets (here ∷ openers) kept) (closed_asked asked here (brackets openers kept) openers))
-      by_byte true = record { openers = refl; partners = keeps }
-      by_byte false = closed_kept here openers all kept keeps
-
-  pub byte_kept : (here : Bracket) (all kept : Brackets) → Keeps all kept → Keeps (with_byte here all) (with_asked asked here kept)
-  byte_kept here all kept keeps =
-      subst (λ openers. Keeps (with_byte here (brackets openers all.partners)) (with_asked asked here kept)) keeps.openers
-      (same_openers here kept.openers all.partners kept.partners keeps.partners)
-
-pub step_kept : (asked : Places) (text : List ℕ) (n : ℕ) (now new : Brackets) → Keeps asked (brackets_before text n) now
-    → new ≡ with_asked asked (located text n) now → Keeps asked (brackets_before text (n + 1)) new
-step_kept asked text n now new keeps same =
-    subst (λ all. Keeps asked all new) (sym (brackets_more text n))
-    (subst (Keeps asked (with_byte (located text n) (brackets_before text n))) (sym same) (byte_kept asked (located text n) (brackets_before text n) now keeps))
+pub step_kept : (asked : Places) (text : List ℕ) (n : ℕ) (openers new : List Bracket) (opener : Option Bracket) (kept now : Partners)
+    → Keeps asked (brackets_before text n) openers kept → new ≡ openers_with (located text n) openers → opener ≡ opener_of (located text n) openers
+    → now ≡ paired_asked asked (located text n) opener kept → Keeps asked (brackets_before text (n + 1)) new now
+step_kept asked text n openers new opener kept now keeps new_is opener_is now_is =
+    let all = brackets_before text n in
+    let here = located text n in
+    let its : opener ≡ opener_of here all.openers = opener_is ∙ ap (opener_of here) keeps.openers in
+    subst (λ brackets. Keeps asked brackets new now) (sym (brackets_more text n)) (record {
+      openers = new_is ∙ ap (openers_with here) keeps.openers;
+      partners =
+          subst (KeepsAsked asked (paired here (opener_of here all.openers) all.partners)) (sym now_is)
+          (subst (λ o. KeepsAsked asked (paired here o all.partners) (paired_asked asked here opener kept)) its
+          (pair_kept asked here opener all.partners kept keeps.partners));
+    })

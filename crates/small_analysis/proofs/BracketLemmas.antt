@@ -5,7 +5,8 @@ use Rattle.std.specs.Cmp.{nat_cmp_total, unsigned_tied}
 use Rattle.std.specs.FinMap as map
 use Rattle.std.specs.Ordering.{nat_cmp}
 use Rattle.std.proofs.lemmas.Bool.{cases_lt, cond-true, cond-false, eqb-true, ne_eqb}
-use Rattle.small_analysis.specs.Brackets.{Brackets, brackets_before, closed, closes, is_opener, located, with_byte, IsPair, AreMatched, AreNested, IsMatching}
+use Rattle.std.proofs.lemmas.Bool.Decides.{nat_tests}
+use Rattle.small_analysis.specs.Brackets.{Brackets, brackets_before, closes, is_opener, left_by, located, opener_of, paired, with_byte, IsPair, AreMatched, AreNested, IsMatching}
 use Rattle.small_analysis.specs.declared.brackets.Bracket.{Bracket}
 
 abbrev Partners : Type 0
@@ -120,17 +121,17 @@ module _ (text : List ℕ) (n : ℕ) (top : Bracket) (below : List Bracket) (par
   apart : top.place ≢ n
   apart is = absurd (omega (arith, is, under))
 
-  abbrev paired : Partners
-  paired = map.insert (map.insert partners top.place (located text n)) n top
+  abbrev partners_now : Partners
+  partners_now = map.insert (map.insert partners top.place (located text n)) n top
 
-  still : (place : ℕ) → place ≢ n → place ≢ top.place → map.get paired place ≡ map.get partners place
+  still : (place : ℕ) → place ≢ n → place ≢ top.place → map.get partners_now place ≡ map.get partners place
   still = elsewhere partners top (located text n) apart
 
   abbrev Cases : Bool → Bool → ℕ → Option Bracket
   Cases is_here is_top place = cond is_here (Some top) (cond is_top (Some (located text n)) (map.get partners place))
 
   -- what has a partner now is the closer, the opener, or had that partner before
-  by_place : (place : ℕ) (partner : Bracket) (P : Type 0) → map.get paired place ≡ Some partner → (place ≡ n → top ≡ partner → P)
+  by_place : (place : ℕ) (partner : Bracket) (P : Type 0) → map.get partners_now place ≡ Some partner → (place ≡ n → top ≡ partner → P)
       → (place ≡ top.place → located text n ≡ partner → P) → (map.get partners place ≡ Some partner → P) → P
   by_place place partner P is closer opener before = cases (place == n) (place == top.place) refl refl (sym (look partners top (located text n) apart place) ∙ is)
     where
@@ -139,21 +140,21 @@ module _ (text : List ℕ) (n : ℕ) (top : Bracket) (below : List Bracket) (par
       cases false true here at is = opener (eqb-true place top.place at) (some_is (located text n) partner is)
       cases false false here at is = before is
 
-  bound : (place : ℕ) (partner : Bracket) → map.get paired place ≡ Some partner → place < suc n
+  bound : (place : ℕ) (partner : Bracket) → map.get partners_now place ≡ Some partner → place < suc n
   bound place partner is =
       by_place place partner (place < suc n) is (λ here same. omega (arith, here)) (λ at same. omega (arith, at, under)) (λ old. omega (arith, sound.bound place partner old))
 
   order : IsPair top (located text n)
   order = record { order = under; kind = kind }
 
-  matched_here : AreMatched text paired n top
+  matched_here : AreMatched text partners_now n top
   matched_here = record {
     there = sound.openers.0.there;
     back = at_top partners top (located text n) apart;
     pair = inr order;
   }
 
-  matched_top : AreMatched text paired top.place (located text n)
+  matched_top : AreMatched text partners_now top.place (located text n)
   matched_top = record {
     there = refl;
     back = at_here partners top (located text n) apart ∙ ap Some sound.openers.0.there;
@@ -168,7 +169,7 @@ module _ (text : List ℕ) (n : ℕ) (top : Bracket) (below : List Bracket) (par
   partner_under : (place : ℕ) (partner : Bracket) → map.get partners place ≡ Some partner → partner.place < n
   partner_under place partner is = sound.bound partner.place (located text place) (sound.matching place partner is).back
 
-  matched_before : (place : ℕ) (partner : Bracket) → map.get partners place ≡ Some partner → AreMatched text paired place partner
+  matched_before : (place : ℕ) (partner : Bracket) → map.get partners place ≡ Some partner → AreMatched text partners_now place partner
   matched_before place partner is =
       let old = sound.matching place partner is in
       record {
@@ -177,10 +178,10 @@ module _ (text : List ℕ) (n : ℕ) (top : Bracket) (below : List Bracket) (par
         pair = old.pair;
       }
 
-  matching : IsMatching text paired
+  matching : IsMatching text partners_now
   matching place partner is =
-      let P : ℕ → Bracket → Type 0 = λ p q. AreMatched text paired p q in
-      by_place place partner (AreMatched text paired place partner) is
+      let P : ℕ → Bracket → Type 0 = λ p q. AreMatched text partners_now p q in
+      by_place place partner (AreMatched text partners_now place partner) is
       (λ here same. subst (λ p. P p partner) (sym here) (subst (P n) same matched_here))
       (λ at same. subst (λ p. P p partner) (sym at) (subst (P top.place) same matched_top))
       (matched_before place partner)
@@ -199,7 +200,7 @@ module _ (text : List ℕ) (n : ℕ) (top : Bracket) (below : List Bracket) (par
       ] in
       (behind, partner_under inner other is)
 
-  nested : AreNested paired
+  nested : AreNested partners_now
   nested outer inner its other is_outer is_inner above below =
       let Goal : Type 0 = Between outer other.place its.place in
       by_place outer its Goal is_outer
@@ -219,32 +220,45 @@ module _ (text : List ℕ) (n : ℕ) (top : Bracket) (below : List Bracket) (par
       (λ top_at same. absurd (omega (arith, top_at, below, sound.openers.0.outside outer its old (omega (arith, top_at, above)))))
       (λ old_inner. sound.nested outer inner its other old old_inner above below))
 
-  paired_sound : IsSound text (suc n) (record { openers = below; partners = paired })
+  paired_sound : IsSound text (suc n) (record { openers = below; partners = partners_now })
   paired_sound = record {
-    openers = open_further text top.place (suc n) paired below (omega (arith, under))
-        (open_still text top.place partners paired below (λ place before. still place (λ e. absurd (omega (arith, e, before, under))) (λ e. absurd (omega (arith, e, before)))) sound.openers.1);
+    openers = open_further text top.place (suc n) partners_now below (omega (arith, under))
+        (open_still text top.place partners partners_now below (λ place before. still place (λ e. absurd (omega (arith, e, before, under))) (λ e. absurd (omega (arith, e, before)))) sound.openers.1);
     bound = bound;
     matching = matching;
     nested = nested;
   }
 
-closed_sound : (text : List ℕ) (n : ℕ) (openers : List Bracket) (partners : Partners) → IsSound text n (record { openers = openers; partners = partners })
-    → IsSound text (suc n) (closed (located text n) (record { openers = openers; partners = partners }) openers)
-closed_sound text n [] partners sound = unchanged text n [] partners sound
-closed_sound text n (top ∷ below) partners sound = by_kind (closes top.byte (located text n).byte) refl
+left_sound : (text : List ℕ) (n : ℕ) (openers : List Bracket) (partners : Partners) → IsSound text n (record { openers = openers; partners = partners })
+    → IsSound text (suc n) (record { openers = left_by (located text n) openers; partners = paired (located text n) (opener_of (located text n) openers) partners })
+left_sound text n [] partners sound = unchanged text n [] partners sound
+left_sound text n (top ∷ below) partners sound = by_kind (closes top.byte (located text n).byte) refl
   where
     by_kind : (b : Bool) → closes top.byte (located text n).byte ≡ b
-        → IsSound text (suc n) (cond b (record { openers = below; partners = map.insert (map.insert partners top.place (located text n)) n top }) (record { openers = top ∷ below; partners = partners }))
+        → IsSound text (suc n) (record { openers = cond b below (top ∷ below); partners = paired (located text n) (cond b (Some top) None) partners })
     by_kind true kind = paired_sound text n top below partners kind sound
     by_kind false kind = unchanged text n (top ∷ below) partners sound
+
+opener_closes_none : (top b : ℕ) → is_opener b ≡ true → closes top b ≡ false
+opener_closes_none top b is = grind (arith, nat_tests)
+
+-- an opener closes nothing
+pub opener_of_none : (here : Bracket) (openers : List Bracket) → is_opener here.byte ≡ true → opener_of here openers ≡ None
+opener_of_none here [] is = refl
+opener_of_none here (top ∷ below) is = ap (λ b. cond b (Some top) None) (opener_closes_none top.byte here.byte is)
 
 byte_sound : (text : List ℕ) (n : ℕ) (brackets : Brackets) → IsSound text n brackets → IsSound text (suc n) (with_byte (located text n) brackets)
 byte_sound text n brackets sound = by_byte (is_opener (located text n).byte) refl
   where
     by_byte : (b : Bool) → is_opener (located text n).byte ≡ b
-        → IsSound text (suc n) (cond b (record { openers = located text n ∷ brackets.openers; partners = brackets.partners }) (closed (located text n) brackets brackets.openers))
-    by_byte true is = opened text n brackets.openers brackets.partners sound
-    by_byte false is = closed_sound text n brackets.openers brackets.partners sound
+        → IsSound text (suc n) (record {
+          openers = cond b (located text n ∷ brackets.openers) (left_by (located text n) brackets.openers);
+          partners = paired (located text n) (opener_of (located text n) brackets.openers) brackets.partners;
+        })
+    by_byte true is =
+        subst (λ opener. IsSound text (suc n) (record { openers = located text n ∷ brackets.openers; partners = paired (located text n) opener brackets.partners }))
+        (sym (opener_of_none (located text n) brackets.openers is)) (opened text n brackets.openers brackets.partners sound)
+    by_byte false is = left_sound text n brackets.openers brackets.partners sound
 
 all_sound : (text : List ℕ) (n : ℕ) → IsSound text n (brackets_before text n)
 all_sound text zero = record {
@@ -263,6 +277,18 @@ is_matching text n = (all_sound text n).matching
 
 pub are_nested : (text : List ℕ) (n : ℕ) → AreNested (brackets_before text n).partners
 are_nested text n = (all_sound text n).nested
+
+-- the opener that a byte closes has its place in the text
+pub opener_within : (text : List ℕ) (n : ℕ) (opener : Bracket) → opener_of (located text n) (brackets_before text n).openers ≡ Some opener → opener.place < n
+opener_within text n opener is = first (brackets_before text n).openers (all_sound text n).openers is
+  where
+    first : (openers : List Bracket) → AreOpen text n (brackets_before text n).partners openers → opener_of (located text n) openers ≡ Some opener → opener.place < n
+    first [] are is = absurd (none_is opener is)
+    first (top ∷ below) are is = by_kind (closes top.byte (located text n).byte) is
+      where
+        by_kind : (b : Bool) → cond b (Some top) None ≡ Some opener → opener.place < n
+        by_kind true same = subst (λ (o : Bracket). o.place < n) (some_is top opener same) are.0.under
+        by_kind false none = absurd (none_is opener none)
 
 -- a partner stands in the text
 pub partner_within : (text : List ℕ) (n place : ℕ) (partner : Bracket) → map.get (brackets_before text n).partners place ≡ Some partner → partner.place < n

@@ -1,6 +1,7 @@
 pub mod AskedLemmas
 pub mod BlockLemmas
 pub mod BracketLemmas
+pub mod DefinedLemmas
 pub mod ListLemmas
 pub mod MatchLemmas
 pub mod NameLaws

@@ -1,8 +1,8 @@
 -- The partners of some brackets alone: of those at the places that are asked for.
-use Rattle.std.specs.Prelude.{◌≡◌, ℕ, Bool, true, List, [], ◌∷◌, is_some, if◌then◌else◌, Some}
+use Rattle.std.specs.Prelude.{◌≡◌, ℕ, Bool, true, List, is_some, if◌then◌else◌, Option, None, Some}
 use Rattle.std.specs.FinMap as map
 use Rattle.std.specs.Ordering.{nat_cmp}
-use Rattle.small_analysis.specs.Brackets.{Brackets, bracket_near, closes, is_opener}
+use Rattle.small_analysis.specs.Brackets.{bracket_near}
 use Rattle.small_analysis.specs.Positions.{place_in}
 use Rattle.small_analysis.specs.declared.brackets.Bracket.{Bracket}
 use Rattle.text_core.specs.declared.position.Position.{Position}
@@ -31,19 +31,8 @@ KeepsAsked asked all kept = (place : ℕ) → is_asked asked place ≡ true → 
 abbrev pub with_partner : Places → map.FinMap nat_cmp Bracket → ℕ → Bracket → map.FinMap nat_cmp Bracket
 with_partner asked partners place partner = if is_asked asked place then map.insert partners place partner else partners
 
-abbrev pub closed_asked : Places → Bracket → Brackets → List Bracket → Brackets
-closed_asked asked here brackets [] = brackets
-closed_asked asked here brackets (top ∷ below) =
-    if closes top.byte here.byte
-    then record {
-      openers = below;
-      partners =
-          with_partner asked (with_partner asked brackets.partners top.place here) here.place top;
-    }
-    else brackets
-
--- one byte more, where the partners are kept that are asked for
-abbrev pub with_asked : Places → Bracket → Brackets → Brackets
-with_asked asked here brackets =
-    if is_opener here.byte then record { openers = here ∷ brackets.openers; partners = brackets.partners }
-    else closed_asked asked here brackets brackets.openers
+-- a bracket and the opener that it closes are partners, of which those are kept that are asked for
+abbrev pub paired_asked : Places → Bracket → Option Bracket → map.FinMap nat_cmp Bracket → map.FinMap nat_cmp Bracket
+paired_asked asked here None partners = partners
+paired_asked asked here (Some opener) partners =
+    with_partner asked (with_partner asked partners opener.place here) here.place opener

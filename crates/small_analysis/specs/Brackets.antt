@@ -25,19 +25,31 @@ pub record Brackets : Type 0 where
 abbrev pub no_brackets : Brackets
 no_brackets = record { openers = []; partners = map.empty }
 
--- a closer of the innermost opener matches it; any other byte changes nothing
-abbrev pub closed : Bracket → Brackets → List Bracket → Brackets
-closed here brackets [] = brackets
-closed here brackets (top ∷ below) =
-    if closes top.byte here.byte
-    then record { openers = below; partners = map.insert (map.insert brackets.partners top.place here) here.place top }
-    else brackets
+-- the opener that a byte closes: the innermost one, where it is of its kind
+abbrev pub opener_of : Bracket → List Bracket → Option Bracket
+opener_of here [] = None
+opener_of here (top ∷ below) = if closes top.byte here.byte then Some top else None
 
--- one byte more
+-- the openers without the one that a byte closes
+abbrev pub left_by : Bracket → List Bracket → List Bracket
+left_by here [] = []
+left_by here (top ∷ below) = if closes top.byte here.byte then below else top ∷ below
+
+-- the openers that are open once there is one byte more
+abbrev pub openers_with : Bracket → List Bracket → List Bracket
+openers_with here openers = if is_opener here.byte then here ∷ openers else left_by here openers
+
+-- a bracket and the opener that it closes are partners
+abbrev pub paired : Bracket → Option Bracket → map.FinMap nat_cmp Bracket → map.FinMap nat_cmp Bracket
+paired here None partners = partners
+paired here (Some opener) partners = map.insert (map.insert partners opener.place here) here.place opener
+
+-- one byte more: an opener is open, a closer of the innermost opener matches it, and any other byte changes nothing
 abbrev pub with_byte : Bracket → Brackets → Brackets
-with_byte here brackets =
-    if is_opener here.byte then record { openers = here ∷ brackets.openers; partners = brackets.partners }
-    else closed here brackets brackets.openers
+with_byte here brackets = record {
+  openers = openers_with here brackets.openers;
+  partners = paired here (opener_of here brackets.openers) brackets.partners;
+}
 
 -- the byte at a place
 abbrev pub located : List ℕ → ℕ → Bracket

@@ -1,7 +1,7 @@
 // The brackets of a text that match.
-ghost use Rattle.std.specs.Prelude.{◌≡◌, ◌<◌, ◌^◌, length, slice_get, IfOk, OnOk};
-ghost use Rattle.small_analysis.specs.Asked.{with_asked, with_partner, KeepsAsked};
-ghost use Rattle.small_analysis.specs.Brackets.{closes, is_bracket, is_bracket_at, is_opener, bracket_near, partners_of};
+ghost use Rattle.std.specs.Prelude.{◌≡◌, ◌<◌, ◌^◌, length, IfOk, OnOk};
+ghost use Rattle.small_analysis.specs.Asked.{paired_asked, with_partner, KeepsAsked};
+ghost use Rattle.small_analysis.specs.Brackets.{closes, is_bracket, is_bracket_at, is_opener, bracket_near, opener_of, openers_with, partners_of};
 
 use plain::ByNumber;
 use std::alloc::{AllocError, Global};
@@ -20,7 +20,7 @@ fn is_opener(byte: u8) -> bool
     byte == b'(' || byte == b'[' || byte == b'{'
 }
 
-fn is_bracket(byte: u8) -> bool
+pub(crate) fn is_bracket(byte: u8) -> bool
     ensures { result ≡ is_bracket byte }
 {
     is_opener(byte) || byte == b')' || byte == b']' || byte == b'}'
@@ -35,11 +35,25 @@ fn closes(opener: u8, byte: u8) -> bool
         || opener == b'{' && byte == b'}'
 }
 
-/// The innermost opener that is openers.
-fn innermost(openers: &VecDeque<Bracket>) -> Option<Bracket>
-    ensures { result ≡ slice_get openers.now.items 0 }
+/// Takes one byte more of the text, and gives the opener that it closes.
+pub(crate) fn take_byte(
+    openers: &mut VecDeque<Bracket>,
+    here: Bracket,
+) -> Result<Option<Bracket>, AllocError>
+    ensures openers { OnOk result (openers.new.items ≡ openers_with here openers.old.items) }
+    ensures opener { IfOk result (λ opener. opener ≡ opener_of here openers.old.items) }
 {
-    openers.front().copied()
+    if is_opener(here.byte) {
+        openers.push_front(here)?;
+        return Ok(None);
+    }
+    match openers.front().copied() {
+        Some(opener) if closes(opener.byte, here.byte) => {
+            openers.pop_front();
+            Ok(Some(opener))
+        }
+        _ => Ok(None),
+    }
 }
 
 /// Keeps the partner of a bracket that is asked for.
@@ -58,25 +72,16 @@ fn keep(
     Ok(())
 }
 
-/// Takes one byte more of the text.
-fn take_byte(
+/// Keeps a bracket and the opener that it closes as partners, where they are asked for.
+fn keep_pair(
     asked: &ByNumber<()>,
-    openers: &mut VecDeque<Bracket>,
     partners: &mut ByNumber<Bracket>,
     here: Bracket,
+    opener: Option<Bracket>,
 ) -> Result<(), AllocError>
-    ensures { OnOk result (record { openers = openers.new.items; partners = partners.new }
-        ≡ with_asked asked.now here (record { openers = openers.old.items; partners = partners.old })) }
+    ensures { OnOk result (partners.new ≡ paired_asked asked.now here opener partners.old) }
 {
-    if is_opener(here.byte) {
-        openers.push_front(here)?;
-        return Ok(());
-    }
-    let Some(opener) = innermost(openers) else {
-        return Ok(());
-    };
-    if closes(opener.byte, here.byte) {
-        openers.pop_front();
+    if let Some(opener) = opener {
         keep(asked, partners, opener.place, here)?;
         keep(asked, partners, here.place, opener)?;
     }
@@ -99,7 +104,8 @@ pub(crate) fn partners_of(
             place: place as u32,
             byte: *byte,
         };
-        take_byte(asked, &mut openers, &mut partners, here)?;
+        let opener = take_byte(&mut openers, here)?;
+        keep_pair(asked, &mut partners, here, opener)?;
     }
     Ok(partners)
 }

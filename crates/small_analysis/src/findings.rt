@@ -1,23 +1,22 @@
 // What is wrong in a file, and its tests.
-ghost use Rattle.std.specs.Prelude.{◌≡◌, ℕ, ◌+◌, ◌++◌, ◌≤◌, true, codes, length, None, Some, IfOk, OnOk};
+ghost use Rattle.std.specs.Prelude.{◌≡◌, ◌+◌, ◌++◌, ◌<◌, ◌≤◌, true, codes, length, Some, IfOk, OnOk};
 ghost use Rattle.std.specs.FinMap as map;
 ghost use Rattle.std.specs.String.Boundary.{IsSplitPoint};
 ghost use Rattle.analysis_host.specs.Answers.{Answers, AreDiagnostics, AreTests, IfValue};
-ghost use Rattle.small_analysis.specs.Brackets.{is_bracket_at, partners_of};
-ghost use Rattle.small_analysis.specs.Defined.{defined_at};
+ghost use Rattle.small_analysis.specs.Defined.{defined_at, follows_fn, with_name};
 ghost use Rattle.small_analysis.specs.Findings.{again_said, bracket_said, said, semantic_in, semantic_of, syntax_in, syntax_of, tests_of};
 ghost use Rattle.small_analysis.specs.Names.{name_at, run_end, run_start};
 ghost use Rattle.small_analysis.specs.Positions.{position_in};
+ghost use Rattle.small_analysis.specs.Unmatched.{is_unmatched};
 
-use crate::brackets::Bracket;
-use crate::defined::{defined_at, note};
-use crate::names::{run_end, run_start};
+use crate::defined::follows_fn;
+use crate::names::{name_at, run_end, run_start};
 use crate::offsets::position_in;
-use crate::unmatched::{all_partners, is_unmatched};
+use crate::unmatched::{is_unmatched, matched_marks};
 use analysis_host::{Answer, GlobalStateSnapshot, Outcome};
 use docs_vfs::FileId;
 use lsp_types::Diagnostic;
-use plain::{ByNumber, ByText, Items, Text};
+use plain::{ByText, Items, Text};
 use std::alloc::{AllocError, Global};
 use text_core::{Position, PositionEncoding, Range, TextIndex};
 
@@ -76,25 +75,21 @@ fn bracket_said(
     said(alloc, encoding, index, 1, place, place + 1, message)
 }
 
-/// Says of the bracket at a place that it has no partner, where it has none.
-#[tactic(auto, using(crate::proofs::UnmatchedLemmas::bracket_begins, crate::proofs::UnmatchedLemmas::bracket_ends))]
+/// Says of a bracket that it has no partner.
+#[tactic(auto, using(crate::proofs::UnmatchedLemmas::bracket_begins, crate::proofs::UnmatchedLemmas::unmatched_bracket))]
 fn say_bracket(
     alloc: Global,
     encoding: PositionEncoding,
     index: &TextIndex,
-    partners: &ByNumber<Bracket>,
     list: &mut Items<Diagnostic>,
     place: usize,
 ) -> Result<(), AllocError>
-    requires { (q : ℕ) → is_bracket_at index.now q ≡ true → map.get partners.now q ≡ map.get (partners_of index.now) q }
+    requires { is_unmatched index.now place ≡ true }
     ensures { OnOk result (list.new ≡ list.old ++ bracket_said encoding index.now place) }
 {
-    // It fits 32 bits.
-    let _length = index.len();
-    let text = index.text();
-    if is_unmatched(text.as_bytes(), partners, place) {
-        list.push(bracket_said(alloc, encoding, index, place as u32)?)?;
-    }
+    // It fits 32 bits, and is UTF-8.
+    let (_length, _text) = (index.len(), index.text());
+    list.push(bracket_said(alloc, encoding, index, place as u32)?)?;
     Ok(())
 }
 
@@ -110,10 +105,13 @@ fn syntax_in(
     // It fits 32 bits.
     let _length = index.len();
     let text = index.text().as_bytes();
-    let partners = all_partners(alloc, text)?;
+    let marks = matched_marks(alloc, text)?;
     let mut list = Items::new(alloc);
     for place in 0..text.len() {
-        say_bracket(alloc, encoding, index, &partners, &mut list, place)?;
+        // Most places have none: what is said of one has a function of its own, which is entered for it alone.
+        if is_unmatched(text, &marks, place) {
+            say_bracket(alloc, encoding, index, &mut list, place)?;
+        }
     }
     Ok(list)
 }
@@ -141,23 +139,22 @@ fn name_said(
     said(alloc, encoding, index, 2, start as u32, end as u32, message)
 }
 
-/// Says of the name that holds a place that it was defined before, where it was.
-fn say_again(
+/// Notes the name that holds a place, and says of it that it was defined before, where it was.
+fn note_name(
     alloc: Global,
     encoding: PositionEncoding,
     index: &TextIndex,
-    names: &ByText<Text, ()>,
+    names: &mut ByText<Text, ()>,
     list: &mut Items<Diagnostic>,
     place: usize,
     name: &str,
 ) -> Result<(), AllocError>
     requires within { place ≤ length index.now }
     requires name { name_at index.now place ≡ Some name.now }
-    ensures { OnOk result (list.new ≡ list.old ++ again_said encoding index.now place names.now (Some name.now)) }
+    ensures list { OnOk result (list.new ≡ list.old ++ again_said encoding index.now place names.old (Some name.now)) }
+    ensures names { OnOk result (names.new ≡ with_name (Some name.now) names.old) }
 {
-    let key = Text::from_str(alloc, name)?;
-    let was_defined = names.contains(&key);
-    drop(key);
+    let was_defined = names.insert(Text::from_str(alloc, name)?, ())?.is_some();
     if was_defined {
         let diagnostic = name_said(alloc, encoding, index, place, name)?;
         list.push(diagnostic)?;
@@ -165,20 +162,22 @@ fn say_again(
     Ok(())
 }
 
-/// Says of the name that is defined at a place that it was before, where it was.
-fn say_name(
+/// Notes the name that is defined at a place, if one is, and says of it that it was before, where it was.
+fn note_defined(
     alloc: Global,
     encoding: PositionEncoding,
     index: &TextIndex,
-    names: &ByText<Text, ()>,
+    names: &mut ByText<Text, ()>,
     list: &mut Items<Diagnostic>,
     place: usize,
 ) -> Result<(), AllocError>
-    requires { place ≤ length index.now }
-    ensures { OnOk result (list.new ≡ list.old ++ again_said encoding index.now place names.now (defined_at index.now place)) }
+    requires within { place ≤ length index.now }
+    requires follows { follows_fn index.now place ≡ true }
+    ensures list { OnOk result (list.new ≡ list.old ++ again_said encoding index.now place names.old (defined_at index.now place)) }
+    ensures names { OnOk result (names.new ≡ with_name (defined_at index.now place) names.old) }
 {
-    match defined_at(index.text(), place) {
-        Some(name) => say_again(alloc, encoding, index, names, list, place, name),
+    match name_at(index.text(), place) {
+        Some(name) => note_name(alloc, encoding, index, names, list, place, name),
         None => Ok(()),
     }
 }
@@ -196,8 +195,9 @@ fn semantic_in(
     let mut names = ByText::new(alloc);
     let mut list = Items::new(alloc);
     for place in 0..text.len() {
-        say_name(alloc, encoding, index, &names, &mut list, place)?;
-        note(alloc, &mut names, defined_at(text, place))?;
+        if follows_fn(text.as_bytes(), place) {
+            note_defined(alloc, encoding, index, &mut names, &mut list, place)?;
+        }
     }
     Ok(list)
 }

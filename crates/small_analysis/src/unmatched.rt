@@ -1,49 +1,59 @@
 // The brackets of a text that have no partner.
-ghost use Rattle.std.specs.Prelude.{◌≡◌, ℕ, ◌<◌, ◌≤◌, ◌^◌, true, length, IfOk, OnOk};
-ghost use Rattle.std.specs.FinMap as map;
-ghost use Rattle.small_analysis.specs.Brackets.{is_bracket_at, partners_of};
-ghost use Rattle.small_analysis.specs.Unmatched.{brackets_asked, is_unmatched, with_bracket};
+ghost use Rattle.std.specs.Prelude.{◌≡◌, ◌<◌, ◌^◌, false, length, replicate, IfOk, OnOk};
+ghost use Rattle.small_analysis.specs.Brackets.{partners_of};
+ghost use Rattle.small_analysis.specs.Unmatched.{HasMarks, MarksMatched, is_unmatched, pair_marked};
 
-use crate::brackets::{Bracket, is_bracket_at, partners_of};
-use plain::ByNumber;
+use crate::brackets::{Bracket, is_bracket, is_bracket_at, take_byte};
 use std::alloc::{AllocError, Global};
+use std::collections::VecDeque;
 
-/// Asks for the bracket at a place, where one is there.
-fn ask_at(asked: &mut ByNumber<()>, text: &[u8], place: usize) -> Result<(), AllocError>
-    ensures { OnOk result (asked.new ≡ with_bracket text.now place asked.old) }
+/// Marks a bracket and the opener that it closes.
+fn mark_pair(marks: &mut [bool], here: Bracket, opener: Option<Bracket>)
+    requires { HasMarks here opener marks.old }
+    ensures { marks.new ≡ pair_marked here opener marks.old }
 {
-    if is_bracket_at(text, place) {
-        asked.insert(place as u64, ())?;
+    if let Some(opener) = opener {
+        marks[opener.place as usize] = true;
+        marks[here.place as usize] = true;
+    }
+}
+
+/// Marks the brackets that have a partner.
+fn mark_matched(alloc: Global, text: &[u8], marks: &mut [bool]) -> Result<(), AllocError>
+    requires size { length text.now < 2 ^ 32 }
+    requires unmarked { marks.old ≡ replicate (length text.now) false }
+    ensures { OnOk result (MarksMatched text.now (partners_of text.now) marks.new) }
+{
+    let mut openers = VecDeque::new(alloc);
+    for (place, byte) in text.iter().enumerate() {
+        if is_bracket(*byte) {
+            let here = Bracket {
+                place: place as u32,
+                byte: *byte,
+            };
+            let opener = take_byte(&mut openers, here)?;
+            mark_pair(marks, here, opener);
+        }
     }
     Ok(())
 }
 
-/// Asks for all brackets.
-#[tactic(auto, using(crate::proofs::UnmatchedLemmas::asked_next))]
-fn ask_all(alloc: Global, text: &[u8]) -> Result<ByNumber<()>, AllocError>
-    ensures { IfOk result (λ asked. asked ≡ brackets_asked text.now (length text.now)) }
-{
-    let mut asked = ByNumber::new(alloc);
-    for place in 0..text.len() {
-        ask_at(&mut asked, text, place)?;
-    }
-    Ok(asked)
-}
-
-/// The partner of each bracket that is matched, by its place.
-pub(crate) fn all_partners(alloc: Global, text: &[u8]) -> Result<ByNumber<Bracket>, AllocError>
+/// Which bytes are brackets that have a partner.
+pub(crate) fn matched_marks(alloc: Global, text: &[u8]) -> Result<Vec<bool>, AllocError>
     requires { length text.now < 2 ^ 32 }
-    ensures { IfOk result (λ partners. (place : ℕ) → is_bracket_at text.now place ≡ true → map.get partners place ≡ map.get (partners_of text.now) place) }
+    ensures { IfOk result (λ marks. MarksMatched text.now (partners_of text.now) marks.items) }
 {
-    let asked = ask_all(alloc, text)?;
-    partners_of(alloc, text, &asked)
+    let mut marks = vec![in alloc; false; text.len()]?;
+    mark_matched(alloc, text, &mut marks)?;
+    Ok(marks)
 }
 
-/// Whether a bracket stands at a place that has no partner among these, which all brackets have that are matched.
+/// Whether a bracket stands at a place that has no partner.
 #[tactic(auto, using(crate::proofs::UnmatchedLemmas::unmatched_by))]
-pub(crate) fn is_unmatched(text: &[u8], partners: &ByNumber<Bracket>, place: usize) -> bool
-    requires { (q : ℕ) → is_bracket_at text.now q ≡ true → map.get partners.now q ≡ map.get (partners_of text.now) q }
+pub(crate) fn is_unmatched(text: &[u8], marks: &[bool], place: usize) -> bool
+    requires within { place < length text.now }
+    requires marks { MarksMatched text.now (partners_of text.now) marks.now }
     ensures { result ≡ is_unmatched text.now place }
 {
-    is_bracket_at(text, place) && !partners.contains(place as u64)
+    is_bracket_at(text, place) && !marks[place]
 }
