@@ -1,0 +1,12 @@
+pub mod Bools
+pub mod HearingEvents
+pub mod HearingFiles
+pub mod HearingRuns
+pub mod HearingSteps
+pub mod HearingSwitch
+pub mod HearingTurns
+pub mod HearingWork
+pub mod Parts
+pub mod PartsOfTurns
+pub mod Resting
+pub mod RestingBehind

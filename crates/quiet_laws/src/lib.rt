@@ -1,0 +1,10 @@
+//! Laws over whole sessions that are quiescent, without code: that the lists of turns tell whether one is, and what a
+//! turn leaves that ends so.
+#![tactic(auto)]
+
+mod quiet;
+
+pub use quiet::{
+    quiescence_is_told_by_the_lists, quiescent_sessions_are_settled,
+    what_files_leave_stands_behind_the_turn,
+};

@@ -1,0 +1,30 @@
+// Laws of sessions that are quiescent: by the lists of turns, at rest, and calm.
+ghost use Rattle.std.specs.Prelude.{◌≡◌, ◌↔◌, List, true, false};
+ghost use Rattle.std.specs.FinMap as map;
+ghost use Rattle.desk.specs.Meaning.{Meaning};
+ghost use Rattle.ra_config.specs.Config.{ConfigData};
+ghost use Rattle.session_model.specs.OwnJobs.{before_quiet};
+ghost use Rattle.session_model.specs.Run.{Runs, Steps, Turn, out_after_all};
+ghost use Rattle.session_model.specs.State.{State, fresh};
+ghost use Rattle.quiet_laws.specs.Heard.{IsQuietBy, heard_after_all, nothing_heard};
+ghost use Rattle.quiet_laws.specs.Rest.{IsSettled, Lasts, is_quiet};
+
+/// A session is quiescent exactly where the inputs and the commands of all turns so far say so.
+pub fn quiescence_is_told_by_the_lists()
+    ensures { (meaning : Meaning) (settings : ConfigData) (turns : List Turn) (last : State)
+        → Runs meaning (fresh settings) turns last
+        → is_quiet last ≡ true ↔ IsQuietBy (heard_after_all turns nothing_heard) (out_after_all turns map.empty) }
+{}
+
+/// Where the session is quiescent no switch is wanted, and no crate data waits for its macros.
+pub fn quiescent_sessions_are_settled()
+    ensures { (meaning : Meaning) (settings : ConfigData) (turns : List Turn) (last : State)
+        → Runs meaning (fresh settings) turns last → is_quiet last ≡ true → IsSettled last }
+{}
+
+/// What a batch goes by is behind a turn as it is behind its files, and the session is quiescent behind a turn only where it
+/// is so there.
+pub fn what_files_leave_stands_behind_the_turn()
+    ensures { (meaning : Meaning) (old : State) (turn : Turn) (new : State)
+        → Steps meaning old turn new → Lasts (before_quiet meaning turn.input old).state new }
+{}
