@@ -1,4 +1,9 @@
 pub mod Bools
+pub mod Calm
+pub mod CalmEvents
+pub mod CalmFiles
+pub mod CalmKeys
+pub mod CalmKnown
 pub mod HearingEvents
 pub mod HearingFiles
 pub mod HearingRuns

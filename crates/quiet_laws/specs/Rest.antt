@@ -10,7 +10,7 @@ use Rattle.session_model.specs.Status.{is_quiescent}
 use Rattle.session_model.specs.declared.input.Input.{Input}
 use Rattle.session_model.specs.declared.input.Input.TheVariants.{Start, Next}
 
--- no files are loading, and nothing that renews the workspaces is in progress or to come
+-- the session is quiescent
 abbrev pub is_quiet : State → Bool
 is_quiet s = is_quiescent s.files s.workspaces
 
@@ -40,3 +40,13 @@ pub record Lasts (s e : State) : Type 0 where
   pub fetched : is_some e.workspaces.fetches.queue.last ≡ is_some s.workspaces.fetches.queue.last
   pub cleared : e.board.cleared ≡ s.board.cleared
   pub quiet : is_quiet e ≡ true → is_quiet s ≡ true
+
+-- the session was quiescent, and the world, the open documents, those that are shown, whether a fetch has ended, and
+-- which files were cleared are as they were
+pub record IsCalm (old new : State) : Type 0 where
+  pub quiet : is_quiet old ≡ true
+  pub world : new.files.host.world ≡ old.files.host.world
+  pub documents : map.keys new.files.versions ≡ map.keys old.files.versions
+  pub files : subscribed new.files ≡ subscribed old.files
+  pub fetched : is_some new.workspaces.fetches.queue.last ≡ is_some old.workspaces.fetches.queue.last
+  pub cleared : new.board.cleared ≡ old.board.cleared

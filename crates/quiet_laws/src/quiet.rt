@@ -7,7 +7,7 @@ ghost use Rattle.session_model.specs.OwnJobs.{before_quiet};
 ghost use Rattle.session_model.specs.Run.{Runs, Steps, Turn, out_after_all};
 ghost use Rattle.session_model.specs.State.{State, fresh};
 ghost use Rattle.quiet_laws.specs.Heard.{IsQuietBy, heard_after_all, nothing_heard};
-ghost use Rattle.quiet_laws.specs.Rest.{IsSettled, Lasts, is_quiet};
+ghost use Rattle.quiet_laws.specs.Rest.{IsCalm, IsSettled, Lasts, asks_batch, is_quiet};
 
 /// A session is quiescent exactly where the inputs and the commands of all turns so far say so.
 pub fn quiescence_is_told_by_the_lists()
@@ -27,4 +27,12 @@ pub fn quiescent_sessions_are_settled()
 pub fn what_files_leave_stands_behind_the_turn()
     ensures { (meaning : Meaning) (old : State) (turn : Turn) (new : State)
         → Steps meaning old turn new → Lasts (before_quiet meaning turn.input old).state new }
+{}
+
+/// A turn that leaves the session quiescent and asks for no batch was begun in a session that is quiescent, and changes nothing
+/// that a batch goes by but the settings.
+pub fn quiet_turns_without_a_batch_change_nothing()
+    ensures { (meaning : Meaning) (settings : ConfigData) (turns : List Turn) (last : State) (turn : Turn) (new : State)
+        → Runs meaning (fresh settings) turns last → Steps meaning last turn new
+        → is_quiet new ≡ true → asks_batch meaning turn.input last ≡ false → IsCalm last new }
 {}
