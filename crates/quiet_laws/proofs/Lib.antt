@@ -15,3 +15,4 @@ pub mod Parts
 pub mod PartsOfTurns
 pub mod Resting
 pub mod RestingBehind
+pub mod Since

@@ -1,10 +1,12 @@
 -- The session at rest: what is not left to do where it is quiescent, and what a turn without a batch leaves then.
-use Rattle.std.specs.Prelude.{◌≡◌, Bool, true, false, None, is_some}
+use Rattle.std.specs.Prelude.{◌≡◌, Bool, true, false, List, [], ◌∷◌, None, is_some}
 use Rattle.std.specs.FinMap as map
 use Rattle.desk.specs.Meaning.{Meaning}
 use Rattle.session_model.specs.Diagnosing.{is_batch_due, subscribed}
 use Rattle.session_model.specs.Machine.{Turning, came_or_went}
 use Rattle.session_model.specs.OwnJobs.{before_quiet}
+use Rattle.session_model.specs.Places.{rest_after}
+use Rattle.session_model.specs.Run.{Turn}
 use Rattle.session_model.specs.State.{State}
 use Rattle.session_model.specs.Status.{is_quiescent}
 use Rattle.session_model.specs.declared.input.Input.{Input}
@@ -32,6 +34,12 @@ is_due_at (Next event) t =
 -- this input asks for a batch
 abbrev pub asks_batch : Meaning → Input → State → Bool
 asks_batch meaning input s = is_due_at input (before_quiet meaning input s)
+
+-- none of these turns does, from this state on
+abbrev pub AsksNone : Meaning → State → List Turn → Type 0
+AsksNone meaning s [] = Unit {0}
+AsksNone meaning s (turn ∷ turns) =
+    (asks_batch meaning turn.input s ≡ false) × AsksNone meaning (rest_after meaning turn.input s) turns
 
 -- what a batch goes by stays from the one to the other, and the session doesn't come to be quiescent
 pub record Lasts (s e : State) : Type 0 where

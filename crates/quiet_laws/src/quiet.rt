@@ -7,7 +7,7 @@ ghost use Rattle.session_model.specs.OwnJobs.{before_quiet};
 ghost use Rattle.session_model.specs.Run.{Runs, Steps, Turn, out_after_all};
 ghost use Rattle.session_model.specs.State.{State, fresh};
 ghost use Rattle.quiet_laws.specs.Heard.{IsQuietBy, heard_after_all, nothing_heard};
-ghost use Rattle.quiet_laws.specs.Rest.{IsCalm, IsSettled, Lasts, asks_batch, is_quiet};
+ghost use Rattle.quiet_laws.specs.Rest.{AsksNone, IsCalm, IsSettled, Lasts, asks_batch, is_quiet};
 
 /// A session is quiescent exactly where the inputs and the commands of all turns so far say so.
 pub fn quiescence_is_told_by_the_lists()
@@ -35,4 +35,13 @@ pub fn quiet_turns_without_a_batch_change_nothing()
     ensures { (meaning : Meaning) (settings : ConfigData) (turns : List Turn) (last : State) (turn : Turn) (new : State)
         → Runs meaning (fresh settings) turns last → Steps meaning last turn new
         → is_quiet new ≡ true → asks_batch meaning turn.input last ≡ false → IsCalm last new }
+{}
+
+/// Where no turn since this one has asked for a batch and the session is quiescent, nothing has changed that a batch of this
+/// turn went by, but the settings.
+pub fn nothing_changes_since_the_last_batch()
+    ensures { (meaning : Meaning) (settings : ConfigData) (before : List Turn) (mid : State) (turn : Turn) (next : State)
+        → (after : List Turn) (last : State)
+        → Runs meaning (fresh settings) before mid → Steps meaning mid turn next → Runs meaning next after last
+        → AsksNone meaning next after → is_quiet last ≡ true → IsCalm (before_quiet meaning turn.input mid).state last }
 {}

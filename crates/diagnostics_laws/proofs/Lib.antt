@@ -1,0 +1,15 @@
+pub mod Batching
+pub mod Keyed
+pub mod KeyedBools
+pub mod Messages
+pub mod MessagesEnds
+pub mod Publishing
+pub mod Sounding
+pub mod SoundingDesk
+pub mod SoundingFiles
+pub mod Standing
+pub mod StandingShown
+pub mod Starting
+pub mod StoringChecks
+pub mod StoringGenerations
+pub mod StoringRuns

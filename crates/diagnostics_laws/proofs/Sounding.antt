@@ -1,0 +1,225 @@
+-- The steps of a turn that publish nothing: what they do on the board are acts that fit the session, and paths stay in the table.
+use Rattle.std.proofs.Common.{◌≡◌, ℕ, List, [], ◌∷◌, ◌++◌, append-nil, Bool, true, false, refl, sym, ap, ◌∙◌, subst}
+use Rattle.std.specs.Prelude.{Option, None, Some, Result, Ok, Err, IfOk, ◌==◌, if◌then◌else◌}
+use Rattle.std.specs.List.{cons_option, filter_map}
+use Rattle.std.specs.FinMap as map
+use Rattle.std.proofs.lemmas.List.Elements.{filter_map-append}
+use Rattle.docs_vfs.specs.declared.file_kinds.FileId.{FileId}
+use Rattle.lsp_frame.specs.Outgoing.{number_limit}
+use Rattle.lsp_frame.specs.declared.message.Message.{Message}
+use Rattle.notify.specs.declared.outgo.MessageKind.{MessageKind}
+use Rattle.notify.specs.declared.outgo.MessageKind.TheVariants.{Warning}
+use Rattle.notify.specs.declared.outgo.Outgo.{Outgo}
+use Rattle.notify.specs.declared.outgo.Outgo.TheVariants.{CodeLensRefresh, DiagnosticRefresh, InlayHintRefresh, RegisterSave, RegisterWatch, SemanticTokensRefresh, ShowMessage}
+use Rattle.notify.specs.declared.outgo.Outgo.TheVariants.{ShowMessageRequest}
+use Rattle.op_board.specs.Acts.{Act, step, steps}
+use Rattle.op_board.specs.Board.{Board}
+use Rattle.op_board.proofs.NativeRuns.{continued}
+use Rattle.ra_config.specs.declared.capabilities.Capabilities.{Capabilities}
+use Rattle.client.specs.Client.{Client}
+use Rattle.client.specs.Steps.{asked_for, logged_if, notification_of, request_at}
+use Rattle.client.specs.Folds.{after_asking}
+use Rattle.client.specs.declared.handler.ReqHandler.{ReqHandler}
+use Rattle.client.specs.declared.handler.ReqHandler.TheVariants.{Ignore, OpenLogs}
+use Rattle.session_port.specs.Jobs.{Jobs}
+use Rattle.session_port.specs.TurnState.{TurnState, and_then, logged, ordered, written}
+use Rattle.session_port.specs.Written.{Written}
+use Rattle.session_port.specs.declared.command.Command.{Command}
+use Rattle.session_port.specs.declared.command.LogCode.{LogCode}
+use Rattle.session_port.specs.declared.fault.Counter.{Counter}
+use Rattle.session_port.specs.declared.fault.Counter.TheVariants.{Outgoing as OutgoingNumbers}
+use Rattle.session_port.specs.declared.job.Job.{Job}
+use Rattle.desk.specs.Desk.{Desk}
+use Rattle.desk_laws.proofs.Results.{IfOk-and_then, IfOk-if, IfOk-weaker, IfOk-within}
+use Rattle.session_files.specs.SessionFiles.{SessionFiles}
+use Rattle.session_model.specs.Machine.{asked_if, at_board, at_client, at_desk, at_files, at_workspaces, client_in, client_refreshed, desk_in, files_in, refreshes_done}
+use Rattle.session_model.specs.Machine.{text_shown, warned, with_board, with_client, with_desk, with_files}
+use Rattle.session_model.specs.State.{State}
+use Rattle.session_model.specs.declared.facts.FactsBefore.{FactsBefore}
+use Rattle.workspaces.specs.Workspaces.{Workspaces}
+use Rattle.diagnostics_laws.specs.Shown.{Published, published_among, published_by}
+use Rattle.diagnostics_laws.proofs.StoringGenerations.{AllFit, Fits, Grows, all-fit-grown, all-fit-on, steps-generation}
+use Rattle.diagnostics_laws.proofs.SoundingFiles.{FilesStep, longer-grows}
+
+-- ---- what is published
+
+abbrev pub told_in : Written → List Published
+told_in out = published_among out.messages
+
+pub told-append : (xs ys : List Message) → published_among (xs ++ ys) ≡ published_among xs ++ published_among ys
+told-append xs ys = filter_map-append published_by xs ys
+
+-- a message that publishes nothing
+pub told-none : {S : Type 0} (message : Message) (w : TurnState S) → published_by message ≡ None → told_in (written message w).out ≡ told_in w.out
+unfolding written
+told-none message w none =
+    told-append w.out.messages (message ∷ []) ∙ ap (λ (o : Option Published). told_in w.out ++ cons_option o []) none ∙ append-nil _
+
+-- ---- the relation
+
+-- the jobs that are out were so
+abbrev pub AreAmong : Jobs → Jobs → Type 0
+AreAmong new old = (number : ℕ) (job : Job) → map.get new number ≡ Some job → map.get old number ≡ Some job
+
+pub record Goes (w v : TurnState State) : Type 0 where
+  pub acts : List Act
+  pub board : v.state.board ≡ steps acts w.state.board
+  pub fits : AllFit v.state.files.table w.state.board.generation acts
+  pub told : told_in v.out ≡ told_in w.out
+  pub grows : Grows w.state.files.table v.state.files.table
+  pub jobs : AreAmong v.state.desk.jobs w.state.desk.jobs
+
+pub goes-generation : (w v : TurnState State) → Goes w v → v.state.board.generation ≡ w.state.board.generation
+goes-generation w v g =
+    ap (λ (b : Board). b.generation) g.board ∙ steps-generation v.state.files.table w.state.board.generation g.acts w.state.board g.fits
+
+pub goes-on : (w v u : TurnState State) → Goes w v → Goes v u → Goes w u
+goes-on w v u p q = record {
+  acts = q.acts ++ p.acts;
+  board = q.board ∙ ap (steps q.acts) p.board ∙ continued q.acts p.acts w.state.board;
+  fits = all-fit-on u.state.files.table w.state.board.generation q.acts p.acts
+      (subst (λ n. AllFit u.state.files.table n q.acts) (goes-generation w v p) q.fits)
+      (all-fit-grown v.state.files.table u.state.files.table w.state.board.generation p.acts q.grows p.fits);
+  told = q.told ∙ p.told;
+  grows = λ file path is. q.grows file path (p.grows file path is);
+  jobs = λ number job is. p.jobs number job (q.jobs number job is);
+}
+
+-- the board, the files and the jobs stay
+pub still : (w v : TurnState State) → v.state.board ≡ w.state.board → v.state.files ≡ w.state.files → v.state.desk.jobs ≡ w.state.desk.jobs
+    → told_in v.out ≡ told_in w.out → Goes w v
+still w v board files jobs told = record {
+  acts = [];
+  board = board;
+  fits = tt;
+  told = told;
+  grows = subst (λ (f : SessionFiles). Grows w.state.files.table f.table) (sym files) (λ file path is. is);
+  jobs = λ number job is. ap (λ (js : Jobs). map.get js number) (sym jobs) ∙ is;
+}
+
+pub itself : (w : TurnState State) → Goes w w
+itself w = still w w refl refl refl refl
+
+-- one step and then another
+pub goes-then : (r : Result (TurnState State) Counter) (f : TurnState State → Result (TurnState State) Counter) (w : TurnState State) → IfOk r (Goes w)
+    → ((v : TurnState State) → IfOk (f v) (Goes v)) → IfOk (and_then r f) (Goes w)
+goes-then r f w first next = IfOk-and_then r f (Goes w) (Goes w) first (λ v p. IfOk-weaker (f v) (Goes v) (Goes w) (next v) (λ u q. goes-on w v u p q))
+
+pub goes-if : (b : Bool) (w v u : TurnState State) → Goes w v → Goes w u → Goes w (if b then v else u)
+goes-if true w v u p q = p
+goes-if false w v u p q = q
+
+-- ---- single steps
+
+-- one act on the board
+pub acts-one : (act : Act) (w : TurnState State) → Fits w.state.files.table w.state.board.generation act → Goes w (at_board (step act) w)
+acts-one act w fits = record {
+  acts = act ∷ [];
+  board = refl;
+  fits = (fits, tt);
+  told = refl;
+  grows = λ file path is. is;
+  jobs = λ number job is. is;
+}
+
+-- a step of the desk
+pub desk-goes : (work : TurnState Desk → Result (TurnState Desk) Counter) (w : TurnState State)
+    → (let desk : TurnState Desk = record { state = w.state.desk; out = w.out } in
+    IfOk (work desk) (λ v. AreAmong v.state.jobs w.state.desk.jobs × (told_in v.out ≡ told_in w.out)))
+    → IfOk (at_desk work w) (Goes w)
+desk-goes work w does =
+    let desk : TurnState Desk = record { state = w.state.desk; out = w.out } in
+    IfOk-within desk_in with_desk work w (Goes w)
+    (IfOk-weaker (work desk) (λ v. AreAmong v.state.jobs w.state.desk.jobs × (told_in v.out ≡ told_in w.out)) _ does
+    (λ v d. record { acts = []; board = refl; fits = tt; told = d.1; grows = λ file path is. is; jobs = d.0 }))
+
+-- a step of what is agreed with the client
+pub client-goes : (work : TurnState Client → Result (TurnState Client) Counter) (w : TurnState State)
+    → (let client : TurnState Client = record { state = w.state.client; out = w.out } in IfOk (work client) (λ v. told_in v.out ≡ told_in w.out))
+    → IfOk (at_client work w) (Goes w)
+client-goes work w does =
+    let client : TurnState Client = record { state = w.state.client; out = w.out } in
+    IfOk-within client_in with_client work w (Goes w)
+    (IfOk-weaker (work client) (λ v. told_in v.out ≡ told_in w.out) _ does
+    (λ v told. record { acts = []; board = refl; fits = tt; told = told; grows = λ file path is. is; jobs = λ number job is. is }))
+
+-- a step of the files
+pub files-goes : (work : TurnState SessionFiles → Result (TurnState SessionFiles) Counter) (w : TurnState State)
+    → (let files : TurnState SessionFiles = record { state = w.state.files; out = w.out } in IfOk (work files) (FilesStep files))
+    → IfOk (at_files work w) (Goes w)
+files-goes work w does =
+    let files : TurnState SessionFiles = record { state = w.state.files; out = w.out } in
+    IfOk-within files_in with_files work w (Goes w)
+    (IfOk-weaker (work files) (FilesStep files) _ does
+    (λ v d. record {
+      acts = [];
+      board = refl;
+      fits = tt;
+      told = ap published_among d.1;
+      grows = longer-grows w.state.files.table v.state.table d.0;
+      jobs = λ number job is. is;
+    }))
+
+pub workspaces-go : (step : Workspaces → Workspaces) (w : TurnState State) → Goes w (at_workspaces step w)
+workspaces-go step w = still w (at_workspaces step w) refl refl refl refl
+
+pub ordered-goes : (command : Command) (w : TurnState State) → Goes w (ordered command w)
+unfolding ordered
+ordered-goes command w = still w _ refl refl refl refl
+
+pub logged-goes : (code : LogCode) (text : List ℕ) (w : TurnState State) → Goes w (logged code text w)
+unfolding logged
+logged-goes code text w = ordered-goes _ w
+
+pub logged_if-goes : (code : LogCode) (text : Option (List ℕ)) (w : TurnState State) → Goes w (logged_if code text w)
+logged_if-goes code None w = itself w
+logged_if-goes code (Some text) w = logged-goes code text w
+
+-- the client is told something that publishes nothing
+pub notified-goes : (message : Outgo) (w : TurnState State) → published_by (notification_of message) ≡ None → Goes w (written (notification_of message) w)
+unfolding written
+notified-goes message w none = still w _ refl refl refl (told-none (notification_of message) w none)
+
+asked-by : (b : Bool) (message : Outgo) (handler : ReqHandler) (w : TurnState Client)
+    → IfOk (if b then Err OutgoingNumbers else Ok (written (request_at w.state.asked.given message) (record w { state = after_asking handler w.state })))
+    (λ v. told_in v.out ≡ told_in w.out)
+unfolding written
+asked-by true message handler w = tt
+asked-by false message handler w =
+    told-none (request_at w.state.asked.given message) (record { state = after_asking handler w.state; out = w.out }) refl
+
+-- it is asked for something
+pub asking-goes : (message : Outgo) (handler : ReqHandler) (w : TurnState State) → IfOk (at_client (asked_for message handler) w) (Goes w)
+unfolding asked_for
+asking-goes message handler w =
+    client-goes (asked_for message handler) w (asked-by (w.state.client.asked.given == number_limit) message handler (record { state = w.state.client; out = w.out }))
+
+pub asked_if-goes : (wanted : Bool) (message : Outgo) (w : TurnState State) → IfOk (asked_if wanted message w) (Goes w)
+unfolding asked_if
+asked_if-goes true message w = asking-goes message Ignore w
+asked_if-goes false message w = itself w
+
+pub warned-goes : (texts : List (List ℕ)) (w : TurnState State) → Goes w (warned texts w)
+unfolding warned
+warned-goes [] w = itself w
+warned-goes (text ∷ texts) w =
+    let v : TurnState State = written (notification_of (ShowMessage text Warning)) w in
+    goes-on w v _ (notified-goes (ShowMessage text Warning) w refl) (warned-goes texts v)
+
+pub shown-goes : (button : Bool) (text : Option (List ℕ × MessageKind)) (w : TurnState State) → IfOk (text_shown button text w) (Goes w)
+unfolding text_shown
+shown-goes button None w = itself w
+shown-goes true (Some text) w = asking-goes (ShowMessageRequest text.0 text.1) OpenLogs w
+shown-goes false (Some text) w = notified-goes (ShowMessage text.0 text.1) w refl
+
+refreshed-goes : (can : Capabilities) (w : TurnState State) → IfOk (client_refreshed can w) (Goes w)
+unfolding client_refreshed
+refreshed-goes can w =
+    goes-then (asked_if can.semantic_tokens_refresh SemanticTokensRefresh w) _ w (asked_if-goes can.semantic_tokens_refresh SemanticTokensRefresh w)
+    (λ v. goes-then (asked_if can.code_lens_refresh CodeLensRefresh v) _ v (asked_if-goes can.code_lens_refresh CodeLensRefresh v)
+    (λ u. goes-then (asked_if can.inlay_hints_refresh InlayHintRefresh u) _ u (asked_if-goes can.inlay_hints_refresh InlayHintRefresh u)
+    (asked_if-goes can.diagnostics_refresh DiagnosticRefresh)))
+
+pub refreshes-go : (facts : FactsBefore) (w : TurnState State) → IfOk (refreshes_done facts w) (Goes w)
+unfolding refreshes_done
+refreshes-go facts w = IfOk-if _ _ (Ok w) (Goes w) (refreshed-goes w.state.client.settings.capabilities w) (itself w)
