@@ -1,24 +1,23 @@
 -- A turn that leaves the session quiescent and asks for no batch changes nothing that a batch goes by but the settings.
-use Rattle.std.proofs.Common.{◌≡◌, ℕ, List, [], ◌∷◌, Bool, true, false, refl, sym, ap, ◌∙◌, subst}
+use Rattle.std.proofs.Common.{◌≡◌, List, [], ◌∷◌, Bool, true, false, refl, sym, ap, ◌∙◌, subst}
 use Rattle.std.proofs.lemmas.Result.{IfOk-at_ok}
-use Rattle.std.specs.Prelude.{◌&&◌, ◌||◌, is_some, not, Result, Ok, Err, IfOk, if◌then◌else◌}
+use Rattle.std.specs.Prelude.{◌&&◌, ◌||◌, is_some, not, Result, Ok, IfOk, if◌then◌else◌}
 use Rattle.std.specs.FinMap as map
 use Rattle.docs_vfs.specs.declared.file_kinds.ChangedFile.{ChangedFile}
 use Rattle.docs_vfs.specs.declared.source_roots.Root.{Root}
 use Rattle.analysis_host.specs.HostData.{HostData}
 use Rattle.ra_config.specs.Config.{ConfigData}
 use Rattle.session_port.specs.declared.fault.Counter.{Counter}
-use Rattle.session_port.specs.TurnState.{TurnState, and_then}
+use Rattle.session_port.specs.TurnState.{TurnState}
 use Rattle.desk.specs.Meaning.{Meaning}
 use Rattle.desk_laws.proofs.Results.{IfOk-and_then, IfOk-weaker, IfOk-within}
 use Rattle.session_files.specs.Current.{IsSound}
 use Rattle.session_files.specs.Folds.{after_processing, are_some, changed_files, has_changed, taken_up, with_changes}
 use Rattle.session_files.specs.SessionFiles.{SessionFiles}
 use Rattle.session_files.specs.Steps.{become, processed}
-use Rattle.workspaces.specs.Workspaces.{Workspaces}
 use Rattle.session_model.specs.Diagnosing.{is_batch_due, subscribed}
-use Rattle.session_model.specs.Machine.{Turning, at_files, came_or_went, event_taken, files_done, files_followed, files_in, files_processed, happened, some_processed}
-use Rattle.session_model.specs.Machine.{step, switch_done, turn_counted, turning, with_files}
+use Rattle.session_model.specs.Machine.{at_files, came_or_went, event_taken, files_done, files_followed, files_in, files_processed, happened, some_processed}
+use Rattle.session_model.specs.Machine.{step, turn_counted, with_files}
 use Rattle.session_model.specs.OwnJobs.{before_quiet}
 use Rattle.session_model.specs.Rows.{turn_begun}
 use Rattle.session_model.specs.Run.{Runs, Steps, Turn, turn_start}
@@ -29,8 +28,8 @@ use Rattle.session_model.specs.declared.input.Input.TheVariants.{Start, Next}
 use Rattle.session_laws.specs.Invariant.{Stands}
 use Rattle.session_laws.proofs.Answered.{runs-stand}
 use Rattle.session_laws.proofs.Rows.{FilesDone, files-done}
-use Rattle.quiet_laws.specs.Rest.{IsCalm, IsSettled, Lasts, asks_batch, is_due_at, is_quiet}
-use Rattle.quiet_laws.proofs.Bools.{not-false, or-left, or-right, true-false}
+use Rattle.quiet_laws.specs.Rest.{IsCalm, Lasts, asks_batch, is_due_at, is_quiet}
+use Rattle.quiet_laws.proofs.Bools.{true-false}
 use Rattle.quiet_laws.proofs.CalmEvents.{Calm, calm-none, event-calm}
 use Rattle.quiet_laws.proofs.CalmFiles.{Brings, brings-on, brings-same, same-subscribed}
 use Rattle.quiet_laws.proofs.CalmKnown.{OpenAreNumbered, runs-numbered}
@@ -38,7 +37,7 @@ use Rattle.quiet_laws.proofs.HearingRuns.{runs-settled}
 use Rattle.quiet_laws.proofs.HearingSwitch.{no-switch}
 use Rattle.quiet_laws.proofs.HearingTurns.{counted-is}
 use Rattle.quiet_laws.proofs.PartsOfTurns.{Split, StartSplit, start-splits, step-splits}
-use Rattle.quiet_laws.proofs.Resting.{IsIdle, IsQuietAt, quiet-parts}
+use Rattle.quiet_laws.proofs.Resting.{IsIdle, quiet-parts}
 use Rattle.quiet_laws.proofs.RestingBehind.{behind-lasts, start-lasts}
 
 calm-on : (a b c : State) → Calm a b → Calm b c → Calm a c
@@ -51,9 +50,9 @@ calm-on a b c x y = record {
 
 -- ---- files of which none has changed
 
-none-some : {X : Type 0} (xs : List X) → are_some xs ≡ false → xs ≡ []
-none-some [] none = refl
-none-some (x ∷ xs) none = true-false none
+none-changed : {X : Type 0} (xs : List X) → are_some xs ≡ false → xs ≡ []
+none-changed [] none = refl
+none-changed (x ∷ xs) none = true-false none
 
 taken-brings : (files : SessionFiles) → Brings files (taken_up files)
 taken-brings files = brings-same files (taken_up files) refl refl refl
@@ -142,12 +141,13 @@ behind-calm meaning s event v settled sound numbered split quiet none =
     none-due (is_quiet s) (is_quiet c.state) (some_processed b.state.files) (came_or_went (Next event)) quiet
     (sym (ap (is_due_at (Next event)) split.before) ∙ none) in
     let idle : IsIdle s.workspaces = (quiet-parts s.files s.workspaces due.quiescent).idle in
-    let event : Calm s a.state = IfOk-at_ok (λ (v : TurnState State). Calm s v.state) split.takes (event-taken-calm meaning s event due.came_not idle sound numbered) in
+    let event : Calm s a.state = IfOk-at_ok (λ (v : TurnState State). Calm s v.state)
+    split.takes (event-taken-calm meaning s event due.came_not idle sound numbered) in
     let same : b ≡ a = ok-same b a (sym split.switches ∙ no-switch a (event.switch ∙ settled due.quiescent)) in
     let done : FilesDone b c = IfOk-at_ok (FilesDone b) split.processes (files-done b) in
     let still : b.state.files.loading ≡ false = sym done.aside.files.loading ∙ (quiet-parts c.state.files c.state.workspaces quiet).loading in
     let unchanged : changed_files b.state.files ≡ [] =
-    none-some (changed_files b.state.files) (and-false (not b.state.files.loading) (has_changed b.state.files) (ap not still) due.processed) in
+    none-changed (changed_files b.state.files) (and-false (not b.state.files.loading) (has_changed b.state.files) (ap not still) due.processed) in
     let files : Calm b.state c.state = IfOk-at_ok (λ (v : TurnState State). Calm b.state v.state) split.processes (done-calm b unchanged) in
     record { quiet = due.quiescent; calm = calm-on s b.state c.state (subst (λ (w : TurnState State). Calm s w.state) (sym same) event) files }
 

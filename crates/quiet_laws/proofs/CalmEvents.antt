@@ -1,7 +1,6 @@
 -- An event in a session that is quiescent leaves what a batch goes by, unless documents come or go with it.
-use Rattle.std.proofs.Common.{◌≡◌, ℕ, List, [], ◌∷◌, Bool, true, false, refl, sym, ap, ◌∙◌, subst}
-use Rattle.std.specs.Prelude.{Option, None, Some, is_ok, Result, Ok, Err, IfOk, if◌then◌else◌}
-use Rattle.std.specs.FinMap as map
+use Rattle.std.proofs.Common.{◌≡◌, ℕ, List, Bool, true, false, refl, ap, ◌∙◌}
+use Rattle.std.specs.Prelude.{Some, is_ok, Result, Ok, Err, IfOk, if◌then◌else◌}
 use Rattle.docs_vfs.specs.FileUrls.{path_of}
 use Rattle.docs_vfs.specs.declared.file_url.UrlFault.{UrlFault}
 use Rattle.lsp_frame.specs.declared.message.Message.TheVariants.{Request as RequestMessage, Notification as NotificationMessage, Response as ResponseMessage}
@@ -12,18 +11,15 @@ use Rattle.notify.specs.declared.notice.Notice.TheVariants as notices
 use Rattle.session_port.specs.declared.command.LogCode.TheVariants.{UnexpectedChange}
 use Rattle.session_port.specs.declared.event.LoaderMsg.{LoaderMsg}
 use Rattle.session_port.specs.declared.fault.Counter.{Counter}
-use Rattle.session_port.specs.TurnState.{TurnState, and_then, logged, ordered}
+use Rattle.session_port.specs.TurnState.{TurnState, logged, ordered}
 use Rattle.text_core.specs.declared.position.PositionEncoding.{PositionEncoding}
 use Rattle.desk.specs.Meaning.{Meaning}
 use Rattle.desk_laws.proofs.Results.{IfOk-and_then, IfOk-weaker, IfOk-within}
 use Rattle.session_files.specs.Current.{IsSound}
 use Rattle.session_files.specs.Folds.{after_editing, after_messages, is_open}
 use Rattle.session_files.specs.SessionFiles.{SessionFiles}
-use Rattle.session_files.specs.Steps.{become, changed_document, edited_document, loaded, skip_noted}
-use Rattle.workspaces.specs.Fetches.{fire}
-use Rattle.workspaces.specs.Workspaces.{Workspaces}
-use Rattle.session_model.specs.Diagnosing.{opens_or_closes, subscribed}
-use Rattle.session_model.specs.Fetching.{with_fetches}
+use Rattle.session_files.specs.Steps.{become, changed_document, edited_document, loaded}
+use Rattle.session_model.specs.Diagnosing.{opens_or_closes}
 use Rattle.session_model.specs.Hearing.{heard_of, told_by}
 use Rattle.session_model.specs.Machine.{all_resumed, answer_taken, at_files, batched, came_or_went, document_changed_at, document_closed_at, document_opened_at}
 use Rattle.session_model.specs.Machine.{files_in, happened, loader_taken, news_taken, noticed, received, request_taken, told, with_files}
@@ -35,10 +31,10 @@ use Rattle.session_model.specs.declared.input.Event.{Event}
 use Rattle.session_model.specs.declared.input.Event.TheVariants.{Lsp, Task, Vfs, Deferred, News, Timer}
 use Rattle.session_model.specs.declared.input.Input.TheVariants.{Next}
 use Rattle.quiet_laws.proofs.Bools.{true-false}
-use Rattle.quiet_laws.proofs.CalmFiles.{Brings, brings-same, editing-brings, messages-bring, same-subscribed}
+use Rattle.quiet_laws.proofs.CalmFiles.{Brings, brings-same, editing-brings, messages-bring}
 use Rattle.quiet_laws.proofs.CalmKnown.{OpenAreNumbered}
 use Rattle.quiet_laws.proofs.HearingEvents.{all-resume, answer-goes, batch-takes, request-goes, told-goes}
-use Rattle.quiet_laws.proofs.HearingSteps.{Calms, Goes, Takes, goes-logged, goes-none, news-goes}
+use Rattle.quiet_laws.proofs.HearingSteps.{Calms, Goes, Takes, goes-logged, news-goes}
 use Rattle.quiet_laws.proofs.HearingWork.{Asks, fire-last, renewed-asks}
 use Rattle.quiet_laws.proofs.Resting.{IsIdle}
 
@@ -53,7 +49,8 @@ abbrev CalmFrom : TurnState State → TurnState State → Type 0
 CalmFrom w v = Calm w.state v.state
 
 files-same : (old new : SessionFiles) → new ≡ old → Brings old new
-files-same old new same = brings-same old new (ap (λ (f : SessionFiles). f.host) same) (ap (λ (f : SessionFiles). f.versions) same) (ap (λ (f : SessionFiles). f.ids) same)
+files-same old new same = brings-same old new (ap (λ (f : SessionFiles). f.host) same) (ap (λ (f : SessionFiles). f.versions) same)
+    (ap (λ (f : SessionFiles). f.ids) same)
 
 pub calm-none : (s : State) → Calm s s
 calm-none s = record { files = files-same s.files s.files refl; cleared = refl; last = refl; switch = refl }
@@ -138,7 +135,8 @@ told-calm (notices.DidChangeWorkspaceFolders added removed) w none sound numbere
     goes-calm (told (notices.DidChangeWorkspaceFolders added removed) w) w (told-goes (notices.DidChangeWorkspaceFolders added removed) refl w)
 told-calm (notices.DidChangeWatchedFiles urls) w none sound numbered =
     goes-calm (told (notices.DidChangeWatchedFiles urls) w) w (told-goes (notices.DidChangeWatchedFiles urls) refl w)
-told-calm (notices.CancelProgress token) w none sound numbered = goes-calm (told (notices.CancelProgress token) w) w (told-goes (notices.CancelProgress token) refl w)
+told-calm (notices.CancelProgress token) w none sound numbered =
+    goes-calm (told (notices.CancelProgress token) w) w (told-goes (notices.CancelProgress token) refl w)
 told-calm notices.CancelFlycheck w none sound numbered = goes-calm (told notices.CancelFlycheck w) w (told-goes notices.CancelFlycheck refl w)
 told-calm notices.ClearFlycheck w none sound numbered = goes-calm (told notices.ClearFlycheck w) w (told-goes notices.ClearFlycheck refl w)
 told-calm (notices.RunFlycheck uri) w none sound numbered = goes-calm (told (notices.RunFlycheck uri) w) w (told-goes (notices.RunFlycheck uri) refl w)

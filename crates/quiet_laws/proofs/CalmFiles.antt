@@ -1,13 +1,13 @@
 -- Documents that are edited, and files that a loader brings, leave the world and the documents that are shown.
-use Rattle.std.proofs.Common.{◌≡◌, ℕ, ℤ, List, [], ◌∷◌, Bool, true, false, cond, refl, sym, ap, ◌∙◌, subst, ⊎_elim}
+use Rattle.std.proofs.Common.{◌≡◌, ℕ, ℤ, List, [], ◌∷◌, Bool, true, false, cond, refl, sym, ap, ◌∙◌, ⊎_elim}
 use Rattle.std.proofs.lemmas.Bool.{cases_Bool, cond-true, cond-false}
 use Rattle.std.specs.Prelude.{◌||◌, bytes_eq, is_some, Option, None, Some, Result, Ok, Err, IfOk, if◌then◌else◌}
 use Rattle.std.specs.FinMap as map
 use Rattle.std.specs.List.{filter_map}
 use Rattle.std.specs.Option.{option_map}
 use Rattle.shared_map.specs.AsMap.{set_in_map}
-use Rattle.docs_vfs.specs.FileLaws.{IsNumbered, number_at}
-use Rattle.docs_vfs.specs.Files.{Files, file_id_of, id_by, id_in, is_marked, kept_at, kept_in, kept_of, set_in}
+use Rattle.docs_vfs.specs.FileLaws.{IsNumbered}
+use Rattle.docs_vfs.specs.Files.{Files, file_id_of, id_by, id_in, is_marked, kept_in, kept_of, set_in}
 use Rattle.docs_vfs.specs.Paths.{path_cmp}
 use Rattle.docs_vfs.specs.declared.file_kinds.FileExcluded.{FileExcluded}
 use Rattle.docs_vfs.specs.declared.file_kinds.FileId.{FileId}
@@ -35,7 +35,8 @@ use Rattle.session_files.specs.Texts.{holds_text}
 use Rattle.session_files.proofs.NumberLemmas.{set_moves}
 use Rattle.session_model.specs.Crates.{file_of, loaded_as}
 use Rattle.session_model.specs.Diagnosing.{is_local_path, shown_file, subscribed}
-use Rattle.quiet_laws.proofs.Bools.{or-left, true-false}
+use Rattle.session_laws.proofs.Same.{none-some, some-same}
+use Rattle.quiet_laws.proofs.Bools.{or-left, then-is, true-false}
 use Rattle.quiet_laws.proofs.CalmKeys.{keys-agree, keys-insert}
 use Rattle.quiet_laws.proofs.CalmKnown.{OpenAreNumbered, get-off, get-put}
 
@@ -87,7 +88,8 @@ table-brings path table files same = record {
   opens = λ q. refl;
   ids = λ q there. get-set files.ids path (file_id_of table path) q
       ∙ ⊎_elim
-      (λ here. cond-true _ _ _ here ∙ same (ap (λ p. is_open p files) (sym (one_path q path here)) ∙ there) ∙ ap (map.get files.ids) (sym (one_path q path here)))
+      (λ here. cond-true _ _ _ here ∙ same (ap (λ p. is_open p files) (sym (one_path q path here)) ∙ there)
+      ∙ ap (map.get files.ids) (sym (one_path q path here)))
       (λ other. cond-false _ _ _ other)
       (cases_Bool (bytes_eq q path));
 }
@@ -100,7 +102,8 @@ put-brings path contents files (Ok made) is same = table-brings path made.0 file
 put-brings path contents files (Err fault) is same = tt
 
 -- a path that isn't open
-loose-brings : (path : List ℕ) (contents : Option (List ℕ)) (files : SessionFiles) → is_open path files ≡ false → IfOk (contents_put path contents files) (Brings files)
+loose-brings : (path : List ℕ) (contents : Option (List ℕ)) (files : SessionFiles) → is_open path files ≡ false
+    → IfOk (contents_put path contents files) (Brings files)
 unfolding contents_put
 loose-brings path contents files closed =
     put-brings path contents files (set_in files.table path contents) refl (λ table changed is there. true-false (sym there ∙ closed))
@@ -136,12 +139,14 @@ then-brings r next files first rest =
 each-changed-brings : (list : List LoadedFile) (files : SessionFiles) → IfOk (after_each_changed list files) (Brings files)
 unfolding after_each_changed
 each-changed-brings [] files = brings-none files
-each-changed-brings (file ∷ later) files = then-brings (after_changed file files) (after_each_changed later) files (changed-brings file files) (each-changed-brings later)
+each-changed-brings (file ∷ later) files = then-brings (after_changed file files) (after_each_changed later)
+    files (changed-brings file files) (each-changed-brings later)
 
 each-loaded-brings : (list : List LoadedFile) (files : SessionFiles) → IfOk (after_each_loaded list files) (Brings files)
 unfolding after_each_loaded
 each-loaded-brings [] files = brings-none files
-each-loaded-brings (file ∷ later) files = then-brings (after_loaded file files) (after_each_loaded later) files (loaded-brings file files) (each-loaded-brings later)
+each-loaded-brings (file ∷ later) files = then-brings (after_loaded file files) (after_each_loaded later)
+    files (loaded-brings file files) (each-loaded-brings later)
 
 message-brings : (message : LoaderMsg) (files : SessionFiles) → IfOk (after_loader_message message files) (Brings files)
 unfolding after_loader_message
@@ -152,18 +157,10 @@ message-brings (Progress total done dir version) files = brings-same files _ ref
 pub messages-bring : (messages : List LoaderMsg) (files : SessionFiles) → IfOk (after_messages messages files) (Brings files)
 unfolding after_messages
 messages-bring [] files = brings-none files
-messages-bring (message ∷ later) files = then-brings (after_loader_message message files) (after_messages later) files (message-brings message files) (messages-bring later)
+messages-bring (message ∷ later) files = then-brings (after_loader_message message files) (after_messages later)
+    files (message-brings message files) (messages-bring later)
 
 -- ---- edits
-
-none-some : {X P : Type 0} (x : X) → None ≡ Some x → P
-none-some x e = absurd cc
-
-some-same : {X : Type 0} (x y : X) → Some x ≡ Some y → x ≡ y
-some-same x y e = cc
-
-file_in : FileRow → FileId
-file_in row = row.file
 
 -- contents that replace others leave the number
 id-by : (now : Option FileRow) (file : FileId) (kept : RowState) (text : List ℕ) → is_some (id_by file kept) ≡ true
@@ -180,15 +177,11 @@ id-same : (old now : Option FileRow) (text : List ℕ) → is_some (id_in old) �
 id-same None now text there number is = true-false (sym there)
 id-same (Some row) now text there number is = id-by now row.file row.kept text there (number row.file refl) is
 
-if-at : {X : Type 0} (b : Bool) (x y : X) → b ≡ true → (if b then x else y) ≡ x
-if-at true x y h = refl
-if-at false x y h = true-false (sym h)
-
 set-same : (t u : Files) (path text : List ℕ) (changed : Bool) → IsNumbered t → set_in t path (Some text) ≡ Ok (u, changed) → is_some (file_id_of t path) ≡ true
     → file_id_of u path ≡ file_id_of t path
 set-same t u path text changed numbered is there =
     id-same (map.get t.rows path) (map.get u.rows path) text there ((set_moves t u path (Some text) changed numbered is).kept path)
-    ((set_changes t u path (Some text) changed is).kept path ∙ if-at (bytes_eq path path) _ _ (itself path))
+    ((set_changes t u path (Some text) changed is).kept path ∙ then-is (bytes_eq path path) _ _ (itself path))
 
 contents-bring : (path text : List ℕ) (files : SessionFiles) → IsSound files → is_some (file_id_of files.table path) ≡ true
     → IfOk (contents_put path (Some text) files) (Brings files)

@@ -1,6 +1,6 @@
 -- The keys of a map, where one that is there gets another value; and what is asked of each key of a map.
 use Rattle.std.proofs.Common.{◌≡◌, ℕ, suc, List, [], ◌∷◌, length, map as each, Bool, true, false, refl, sym, ap, ◌∙◌, arith}
-use Rattle.std.specs.Prelude.{◌+◌, ◌||◌, cond, is_some, bytes_eq, Option, None, Some}
+use Rattle.std.specs.Prelude.{◌||◌, is_some, Option}
 use Rattle.std.specs.FinMap as map
 use Rattle.std.specs.List.{cons_option, filter_map, list_any}
 use Rattle.std.specs.Ordering.{eq_by_cmp}

@@ -6,9 +6,8 @@ use Rattle.std.specs.Prelude.{◌||◌, bytes_eq, is_some, Option, None, Some, R
 use Rattle.std.specs.FinMap as map
 use Rattle.std.specs.Cmp.Lexicographic.{nat_list_cmp_total}
 use Rattle.docs_vfs.specs.FileUrls.{path_of}
-use Rattle.docs_vfs.specs.Files.{Files, file_id_of, id_by, id_in, is_marked, kept_at, kept_in, kept_of}
+use Rattle.docs_vfs.specs.Files.{file_id_of, id_by, id_in, is_marked, kept_in, kept_of}
 use Rattle.docs_vfs.specs.Paths.{path_cmp}
-use Rattle.docs_vfs.specs.declared.file_kinds.FileId.{FileId}
 use Rattle.docs_vfs.specs.declared.file_kinds.FileRow.{FileRow}
 use Rattle.docs_vfs.specs.declared.file_kinds.RowState.{RowState}
 use Rattle.docs_vfs.specs.declared.file_kinds.RowState.TheVariants.{Nothing, Contents, Excluded}
@@ -16,7 +15,6 @@ use Rattle.docs_vfs.specs.declared.file_url.UrlFault.{UrlFault}
 use Rattle.docs_vfs.proofs.PutLemmas.{one_path, same_path}
 use Rattle.text_core.specs.declared.change.ContentChange.{ContentChange}
 use Rattle.text_core.specs.declared.position.PositionEncoding.{PositionEncoding}
-use Rattle.lsp_frame.specs.declared.message.Message.TheVariants.{Request as RequestMessage, Notification as NotificationMessage, Response as ResponseMessage}
 use Rattle.notify.specs.declared.notice.DidChange.{DidChange}
 use Rattle.notify.specs.declared.notice.DidOpen.{DidOpen}
 use Rattle.notify.specs.declared.notice.Notice.{Notice}
@@ -43,7 +41,7 @@ use Rattle.session_model.specs.declared.input.Input.{Input}
 use Rattle.session_model.specs.declared.input.Input.TheVariants.{Start, Next}
 use Rattle.session_laws.specs.Invariant.{Stands, documents_of}
 use Rattle.session_laws.proofs.Answered.{runs-stand}
-use Rattle.quiet_laws.proofs.Bools.{true-false}
+use Rattle.quiet_laws.proofs.Bools.{else-is, or-left, then-is, true-false}
 
 -- ---- maps by path
 
@@ -61,21 +59,13 @@ get-off m path q = map.get-remove nat_list_cmp_total m path q ∙ ap (λ b. cond
 abbrev pub OpenAreKnown : Documents → Type 0
 OpenAreKnown docs = (path : List ℕ) → is_open_in docs path ≡ true → is_known (docs.kept path) ≡ true
 
-if-at : {X : Type 0} (b : Bool) (x y : X) → b ≡ true → (if b then x else y) ≡ x
-if-at true x y h = refl
-if-at false x y h = true-false (sym h)
-
-if-off : {X : Type 0} (b : Bool) (x y : X) → b ≡ false → (if b then x else y) ≡ y
-if-off true x y h = true-false h
-if-off false x y h = refl
-
 -- this is kept of a path; it is known, or the path isn't open
 kept-known : (path : List ℕ) (kept : RowState) (docs : Documents) → (is_open_in docs path ≡ true → is_known kept ≡ true)
     → ((q : List ℕ) → bytes_eq q path ≡ false → is_open_in docs q ≡ true → is_known (docs.kept q) ≡ true) → OpenAreKnown (with_kept path kept docs)
 kept-known path kept docs here there q held =
     ⊎_elim
-    (λ same. ap is_known (if-at (bytes_eq q path) kept (docs.kept q) same) ∙ here (ap (is_open_in docs) (sym (one_path q path same)) ∙ held))
-    (λ other. ap is_known (if-off (bytes_eq q path) kept (docs.kept q) other) ∙ there q other held)
+    (λ same. ap is_known (then-is (bytes_eq q path) kept (docs.kept q) same) ∙ here (ap (is_open_in docs) (sym (one_path q path same)) ∙ held))
+    (λ other. ap is_known (else-is (bytes_eq q path) kept (docs.kept q) other) ∙ there q other held)
     (cases_Bool (bytes_eq q path))
 
 marked-known : (b : Bool) (text : List ℕ) → is_known (if b then Excluded else kept_of (Some text)) ≡ true
@@ -99,7 +89,8 @@ opened-known excludes path version text docs known = by (is_excluded_path exclud
 
     by : (b : Bool) → OpenAreKnown (if b then with_kept path Excluded opened else with_contents path (Some text) opened)
     by true = kept-known path Excluded opened (λ still. refl) others
-    by false = kept-known path (if is_marked (docs.kept path) then Excluded else kept_of (Some text)) opened (λ still. marked-known (is_marked (docs.kept path)) text)
+    by false = kept-known path (if is_marked (docs.kept path) then Excluded else kept_of (Some text))
+        opened (λ still. marked-known (is_marked (docs.kept path)) text)
         others
 
 -- an open document gets another version
@@ -142,11 +133,8 @@ closed-known path docs known q held =
 loose-known : (path : List ℕ) (contents : Option (List ℕ)) (docs : Documents) → is_open_in docs path ≡ false → OpenAreKnown docs
     → OpenAreKnown (with_contents path contents docs)
 loose-known path contents docs closed known =
-    kept-known path (if is_marked (docs.kept path) then Excluded else kept_of contents) docs (λ held. true-false (sym held ∙ closed)) (λ q other held. known q held)
-
-or-left : (a b : Bool) → (a || b) ≡ false → a ≡ false
-or-left true b h = true-false h
-or-left false b h = refl
+    kept-known path (if is_marked (docs.kept path) then Excluded else kept_of contents)
+    docs (λ held. true-false (sym held ∙ closed)) (λ q other held. known q held)
 
 changed-known : (file : LoadedFile) (docs : Documents) → OpenAreKnown docs → OpenAreKnown (documents_after_changed file docs)
 changed-known file docs known = by (is_open_in docs file.path) refl

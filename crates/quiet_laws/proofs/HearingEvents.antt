@@ -1,6 +1,6 @@
 -- What an event does to what is heard, and, where nothing is in progress, to what a batch goes by.
-use Rattle.std.proofs.Common.{◌≡◌, ℕ, List, [], ◌∷◌, Bool, true, false, refl, ap, ◌∙◌, inl, inr, subst, arith}
-use Rattle.std.specs.Prelude.{Option, None, Some, is_some, Result, Ok, Err, IfOk, if◌then◌else◌}
+use Rattle.std.proofs.Common.{◌≡◌, ℕ, List, [], ◌∷◌, Bool, true, false, refl, sym, inl, subst}
+use Rattle.std.specs.Prelude.{Option, None, Some, is_some, Result, Ok, IfOk}
 use Rattle.std.specs.FinMap as map
 use Rattle.docs_vfs.specs.FileUrls.{path_of}
 use Rattle.lsp_frame.specs.declared.message.Request.{Request}
@@ -33,18 +33,18 @@ use Rattle.desk.specs.declared.state.ends.WorkEnd.{WorkEnd}
 use Rattle.desk.specs.declared.state.ends.WorkEnd.TheVariants.{Fetched, Built, Checked, Loaded, Diagnosed, Tested}
 use Rattle.desk_laws.proofs.Results.{IfOk-and_then, IfOk-weaker, IfOk-within}
 use Rattle.desk_laws.proofs.Settling.{cancel-settles, message-settles, request-settles}
-use Rattle.workspaces.specs.Fetches.{fire}
 use Rattle.workspaces.specs.Loads.{loaded_crates}
 use Rattle.workspaces.specs.Workspaces.{Workspaces}
 use Rattle.session_files.specs.Steps.{crates_put, loaded}
 use Rattle.session_model.specs.Building.{build_kept, request_told}
 use Rattle.session_model.specs.Checking.{check_kept, check_kind}
 use Rattle.session_model.specs.Diagnosing.{lists_given, tests_told}
-use Rattle.session_model.specs.Fetching.{fetch_kept, folders_told_if, settings_told, with_fetches}
+use Rattle.session_model.specs.Fetching.{fetch_kept, folders_told_if, settings_told}
 use Rattle.session_model.specs.Hearing.{heard_of}
 use Rattle.session_model.specs.Loading.{crates_loaded, load_kept}
 use Rattle.session_model.specs.Machine.{all_resumed, answer_taken, at_board, at_client, at_desk, at_files, at_workspaces, batched, build_taken, client_in}
-use Rattle.session_model.specs.Machine.{crates_arrived, end_taken, fetch_taken, files_processed, files_processed_if, folders_taken, happened, load_taken, loader_taken, macros_taken}
+use Rattle.session_model.specs.Machine.{crates_arrived, end_taken, fetch_taken, files_processed, files_processed_if, folders_taken, happened, load_taken}
+use Rattle.session_model.specs.Machine.{loader_taken, macros_taken}
 use Rattle.session_model.specs.Machine.{message_taken, noticed, received, request_taken, resumed, told, with_client, work_taken}
 use Rattle.session_model.specs.State.{State, goes_by_folders, scene_of, snapshot_of}
 use Rattle.session_model.specs.Status.{build_fault, fetch_fault}
@@ -55,12 +55,15 @@ use Rattle.session_model.specs.declared.input.Event.{Event}
 use Rattle.session_model.specs.declared.input.Event.TheVariants.{Lsp, Task, Vfs, Deferred, News, Timer}
 use Rattle.session_model.specs.declared.input.Input.TheVariants.{Next}
 use Rattle.session_laws.proofs.Passing.{Passes, answered-passes, folders-pass}
-use Rattle.session_laws.proofs.Running.{fetching, building, loading, versions_of}
+use Rattle.session_laws.proofs.Running.{loading, versions_of}
+use Rattle.session_laws.proofs.Same.{none-some}
 use Rattle.quiet_laws.specs.Heard.{progress_after, progress_after_messages, timer_left}
 use Rattle.quiet_laws.proofs.Bools.{else-is, true-false}
 use Rattle.quiet_laws.proofs.HearingFiles.{Hears, changed-happens, closed-happens, crates-hear, hears-happens, loader-hears, opened-happens, processed-happens}
-use Rattle.quiet_laws.proofs.HearingSteps.{Goes, Happens, Takes, goes-board, goes-desk, goes-leaves, goes-logged, goes-logged_if, goes-none, goes-on, goes-takes}
-use Rattle.quiet_laws.proofs.HearingSteps.{goes-work, happens-on, lists-cleared, news-goes, saved-goes, takes-ends, takes-goes, takes-on, then-goes, then-takes, watched-go}
+use Rattle.quiet_laws.proofs.HearingSteps.{Goes, Happens, Takes, goes-board, goes-desk, goes-leaves, goes-logged, goes-logged_if, goes-none, goes-on}
+use Rattle.quiet_laws.proofs.HearingSteps.{goes-takes}
+use Rattle.quiet_laws.proofs.HearingSteps.{goes-work, happens-on, lists-cleared, news-goes, saved-goes, takes-ends, takes-goes, takes-on, then-goes, then-takes}
+use Rattle.quiet_laws.proofs.HearingSteps.{watched-go}
 use Rattle.quiet_laws.proofs.HearingWork.{Asks, MayWait, asks-same, build-ends, fetch-ends, fire-ticket, folders-ask, load-ends, renewed-asks, request-asks}
 use Rattle.quiet_laws.proofs.HearingWork.{settings-ask, ticket}
 use Rattle.quiet_laws.proofs.Parts.{asking-leaves, notified-leaves, passes-timers, spawned-leaves, timers_in}
@@ -184,9 +187,6 @@ build-takes made w =
     takes-on w v _ (takes-ends w (build_kept made w.state.workspaces) (build-ends made w.state.workspaces))
     (takes-goes v _ (goes-logged_if BuildError (build_fault v.state.workspaces) v))
 
-some-none : {X P : Type 0} (x : X) → Some x ≡ None → P
-some-none x e = absurd cc
-
 -- crate data comes, and behind it the files are processed; none does where no load is in progress
 load-cases : (crates : Option CrateData) (told : LoadEnd) (w : TurnState State) → (IsIdle w.state.workspaces → crates ≡ None)
     → IfOk (and_then (crates_arrived crates (at_workspaces (load_kept told) w)) (files_processed_if (is_some crates))) (Takes w)
@@ -200,7 +200,7 @@ load-cases (Some crates) told w none =
     (crates-hear v.state.sources.roots crates v)
     (λ u hears. IfOk-weaker (files_processed u) (Happens u) (Happens w) (processed-happens u)
     (λ x happens. happens-on w v x ended (happens-on v u x (hears-happens v u hears) happens))))
-    (λ x happens. record { happens = happens; calms = λ idle. some-none crates (none idle) })
+    (λ x happens. record { happens = happens; calms = λ idle. none-some crates (sym (none idle)) })
 
 load-takes : (told : LoadEnd) (w : TurnState State) → IfOk (load_taken told w) (Takes w)
 unfolding load_taken macros_taken

@@ -1,8 +1,7 @@
 -- What the files of a session, and what follows from changed ones, do to what is heard.
-use Rattle.std.proofs.Common.{◌≡◌, ℕ, ℤ, List, [], ◌∷◌, ◌++◌, Bool, true, false, refl, sym, ap, ◌∙◌, subst, inl, append-nil}
-use Rattle.std.specs.Prelude.{Option, None, Some, Result, Ok, Err, IfOk, if◌then◌else◌}
+use Rattle.std.proofs.Common.{◌≡◌, ℕ, ℤ, List, [], ◌∷◌, refl, sym, ap, ◌∙◌, subst, inl, append-nil}
+use Rattle.std.specs.Prelude.{Option, None, Some, Result, Ok, Err, IfOk}
 use Rattle.std.specs.FinMap as map
-use Rattle.std.specs.List.{filter_map}
 use Rattle.std.proofs.lemmas.List.Elements.{filter_map-append}
 use Rattle.docs_vfs.specs.Files.{Files, mark_in, set_in}
 use Rattle.docs_vfs.specs.declared.file_kinds.ChangedFile.{ChangedFile}
@@ -23,30 +22,29 @@ use Rattle.session_port.specs.declared.event.LoaderMsg.{LoaderMsg}
 use Rattle.session_port.specs.declared.event.LoaderMsg.TheVariants.{Changed, Loaded, Progress}
 use Rattle.session_port.specs.declared.fault.Counter.{Counter}
 use Rattle.session_port.specs.TurnState.{TurnState, and_then, logged, ordered}
-use Rattle.session_port.specs.Written.{Written}
-use Rattle.client.specs.Client.{Client}
 use Rattle.notify.specs.declared.notice.DidChange.{DidChange}
 use Rattle.notify.specs.declared.notice.DidOpen.{DidOpen}
 use Rattle.change_effects.specs.declared.effects.ChangeEffects.{ChangeEffects}
 use Rattle.desk_laws.proofs.Results.{IfOk-and_then, IfOk-if, IfOk-weaker, IfOk-within}
-use Rattle.session_files.specs.Changing.{has_skipped, text_after}
-use Rattle.session_files.specs.Folds.{after_changed, after_closing, after_crates, after_each_changed, after_each_loaded, after_editing, after_loaded}
+use Rattle.session_files.specs.Changing.{text_after}
+use Rattle.session_files.specs.Folds.{after_changed, after_crates, after_each_changed, after_each_loaded, after_editing, after_loaded}
 use Rattle.session_files.specs.Folds.{after_loader_message, after_messages, after_opening, after_processing, changed_files, contents_put, crates_with}
-use Rattle.session_files.specs.Folds.{made_of, mark_put, table_put, taken_up, text_edited, text_put, version_put, with_changes, world_change, world_put, is_open}
+use Rattle.session_files.specs.Folds.{made_of, mark_put, table_put, taken_up, text_edited, text_put, version_put, with_changes, world_change, world_put}
+use Rattle.session_files.specs.Folds.{is_open}
 use Rattle.session_files.specs.SessionFiles.{SessionFiles}
 use Rattle.session_files.specs.Steps.{become, changed_document, close_noted, closed_document, crates_put, edited_document, loaded, open_noted, opened_document}
-use Rattle.session_files.specs.Steps.{processed, skip_noted}
-use Rattle.session_files.specs.Texts.{holds_text}
+use Rattle.session_files.specs.Steps.{processed}
 use Rattle.workspaces.specs.Workspaces.{Workspaces}
 use Rattle.session_model.specs.Diagnosing.{deleted_cleared, lists_cleared}
 use Rattle.session_model.specs.Machine.{at_board, at_files, document_changed_at, document_closed_at, document_opened_at, effects_done, fetch_waits, files_done}
-use Rattle.session_model.specs.Machine.{files_followed, files_in, files_processed, further_logged, settings_filed, sources_deferred, with_client, with_files, with_sources}
+use Rattle.session_model.specs.Machine.{files_followed, files_in, files_processed, further_logged, settings_filed, sources_deferred, with_client, with_files}
+use Rattle.session_model.specs.Machine.{with_sources}
 use Rattle.session_model.specs.Sources.{change_for, client_with, further_files, parents_told}
-use Rattle.session_model.specs.State.{Sources, State, columns_in, excludes_in}
+use Rattle.session_model.specs.State.{State, columns_in, excludes_in}
 use Rattle.session_model.specs.Timing.{effects_for, fetch_planned}
-use Rattle.session_laws.proofs.Passing.{Passes, Stays, changed-passes, close-noted-passes, crates-pass, loaded-passes, opened-passes, passes-none, processed-passes}
+use Rattle.session_laws.proofs.Passing.{Passes, Stays, changed-passes, close-noted-passes, crates-pass, loaded-passes, opened-passes, processed-passes}
 use Rattle.quiet_laws.specs.Heard.{progress_after_message, progress_after_messages, timer_of}
-use Rattle.quiet_laws.proofs.HearingSteps.{Goes, Happens, Takes, goes-logged, goes-none, goes-on, goes-ordered, goes-work, happens-on, takes-goes}
+use Rattle.quiet_laws.proofs.HearingSteps.{Goes, Happens, goes-logged, goes-none, goes-on, goes-ordered, goes-work, happens-on, takes-goes}
 use Rattle.quiet_laws.proofs.HearingWork.{Asks, asks-same, planned-asks}
 use Rattle.quiet_laws.proofs.Parts.{passes-timers, timers_in}
 use Rattle.quiet_laws.proofs.Resting.{HoldsNone}
@@ -269,7 +267,8 @@ closed-happens (Ok path) uri w =
 further-goes : (paths : List (List ℕ)) (w : TurnState State) → Goes w (further_logged paths w)
 unfolding further_logged
 further-goes [] w = goes-none w
-further-goes (path ∷ paths) w = let v : TurnState State = logged SecondSettingsFile path w in goes-on w v _ (goes-logged SecondSettingsFile path w) (further-goes paths v)
+further-goes (path ∷ paths) w = let v : TurnState State =
+    logged SecondSettingsFile path w in goes-on w v _ (goes-logged SecondSettingsFile path w) (further-goes paths v)
 
 deferred-goes : (sources : Option (List FileId)) (w : TurnState State) → Goes w (sources_deferred sources w)
 unfolding sources_deferred

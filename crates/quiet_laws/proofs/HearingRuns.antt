@@ -1,17 +1,17 @@
 -- A session is quiescent exactly where the lists say so, and nothing is left to do then.
-use Rattle.std.proofs.Common.{◌≡◌, ◌≤◌, ◌↔◌, ◌+◌, ℕ, zero, suc, List, [], ◌∷◌, ◌++◌, Bool, true, false, refl, sym, ap, ◌∙◌, subst, arith, ltb-false, le-ltb, eqb-true}
+use Rattle.std.proofs.Common.{◌≡◌, ◌↔◌, ◌+◌, ℕ, zero, suc, List, [], ◌∷◌, ◌++◌, Bool, true, false, refl, sym, ap, ◌∙◌, subst, arith, ltb-false, le-ltb}
+use Rattle.std.proofs.Common.{eqb-true}
 use Rattle.std.specs.Prelude.{◌==◌, is_none, ltb, option_map, Option, None, Some, if◌then◌else◌}
 use Rattle.std.specs.FinMap as map
-use Rattle.std.specs.List.{filter_map, flat_map, range_with_len}
+use Rattle.std.specs.List.{filter_map, range_with_len}
 use Rattle.ra_config.specs.Config.{ConfigData}
 use Rattle.session_port.specs.Jobs.{Jobs}
-use Rattle.session_port.specs.declared.job.Job.{Job}
 use Rattle.session_port.specs.declared.job.JobKind.{JobKind}
 use Rattle.desk.specs.Meaning.{Meaning}
 use Rattle.workspaces.specs.Workspaces.{Workspaces}
 use Rattle.workspaces.specs.declared.requests.WaitingFetch.{WaitingFetch}
 use Rattle.session_model.specs.Documents.{loading_after}
-use Rattle.session_model.specs.Places.{Place, beginning, last_of, place_after, place_after_all, place_of_turns}
+use Rattle.session_model.specs.Places.{Place, beginning, last_of, place_after, place_after_all}
 use Rattle.session_model.specs.Run.{Runs, Turn, out_after_all}
 use Rattle.session_model.specs.State.{State, fresh}
 use Rattle.session_model.specs.Status.{loader_settings}
@@ -20,13 +20,14 @@ use Rattle.session_laws.specs.Ordered.{loader_version, loader_versions}
 use Rattle.session_laws.proofs.Answered.{runs-stand}
 use Rattle.session_laws.proofs.LoaderVersions.{versions-rise}
 use Rattle.session_laws.proofs.Running.{building, fetching, loading}
+use Rattle.session_laws.proofs.Same.{none-some}
 use Rattle.quiet_laws.specs.Heard.{Heard, IsQuietBy, heard_after, heard_after_all, nothing_heard}
 use Rattle.quiet_laws.specs.Rest.{IsSettled, is_quiet}
 use Rattle.quiet_laws.proofs.Bools.{true-false}
 use Rattle.quiet_laws.proofs.HearingSwitch.{HasBegun}
-use Rattle.quiet_laws.proofs.HearingTurns.{Agrees, AtRest, runs-agree, runs-rest}
+use Rattle.quiet_laws.proofs.HearingTurns.{runs-agree, runs-rest}
 use Rattle.quiet_laws.proofs.HearingWork.{ticket, ticket_in}
-use Rattle.quiet_laws.proofs.Resting.{IsIdle, IsQuietAt, quiet-of, quiet-parts}
+use Rattle.quiet_laws.proofs.Resting.{quiet-of, quiet-parts}
 
 -- ---- what the lists have folded already
 
@@ -88,10 +89,7 @@ none-waits (Some fetch) is = true-false (sym is)
 
 waits-none : (o : Option WaitingFetch) → option_map ticket_in o ≡ None → is_none o ≡ true
 waits-none None is = refl
-waits-none (Some fetch) is = some-none fetch.ticket is
-  where
-    some-none : {P : Type 0} (n : ℕ) → Some n ≡ None → P
-    some-none n e = absurd cc
+waits-none (Some fetch) is = none-some fetch.ticket (sym is)
 
 -- ---- both ways
 
@@ -118,7 +116,8 @@ runs-facts meaning settings turns last runs =
       progress = agrees.progress;
       timer = agrees.timer;
       loader = loader-given last.workspaces rest.begun
-          ∙ sym (loader-is turns nothing_heard ∙ ap (λ ns. last_of ns 0) (versions-rise meaning settings turns last runs) ∙ last-all last.workspaces.loader_version);
+          ∙ sym (loader-is turns nothing_heard ∙ ap (λ ns. last_of ns 0) (versions-rise meaning settings turns last runs)
+          ∙ last-all last.workspaces.loader_version);
       fetches = subst (IsOutIf is_fetch (fetching last.workspaces)) jobs out.fetching;
       builds = subst (IsOutIf is_build (building last.workspaces)) jobs out.building;
       loads = subst (IsOutIf is_load (loading last.workspaces)) jobs out.loading;

@@ -6,7 +6,6 @@ use Rattle.std.specs.List.{cons_option}
 use Rattle.std.proofs.lemmas.List.Elements.{filter_map-append}
 use Rattle.plain.specs.Texts.{text_cmp}
 use Rattle.docs_vfs.specs.FileUrls.{path_of}
-use Rattle.docs_vfs.specs.declared.file_kinds.ChangedFile.{ChangedFile}
 use Rattle.docs_vfs.specs.declared.file_kinds.FileExcluded.{FileExcluded}
 use Rattle.docs_vfs.specs.declared.file_kinds.FileExcluded.TheVariants.{No, Yes}
 use Rattle.docs_vfs.specs.declared.file_kinds.FileId.{FileId}
@@ -14,36 +13,33 @@ use Rattle.docs_vfs.specs.declared.file_url.UrlFault.{UrlFault}
 use Rattle.lsp_types.specs.declared.diagnostic.Diagnostic.{Diagnostic}
 use Rattle.serde_json.specs.Data.{Data}
 use Rattle.op_board.specs.Acts.{Act, gives, step as after_act, steps as after_acts}
-use Rattle.op_board.specs.Acts.Act.{Adds, ForgetsAll, Gives}
-use Rattle.op_board.specs.Board.{Board, Lists, lists_of, set_lists, with_lists}
+use Rattle.op_board.specs.Acts.Act.{Gives}
+use Rattle.op_board.specs.Board.{Board, Lists, with_lists}
 use Rattle.op_board.specs.Marked.{Marked}
 use Rattle.op_board.specs.declared.diagnostic.NativePass.{NativePass}
 use Rattle.op_board.specs.declared.diagnostic.NativePass.TheVariants.{Syntax, Semantic}
 use Rattle.session_port.specs.declared.command.Command.{Command}
-use Rattle.session_port.specs.declared.command.Command.TheVariants.{Defer, Invalidate}
-use Rattle.session_port.specs.declared.command.DeferredTask.TheVariants.{CheckProcMacroSources}
+use Rattle.session_port.specs.declared.command.Command.TheVariants.{Invalidate}
 use Rattle.session_port.specs.declared.command.LogCode.{LogCode}
-use Rattle.session_port.specs.declared.command.LogCode.TheVariants.{CheckUnknownFile, SecondSettingsFile, UnknownSave}
+use Rattle.session_port.specs.declared.command.LogCode.TheVariants.{CheckUnknownFile, UnknownSave}
 use Rattle.session_port.specs.declared.fault.Counter.{Counter}
 use Rattle.session_port.specs.declared.news.FlycheckMsg.{FlycheckMsg}
 use Rattle.session_port.specs.declared.news.FlycheckMsg.TheVariants as checks
-use Rattle.session_port.specs.TurnState.{TurnState, and_then, logged, ordered, written}
-use Rattle.session_port.specs.Written.{Written}
-use Rattle.client.specs.Client.{Client}
+use Rattle.session_port.specs.TurnState.{TurnState, and_then, logged, ordered}
 use Rattle.client.specs.Steps.{logged_if}
 use Rattle.desk.specs.Desk.{Desk}
 use Rattle.desk_laws.proofs.Results.{IfOk-and_then, IfOk-weaker, IfOk-within}
 use Rattle.workspaces.specs.Workspaces.{Loads, Workspaces}
 use Rattle.session_model.specs.Crates.{is_unknown}
 use Rattle.session_model.specs.Diagnosing.{lists_given, outdated_act}
-use Rattle.session_model.specs.Machine.{at_board, at_desk, at_workspaces, check_told, checks_told, desk_in, file_changed, files_changed, found_added, news_taken}
+use Rattle.session_model.specs.Machine.{at_desk, check_told, checks_told, desk_in, file_changed, files_changed, found_added, news_taken}
 use Rattle.session_model.specs.Machine.{save_noted, saved_at, with_board, with_desk, with_workspaces}
 use Rattle.session_model.specs.Saving.{path_saved}
 use Rattle.session_model.specs.State.{State}
 use Rattle.session_model.specs.declared.input.News.{News as NewsData}
 use Rattle.session_model.specs.declared.input.News.TheVariants as told_news
-use Rattle.session_laws.proofs.Passing.{Passes, passes-none}
-use Rattle.session_laws.proofs.Running.{building, fetching, loading, versions_of}
+use Rattle.session_laws.proofs.Passing.{Passes}
+use Rattle.session_laws.proofs.Running.{versions_of}
 use Rattle.session_files.specs.SessionFiles.{SessionFiles}
 use Rattle.quiet_laws.specs.Heard.{timer_of}
 use Rattle.quiet_laws.proofs.Parts.{LeavesAll, passes-timers, timers_in}
@@ -88,7 +84,13 @@ goes-work w workspaces asks = record { files = refl; cleared = refl; turns = ref
 
 -- the board does
 pub goes-board : (w : TurnState State) (board : Board) → board.cleared ≡ w.state.board.cleared → Goes w (record w { state = with_board board w.state })
-goes-board w board same = record { files = refl; cleared = same; turns = refl; timers = refl; work = asks-same w.state.desk.turns w.state.workspaces w.state.workspaces refl }
+goes-board w board same = record {
+  files = refl;
+  cleared = same;
+  turns = refl;
+  timers = refl;
+  work = asks-same w.state.desk.turns w.state.workspaces w.state.workspaces refl;
+}
 
 -- a part that leaves all
 pub goes-leaves : (w v : TurnState State) → LeavesAll w v → Goes w v
@@ -120,7 +122,8 @@ goes-if false w v u x y = y
 
 -- a step of the desk
 pub goes-desk : (work : TurnState Desk → Result (TurnState Desk) Counter) (w : TurnState State)
-    → IfOk (work (record { state = w.state.desk; out = w.out })) (λ v. (v.state.turns ≡ w.state.desk.turns) × Passes w.out v.out) → IfOk (at_desk work w) (Goes w)
+    → IfOk (work (record { state = w.state.desk; out = w.out })) (λ v. (v.state.turns ≡ w.state.desk.turns) × Passes w.out v.out)
+    → IfOk (at_desk work w) (Goes w)
 goes-desk work w does =
     IfOk-within desk_in with_desk work w (Goes w)
     (IfOk-weaker _ (λ (v : TurnState Desk). (v.state.turns ≡ w.state.desk.turns) × Passes w.out v.out) _ does

@@ -1,6 +1,6 @@
 -- What a switch leaves of the workspaces, and of what is heard.
-use Rattle.std.proofs.Common.{◌≡◌, ◌+◌, ℕ, zero, suc, List, [], ◌∷◌, ◌++◌, Bool, true, false, refl, sym, ap, ◌∙◌, subst, arith, append-nil}
-use Rattle.std.specs.Prelude.{◌==◌, ◌&&◌, not, Option, None, Some, option_map, Result, Ok, Err, IfOk, if◌then◌else◌}
+use Rattle.std.proofs.Common.{◌≡◌, ◌+◌, ℕ, List, [], ◌∷◌, Bool, true, false, refl, sym, ap, ◌∙◌, subst, arith, append-nil}
+use Rattle.std.specs.Prelude.{◌&&◌, not, Option, None, Some, option_map, Result, Ok, Err, IfOk, if◌then◌else◌}
 use Rattle.std.proofs.lemmas.List.Elements.{filter_map-append}
 use Rattle.project_model.specs.declared.workspace.ProjectWorkspace.{ProjectWorkspace}
 use Rattle.ra_config.specs.Config.{ConfigData}
@@ -8,18 +8,19 @@ use Rattle.reload.specs.Switch.{is_empty}
 use Rattle.reload.specs.declared.switch.Switch.{Switch}
 use Rattle.reload.specs.declared.switch.Switch.TheVariants as switch
 use Rattle.session_port.specs.declared.fault.Counter.{Counter}
-use Rattle.session_port.specs.TurnState.{TurnState, and_then, ordered, written}
+use Rattle.session_port.specs.TurnState.{TurnState, ordered, written}
 use Rattle.notify.specs.declared.outgo.MessageKind.TheVariants.{Warning}
-use Rattle.notify.specs.declared.outgo.Outgo.TheVariants.{RegisterWatch, ShowMessage}
+use Rattle.notify.specs.declared.outgo.Outgo.TheVariants.{ShowMessage}
 use Rattle.client.specs.Steps.{notification_of}
 use Rattle.desk_laws.proofs.Results.{IfOk-and_then, IfOk-weaker}
 use Rattle.session_files.specs.SessionFiles.{SessionFiles}
-use Rattle.workspaces.specs.Switching.{asks_build, decided, going_on as workspaces_followed, last_loader_version, next_version, presents, renewed_by, switch_to, switched}
+use Rattle.workspaces.specs.Switching.{asks_build, decided, going_on as workspaces_followed, next_version, presents, switch_to, switched}
 use Rattle.workspaces.specs.Workspaces.{Workspaces}
 use Rattle.workspaces.specs.declared.follows.Follows.{Follows}
 use Rattle.workspaces.specs.declared.follows.Follows.TheVariants.{Nothing, CrateData, Wait, GoOn}
 use Rattle.session_model.specs.Crates.{Numbers, builds_crates, crate_data, crates_sought, followed_by, waits, with_crates}
-use Rattle.session_model.specs.Machine.{at_workspaces, crates_built, loader_set, roots_renewed, switch_done, switch_followed, switch_taken, warned, watchers_registered}
+use Rattle.session_model.specs.Machine.{at_workspaces, crates_built, loader_set, roots_renewed, switch_done, switch_followed, switch_taken, warned}
+use Rattle.session_model.specs.Machine.{watchers_registered}
 use Rattle.session_model.specs.State.{State, builds_scripts, discovers}
 use Rattle.session_model.specs.Switching.{is_switch_due, switch_by, switch_made, unless_exhausted}
 use Rattle.quiet_laws.specs.Heard.{timer_of}

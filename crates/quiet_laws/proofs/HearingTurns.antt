@@ -1,12 +1,10 @@
 -- Over turns the machine stands where the lists say, nothing is left to do where nothing is in progress.
-use Rattle.std.proofs.Common.{◌≡◌, ◌≤◌, ◌+◌, ℕ, zero, suc, List, [], ◌∷◌, ◌++◌, Bool, true, false, refl, sym, ap, ◌∙◌, subst, arith, inl, inr, eqb-true}
+use Rattle.std.proofs.Common.{◌≡◌, ◌+◌, ℕ, List, [], ◌∷◌, ◌++◌, Bool, true, false, refl, sym, ap, ◌∙◌, subst, inl, inr, eqb-true}
 use Rattle.std.proofs.lemmas.Bool.{eq-eqb}
 use Rattle.std.proofs.lemmas.Result.{IfOk-at_ok}
-use Rattle.std.specs.Prelude.{◌==◌, option_map, Option, None, Some, Result, Ok, Err, IfOk, if◌then◌else◌}
-use Rattle.std.specs.List.{filter_map}
+use Rattle.std.specs.Prelude.{◌==◌, option_map, Option, None, Some, Ok, IfOk, if◌then◌else◌}
 use Rattle.ra_config.specs.Config.{ConfigData}
-use Rattle.session_port.specs.TurnState.{TurnState, and_then}
-use Rattle.session_port.specs.declared.fault.Counter.{Counter}
+use Rattle.session_port.specs.TurnState.{TurnState}
 use Rattle.desk.specs.Desk.{Desk}
 use Rattle.desk.specs.Meaning.{Meaning}
 use Rattle.desk.specs.Steps.{counted as counted_at_desk}
@@ -15,7 +13,7 @@ use Rattle.session_files.specs.SessionFiles.{SessionFiles}
 use Rattle.workspaces.specs.Fetches.{fires}
 use Rattle.workspaces.specs.Workspaces.{Fetches, Workspaces}
 use Rattle.workspaces.specs.declared.requests.WaitingFetch.{WaitingFetch}
-use Rattle.session_model.specs.Machine.{desk_in, event_taken, files_done, happened, step, switch_done, turn_counted, with_desk}
+use Rattle.session_model.specs.Machine.{desk_in, event_taken, happened, step, turn_counted, with_desk}
 use Rattle.session_model.specs.Rows.{turn_begun}
 use Rattle.session_model.specs.Run.{Runs, Steps, Turn, turn_start}
 use Rattle.session_model.specs.State.{State, fresh}
@@ -24,16 +22,17 @@ use Rattle.session_model.specs.declared.input.Input.{Input}
 use Rattle.session_model.specs.declared.input.Input.TheVariants.{Start, Next}
 use Rattle.session_laws.proofs.Rows.{FilesDone, files-done}
 use Rattle.session_laws.proofs.Running.{versions_of}
+use Rattle.session_laws.proofs.Same.{none-some, some-same}
 use Rattle.session_laws.proofs.Switching.{SwitchDone, switch-does}
-use Rattle.quiet_laws.specs.Heard.{Heard, heard_after, heard_after_all, newest, nothing_heard, progress_after, timer_left, timer_of}
+use Rattle.quiet_laws.specs.Heard.{Heard, heard_after, heard_after_all, newest, nothing_heard, progress_after, timer_left}
 use Rattle.quiet_laws.proofs.Bools.{true-false}
 use Rattle.quiet_laws.proofs.HearingEvents.{Happened, happened-is}
 use Rattle.quiet_laws.proofs.HearingFiles.{Follows, done-follows}
 use Rattle.quiet_laws.proofs.HearingSwitch.{HasBegun, SwitchHears, switch-hears}
 use Rattle.quiet_laws.proofs.HearingWork.{MayWait, ticket, ticket_in, wait-on}
-use Rattle.quiet_laws.proofs.Parts.{passes-timers, timer_due, timers_in}
-use Rattle.quiet_laws.proofs.PartsOfTurns.{Behind, Later, Split, StartSplit, begun_behind, start-splits, step-splits}
-use Rattle.quiet_laws.proofs.Resting.{AsksNone, HoldsNone, MayStart, behind-asks, behind-may, begun_at_start, start-asks, start-may}
+use Rattle.quiet_laws.proofs.Parts.{passes-timers, timers_in}
+use Rattle.quiet_laws.proofs.PartsOfTurns.{Later, Split, StartSplit, begun_behind, start-splits, step-splits}
+use Rattle.quiet_laws.proofs.Resting.{AsksNoLoad, HoldsNone, MayStart, behind-asks, behind-may, begun_at_start, start-asks, start-may}
 
 -- ---- between turns
 
@@ -46,7 +45,7 @@ pub record Agrees (heard : Heard) (s : State) : Type 0 where
 pub record AtRest (s : State) : Type 0 where
   pub begun : HasBegun s.workspaces
   pub holds : HoldsNone s.workspaces
-  pub asks : AsksNone s.workspaces
+  pub asks : AsksNoLoad s.workspaces
   pub switch : s.files.loading ≡ false → s.workspaces.switch_wanted ≡ false
 
 begun-same : (before after : Workspaces) → versions_of after ≡ versions_of before → HasBegun before → HasBegun after
@@ -54,12 +53,6 @@ begun-same before after same begun none =
     ap (λ (versions : ℕ × ℕ). versions.1) same ∙ begun (sym (ap (λ (versions : ℕ × ℕ). versions.0) same) ∙ none)
 
 -- ---- the timer that a turn orders
-
-none-some : {X P : Type 0} (x : X) → None ≡ Some x → P
-none-some x e = absurd cc
-
-some-same : (a b : ℕ) → Some a ≡ Some b → a ≡ b
-some-same a b e = cc
 
 fired-heard : (b : Bool) (number turn : ℕ) (before : Option ℕ) → (number == turn) ≡ b → MayWait turn before (Some number)
     → Some number ≡ newest (if b then turn ∷ [] else []) before
@@ -133,7 +126,7 @@ record Before (heard : Heard) (s : State) : Type 0 where
   agrees : Agrees heard s
   rest : AtRest s
 
-later-rest : (workspaces : Workspaces) (w v : TurnState State) → Later workspaces w v → MayStart w.state.workspaces workspaces → AsksNone workspaces
+later-rest : (workspaces : Workspaces) (w v : TurnState State) → Later workspaces w v → MayStart w.state.workspaces workspaces → AsksNoLoad workspaces
     → HasBegun w.state.workspaces → HoldsNone w.state.workspaces → (w.state.files.loading ≡ false → w.state.workspaces.switch_wanted ≡ false) → AtRest v.state
 later-rest workspaces w v later may asks begun holds switch =
     let files : v.state.files ≡ w.state.files = later.closes.files ∙ later.leaves.files in
@@ -141,7 +134,7 @@ later-rest workspaces w v later may asks begun holds switch =
     record {
       begun = begun-same w.state.workspaces v.state.workspaces (ap versions_of now ∙ may.versions) begun;
       holds = subst HoldsNone (sym now) (may.holds holds);
-      asks = subst AsksNone (sym now) asks;
+      asks = subst AsksNoLoad (sym now) asks;
       switch = λ idle. ap (λ (ws : Workspaces). ws.switch_wanted) now ∙ may.switch ∙ switch (sym (ap (λ (f : SessionFiles). f.loading) files) ∙ idle);
     }
 

@@ -11,7 +11,7 @@ use Rattle.desk.specs.WorkEnds.{BuildEnd, FetchEnd, LoadEnd}
 use Rattle.workspaces.specs.Builds.{end_build, rebuild, rebuild_macros, reload}
 use Rattle.workspaces.specs.Fetches.{ask_waiting, end_fetch, fire, fires, is_served, with_new_ticket, waits_from}
 use Rattle.workspaces.specs.Loads.{end_load}
-use Rattle.workspaces.specs.Workspaces.{Fetches, Loads, Workspaces}
+use Rattle.workspaces.specs.Workspaces.{Fetches, Workspaces}
 use Rattle.workspaces.specs.declared.requests.FetchRequest.{FetchRequest}
 use Rattle.workspaces.specs.declared.requests.WaitingFetch.{WaitingFetch}
 use Rattle.session_files.specs.SessionFiles.{SessionFiles}

@@ -11,14 +11,13 @@ use Rattle.ra_config.specs.Config.{ConfigData}
 use Rattle.ra_config.specs.declared.capabilities.Capabilities.{Capabilities}
 use Rattle.op_board.specs.Acts.{step as after_act}
 use Rattle.op_board.specs.Acts.Act.{Counts, Takes}
-use Rattle.op_board.specs.Board.{Board, next_generation}
+use Rattle.op_board.specs.Board.{Board}
 use Rattle.op_board.specs.Marked.{taken}
 use Rattle.session_port.specs.declared.command.Command.TheVariants.{Revise, Timer as SetTimer}
 use Rattle.session_port.specs.declared.fault.Counter.{Counter}
 use Rattle.session_port.specs.declared.job.JobKind.{JobKind}
 use Rattle.session_port.specs.declared.job.JobKind.TheVariants.{FetchBuildData}
 use Rattle.session_port.specs.TurnState.{TurnState, and_then, lifted, ordered, written}
-use Rattle.session_port.specs.Written.{Written}
 use Rattle.client.specs.Client.{Client}
 use Rattle.client.specs.Steps.{asked_for, notification_of}
 use Rattle.client.specs.declared.handler.ReqHandler.{ReqHandler}
@@ -42,9 +41,10 @@ use Rattle.session_model.specs.Fetching.{with_fetches}
 use Rattle.session_model.specs.Loading.{MacroPaths, load_due, load_kind, with_due_load}
 use Rattle.session_model.specs.Machine.{all_asked, all_published, asked_if, at_board, at_client, at_desk, at_workspaces, batch_asked, batch_done, begun_fetches}
 use Rattle.session_model.specs.Machine.{build_handed_over, build_started, came_or_went, client_in, client_refreshed, desk_in, desk_kept, fetch_handed_over}
-use Rattle.session_model.specs.Machine.{fetch_started, files_published, load_handed_over, load_started, marked_published, published_at, quiet_done, refreshes_done}
+use Rattle.session_model.specs.Machine.{fetch_started, files_published, load_handed_over, load_started, marked_published, published_at, quiet_done}
+use Rattle.session_model.specs.Machine.{refreshes_done}
 use Rattle.session_model.specs.Machine.{revised, runs_started, saves_registered, status_changed, status_done, status_kept, status_told, text_shown, timer_set}
-use Rattle.session_model.specs.Machine.{turn_closed, with_board, with_client, with_desk, with_status, with_workspaces}
+use Rattle.session_model.specs.Machine.{turn_closed, with_client, with_desk}
 use Rattle.session_model.specs.State.{State, discovers, fetch_kind, snapshot_of, watched_names}
 use Rattle.session_model.specs.Asking.{registers_saves}
 use Rattle.session_model.specs.Status.{is_quiescent, opens_logs, shown_of, status_message, status_now, takes_status}

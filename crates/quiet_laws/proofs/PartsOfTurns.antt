@@ -1,8 +1,7 @@
 -- A turn, taken apart: where it stands behind its event, behind a switch, behind the files, and before it is closed.
-use Rattle.std.proofs.Common.{◌≡◌, ℕ, Bool, true, refl, sym, ap, ◌∙◌, subst}
+use Rattle.std.proofs.Common.{◌≡◌, Bool, refl, sym, ap, ◌∙◌, subst}
 use Rattle.std.specs.Prelude.{Result, Ok, Err, IfOk}
 use Rattle.std.specs.Result.{result_unwrap_or}
-use Rattle.std.proofs.lemmas.Result.{IfOk-at_ok}
 use Rattle.session_port.specs.TurnState.{TurnState, and_then}
 use Rattle.session_port.specs.declared.fault.Counter.{Counter}
 use Rattle.desk.specs.Meaning.{Meaning}
@@ -11,18 +10,18 @@ use Rattle.workspaces.specs.Fetches.{start_fetch, start_up}
 use Rattle.workspaces.specs.Workspaces.{Workspaces}
 use Rattle.session_model.specs.Fetching.{with_fetches}
 use Rattle.session_model.specs.Machine.{begin_part, begun_fetches, build_part, closing_part, event_part, event_taken, facts_before, fetch_part, fetch_started}
-use Rattle.session_model.specs.Machine.{files_done, files_part, in_state, knowing, later_parts, marked_published, prime_part, publish_part, quiet_done, quiet_part, register_part}
+use Rattle.session_model.specs.Machine.{files_done, files_part, in_state, later_parts, marked_published, prime_part, publish_part, quiet_done, quiet_part}
+use Rattle.session_model.specs.Machine.{register_part}
 use Rattle.session_model.specs.Machine.{runs_started, saves_registered, some_processed, start_parts, state_in, status_done, status_part, step, switch_done}
 use Rattle.session_model.specs.Machine.{switch_part, turn_closed, turned, Turning, turning, with_state}
-use Rattle.session_model.specs.OwnJobs.{before_quiet, parts_before_quiet}
-use Rattle.session_model.specs.Run.{Steps, Turn, turn_start}
+use Rattle.session_model.specs.OwnJobs.{before_quiet}
+use Rattle.session_model.specs.Run.{turn_start}
 use Rattle.session_model.specs.State.{State, discovers, may_start}
 use Rattle.session_model.specs.declared.facts.FactsBefore.{FactsBefore}
 use Rattle.session_model.specs.declared.input.Event.{Event}
-use Rattle.session_model.specs.declared.input.Input.{Input}
 use Rattle.session_model.specs.declared.input.Input.TheVariants.{Start, Next}
 use Rattle.session_laws.proofs.Turns.{session_in}
-use Rattle.quiet_laws.proofs.Parts.{Closes, Leaves, LeavesAll, begun-leaves, closing-closes, fetch-leaves, leaves-none, leaves-on, marked-leave, quiet-leaves}
+use Rattle.quiet_laws.proofs.Parts.{Closes, Leaves, begun-leaves, closing-closes, fetch-leaves, leaves-none, leaves-on, marked-leave, quiet-leaves}
 use Rattle.quiet_laws.proofs.Parts.{registers-leave, runs-leave, runs_begun, status-leaves}
 
 -- ---- what is so of one part
@@ -136,7 +135,8 @@ files-is t = both (files_part t) (IfOk-self (files_part t))
     both (Ok v) p q = (p, q.0, q.1)
     both (Err counter) p q = tt
 
-stands : (meaning : Meaning) (s : State) (event : Event) (a b c : TurnState Turning) → Is (event_taken meaning event) (turning (turn_start s)) a → Is switch_done a b
+stands : (meaning : Meaning) (s : State) (event : Event) (a b c : TurnState Turning) → Is (event_taken meaning event) (turning (turn_start s)) a
+    → Is switch_done a b
     → (files_part b ≡ Ok c) × (files_done (session_in b) ≡ Ok (session_in c))
     × (c.state.facts ≡ record b.state.facts { processed = some_processed b.state.state.files })
     → before_quiet meaning (Next event) s

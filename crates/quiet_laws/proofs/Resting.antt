@@ -14,7 +14,7 @@ use Rattle.session_model.specs.Fetching.{with_fetches}
 use Rattle.session_model.specs.Loading.{loads_due, with_due_load}
 use Rattle.session_model.specs.Status.{is_quiescent, loader_settings}
 use Rattle.session_laws.proofs.Running.{Starts, building, build-starts, fetching, loading, versions_of}
-use Rattle.quiet_laws.proofs.Bools.{and-both, and-left, and-right, from-not, not-false, true-false}
+use Rattle.quiet_laws.proofs.Bools.{true-false}
 use Rattle.quiet_laws.proofs.Parts.{runs_begun}
 use Rattle.quiet_laws.proofs.PartsOfTurns.{begun_behind}
 
@@ -48,7 +48,8 @@ of-six a b c d e f p q r s t u = λ i. not (p i) && (q i && not (r i) && not (s 
 
 pub quiet-parts : (files : SessionFiles) (w : Workspaces) → is_quiescent files w ≡ true → IsQuietAt files w
 quiet-parts files w h =
-    let all = all-six files.loading (is_none w.fetches.waiting) (fetching w) (building w) (loading w) (ltb files.progress_version (loader_settings w)) h in record {
+    let all = all-six files.loading (is_none w.fetches.waiting) (fetching w) (building w) (loading w) (ltb files.progress_version (loader_settings w)) h
+    in record {
       loading = all.0;
       timer = all.1;
       idle = record { fetches = all.2; builds = all.3; loads = all.4 };
@@ -67,8 +68,8 @@ abbrev pub HoldsNone : Workspaces → Type 0
 HoldsNone w = loading w ≡ false → w.loads.waiting ≡ None
 
 -- and none for a load that is to start where nothing is in progress
-abbrev pub AsksNone : Workspaces → Type 0
-AsksNone w = IsIdle w → w.loads.queue.waiting ≡ None
+abbrev pub AsksNoLoad : Workspaces → Type 0
+AsksNoLoad w = IsIdle w → w.loads.queue.waiting ≡ None
 
 -- ---- what starts
 
@@ -179,17 +180,18 @@ load-none true l free rests = true-false free
 load-none false l free rests = queue-none l.queue.in_progress l.queue refl rests
 
 -- where nothing is in progress behind them, no load was asked for
-runs-cases : (w : Workspaces) (build : Option ℕ) → build_due w ≡ build → AsksNone (with_due_load build (with_due_build w))
+runs-cases : (w : Workspaces) (build : Option ℕ) → build_due w ≡ build → AsksNoLoad (with_due_load build (with_due_build w))
 runs-cases w None is idle = load-none (fetching w) w.loads idle.fetches idle.loads
 runs-cases w (Some version) is idle =
-    let starts : Starts (building w) (building (with_due_build w)) true = subst (λ (o : Option ℕ). Starts (building w) (building (with_due_build w)) (is_some o)) is
+    let starts : Starts (building w) (building (with_due_build w)) true =
+    subst (λ (o : Option ℕ). Starts (building w) (building (with_due_build w)) (is_some o)) is
     (build-starts (fetching w) w.version (length w.present) w.builds) in
     true-false (sym starts.1 ∙ idle.builds)
 
 pub behind-may : (may : Bool) (w : Workspaces) → MayStart w (begun_behind may w)
 behind-may may w = may-on w (with_fetches (start_fetch may) w) (begun_behind may w) (fetch-may may w) (runs-may (with_fetches (start_fetch may) w))
 
-pub behind-asks : (may : Bool) (w : Workspaces) → AsksNone (begun_behind may w)
+pub behind-asks : (may : Bool) (w : Workspaces) → AsksNoLoad (begun_behind may w)
 behind-asks may w = let f : Workspaces = with_fetches (start_fetch may) w in runs-cases f (build_due f) refl
 
 -- ---- at the start
@@ -213,7 +215,7 @@ start-may discover may w =
     let begun : Workspaces = with_fetches (start_up discover) w in
     may-on w begun (begun_at_start discover may w) (begin-may discover w) (fetch-may may begun)
 
-pub start-asks : (discover may : Bool) (w : Workspaces) → AsksNone w → AsksNone (begun_at_start discover may w)
+pub start-asks : (discover may : Bool) (w : Workspaces) → AsksNoLoad w → AsksNoLoad (begun_at_start discover may w)
 start-asks discover may w asks idle = asks ((start-may discover may w).idle idle)
 
 -- ---- sessions that don't come to be quiescent

@@ -1,22 +1,20 @@
 -- What a batch goes by stays behind the files of a turn, and the session doesn't come to be quiescent there.
-use Rattle.std.proofs.Common.{◌≡◌, ℕ, Bool, true, refl, sym, ap, ◌∙◌, subst}
-use Rattle.std.specs.Prelude.{Ok, IfOk, is_some}
+use Rattle.std.proofs.Common.{◌≡◌, sym, ap, ◌∙◌, subst}
+use Rattle.std.specs.Prelude.{Ok, is_some}
 use Rattle.std.proofs.lemmas.Result.{IfOk-at_ok}
 use Rattle.session_port.specs.TurnState.{TurnState}
 use Rattle.desk.specs.Meaning.{Meaning}
 use Rattle.workspaces.specs.Workspaces.{Workspaces}
-use Rattle.session_files.specs.SessionFiles.{SessionFiles}
 use Rattle.session_model.specs.Machine.{Turning, step}
 use Rattle.session_model.specs.OwnJobs.{before_quiet}
 use Rattle.session_model.specs.Run.{Steps, Turn, turn_start}
 use Rattle.session_model.specs.State.{State}
 use Rattle.session_model.specs.Status.{is_quiescent}
-use Rattle.session_model.specs.declared.input.Event.{Event}
 use Rattle.session_model.specs.declared.input.Input.{Input}
 use Rattle.session_model.specs.declared.input.Input.TheVariants.{Start, Next}
 use Rattle.quiet_laws.specs.Rest.{Lasts}
-use Rattle.quiet_laws.proofs.PartsOfTurns.{Behind, Later, Split, StartSplit, begun_behind, start-splits, step-splits}
-use Rattle.quiet_laws.proofs.Resting.{MayStart, begun_at_start, behind-may, may-quiet, start-may}
+use Rattle.quiet_laws.proofs.PartsOfTurns.{Behind, Later, Split, StartSplit, start-splits, step-splits}
+use Rattle.quiet_laws.proofs.Resting.{MayStart, behind-may, may-quiet, start-may}
 
 later-lasts : (workspaces : Workspaces) (w v : TurnState State) → Later workspaces w v → MayStart w.state.workspaces workspaces → Lasts w.state v.state
 later-lasts workspaces w v later may =

@@ -1,7 +1,7 @@
 -- Turns that ask for no batch, up to one that leaves the session quiescent, change nothing that a batch goes by but the
 -- settings.
-use Rattle.std.proofs.Common.{◌≡◌, List, [], ◌∷◌, ◌++◌, true, false, refl, sym, ap, ◌∙◌, subst}
-use Rattle.std.specs.Prelude.{is_some, Result, Ok}
+use Rattle.std.proofs.Common.{◌≡◌, List, [], ◌∷◌, ◌++◌, true, refl, sym, ap, ◌∙◌, subst}
+use Rattle.std.specs.Prelude.{Result}
 use Rattle.std.specs.Result.{result_unwrap_or}
 use Rattle.std.specs.FinMap as map
 use Rattle.ra_config.specs.Config.{ConfigData}
@@ -15,7 +15,7 @@ use Rattle.session_model.specs.Places.{rest_after}
 use Rattle.session_model.specs.Run.{Runs, Steps, Turn, turn_start}
 use Rattle.session_model.specs.State.{State, fresh}
 use Rattle.session_laws.proofs.Stretches.{runs-append}
-use Rattle.quiet_laws.specs.Rest.{AsksNone, IsCalm, Lasts, asks_batch, is_quiet}
+use Rattle.quiet_laws.specs.Rest.{AsksNone, IsCalm, Lasts, is_quiet}
 use Rattle.quiet_laws.proofs.Calm.{turns-calm}
 use Rattle.quiet_laws.proofs.RestingBehind.{turn-lasts}
 
