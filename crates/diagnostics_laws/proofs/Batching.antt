@@ -1,7 +1,7 @@
 -- The parts of a turn behind its files: a batch may count, the files that are marked are published, and nothing else is.
-use Rattle.std.proofs.Common.{◌≡◌, ℕ, ℤ, List, [], ◌∷◌, ◌++◌, append-nil, append_assoc, Bool, true, false, refl, sym, ap, ◌∙◌, subst}
+use Rattle.std.proofs.Common.{◌≡◌, ℕ, ℤ, List, [], ◌∷◌, ◌++◌, append-nil, append_assoc, Bool, true, false, refl, sym, ap, ◌∙◌}
 use Rattle.std.specs.Prelude.{◌==◌, map as each, Option, None, Some, Result, Ok, Err, IfOk, if◌then◌else◌}
-use Rattle.std.specs.List.{cons_option, filter_map}
+use Rattle.std.specs.List.{cons_option}
 use Rattle.std.specs.FinMap as map
 use Rattle.docs_vfs.specs.FileUrls.{url_of}
 use Rattle.docs_vfs.specs.Files.{path_at}
@@ -12,15 +12,13 @@ use Rattle.method_table.specs.declared.class.PoolClass.{PoolClass}
 use Rattle.method_table.specs.declared.class.PoolClass.TheVariants.{Latency, Worker}
 use Rattle.notify.specs.declared.outgo.MessageKind.{MessageKind}
 use Rattle.notify.specs.declared.outgo.Outgo.{Outgo}
-use Rattle.notify.specs.declared.outgo.Outgo.TheVariants.{Publish, RegisterSave, ShowMessage, ShowMessageRequest}
+use Rattle.notify.specs.declared.outgo.Outgo.TheVariants.{Publish, ShowMessage, ShowMessageRequest}
 use Rattle.op_board.specs.Acts.{step as after_act}
 use Rattle.op_board.specs.Acts.Act.{Takes}
 use Rattle.op_board.specs.Board.{Board, diagnostics_of}
 use Rattle.op_board.specs.Changes.{files_in as files_taken}
 use Rattle.op_board.specs.Marked.{taken}
 use Rattle.session_port.specs.TurnState.{TurnState, and_then, ordered, written}
-use Rattle.session_port.specs.Written.{Written}
-use Rattle.session_port.specs.declared.command.Command.TheVariants.{Revise, Timer as SetTimer}
 use Rattle.session_port.specs.declared.fault.Counter.{Counter}
 use Rattle.session_port.specs.declared.job.JobKind.{JobKind}
 use Rattle.session_port.specs.declared.job.JobKind.TheVariants.{FetchBuildData}
@@ -42,16 +40,19 @@ use Rattle.session_model.specs.Building.{build_due, with_due_build}
 use Rattle.session_model.specs.Diagnosing.{batch_counted, batch_kinds, is_batch_due, publication, told_diagnostic}
 use Rattle.session_model.specs.Fetching.{with_fetches}
 use Rattle.session_model.specs.Loading.{MacroPaths, load_due, load_kind, with_due_load}
-use Rattle.session_model.specs.Machine.{all_asked, all_published, asked_if, at_board, at_client, at_desk, at_workspaces, batch_asked, batch_done, begun_fetches, build_handed_over}
-use Rattle.session_model.specs.Machine.{build_started, came_or_went, client_in, desk_in, desk_kept, fetch_handed_over, fetch_started, files_published, load_handed_over, load_started}
-use Rattle.session_model.specs.Machine.{marked_published, published_at, quiet_done, refreshes_done, revised, runs_started, saves_registered, status_changed, status_done, status_kept}
+use Rattle.session_model.specs.Machine.{all_asked, all_published, asked_if, at_board, at_client, at_desk, at_workspaces, batch_asked, batch_done}
+use Rattle.session_model.specs.Machine.{begun_fetches, build_handed_over}
+use Rattle.session_model.specs.Machine.{build_started, came_or_went, client_in, desk_in, desk_kept, fetch_handed_over, fetch_started, files_published}
+use Rattle.session_model.specs.Machine.{load_handed_over, load_started}
+use Rattle.session_model.specs.Machine.{marked_published, published_at, quiet_done, refreshes_done, revised, runs_started, saves_registered}
+use Rattle.session_model.specs.Machine.{status_changed, status_done, status_kept}
 use Rattle.session_model.specs.Machine.{status_told, text_shown, timer_set, turn_closed, with_client, with_desk}
 use Rattle.session_model.specs.State.{State, fetch_kind, snapshot_of}
 use Rattle.session_model.specs.Status.{is_quiescent, opens_logs, shown_of, status_message, status_now, takes_status}
 use Rattle.session_model.specs.declared.facts.FactsBefore.{FactsBefore}
 use Rattle.session_model.specs.declared.input.Input.{Input}
 use Rattle.session_laws.proofs.OwnJobs.{Asks, refreshes-ask}
-use Rattle.diagnostics_laws.specs.Shown.{Published, published_among, published_by, told_list}
+use Rattle.diagnostics_laws.specs.Shown.{Published, published_by, told_list}
 use Rattle.diagnostics_laws.proofs.Sounding.{Goes, asking-goes, refreshes-go, told-append, told-none, told_in}
 use Rattle.diagnostics_laws.proofs.SoundingDesk.{DeskStep, spawned-step}
 
@@ -71,7 +72,8 @@ kept-on w v u p q = record { board = q.board ∙ p.board; files = q.files ∙ p.
 
 kept-then : (r : Result (TurnState State) Counter) (f : TurnState State → Result (TurnState State) Counter) (w : TurnState State) → IfOk r (Kept w)
     → ((v : TurnState State) → IfOk (f v) (Kept v)) → IfOk (and_then r f) (Kept w)
-kept-then r f w first next = IfOk-and_then r f (Kept w) (Kept w) first (λ v p. IfOk-weaker (f v) (Kept v) (Kept w) (next v) (λ u q. kept-on w v u p q))
+kept-then r f w first next = IfOk-and_then r f (Kept w) (Kept w)
+    first (λ v p. IfOk-weaker (f v) (Kept v) (Kept w) (next v) (λ u q. kept-on w v u p q))
 
 -- of two things that hold of an answer both do
 pub both-of : {X E : Type 0} (r : Result X E) (P Q : X → Type 0) → IfOk r P → IfOk r Q → IfOk r (λ x. P x × Q x)
@@ -100,7 +102,8 @@ unfolding SameParts
 asked-kept message handler w =
     let r = at_client (asked_for message handler) w in
     let client : TurnState Client = record { state = w.state.client; out = w.out } in
-    let same : IfOk r (SameParts w) = IfOk-within client_in with_client (asked_for message handler) w (SameParts w) (client-same w (asked_for message handler client)) in
+    let same : IfOk r (SameParts w) = IfOk-within client_in with_client (asked_for message handler)
+    w (SameParts w) (client-same w (asked_for message handler client)) in
     IfOk-weaker r (λ v. Goes w v × SameParts w v) (Kept w) (both-of r (Goes w) (SameParts w) (asking-goes message handler w) same)
     (λ v (goes, stays). record { board = stays.0; files = stays.1; told = goes.told })
 
@@ -198,7 +201,8 @@ record Publishes (list : List Published) (w v : TurnState State) : Type 0 where
   state : v.state ≡ w.state
   told : told_in v.out ≡ told_in w.out ++ list
 
-at-publishes : (o : Option (List ℕ)) (file : FileId) (w : TurnState State) → Publishes (published_as_at w.state.board file o) w (published_at o file w)
+at-publishes : (o : Option (List ℕ)) (file : FileId) (w : TurnState State)
+    → Publishes (published_as_at w.state.board file o) w (published_at o file w)
 unfolding published_at written
 at-publishes None file w = record { state = refl; told = sym (append-nil _) }
 at-publishes (Some path) file w = record {
@@ -222,7 +226,8 @@ all-publish (file ∷ files) w =
           ∙ append_assoc (told_in w.out) first (published_of w.state.files w.state.board files);
     }
 
-some-publish : (o : Option (List FileId)) (w : TurnState State) → Publishes (published_of w.state.files w.state.board (files_taken o)) w (files_published o w)
+some-publish : (o : Option (List FileId)) (w : TurnState State)
+    → Publishes (published_of w.state.files w.state.board (files_taken o)) w (files_published o w)
 some-publish None w = record { state = refl; told = sym (append-nil _) }
 some-publish (Some files) w = all-publish files w
 
@@ -327,4 +332,5 @@ timer-kept w =
 pub closed-kept : (facts : FactsBefore) (w : TurnState State) → IfOk (turn_closed facts w) (Kept w)
 closed-kept facts w =
     kept-then (desk_kept facts.ordered w) _ w (desk-kept-kept facts.ordered w)
-    (λ v. kept-on v (revised facts.revision v) (timer_set (revised facts.revision v)) (revised-kept facts.revision v) (timer-kept (revised facts.revision v)))
+    (λ v. kept-on v (revised facts.revision v) (timer_set (revised facts.revision v)) (revised-kept facts.revision v)
+    (timer-kept (revised facts.revision v)))

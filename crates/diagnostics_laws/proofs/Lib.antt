@@ -10,6 +10,7 @@ pub mod SoundingFiles
 pub mod Standing
 pub mod StandingShown
 pub mod Starting
+pub mod StoringBatches
 pub mod StoringChecks
 pub mod StoringGenerations
 pub mod StoringRuns

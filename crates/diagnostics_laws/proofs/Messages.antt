@@ -1,12 +1,11 @@
 -- What an event, a switch and files that are processed do on the board fits the session, and publishes nothing.
 use Rattle.std.proofs.Common.{◌≡◌, ℕ, ◌≤◌, List, [], ◌∷◌, ◌++◌, Bool, true, false, refl, sym, ap, ◌∙◌, subst}
-use Rattle.std.specs.Prelude.{Option, None, Some, is_some, Result, Ok, Err, IfOk, if◌then◌else◌}
+use Rattle.std.specs.Prelude.{◌&&◌, cond, nat_eq, Option, None, Some, is_some, Result, Ok, Err, IfOk, if◌then◌else◌}
 use Rattle.std.specs.Option.{option_map}
 use Rattle.std.specs.FinMap as map
 use Rattle.plain.specs.Texts.{text_cmp}
-use Rattle.docs_vfs.specs.FileLaws.{number_at}
 use Rattle.docs_vfs.specs.FileUrls.{path_of}
-use Rattle.docs_vfs.specs.Files.{Files, file_id_of, id_by, id_in, path_at}
+use Rattle.docs_vfs.specs.Files.{Files, id_by, id_in, path_at}
 use Rattle.docs_vfs.specs.declared.file_kinds.ChangedFile.{ChangedFile}
 use Rattle.docs_vfs.specs.declared.file_kinds.FileExcluded.{FileExcluded}
 use Rattle.docs_vfs.specs.declared.file_kinds.FileExcluded.TheVariants.{No, Yes}
@@ -17,21 +16,26 @@ use Rattle.docs_vfs.specs.declared.file_kinds.RowState.TheVariants.{Nothing as N
 use Rattle.docs_vfs.specs.declared.file_url.UrlFault.{UrlFault}
 use Rattle.lsp_frame.specs.declared.message.Request.{Request}
 use Rattle.lsp_frame.specs.declared.message.Response.{Response}
-use Rattle.lsp_frame.specs.declared.message.Message.TheVariants.{Request as RequestMessage, Notification as NotificationMessage, Response as ResponseMessage}
+use Rattle.lsp_frame.specs.declared.message.Message.TheVariants.{Request as RequestMessage, Notification as NotificationMessage}
+use Rattle.lsp_frame.specs.declared.message.Message.TheVariants.{Response as ResponseMessage}
 use Rattle.lsp_types.specs.declared.diagnostic.Diagnostic.{Diagnostic}
 use Rattle.method_table.specs.declared.class.PoolClass.TheVariants.{Worker}
 use Rattle.op_board.specs.Acts.{Act, gives, step as after_act}
-use Rattle.op_board.specs.Acts.Act.{Adds, Clears, ForgetsAll}
+use Rattle.op_board.specs.Acts.Act.{Adds, Clears, ForgetsAll, Gives}
 use Rattle.op_board.specs.Board.{Board}
+use Rattle.op_board.specs.Runs.{same_file, same_pass}
+use Rattle.op_board.specs.declared.diagnostic.NativePass.{NativePass}
 use Rattle.project_model.specs.declared.crates.CrateData.{CrateData}
 use Rattle.serde_json.specs.Data.{Data}
 use Rattle.change_effects.specs.declared.effects.ChangeEffects.{ChangeEffects}
 use Rattle.change_effects.specs.declared.effects.SettingsFile.{SettingsFile}
+use Rattle.session_port.specs.Jobs.{Jobs, after_batch, jobs_after}
 use Rattle.session_port.specs.TurnState.{TurnState, and_then, logged, ordered, written}
 use Rattle.session_port.specs.declared.command.Command.TheVariants.{Defer, Invalidate}
 use Rattle.session_port.specs.declared.command.DeferredTask.{DeferredTask}
 use Rattle.session_port.specs.declared.command.DeferredTask.TheVariants.{CheckIfIndexed, CheckProcMacroSources}
-use Rattle.session_port.specs.declared.command.LogCode.TheVariants.{BuildError, CheckUnknownFile, FetchError, SecondSettingsFile, SettingsError, UnknownResponse, UnknownSave}
+use Rattle.session_port.specs.declared.command.LogCode.TheVariants.{BuildError, FetchError, SecondSettingsFile, SettingsError}
+use Rattle.session_port.specs.declared.command.LogCode.TheVariants.{UnknownSave}
 use Rattle.session_port.specs.declared.event.LoaderMsg.{LoaderMsg}
 use Rattle.session_port.specs.declared.event.TaskMsg.{TaskMsg}
 use Rattle.session_port.specs.declared.fault.Counter.{Counter}
@@ -41,7 +45,6 @@ use Rattle.client.specs.Answers.{chooses, fault_in}
 use Rattle.client.specs.Client.{Client}
 use Rattle.client.specs.Folds.{follows}
 use Rattle.client.specs.Steps.{answered, folders_changed, followed, logged_if, notification_of}
-use Rattle.client.specs.Texts.{id_text}
 use Rattle.client.specs.declared.handler.ReqHandler.{ReqHandler}
 use Rattle.client.specs.declared.handler.ReqHandler.TheVariants.{Ignore, OpenLogs, Settings}
 use Rattle.notify.specs.declared.notice.DidChange.{DidChange}
@@ -51,7 +54,7 @@ use Rattle.notify.specs.declared.notice.Notice.TheVariants as notices
 use Rattle.notify.specs.declared.outgo.Outgo.TheVariants.{Configuration, OpenLogs as OpenLogsMessage}
 use Rattle.desk.specs.Desk.{Desk}
 use Rattle.desk.specs.Meaning.{Meaning}
-use Rattle.desk.specs.Steps.{cancelled, counted as counted_at_desk, handed_over, requested, result_taken as taken_at_desk}
+use Rattle.desk.specs.Steps.{cancelled, counted as counted_at_desk, requested, result_taken as taken_at_desk}
 use Rattle.desk.specs.WorkEnds.{BuildEnd, FetchEnd, LoadEnd, work_ended}
 use Rattle.desk.specs.declared.state.ends.WorkEnd.{WorkEnd}
 use Rattle.desk.specs.declared.state.ends.WorkEnd.TheVariants.{Fetched, Built, Checked, Loaded, Diagnosed, Tested}
@@ -67,17 +70,23 @@ use Rattle.workspaces.specs.declared.follows.Follows.TheVariants.{Nothing, Crate
 use Rattle.session_model.specs.Building.{build_kept, request_told}
 use Rattle.session_model.specs.Checking.{check_kept, check_kind}
 use Rattle.session_model.specs.Crates.{builds_crates, crate_data, is_unknown}
-use Rattle.session_model.specs.Diagnosing.{deleted_cleared, found_in, is_deletion, lists_cleared, lists_given, outdated_act, tests_told}
+use Rattle.session_model.specs.Diagnosing.{deleted_cleared, found_in, is_deletion, lists_cleared, outdated_act, tests_told}
 use Rattle.session_model.specs.Fetching.{fetch_kept, folders_told_if, settings_told, with_fetches}
 use Rattle.session_model.specs.Hearing.{heard_of}
+use Rattle.session_model.specs.Inputs.{batch_of}
 use Rattle.session_model.specs.Loading.{crates_loaded, load_kept}
-use Rattle.session_model.specs.Machine.{all_resumed, answer_taken, at_board, at_desk, at_files, at_workspaces, batched, build_taken, check_told, checks_told, client_in}
-use Rattle.session_model.specs.Machine.{crates_arrived, crates_built, desk_in, document_changed_at, document_closed_at, document_opened_at, effects_done, end_taken}
-use Rattle.session_model.specs.Machine.{event_taken, fetch_taken, fetch_waits, file_changed, files_changed, files_done, files_followed, files_processed, files_processed_if}
-use Rattle.session_model.specs.Machine.{folders_taken, found_added, further_logged, happened, load_taken, loader_set, loader_taken, macros_taken, message_taken, news_taken, noticed}
-use Rattle.session_model.specs.Machine.{received, request_taken, resumed, roots_renewed, save_noted, saved_at, settings_filed, sources_deferred, switch_done, switch_followed}
-use Rattle.session_model.specs.Machine.{switch_taken, told, turn_counted, warned, watchers_registered, with_client, with_desk, with_sources, work_taken}
-use Rattle.session_model.specs.Run.{turn_start}
+use Rattle.session_model.specs.Machine.{all_resumed, answer_taken, at_board, at_desk, at_files, at_workspaces, batched, build_taken, check_told}
+use Rattle.session_model.specs.Machine.{checks_told}
+use Rattle.session_model.specs.Machine.{crates_arrived, crates_built, desk_in, document_changed_at, document_closed_at, document_opened_at}
+use Rattle.session_model.specs.Machine.{effects_done, end_taken}
+use Rattle.session_model.specs.Machine.{event_taken, fetch_taken, fetch_waits, file_changed, files_changed, files_done, files_followed}
+use Rattle.session_model.specs.Machine.{files_processed, files_processed_if}
+use Rattle.session_model.specs.Machine.{folders_taken, found_added, further_logged, happened, load_taken, loader_set, loader_taken, macros_taken}
+use Rattle.session_model.specs.Machine.{message_taken, news_taken, noticed}
+use Rattle.session_model.specs.Machine.{received, request_taken, resumed, roots_renewed, save_noted, saved_at, settings_filed, sources_deferred}
+use Rattle.session_model.specs.Machine.{switch_done, switch_followed}
+use Rattle.session_model.specs.Machine.{switch_taken, told, turn_counted, warned, watchers_registered, with_client, with_desk, with_sources}
+use Rattle.session_model.specs.Machine.{work_taken}
 use Rattle.session_model.specs.Saving.{path_saved}
 use Rattle.session_model.specs.Sources.{change_for, client_with, further_files, parents_told}
 use Rattle.session_model.specs.State.{State, columns_in, excludes_in, goes_by_folders, scene_of, snapshot_of}
@@ -88,21 +97,27 @@ use Rattle.session_model.specs.declared.heard.Heard.{Heard}
 use Rattle.session_model.specs.declared.heard.Heard.TheVariants.{Told, Malformed, Unhandled, Silent}
 use Rattle.session_model.specs.declared.input.Event.{Event}
 use Rattle.session_model.specs.declared.input.Event.TheVariants.{Lsp, Task, Vfs, Deferred, News, Timer}
+use Rattle.session_model.specs.declared.input.Input.{Input}
+use Rattle.session_model.specs.declared.input.Input.TheVariants.{Next}
 use Rattle.session_model.specs.declared.input.News.{News as NewsData}
 use Rattle.session_model.specs.declared.input.News.TheVariants as told_news
 use Rattle.diagnostics_laws.proofs.KeyedBools.{none-some, some-is}
-use Rattle.diagnostics_laws.proofs.MessagesEnds.{AreKnown, EndFits, JobsFit, among-fit, ended-fits, gives-fit}
-use Rattle.diagnostics_laws.proofs.Sounding.{Goes, acts-one, asked_if-goes, asking-goes, client-goes, desk-goes, files-goes, goes-generation, goes-if, goes-on, goes-then, itself}
-use Rattle.diagnostics_laws.proofs.Sounding.{logged-goes, logged_if-goes, notified-goes, ordered-goes, still, told-none, told_in, warned-goes, workspaces-go}
-use Rattle.diagnostics_laws.proofs.SoundingDesk.{DeskStep, after-among, cancelled-step, counted-step, requested-step, spawned-step, taken-step}
+use Rattle.diagnostics_laws.proofs.MessagesEnds.{AreKnown, EndFits, JobsFit, ended-fits, gives-fit}
+use Rattle.diagnostics_laws.specs.Batches.{brought_by, brought_past, list_among}
+use Rattle.diagnostics_laws.proofs.Sounding.{AreAmong, Bringing, Goes, GoesBy, acts-one, brings_none, goes-by, left_out, asked_if-goes, asking-goes}
+use Rattle.diagnostics_laws.proofs.Sounding.{client-goes, desk-goes, files-goes, goes-generation, goes-if, goes-on, goes-then, itself}
+use Rattle.diagnostics_laws.proofs.Sounding.{logged-goes, logged_if-goes, notified-goes, ordered-goes, still, told-none, told_in, warned-goes}
+use Rattle.diagnostics_laws.proofs.Sounding.{workspaces-go}
+use Rattle.diagnostics_laws.proofs.SoundingDesk.{DeskStep, EndStep, after-among, cancelled-step, counted-step, requested-step, spawned-step, taken-step}
 use Rattle.diagnostics_laws.proofs.SoundingFiles.{changed-step, closed-step, crates-step, loaded-step, opened-step, processed-step}
-use Rattle.diagnostics_laws.proofs.StoringGenerations.{Fits, IsKnown, all-fit-grown}
+use Rattle.diagnostics_laws.proofs.StoringBatches.{Lists, last_given}
+use Rattle.diagnostics_laws.proofs.StoringGenerations.{Fits}
 
 -- ---- files that changed
 
 deletion-goes : (b : Bool) (file : ChangedFile) (w : TurnState State)
     → Goes w (at_board (λ board. if b then after_act (Clears file.file) board else board) w)
-deletion-goes true file w = acts-one (Clears file.file) w tt
+deletion-goes true file w = acts-one (Clears file.file) w tt (λ pass generation file run. refl)
 deletion-goes false file w = still w _ refl refl refl refl
 
 deleted-go : (files : List ChangedFile) (w : TurnState State) → Goes w (at_board (deleted_cleared files) w)
@@ -121,7 +136,10 @@ filed-goes : (files : List SettingsFile) (w : TurnState State) → Goes w (setti
 unfolding settings_filed
 filed-goes files w =
     let change = change_for files w.state.files.host.world.roots w.state.sources w.state.workspaces.present in
-    let put : TurnState State = record w { state = with_sources (parents_told w.state.sources) (with_client (client_with change w.state.client) w.state) } in
+    let put : TurnState State = record w {
+      state = with_sources (parents_told w.state.sources)
+          (with_client (client_with change w.state.client) w.state);
+    } in
     goes-on w put _ (still w put refl refl refl refl) (further-go (further_files change) put)
 
 deferred-goes : (sources : Option (List FileId)) (w : TurnState State) → Goes w (sources_deferred sources w)
@@ -197,17 +215,19 @@ opened-goes : (o : Result (List ℕ) UrlFault) (document : DidOpen) (w : TurnSta
 unfolding document_opened_at
 opened-goes (Err fault) document w = logged-goes _ document.uri w
 opened-goes (Ok path) document w =
-    files-goes _ w (opened-step (excludes_in w.state.client.settings) path document.version document.text (record { state = w.state.files; out = w.out }))
+    files-goes _ w (opened-step (excludes_in w.state.client.settings) path document.version
+    document.text (record { state = w.state.files; out = w.out }))
 
 changed-goes : (o : Result (List ℕ) UrlFault) (change : DidChange) (w : TurnState State) → IfOk (document_changed_at o change w) (Goes w)
 unfolding document_changed_at
 changed-goes (Err fault) change w = logged-goes _ change.uri w
 changed-goes (Ok path) change w =
-    files-goes _ w (changed-step (columns_in w.state.client.settings) path change.version change.changes (record { state = w.state.files; out = w.out }))
+    files-goes _ w (changed-step (columns_in w.state.client.settings) path change.version
+    change.changes (record { state = w.state.files; out = w.out }))
 
 cleared-goes : (o : Option (FileId × FileExcluded)) (w : TurnState State) → Goes w (at_board (lists_cleared o) w)
 cleared-goes None w = still w _ refl refl refl refl
-cleared-goes (Some file) w = acts-one (Clears file.0) w tt
+cleared-goes (Some file) w = acts-one (Clears file.0) w tt (λ pass generation file run. refl)
 
 closed-goes : (o : Result (List ℕ) UrlFault) (uri : List ℕ) (w : TurnState State) → IfOk (document_closed_at o uri w) (Goes w)
 unfolding document_closed_at
@@ -228,7 +248,8 @@ unfolding saved_at
 saved-goes (Err fault) uri w = logged-goes _ uri w
 saved-goes (Ok path) uri w =
     let noted : TurnState State = save_noted (is_unknown w.state.files.ids path) path w in
-    goes-on w noted _ (noted-goes (is_unknown w.state.files.ids path) path w) (workspaces-go (path_saved w.state.client.settings w.state.files path) noted)
+    goes-on w noted _ (noted-goes (is_unknown w.state.files.ids path) path w)
+    (workspaces-go (path_saved w.state.client.settings w.state.files path) noted)
 
 reread-goes : (url : List ℕ) (o : Result (List ℕ) UrlFault) (w : TurnState State) → Goes w (file_changed url o w)
 unfolding file_changed
@@ -266,7 +287,7 @@ told-goes (notices.DidChangeWorkspaceFolders added removed) w = folders-go added
 told-goes (notices.DidChangeWatchedFiles urls) w = watched-go map.empty urls w
 told-goes (notices.CancelProgress token) w = itself w
 told-goes notices.CancelFlycheck w = itself w
-told-goes notices.ClearFlycheck w = acts-one ForgetsAll w tt
+told-goes notices.ClearFlycheck w = acts-one ForgetsAll w tt (λ pass generation file run. refl)
 told-goes (notices.RunFlycheck uri) w = itself w
 told-goes notices.AbortRunTest w = itself w
 
@@ -319,7 +340,8 @@ fetch-taken-goes found w =
     let kept : TurnState State = at_workspaces (fetch_kept found) w in
     let v : TurnState State = at_board (after_act ForgetsAll) kept in
     goes-on w kept _ (workspaces-go (fetch_kept found) w)
-    (goes-on kept v _ (acts-one ForgetsAll kept tt) (logged_if-goes FetchError (fetch_fault v.state.client.settings v.state.workspaces) v))
+    (goes-on kept v _ (acts-one ForgetsAll kept tt (λ pass generation file run. refl))
+    (logged_if-goes FetchError (fetch_fault v.state.client.settings v.state.workspaces) v))
 
 build-taken-goes : (made : BuildEnd) (w : TurnState State) → Goes w (build_taken made w)
 unfolding build_taken
@@ -348,7 +370,38 @@ load-goes : (told : LoadEnd) (w : TurnState State) → IfOk (load_taken told w) 
 unfolding load_taken
 load-goes told w = goes-then (macros_taken told w) _ w (macros-go told w) (processed_if-goes (is_some (crates_loaded told w.state.workspaces)))
 
-work-goes : (end : WorkEnd) (w : TurnState State) → EndFits w.state.board.generation w.state.files.table (Some end) → IfOk (work_taken end w) (Goes w)
+-- one list of several
+one-brings : (t u v : Bool) (new : List Diagnostic) (old : Lists) (later : Lists → Lists)
+    → (if t && v then later (cond (t && u && v) (Some new) old) else cond (t && u && v) (Some new) old)
+    ≡ (if t && v then later (if u then Some new else old) else old)
+one-brings true true true new old later = refl
+one-brings true false true new old later = refl
+one-brings true true false new old later = refl
+one-brings true false false new old later = refl
+one-brings false u v new old later = refl
+
+gives-brings : (p : NativePass) (h : ℕ) (lists : List (FileId × List Diagnostic)) (acts : List Act) (pass : NativePass) (generation : ℕ)
+    (file : FileId)
+    (run : List Act) → last_given pass generation file (gives p h lists acts ++ run)
+    ≡ (if same_pass pass p && nat_eq generation h then list_among file lists (last_given pass generation file (acts ++ run))
+    else last_given pass generation file (acts ++ run))
+gives-brings p h [] acts pass generation file run = same-if (same_pass pass p && nat_eq generation h)
+  where
+    same-if : (b : Bool) → last_given pass generation file (acts ++ run)
+        ≡ (if b then last_given pass generation file (acts ++ run) else last_given pass generation file (acts ++ run))
+    same-if true = refl
+    same-if false = refl
+gives-brings p h (one ∷ lists) acts pass generation file run =
+    gives-brings p h lists (Gives p h one.0 one.1 ∷ acts) pass generation file run
+    ∙ one-brings (same_pass pass p) (same_file file one.0) (nat_eq generation h)
+    one.1 (last_given pass generation file (acts ++ run)) (list_among file lists)
+
+-- what an end of a job brings
+abbrev EndGoes : Option WorkEnd → TurnState State → TurnState State → Type 0
+EndGoes end w v = GoesBy (λ pass generation file before. brought_by end pass generation file before) left_out w v
+
+work-goes : (end : WorkEnd) (w : TurnState State) → EndFits w.state.board.generation w.state.files.table (Some end)
+    → IfOk (work_taken end w) (EndGoes (Some end) w)
 unfolding work_taken
 work-goes (Fetched found) w fits = fetch-taken-goes found w
 work-goes (Built made) w fits = build-taken-goes made w
@@ -358,66 +411,95 @@ work-goes (Diagnosed generation pass lists) w fits = record {
   acts = gives pass generation lists [];
   board = refl;
   fits = gives-fit w.state.files.table w.state.board.generation generation pass lists [] fits.0 fits.1 tt;
+  given = λ p g file run. gives-brings pass generation lists [] p g file run;
   told = refl;
   grows = λ file path is. is;
-  jobs = λ number job is. is;
+  jobs = refl;
 }
 work-goes (Tested files tests) w fits = notified-goes (tests_told w.state.files.table files tests) w refl
 
-end-goes : (end : Option WorkEnd) (w : TurnState State) → EndFits w.state.board.generation w.state.files.table end → IfOk (end_taken end w) (Goes w)
+end-goes : (end : Option WorkEnd) (w : TurnState State) → EndFits w.state.board.generation w.state.files.table end
+    → IfOk (end_taken end w) (EndGoes end w)
 unfolding end_taken
 end-goes None w fits = itself w
 end-goes (Some end) w fits = work-goes end w fits
 
 -- at the desk alone
-record Stays (w v : TurnState State) : Type 0 where
-  goes : Goes w v
+record StaysBut (left : Jobs → Jobs) (w v : TurnState State) : Type 0 where
+  goes : GoesBy brings_none left w v
   board : v.state.board ≡ w.state.board
   files : v.state.files ≡ w.state.files
 
 message-stays : (meaning : Meaning) (message : TaskMsg) (w : TurnState State)
-    → IfOk (at_desk (taken_at_desk meaning (scene_of w.state) message) w) (Stays w)
+    → IfOk (at_desk (taken_at_desk meaning (scene_of w.state) message) w) (StaysBut (jobs_after message) w)
 message-stays meaning message w =
     let desk : TurnState Desk = record { state = w.state.desk; out = w.out } in
-    IfOk-within desk_in with_desk (taken_at_desk meaning (scene_of w.state) message) w (Stays w)
-    (IfOk-weaker (taken_at_desk meaning (scene_of w.state) message desk) (DeskStep desk) _ (taken-step meaning (scene_of w.state) message desk)
+    IfOk-within desk_in with_desk (taken_at_desk meaning (scene_of w.state) message) w (StaysBut (jobs_after message) w)
+    (IfOk-weaker (taken_at_desk meaning (scene_of w.state) message desk) (EndStep message desk) _ (taken-step meaning (scene_of w.state) message desk)
     (λ v d. record {
-      goes = record { acts = []; board = refl; fits = tt; told = d.1; grows = λ file path is. is; jobs = d.0 };
+      goes = record {
+        acts = [];
+        board = refl;
+        fits = tt;
+        given = λ pass generation file run. refl;
+        told = d.1;
+        grows = λ file path is. is;
+        jobs = d.0;
+      };
       board = refl;
       files = refl;
     }))
 
+-- what a message brings
+abbrev MessageGoes : TaskMsg → TurnState State → TurnState State → Type 0
+MessageGoes message w v =
+    GoesBy (λ pass generation file before. brought_by (work_ended message w.state.desk.jobs) pass generation file before) (jobs_after message) w v
+
 message-goes : (meaning : Meaning) (message : TaskMsg) (w : TurnState State) → JobsFit w.state.board.generation w.state.files.table w.state.desk.jobs
-    → IfOk (message_taken meaning message w) (Goes w)
+    → IfOk (message_taken meaning message w) (MessageGoes message w)
 unfolding message_taken
 message-goes meaning message w fit =
     let end = work_ended message w.state.desk.jobs in
-    IfOk-and_then (at_desk (taken_at_desk meaning (scene_of w.state) message) w) (end_taken end) (Stays w) (Goes w) (message-stays meaning message w)
-    (λ v s. IfOk-weaker (end_taken end v) (Goes v) (Goes w)
+    IfOk-and_then (at_desk (taken_at_desk meaning (scene_of w.state) message) w) (end_taken end) (StaysBut (jobs_after message) w)
+    (MessageGoes message w)
+    (message-stays meaning message w)
+    (λ v s. IfOk-weaker (end_taken end v) (EndGoes end v) (MessageGoes message w)
     (end-goes end v
     (subst (λ (f : SessionFiles). EndFits v.state.board.generation f.table end) (sym s.files)
     (subst (λ n. EndFits n w.state.files.table end) (ap (λ (b : Board). b.generation) (sym s.board))
     (ended-fits w.state.board.generation w.state.files.table message w.state.desk.jobs fit))))
-    (λ u p. goes-on w v u s.goes p))
+    (λ u p. goes-by brings_none (λ pass generation file before. brought_by end pass generation file before) (jobs_after message) left_out w v u s.goes
+    p))
 
--- ended jobs are out no more, and the others still fit
-still-fit : (w v : TurnState State) → Goes w v → JobsFit w.state.board.generation w.state.files.table w.state.desk.jobs
-    → JobsFit v.state.board.generation v.state.files.table v.state.desk.jobs
-still-fit w v g h = λ number job generation pass files is kind.
-    let fit = h number job generation pass files (g.jobs number job is) kind in
-    (subst (λ n. generation ≤ n) (sym (goes-generation w v g)) fit.0, known files fit.1)
+-- the jobs that are still out fit
+still-fit : (brings : Bringing) (left : Jobs → Jobs) (w v : TurnState State) → GoesBy brings left w v
+    → AreAmong (left w.state.desk.jobs) w.state.desk.jobs
+    → JobsFit w.state.board.generation w.state.files.table w.state.desk.jobs → JobsFit v.state.board.generation v.state.files.table v.state.desk.jobs
+still-fit brings left w v g among h = λ number job generation pass files is kind.
+    let fit = h number job generation pass files (among number job (ap (λ (js : Jobs). map.get js number) (sym g.jobs) ∙ is)) kind in
+    (subst (λ n. generation ≤ n) (sym (goes-generation brings left w v g)) fit.0, known files fit.1)
   where
-    known : (files : List FileId) → AreKnown w.state.files.table files
-        → AreKnown v.state.files.table files
+    known : (files : List FileId) → AreKnown w.state.files.table files → AreKnown v.state.files.table files
     known [] k = tt
     known (file ∷ files) k = ((k.0.0, g.grows file k.0.0 k.0.1), known files k.1)
 
+-- what a batch brings
+abbrev pub BatchGoes : List TaskMsg → TurnState State → TurnState State → Type 0
+BatchGoes batch w v =
+    GoesBy (λ pass generation file before. brought_past batch w.state.desk.jobs pass generation file before) (after_batch batch) w v
+
 batch-goes : (meaning : Meaning) (batch : List TaskMsg) (w : TurnState State) → JobsFit w.state.board.generation w.state.files.table w.state.desk.jobs
-    → IfOk (batched meaning batch w) (Goes w)
+    → IfOk (batched meaning batch w) (BatchGoes batch w)
 batch-goes meaning [] w fit = itself w
 batch-goes meaning (m ∷ ms) w fit =
-    IfOk-and_then (message_taken meaning m w) (batched meaning ms) (Goes w) (Goes w) (message-goes meaning m w fit)
-    (λ v p. IfOk-weaker (batched meaning ms v) (Goes v) (Goes w) (batch-goes meaning ms v (still-fit w v p fit)) (λ u q. goes-on w v u p q))
+    let one : Bringing = λ pass generation file before. brought_by (work_ended m w.state.desk.jobs) pass generation file before in
+    IfOk-and_then (message_taken meaning m w) (batched meaning ms) (MessageGoes m w) (BatchGoes (m ∷ ms) w) (message-goes meaning m w fit)
+    (λ v p. IfOk-weaker (batched meaning ms v) (BatchGoes ms v) (BatchGoes (m ∷ ms) w)
+    (batch-goes meaning ms v (still-fit one (jobs_after m) w v p (after-among m w.state.desk.jobs) fit))
+    (λ u q. subst (λ (js : Jobs). GoesBy (λ pass generation file before. brought_past ms js pass generation file (one pass generation file before))
+    (after_batch (m ∷ ms)) w u) p.jobs
+    (goes-by one (λ pass generation file before. brought_past ms v.state.desk.jobs pass generation file before) (jobs_after m) (after_batch ms) w v u
+    p q)))
 
 -- ---- other events
 
@@ -452,11 +534,20 @@ pub known-by : (files : SessionFiles) (path : List ℕ) (e : FileId × FileExclu
     → path_at files.table e.0 ≡ Some path
 known-by files path e sound is = sound.numbered.path_of path e.0 (by-row (map.get files.table.rows path) e (sym (sound.numbers path) ∙ is))
 
-outdated-fits : (table : Files) (most id : ℕ) (of_package : Option (Option (List ℕ))) (older_than : Option ℕ) → Fits table most (outdated_act id of_package older_than)
+outdated-fits : (table : Files) (most id : ℕ) (of_package : Option (Option (List ℕ))) (older_than : Option ℕ)
+    → Fits table most (outdated_act id of_package older_than)
 outdated-fits table most id None None = tt
 outdated-fits table most id (Some of_package) None = tt
 outdated-fits table most id None (Some generation) = tt
 outdated-fits table most id (Some of_package) (Some generation) = tt
+
+outdated-brings : (id : ℕ) (of_package : Option (Option (List ℕ))) (older_than : Option ℕ) (pass : NativePass) (generation : ℕ) (file : FileId)
+    (run : List Act)
+    → last_given pass generation file (outdated_act id of_package older_than ∷ run) ≡ last_given pass generation file run
+outdated-brings id None None pass generation file run = refl
+outdated-brings id (Some of_package) None pass generation file run = refl
+outdated-brings id None (Some older) pass generation file run = refl
+outdated-brings id (Some of_package) (Some older) pass generation file run = refl
 
 -- the files stay
 record Checks (w v : TurnState State) : Type 0 where
@@ -470,7 +561,8 @@ unfolding found_added logged ordered
 found-checks id generation of_package path diagnostic fix None w is sound = record { goes = still w _ refl refl refl refl; files = refl }
 found-checks id generation of_package path diagnostic fix (Some (file, Yes)) w is sound = record { goes = itself w; files = refl }
 found-checks id generation of_package path diagnostic fix (Some (file, No)) w is sound = record {
-  goes = acts-one (Adds id generation of_package (found_in file diagnostic fix)) w (path, known-by w.state.files path (file, No) sound is);
+  goes = acts-one (Adds id generation of_package (found_in file diagnostic fix)) w (path, known-by w.state.files path (file, No) sound is)
+      (λ pass generation file run. refl);
   files = refl;
 }
 
@@ -479,7 +571,8 @@ unfolding check_told
 check-checks (checks.AddDiagnostic id generation of_package path diagnostic fix) w sound =
     found-checks id generation of_package path diagnostic fix (map.get w.state.files.ids path) w refl sound
 check-checks (checks.ClearDiagnostics id of_package older_than) w sound = record {
-  goes = acts-one (outdated_act id of_package older_than) w (outdated-fits w.state.files.table w.state.board.generation id of_package older_than);
+  goes = acts-one (outdated_act id of_package older_than) w (outdated-fits w.state.files.table w.state.board.generation id of_package older_than)
+      (outdated-brings id of_package older_than);
   files = refl;
 }
 check-checks (checks.Progress id progress) w sound = record { goes = itself w; files = refl }
@@ -498,8 +591,12 @@ news-goes (told_news.DiscoverProject messages) w sound = itself w
 
 -- ---- an event
 
+-- what an input brings
+abbrev pub InputGoes : Input → TurnState State → TurnState State → Type 0
+InputGoes input w v = BatchGoes (batch_of input) w v
+
 happened-goes : (meaning : Meaning) (event : Event) (w : TurnState State) → IsSound w.state.files
-    → JobsFit w.state.board.generation w.state.files.table w.state.desk.jobs → IfOk (happened meaning event w) (Goes w)
+    → JobsFit w.state.board.generation w.state.files.table w.state.desk.jobs → IfOk (happened meaning event w) (InputGoes (Next event) w)
 unfolding happened received
 happened-goes meaning (Lsp (RequestMessage r)) w sound fit = requested-goes meaning r w
 happened-goes meaning (Lsp (NotificationMessage n)) w sound fit = heard-goes (heard_of n) n.method w
@@ -510,22 +607,35 @@ happened-goes meaning (Deferred tasks) w sound fit = all-resumed-go tasks w
 happened-goes meaning (News news) w sound fit = news-goes news w sound
 happened-goes meaning (Timer ticket) w sound fit = workspaces-go (with_fetches (fire ticket)) w
 
-counted-stays : (w : TurnState State) → IfOk (turn_counted w) (Stays w)
+counted-stays : (w : TurnState State) → IfOk (turn_counted w) (StaysBut left_out w)
 unfolding turn_counted
 counted-stays w =
     let desk : TurnState Desk = record { state = w.state.desk; out = w.out } in
-    IfOk-within desk_in with_desk counted_at_desk w (Stays w)
+    IfOk-within desk_in with_desk counted_at_desk w (StaysBut left_out w)
     (IfOk-weaker (counted_at_desk desk) (DeskStep desk) _ (counted-step desk)
     (λ v d. record {
-      goes = record { acts = []; board = refl; fits = tt; told = d.1; grows = λ file path is. is; jobs = d.0 };
+      goes = record {
+        acts = [];
+        board = refl;
+        fits = tt;
+        given = λ pass generation file run. refl;
+        told = d.1;
+        grows = λ file path is. is;
+        jobs = d.0;
+      };
       board = refl;
       files = refl;
     }))
 
 pub event-goes : (meaning : Meaning) (event : Event) (w : TurnState State) → IsSound w.state.files
-    → JobsFit w.state.board.generation w.state.files.table w.state.desk.jobs → IfOk (event_taken meaning event w) (Goes w)
+    → JobsFit w.state.board.generation w.state.files.table w.state.desk.jobs → IfOk (event_taken meaning event w) (InputGoes (Next event) w)
 unfolding event_taken
 event-goes meaning event w sound fit =
-    IfOk-and_then (turn_counted w) (happened meaning event) (Stays w) (Goes w) (counted-stays w)
-    (λ v s. IfOk-weaker (happened meaning event v) (Goes v) (Goes w)
-    (happened-goes meaning event v (subst IsSound (sym s.files) sound) (still-fit w v s.goes fit)) (λ u p. goes-on w v u s.goes p))
+    let batch : List TaskMsg = batch_of (Next event) in
+    IfOk-and_then (turn_counted w) (happened meaning event) (StaysBut left_out w) (InputGoes (Next event) w) (counted-stays w)
+    (λ v s. IfOk-weaker (happened meaning event v) (InputGoes (Next event) v) (InputGoes (Next event) w)
+    (happened-goes meaning event v (subst IsSound (sym s.files) sound) (still-fit brings_none left_out w v s.goes (λ number job is. is) fit))
+    (λ u p. subst (λ (js : Jobs). GoesBy (λ pass generation file before. brought_past batch js pass generation file before) (after_batch batch) w u)
+    s.goes.jobs
+    (goes-by brings_none (λ pass generation file before. brought_past batch v.state.desk.jobs pass generation file before)
+    left_out (after_batch batch) w v u s.goes p)))

@@ -1,6 +1,6 @@
 -- What a job of diagnostics ends fits the session where the job does.
-use Rattle.std.proofs.Common.{◌≡◌, ℕ, ◌≤◌, List, [], ◌∷◌, Bool, true, false, refl, sym, ap, ◌∙◌, subst}
-use Rattle.std.specs.Prelude.{◌&&◌, ◌==◌, Option, None, Some, option_and_then, Result, Ok, Err, if◌then◌else◌}
+use Rattle.std.proofs.Common.{◌≡◌, ℕ, ◌≤◌, List, [], ◌∷◌, Bool, true, false, refl, sym, subst}
+use Rattle.std.specs.Prelude.{◌==◌, Option, None, Some, option_and_then, Result, Ok, Err, if◌then◌else◌}
 use Rattle.std.specs.FinMap as map
 use Rattle.std.proofs.lemmas.Bool.{eqb-true}
 use Rattle.docs_vfs.specs.Files.{Files}
@@ -9,7 +9,7 @@ use Rattle.lsp_types.specs.declared.diagnostic.Diagnostic.{Diagnostic}
 use Rattle.op_board.specs.Acts.{Act, gives}
 use Rattle.op_board.specs.Acts.Act.{Gives}
 use Rattle.op_board.specs.declared.diagnostic.NativePass.{NativePass}
-use Rattle.session_port.specs.Jobs.{Jobs, final_of, fits_job, fits_kind, fitting_job, has_files, if_fits_job}
+use Rattle.session_port.specs.Jobs.{Jobs, final_of, fits_job, fits_kind, has_files, if_fits_job}
 use Rattle.session_port.specs.declared.event.TaskBody.{TaskBody}
 use Rattle.session_port.specs.declared.event.TaskBody.TheVariants.{Begin, Report, PrimeReport, Final}
 use Rattle.session_port.specs.declared.event.TaskMsg.{TaskMsg}
@@ -20,9 +20,10 @@ use Rattle.session_port.specs.declared.job.JobResult.{JobResult}
 use Rattle.session_port.specs.declared.job.JobResult.TheVariants.{Value, Fault, Cancelled, NoMemory}
 use Rattle.session_port.specs.declared.job.JobValue.{JobValue}
 use Rattle.session_port.specs.declared.job.JobValue.TheVariants as values
-use Rattle.desk.specs.WorkEnds.{build_end, check_end, empty_lists, fetch_end, lists_end, load_end, tests_end, value_or_reason, work_end_of, work_ended, work_told}
+use Rattle.desk.specs.WorkEnds.{build_end, check_end, empty_lists, fetch_end, lists_end, load_end, tests_end, value_or_reason, work_end_of}
+use Rattle.desk.specs.WorkEnds.{work_ended, work_told}
 use Rattle.desk.specs.declared.state.ends.WorkEnd.{WorkEnd}
-use Rattle.desk.specs.declared.state.ends.WorkEnd.TheVariants.{Fetched, Built, Checked, Loaded, Diagnosed, Tested}
+use Rattle.desk.specs.declared.state.ends.WorkEnd.TheVariants.{Diagnosed}
 use Rattle.diagnostics_laws.proofs.KeyedBools.{and-left, and-right, true-false}
 use Rattle.diagnostics_laws.proofs.StoringGenerations.{AllFit, IsKnown}
 use Rattle.diagnostics_laws.proofs.Sounding.{AreAmong}
@@ -124,7 +125,8 @@ tests-fit most table files (Cancelled saw) = tt
 tests-fit most table files NoMemory = tt
 
 lists-fit : (most : ℕ) (table : Files) (g : ℕ) (pass : NativePass) (files : List FileId) (result : JobResult)
-    → fits_kind (kinds.Diagnostics g pass files) result ≡ true → (g ≤ most) × AreKnown table files → EndFits most table (lists_end g pass files result)
+    → fits_kind (kinds.Diagnostics g pass files) result ≡ true → (g ≤ most) × AreKnown table files
+    → EndFits most table (lists_end g pass files result)
 lists-fit most table g pass files (Value (values.Json value)) fits h = tt
 lists-fit most table g pass files (Value (values.Diagnostics lists)) fits h = (h.0, lists-known table files lists fits h.1)
 lists-fit most table g pass files (Value (values.Tests tests)) fits h = tt
@@ -138,7 +140,8 @@ lists-fit most table g pass files (Cancelled saw) fits h = tt
 lists-fit most table g pass files NoMemory fits h = tt
 
 kind-fits : (most : ℕ) (table : Files) (job : Job) (kind : JobKind) (result : JobResult) → job.kind ≡ kind
-    → ((generation : ℕ) (pass : NativePass) (files : List FileId) → job.kind ≡ kinds.Diagnostics generation pass files → (generation ≤ most) × AreKnown table files)
+    → ((generation : ℕ) (pass : NativePass) (files : List FileId) → job.kind ≡ kinds.Diagnostics generation pass files → (generation ≤ most)
+    × AreKnown table files)
     → fits_kind kind result ≡ true → EndFits most table (work_end_of kind result)
 kind-fits most table job (kinds.Diagnostics g pass files) result is h fits = lists-fit most table g pass files result fits (h g pass files is)
 kind-fits most table job (kinds.Tests files) result is h fits = tests-fit most table files result
@@ -153,7 +156,8 @@ kind-fits most table job (kinds.FetchBuildData version) result is h fits = build
 kind-fits most table job (kinds.LoadProcMacros paths ignored) result is h fits = load-fits most table (value_or_reason result)
 
 body-fits : (most : ℕ) (table : Files) (job : Job) (body : TaskBody)
-    → ((generation : ℕ) (pass : NativePass) (files : List FileId) → job.kind ≡ kinds.Diagnostics generation pass files → (generation ≤ most) × AreKnown table files)
+    → ((generation : ℕ) (pass : NativePass) (files : List FileId) → job.kind ≡ kinds.Diagnostics generation pass files → (generation ≤ most)
+    × AreKnown table files)
     → fits_job job body ≡ true → EndFits most table (option_and_then (work_end_of job.kind) (final_of body))
 body-fits most table job Begin h fits = tt
 body-fits most table job (Report text) h fits = tt
@@ -161,7 +165,8 @@ body-fits most table job (PrimeReport done total crates) h fits = tt
 body-fits most table job (Final result) h fits = kind-fits most table job job.kind result refl h fits
 
 told-fits : (most : ℕ) (table : Files) (message : TaskMsg) (job : Job) (b : Bool)
-    → ((generation : ℕ) (pass : NativePass) (files : List FileId) → job.kind ≡ kinds.Diagnostics generation pass files → (generation ≤ most) × AreKnown table files)
+    → ((generation : ℕ) (pass : NativePass) (files : List FileId) → job.kind ≡ kinds.Diagnostics generation pass files → (generation ≤ most)
+    × AreKnown table files)
     → fits_job job message.body ≡ b → EndFits most table (work_told message (if b then Some job else None))
 told-fits most table message job true h is = body-fits most table job message.body h is
 told-fits most table message job false h is = tt

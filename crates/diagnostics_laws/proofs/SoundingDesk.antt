@@ -1,11 +1,10 @@
 -- The desk publishes nothing, and hands no job out within a turn.
-use Rattle.std.proofs.Common.{◌≡◌, ℕ, List, [], ◌∷◌, ◌++◌, append-nil, Bool, true, false, refl, sym, ap, ◌∙◌}
+use Rattle.std.proofs.Common.{◌≡◌, ℕ, List, [], ◌++◌, append-nil, Bool, true, false, refl, sym, ap, ◌∙◌}
 use Rattle.std.specs.Prelude.{◌&&◌, not, ltb, Option, None, Some, is_some, cond, IfOk, if◌then◌else◌}
 use Rattle.std.specs.Cmp.{nat_cmp_total}
 use Rattle.std.specs.Ordering.{eq_by_cmp, nat_cmp}
 use Rattle.std.specs.FinMap as map
 use Rattle.lsp_frame.specs.Pending.{is_pending}
-use Rattle.lsp_frame.specs.declared.message.Message.{Message}
 use Rattle.lsp_frame.specs.declared.message.Request.{Request}
 use Rattle.lsp_frame.specs.declared.message.RequestId.{RequestId}
 use Rattle.lsp_frame.specs.declared.message.Response.{Response}
@@ -18,10 +17,9 @@ use Rattle.method_table.specs.declared.planned.Plan.TheVariants as plans
 use Rattle.method_table.specs.declared.row_id.RowId.{RowId}
 use Rattle.serde_json.specs.Data.{Data}
 use Rattle.analysis_host.specs.SnapshotData.{SnapshotData}
-use Rattle.session_port.specs.Jobs.{Jobs, final_of, fitting_job, jobs_after, without_ended, without_fitting}
+use Rattle.session_port.specs.Jobs.{Jobs, final_of, fitting_job, jobs_after, without_fitting}
 use Rattle.session_port.specs.Kinds.{AskedFor, asked_for}
 use Rattle.session_port.specs.TurnState.{TurnState, ordered}
-use Rattle.session_port.specs.declared.event.TaskBody.{TaskBody}
 use Rattle.session_port.specs.declared.event.TaskMsg.{TaskMsg}
 use Rattle.session_port.specs.declared.fault.Counter.TheVariants.{Jobs as JobsCounter, Turns}
 use Rattle.session_port.specs.declared.job.Job.{Job}
@@ -29,8 +27,9 @@ use Rattle.session_port.specs.declared.job.JobKind.{JobKind}
 use Rattle.session_port.specs.declared.job.JobResult.{JobResult}
 use Rattle.desk.specs.Desk.{Desk}
 use Rattle.desk.specs.Meaning.{Meaning, can_read}
-use Rattle.desk.specs.Reactions.{Reaction, cancel_row, class_row, final_row, fitting_row, if_read, message_row, method_row, new_row, outdated_row, planned_row}
-use Rattle.desk.specs.Reactions.{request_row, result_row, says, silent, shutdown_row, state_row, stopped_for_row, ticket_row}
+use Rattle.desk.specs.Reactions.{Reaction, cancel_row, class_row, final_row, fitting_row, if_read, message_row, method_row}
+use Rattle.desk.specs.Reactions.{planned_row}
+use Rattle.desk.specs.Reactions.{request_row, result_row, says, state_row, stopped_for_row, ticket_row}
 use Rattle.desk.specs.Replies.{outdated_reply}
 use Rattle.desk.specs.Scene.{Scene}
 use Rattle.desk.specs.Steps.{cancelled, counted, handed_over, requested, result_taken}
@@ -125,17 +124,16 @@ cancel-silent id desk = silent-if (is_pending id desk.pending) _ _ refl refl
 -- ---- steps
 
 abbrev pub DeskStep : TurnState Desk → TurnState Desk → Type 0
-DeskStep w v = AreAmong v.state.jobs w.state.jobs × (told_in v.out ≡ told_in w.out)
+DeskStep w v = (v.state.jobs ≡ w.state.jobs) × (told_in v.out ≡ told_in w.out)
 
-settled-step : (request : Option Request) (w v : TurnState Desk) (done : Reaction) (jobs : Jobs) → Settled request w v done jobs → IsSilent done
-    → AreAmong jobs w.state.jobs → DeskStep w v
-settled-step request w v done jobs s quiet among = (
-  λ number job is. among number job (ap (λ (js : Jobs). map.get js number) (sym s.out) ∙ is),
-  ap published_among s.written ∙ told-append w.out.messages done.messages ∙ ap (λ (ps : List Published). told_in w.out ++ ps) quiet ∙ append-nil _,
-)
+-- a message ends a job
+abbrev pub EndStep : TaskMsg → TurnState Desk → TurnState Desk → Type 0
+EndStep message w v = (v.state.jobs ≡ jobs_after message w.state.jobs) × (told_in v.out ≡ told_in w.out)
 
-same-among : (jobs : Jobs) → AreAmong jobs jobs
-same-among jobs = λ number job is. is
+settled-told : (request : Option Request) (w v : TurnState Desk) (done : Reaction) (jobs : Jobs) → Settled request w v done jobs → IsSilent done
+    → told_in v.out ≡ told_in w.out
+settled-told request w v done jobs s quiet =
+    ap published_among s.written ∙ told-append w.out.messages done.messages ∙ ap (λ (ps : List Published). told_in w.out ++ ps) quiet ∙ append-nil _
 
 left-by : (b : Bool) (o : Option Job) (job : Job) → cond b None o ≡ Some job → o ≡ Some job
 left-by true o job is = none-some job is
@@ -156,21 +154,23 @@ after-among message out = fitting-among (fitting_job message out) message out
 pub requested-step : (meaning : Meaning) (scene : Scene) (r : Request) (w : TurnState Desk) → IfOk (requested meaning scene r w) (DeskStep w)
 requested-step meaning scene r w =
     IfOk-weaker (requested meaning scene r w) _ (DeskStep w) (request-settles meaning scene r w)
-    (λ v s. settled-step (Some r) w v _ w.state.jobs s (request-silent meaning scene w.state w.state.turns r) (same-among w.state.jobs))
+    (λ v s. (s.out, settled-told (Some r) w v _ w.state.jobs s (request-silent meaning scene w.state w.state.turns r)))
 
-pub taken-step : (meaning : Meaning) (scene : Scene) (message : TaskMsg) (w : TurnState Desk) → IfOk (result_taken meaning scene message w) (DeskStep w)
+pub taken-step : (meaning : Meaning) (scene : Scene) (message : TaskMsg) (w : TurnState Desk)
+    → IfOk (result_taken meaning scene message w) (EndStep message w)
 taken-step meaning scene message w =
-    IfOk-weaker (result_taken meaning scene message w) _ (DeskStep w) (message-settles meaning scene message w)
-    (λ v s. settled-step None w v _ (jobs_after message w.state.jobs) s (message-silent meaning scene w.state message) (after-among message w.state.jobs))
+    IfOk-weaker (result_taken meaning scene message w) _ (EndStep message w) (message-settles meaning scene message w)
+    (λ v s. (s.out, settled-told None w v _ (jobs_after message w.state.jobs) s (message-silent meaning scene w.state message)))
 
 pub cancelled-step : (id : RequestId) (w : TurnState Desk) → DeskStep w (cancelled id w)
-cancelled-step id w = settled-step None w (cancelled id w) _ w.state.jobs (cancel-settles id w) (cancel-silent id w.state) (same-among w.state.jobs)
+cancelled-step id w =
+    let s = cancel-settles id w in (s.out, settled-told None w (cancelled id w) _ w.state.jobs s (cancel-silent id w.state))
 
 pub spawned-step : (snapshot : SnapshotData) (class : PoolClass) (kind : JobKind) (w : TurnState Desk)
     → IfOk (handed_over snapshot class kind w) (DeskStep w)
 unfolding ordered
-spawned-step snapshot class kind w = IfOk-next w.state.last_job JobsCounter _ (DeskStep w) (same-among w.state.jobs, refl)
+spawned-step snapshot class kind w = IfOk-next w.state.last_job JobsCounter _ (DeskStep w) (refl, refl)
 
 pub counted-step : (w : TurnState Desk) → IfOk (counted w) (DeskStep w)
 unfolding counted
-counted-step w = IfOk-next w.state.turns Turns _ (DeskStep w) (same-among w.state.jobs, refl)
+counted-step w = IfOk-next w.state.turns Turns _ (DeskStep w) (refl, refl)

@@ -2,9 +2,9 @@
 use Rattle.std.proofs.Common.{◌≡◌, ℕ, zero, suc, ◌-◌, ℤ, List, [], ◌∷◌, ◌++◌, append-nil, append_assoc, Bool, true, false, refl, sym, ap, ◌∙◌}
 use Rattle.std.specs.Prelude.{nat_lt, slice_get, ◌||◌, Option, None, Some, is_some, Result, Ok, Err, IfOk, if◌then◌else◌}
 use Rattle.std.specs.FinMap as map
-use Rattle.docs_vfs.specs.Files.{Files, file_id_of, is_full, is_marked, kept_at, mark_in, number_in, path_at, put_at, put_in, set_in, table_then, with_number}
+use Rattle.docs_vfs.specs.Files.{Files, file_id_of, is_full, is_marked, kept_at, mark_in, number_in, put_at, put_in, set_in, table_then}
+use Rattle.docs_vfs.specs.Files.{with_number}
 use Rattle.docs_vfs.specs.declared.file_kinds.ChangedFile.{ChangedFile}
-use Rattle.docs_vfs.specs.declared.file_kinds.FileId.{FileId}
 use Rattle.docs_vfs.specs.declared.file_kinds.FileRow.{FileRow}
 use Rattle.docs_vfs.specs.declared.file_kinds.RowState.{RowState}
 use Rattle.docs_vfs.specs.declared.file_kinds.RowState.TheVariants.{Excluded}
@@ -25,11 +25,15 @@ use Rattle.session_port.specs.declared.event.LoaderMsg.TheVariants.{Changed, Loa
 use Rattle.session_port.specs.declared.fault.Counter.{Counter}
 use Rattle.desk_laws.proofs.Results.{IfOk-and_then, IfOk-if, IfOk-weaker}
 use Rattle.session_files.specs.Changing.{has_skipped, text_after}
-use Rattle.session_files.specs.Folds.{after_changed, after_crates, after_each_changed, after_each_loaded, after_editing, after_loaded, after_loader_message}
-use Rattle.session_files.specs.Folds.{after_messages, after_opening, after_processing, changed_files, contents_put, crates_with, is_excluded_path, is_open}
-use Rattle.session_files.specs.Folds.{made_of, mark_put, table_put, taken_up, text_edited, text_put, version_put, with_changes, with_table, world_change, world_put}
+use Rattle.session_files.specs.Folds.{after_changed, after_crates, after_each_changed, after_each_loaded, after_editing, after_loaded}
+use Rattle.session_files.specs.Folds.{after_loader_message}
+use Rattle.session_files.specs.Folds.{after_messages, after_opening, after_processing, changed_files, contents_put, crates_with, is_excluded_path}
+use Rattle.session_files.specs.Folds.{is_open}
+use Rattle.session_files.specs.Folds.{made_of, mark_put, table_put, taken_up, text_edited, text_put, version_put, with_changes}
+use Rattle.session_files.specs.Folds.{world_change, world_put}
 use Rattle.session_files.specs.SessionFiles.{SessionFiles}
-use Rattle.session_files.specs.Steps.{become, changed_document, close_noted, closed_document, crates_put, edited_document, loaded, open_noted, opened_document, processed, skip_noted}
+use Rattle.session_files.specs.Steps.{become, changed_document, close_noted, closed_document, crates_put, edited_document, loaded, open_noted}
+use Rattle.session_files.specs.Steps.{opened_document, processed, skip_noted}
 use Rattle.session_files.specs.Texts.{holds_text}
 use Rattle.diagnostics_laws.proofs.KeyedBools.{none-some}
 use Rattle.diagnostics_laws.proofs.StoringGenerations.{Grows}
@@ -101,7 +105,8 @@ made-keeps : (path : List ℕ) (files : SessionFiles) (r : Result (Files × Bool
 made-keeps path files (Ok made) h = h
 made-keeps path files (Err fault) h = tt
 
-table-keeps : (path : List ℕ) (files : SessionFiles) (r : Result Files TableFault) → IfOk r (Longer files.table) → IfOk (table_put path r files) (KeepsPaths files)
+table-keeps : (path : List ℕ) (files : SessionFiles) (r : Result Files TableFault) → IfOk r (Longer files.table)
+    → IfOk (table_put path r files) (KeepsPaths files)
 table-keeps path files (Ok table) h = h
 table-keeps path files (Err fault) h = tt
 
@@ -149,7 +154,8 @@ changed-keeps file files =
 loaded-keeps : (file : LoadedFile) (files : SessionFiles) → IfOk (after_loaded file files) (KeepsPaths files)
 unfolding after_loaded
 loaded-keeps file files =
-    IfOk-if (is_open file.path files || is_some (file_id_of files.table file.path)) (Ok files) (contents_put file.path file.contents files) (KeepsPaths files)
+    IfOk-if (is_open file.path files || is_some (file_id_of files.table file.path)) (Ok files) (contents_put file.path file.contents files)
+    (KeepsPaths files)
     (longer-none files.table) (contents-keep file.path file.contents files)
 
 each-changed-keeps : (told : List LoadedFile) (files : SessionFiles) → IfOk (after_each_changed told files) (KeepsPaths files)
@@ -209,11 +215,13 @@ logged-silent : {S : Type 0} (code : LogCode) (text : List ℕ) (w : TurnState S
 unfolding logged ordered
 logged-silent code text w = refl
 
-noted-if : {S : Type 0} (b : Bool) (code : LogCode) (text : List ℕ) (w : TurnState S) → (if b then logged code text w else w).out.messages ≡ w.out.messages
+noted-if : {S : Type 0} (b : Bool) (code : LogCode) (text : List ℕ) (w : TurnState S)
+    → (if b then logged code text w else w).out.messages ≡ w.out.messages
 noted-if true code text w = logged-silent code text w
 noted-if false code text w = refl
 
-noted-unless : {S : Type 0} (b : Bool) (code : LogCode) (text : List ℕ) (w : TurnState S) → (if b then w else logged code text w).out.messages ≡ w.out.messages
+noted-unless : {S : Type 0} (b : Bool) (code : LogCode) (text : List ℕ) (w : TurnState S)
+    → (if b then w else logged code text w).out.messages ≡ w.out.messages
 noted-unless true code text w = refl
 noted-unless false code text w = logged-silent code text w
 

@@ -1,26 +1,31 @@
 -- What holds of the board and of what is shown behind each turn.
-use Rattle.std.proofs.Common.{◌≡◌, ℕ, ◌+◌, ◌≤◌, ◌⊎◌, inl, inr, length, List, [], ◌∷◌, ◌++◌, append_assoc, Bool, true, false, refl, sym, ap, ◌∙◌, subst, arith}
-use Rattle.std.specs.Prelude.{nat_eq, nat_lt, Option, None, Some, is_some, if◌then◌else◌}
+use Rattle.std.proofs.Common.{◌≡◌, ℕ, ◌+◌, ◌≤◌, ◌⊎◌, inl, inr, length, List, [], ◌∷◌, ◌++◌, append_assoc, Bool, true, false, refl, sym, ap, ◌∙◌}
+use Rattle.std.proofs.Common.{subst, arith}
+use Rattle.std.specs.Prelude.{cond, nat_eq, nat_lt, Option, None, Some, is_some, if◌then◌else◌}
 use Rattle.std.specs.FinMap as map
+use Rattle.std.specs.Cmp.{nat_cmp_total, unsigned_tied}
 use Rattle.std.specs.Ordering.{nat_cmp}
 use Rattle.std.proofs.lemmas.Bool.{eqb-true}
 use Rattle.std.proofs.lemmas.Result.{IfOk-at_ok}
 use Rattle.docs_vfs.specs.Files.{Files, path_at}
 use Rattle.docs_vfs.specs.declared.file_kinds.FileId.{FileId}
+use Rattle.lsp_types.specs.declared.diagnostic.Diagnostic.{Diagnostic}
 use Rattle.op_board.specs.Acts.{Act, after, step as after_act, steps}
 use Rattle.op_board.specs.Acts.Act.{Adds, Clears, Counts, Forgets, ForgetsAll, ForgetsIn, ForgetsOlder, ForgetsOlderIn, Gives, Takes}
-use Rattle.op_board.specs.Board.{Board, most_generations, new_board, next_generation}
+use Rattle.op_board.specs.Board.{Board, is_above, list_of, lists_of, most_generations, new_board, next_generation}
 use Rattle.op_board.specs.Changes.{ChangedSince, files_in as files_taken}
 use Rattle.op_board.specs.Marked.{taken}
-use Rattle.op_board.specs.Runs.{same_file}
-use Rattle.op_board.proofs.NativeRuns.{continued}
+use Rattle.op_board.specs.Diagnostics.{in_order}
+use Rattle.op_board.specs.Runs.{above, cleared_mark, last_generation, same_file}
+use Rattle.op_board.specs.declared.diagnostic.NativePass.{NativePass}
+use Rattle.op_board.specs.declared.diagnostic.NativePass.TheVariants.{Syntax, Semantic}
+use Rattle.op_board.proofs.NativeRuns.{continued, stored_is}
 use Rattle.op_board.proofs.Takes.{lists_changes}
 use Rattle.ra_config.specs.Config.{ConfigData}
 use Rattle.session_port.specs.Record.{spawned, with_jobs}
 use Rattle.session_port.specs.Jobs.{Jobs, after_batch}
 use Rattle.session_port.specs.TurnState.{TurnState}
 use Rattle.session_port.specs.declared.job.Job.{Job}
-use Rattle.desk.specs.Folds.{asked_among}
 use Rattle.desk.specs.Meaning.{Meaning}
 use Rattle.session_files.specs.Current.{IsSound}
 use Rattle.session_files.specs.SessionFiles.{SessionFiles}
@@ -30,7 +35,7 @@ use Rattle.session_model.specs.Machine.{Turning, step}
 use Rattle.session_model.specs.OwnJobs.{batch_jobs_due, batch_jobs_if, before_fetch, before_quiet, numbered_behind, own_jobs}
 use Rattle.session_model.specs.Places.{Place}
 use Rattle.session_model.specs.Rows.{turn_row}
-use Rattle.session_model.specs.Run.{Runs, Steps, Turn, turn_start}
+use Rattle.session_model.specs.Run.{Runs, Steps, Turn, out_after, turn_start}
 use Rattle.session_model.specs.State.{State, fresh}
 use Rattle.session_model.specs.declared.input.Event.{Event}
 use Rattle.session_model.specs.declared.input.Input.{Input}
@@ -40,7 +45,7 @@ use Rattle.session_laws.proofs.Answered.{runs-stand}
 use Rattle.session_laws.proofs.Handing.{turns-over}
 use Rattle.session_laws.proofs.Rows.{steps-fit}
 use Rattle.session_laws.proofs.Turns.{session_in}
-use Rattle.diagnostics_laws.specs.Batches.{HasGenerations}
+use Rattle.diagnostics_laws.specs.Batches.{HasGenerations, StoresBrought, brought_in, brought_past}
 use Rattle.diagnostics_laws.specs.Shown.{published_among}
 use Rattle.diagnostics_laws.proofs.Batching.{Kept, batch_board, due_in, published_of}
 use Rattle.diagnostics_laws.proofs.KeyedBools.{none-some, true-false}
@@ -48,7 +53,9 @@ use Rattle.diagnostics_laws.proofs.MessagesEnds.{JobsFit}
 use Rattle.diagnostics_laws.proofs.Publishing.{Took, start-kept, step-took}
 use Rattle.diagnostics_laws.proofs.Sounding.{told_in}
 use Rattle.diagnostics_laws.proofs.Starting.{GivenFits, OwnFit, batch-fits, out-fits, own-fits}
-use Rattle.diagnostics_laws.proofs.StoringGenerations.{AllFit, Fits, Grows, IsKnown, IsTimely, counts-timely, fit-takes-none, new-timely, steps-generation, steps-timely, takes-timely}
+use Rattle.diagnostics_laws.proofs.StoringBatches.{InTime, batch-stays, fit-in-time, last_given, run-generation}
+use Rattle.diagnostics_laws.proofs.StoringGenerations.{AllFit, Fits, Grows, IsKnown, IsTimely, counts-timely, fit-takes-none, new-timely, steps-generation}
+use Rattle.diagnostics_laws.proofs.StoringGenerations.{steps-timely, takes-timely}
 use Rattle.diagnostics_laws.proofs.StoringRuns.{AreApart, IsApart, TakesNone}
 
 -- ---- acts of a run
@@ -128,6 +135,9 @@ record IsCounted (due : Bool) (settings : ConfigData) (board : Board) : Type 0 w
   none : (others : List Act) → TakesNone others → TakesNone (acts ++ others)
   is : batch_board due settings board ≡ steps acts board
   named : (table : Files) → AreNamed table acts
+  in_time : (run : List Act) → InTime run → InTime (acts ++ run)
+  brings : (pass : NativePass) (generation : ℕ) (file : FileId) (run : List Act)
+      → last_given pass generation file (acts ++ run) ≡ last_given pass generation file run
   timely : IsTimely board → IsTimely (steps acts board)
   rises : ((steps acts board).generation ≡ board.generation) ⊎ ((steps acts board).generation ≡ board.generation + 1)
   given : due ≡ true → shows_diagnostics settings ≡ true → GivenFits (steps acts board).generation (next_generation board)
@@ -139,6 +149,8 @@ not-counted due settings board is given = record {
   none = λ others h. h;
   is = is;
   named = λ table. tt;
+  in_time = λ run h. h;
+  brings = λ pass generation file run. refl;
   timely = λ h. h;
   rises = inl refl;
   given = given;
@@ -157,6 +169,8 @@ left-by true settings board is shows = record {
   none = λ others h. h;
   is = ap (λ s. if s then counted board else board) shows ∙ ap (λ b. if is_some (one_more board b) then after_act Counts board else board) is;
   named = λ table. (tt, tt);
+  in_time = λ run h. h;
+  brings = λ pass generation file run. refl;
   timely = counts-timely board;
   rises = inr refl;
   given = λ due shown. subst (λ b. GivenFits (board.generation + 1) (one_more board b)) (sym is) (itself (board.generation + 1));
@@ -182,6 +196,7 @@ pub record Based (s : State) : Type 0 where
   pub board : s.board ≡ after run
   pub none : (file : FileId) → ChangedSince file run → ⊥
   pub named : AreNamed s.files.table run
+  pub in_time : InTime run
   pub marks : s.board.marked ≡ map.empty
   pub timely : IsTimely s.board
   pub few : s.board.generation ≤ s.desk.turns
@@ -198,6 +213,9 @@ pub record Advances (s : State) (turn : Turn) (mid : State) (base : Based s) : T
   pub told : published_among turn.messages
       ≡ published_of mid.files (after_act Takes (after (more ++ base.run))) (files_taken (taken (after (more ++ base.run)).marked))
   pub rises : (mid.board.generation ≡ s.board.generation) ⊎ (mid.board.generation ≡ s.board.generation + 1)
+  pub given : (pass : NativePass) (generation : ℕ) (file : FileId) → last_given pass generation file based.run
+      ≡ brought_past (batch_of turn.input) s.desk.jobs pass generation file (last_given pass generation file base.run)
+  pub jobs : mid.desk.jobs ≡ out_after turn s.desk.jobs
 
 low-or : (g n t u : ℕ) → g ≤ t → u ≡ t + 1 → (n ≡ g) ⊎ (n ≡ g + 1) → n ≤ u
 low-or g n t u low is (inl same) = omega (arith, low, is, same)
@@ -226,7 +244,8 @@ abbrev behind : Turn → State → TurnState State
 behind turn mid = record { state = mid; out = record { messages = turn.messages; commands = turn.commands } }
 
 -- a turn that takes an event
-event-advances : (meaning : Meaning) (s : State) (turn : Turn) (event : Event) (mid : State) (base : Based s) → turn.input ≡ Next event → Steps meaning s turn mid
+event-advances : (meaning : Meaning) (s : State) (turn : Turn) (event : Event) (mid : State) (base : Based s) → turn.input ≡ Next event
+    → Steps meaning s turn mid
     → Took meaning s event (behind turn mid) → Advances s turn mid base
 event-advances meaning s turn event mid base input steps_are took =
     let w : TurnState State = session_in took.t in
@@ -269,6 +288,10 @@ event-advances meaning s turn event mid base input steps_are took =
     subst (λ (i : Input). OwnFit mid.board.generation mid.files.table (own_jobs meaning i s)) (sym input)
     (own-fits mid.board.generation mid.files.table (Next event) s (before_fetch meaning (Next event) s)
     (batch_jobs_due (Next event) (before_quiet meaning (Next event) s)) batch_fits) in
+    let table : Files = w.state.files.table in
+    let run_last : s.board.generation ≡ last_generation base.run = ap (λ (b : Board). b.generation) base.board ∙ run-generation base.run in
+    let acts_in_time : InTime (acts ++ base.run) =
+    fit-in-time table acts base.run (subst (λ n. AllFit table n acts) run_last took.goes.fits) base.in_time in
     let told_first : told_in took.u.out ≡ [] = took.batched.told ∙ took.goes.told in
     let files_then : took.u.state.files ≡ mid.files = sym (took.kept.files ∙ took.takes.files) in
     record {
@@ -277,6 +300,7 @@ event-advances meaning s turn event mid base input steps_are took =
         board = board_is;
         none = λ file changed. changed;
         named = (tt, named);
+        in_time = subst InTime joined (counts.in_time (acts ++ base.run) acts_in_time);
         marks = ap (λ (b : Board). b.marked) board_is;
         timely = subst IsTimely (sym counted_board) (takes-timely (steps counts.acts w.state.board) (counts.timely timely_then));
         few = low-or s.board.generation mid.board.generation s.desk.turns mid.desk.turns base.few turns_are rises;
@@ -290,6 +314,11 @@ event-advances meaning s turn event mid base input steps_are took =
       told = took.kept.told ∙ took.takes.told
           ∙ (λ i. told_first i ++ published_of (files_then i) (after_act Takes (behind_batch i)) (files_taken (taken (behind_batch i).marked)));
       rises = rises;
+      given = λ pass generation file.
+          ap (last_given pass generation file) (sym joined) ∙ counts.brings pass generation file (acts ++ base.run)
+          ∙ took.goes.given pass generation file base.run
+          ∙ ap (λ (i : Input). brought_past (batch_of i) s.desk.jobs pass generation file (last_given pass generation file base.run)) (sym input);
+      jobs = ap (λ (p : Place). p.desk.jobs) fits.place;
     }
 
 -- the start
@@ -314,6 +343,7 @@ start-advances meaning s turn mid base input steps_are kept =
         board = board_is;
         none = base.none;
         named = subst (λ t. AreNamed t base.run) (sym table_is) base.named;
+        in_time = base.in_time;
         marks = ap (λ (x : Board). x.marked) kept.board ∙ base.marks;
         timely = subst IsTimely (sym kept.board) base.timely;
         few = subst (λ n. mid.board.generation ≤ n) (sym turns_are) (subst (λ n. n ≤ s.desk.turns) (sym generation_is) base.few);
@@ -326,6 +356,9 @@ start-advances meaning s turn mid base input steps_are kept =
       board = board_is ∙ (λ i. record b { marked = marks_are i });
       told = kept.told ∙ sym (ap (λ o. published_of mid.files (after_act Takes b) (files_taken o)) none_taken);
       rises = inl generation_is;
+      given = λ pass generation file.
+          ap (λ (i : Input). brought_past (batch_of i) s.desk.jobs pass generation file (last_given pass generation file base.run)) (sym input);
+      jobs = ap (λ (p : Place). p.desk.jobs) fits.place;
     }
 
 pub advances : (meaning : Meaning) (s : State) (turn : Turn) (mid : State) (base : Based s) → Steps meaning s turn mid → Advances s turn mid base
@@ -346,6 +379,7 @@ first-based meaning settings = record {
   board = refl;
   none = λ file changed. changed;
   named = tt;
+  in_time = tt;
   marks = refl;
   timely = new-timely;
   few = itself 0;
@@ -390,3 +424,74 @@ pub generations-rise : (meaning : Meaning) (settings : ConfigData) (turns : List
     → (new.board.generation ≡ last.board.generation) ⊎ (new.board.generation ≡ last.board.generation + 1)
 generations-rise meaning settings turns last turn new runs steps_are =
     (advances meaning last turn new (runs-reach meaning (fresh settings) turns last (first-based meaning settings) runs).based steps_are).rises
+
+-- ---- what jobs brought
+
+-- a run that goes on has what is brought past it
+record Brings (s : State) (turns : List Turn) (last : State) (base : Based s) : Type 0 where
+  based : Based last
+  given : (pass : NativePass) (generation : ℕ) (file : FileId) → last_given pass generation file based.run
+      ≡ brought_in turns s.desk.jobs pass generation file (last_given pass generation file base.run)
+
+runs-bring : (meaning : Meaning) (s : State) (turns : List Turn) (last : State) (base : Based s) → Runs meaning s turns last
+    → Brings s turns last base
+runs-bring meaning s [] last base runs = subst (λ (t : State). Brings s [] t base) (sym runs)
+    (record { based = base; given = λ pass generation file. refl })
+runs-bring meaning s (turn ∷ turns) last base (mid, steps_are, runs) =
+    let a = advances meaning s turn mid base steps_are in
+    let r = runs-bring meaning mid turns last a.based runs in
+    record {
+      based = r.based;
+      given = λ pass generation file.
+          r.given pass generation file ∙ ap (brought_in turns mid.desk.jobs pass generation file) (a.given pass generation file)
+          ∙ ap (λ (js : Jobs). brought_in turns js pass generation file
+          (brought_past (batch_of turn.input) s.desk.jobs pass generation file (last_given pass generation file base.run))) a.jobs;
+    }
+
+-- ---- marks of clears
+
+clear-by : (b : Bool) (m n : ℕ) (old mark : Option ℕ) → m ≡ n → old ≡ mark → cond b (Some m) old ≡ cond b (Some n) mark
+clear-by true m n old mark same is = ap Some same
+clear-by false m n old mark same is = is
+
+cleared-is : (file : FileId) (run : List Act) → map.get (after run).cleared file.0 ≡ cleared_mark file run
+cleared-is file [] = map.get-empty nat_cmp file.0
+cleared-is file (Counts ∷ run) = cleared-is file run
+cleared-is file (Gives Syntax g f list ∷ run) = cleared-is file run
+cleared-is file (Gives Semantic g f list ∷ run) = cleared-is file run
+cleared-is file (Clears f ∷ run) =
+    map.get-insert nat_cmp_total (after run).cleared f.0 (after run).generation file.0
+    ∙ ap (λ b. cond b (Some (after run).generation) (map.get (after run).cleared file.0)) (unsigned_tied file.0 f.0)
+    ∙ clear-by (same_file file f) (after run).generation (last_generation run) (map.get (after run).cleared file.0) (cleared_mark file run)
+    (run-generation run)
+    (cleared-is file run)
+cleared-is file (Adds id g name e ∷ run) = cleared-is file run
+cleared-is file (Forgets id ∷ run) = cleared-is file run
+cleared-is file (ForgetsIn id name ∷ run) = cleared-is file run
+cleared-is file (ForgetsOlder id g ∷ run) = cleared-is file run
+cleared-is file (ForgetsOlderIn id name g ∷ run) = cleared-is file run
+cleared-is file (ForgetsAll ∷ run) = cleared-is file run
+cleared-is file (Takes ∷ run) = cleared-is file run
+
+above-is : (o : Option ℕ) (generation : ℕ) → is_above o generation ≡ above o generation
+above-is None generation = refl
+above-is (Some mark) generation = refl
+
+-- what the board has of a list that came last
+board-stores : (board : Board) (run : List Act) (pass : NativePass) (file : FileId) (list : List Diagnostic) → board ≡ after run → InTime run
+    → last_given pass board.generation file run ≡ Some list → is_above (map.get board.cleared file.0) board.generation ≡ true
+    → list_of (map.get (lists_of pass board) file.0) ≡ in_order list
+board-stores board run pass file list is in_time given clear =
+    let last : board.generation ≡ last_generation run = ap (λ (b : Board). b.generation) is ∙ run-generation run in
+    let mark : map.get board.cleared file.0 ≡ cleared_mark file run = ap (λ (b : Board). map.get b.cleared file.0) is ∙ cleared-is file run in
+    ap (λ (b : Board). list_of (map.get (lists_of pass b) file.0)) is ∙ stored_is pass file run
+    ∙ ap in_order (batch-stays pass file list run in_time
+    (ap (λ n. last_given pass n file run) (sym last) ∙ given)
+    (sym (above-is (cleared_mark file run) (last_generation run)) ∙ sym (λ i. is_above (mark i) (last i)) ∙ clear))
+
+pub runs-store : (meaning : Meaning) (settings : ConfigData) (turns : List Turn) (last : State) → Runs meaning (fresh settings) turns last
+    → StoresBrought turns last.board
+unfolding first-based
+runs-store meaning settings turns last runs = λ pass file list is clear.
+    let r = runs-bring meaning (fresh settings) turns last (first-based meaning settings) runs in
+    board-stores last.board r.based.run pass file list r.based.board r.based.in_time (r.given pass last.board.generation file ∙ is) clear

@@ -7,7 +7,7 @@ use Rattle.std.proofs.lemmas.Slice.Eq.{bytes_eq-Decides}
 use Rattle.std.proofs.lemmas.List.Elements.{Contains-append_cases, Contains-append_left, Contains-append_right, Contains-push, Contains-push_cases}
 use Rattle.serde_json.specs.Data.{Data}
 use Rattle.docs_vfs.specs.FileUrls.{url_of}
-use Rattle.docs_vfs.specs.Files.{Files, path_at}
+use Rattle.docs_vfs.specs.Files.{path_at}
 use Rattle.docs_vfs.specs.declared.file_kinds.FileId.{FileId}
 use Rattle.op_board.specs.Acts.{Act, after, step as after_act}
 use Rattle.op_board.specs.Acts.Act.{Takes}
@@ -15,14 +15,13 @@ use Rattle.op_board.specs.Board.{Board, diagnostics_of}
 use Rattle.op_board.specs.Changes.{files_in as files_taken}
 use Rattle.op_board.specs.Marked.{taken}
 use Rattle.op_board.proofs.Takes.{lists_changes}
-use Rattle.lsp_types.specs.declared.diagnostic.Diagnostic.{Diagnostic}
 use Rattle.ra_config.specs.Config.{ConfigData}
 use Rattle.desk.specs.Meaning.{Meaning}
 use Rattle.session_files.specs.Current.{IsSound}
 use Rattle.session_files.specs.SessionFiles.{SessionFiles}
-use Rattle.session_model.specs.Run.{Runs, Steps, Turn}
+use Rattle.session_model.specs.Run.{Runs, Turn}
 use Rattle.session_model.specs.State.{State, fresh}
-use Rattle.diagnostics_laws.specs.Shown.{HasBytePaths, Published, ShowsBoard, published_among, shown_at, shown_past, told_list}
+use Rattle.diagnostics_laws.specs.Shown.{HasBytePaths, Published, ShowsBoard, published_among, shown_past, told_list}
 use Rattle.diagnostics_laws.proofs.Batching.{published_as_at, published_of}
 use Rattle.diagnostics_laws.proofs.KeyedBools.{none-some, some-is, true-false}
 use Rattle.diagnostics_laws.proofs.Standing.{Advances, Based, advances, first-based, named-apart, runs-reach}
@@ -119,7 +118,8 @@ module _ (differ : UrlsDiffer) (files : SessionFiles) (sound : IsSound files) (b
       past-append (published_as_at board g (path_at files.table g)) (published_of files board later) (url_of p) d
       ∙ among-cases g f later among
       (λ same. all-kept later f p (shown_past (published_as_at board g (path_at files.table g)) (url_of p) d) f_at
-      (subst (λ (h : FileId). shown_past (published_as_at board h (path_at files.table h)) (url_of p) d ≡ told f) (sym same) (itself-told f p d f_at)))
+      (subst (λ (h : FileId). shown_past (published_as_at board h (path_at files.table h)) (url_of p) d ≡ told f) (sym same)
+      (itself-told f p d f_at)))
       (λ there. all-told later f p (shown_past (published_as_at board g (path_at files.table g)) (url_of p) d) f_at there)
 
   -- none of these files has the URL
@@ -220,7 +220,8 @@ first-shows settings = record {
   nowhere = λ url none. refl;
 }
 
-pub runs-show-board : UrlsDiffer → (meaning : Meaning) (settings : ConfigData) (turns : List Turn) (last : State) → Runs meaning (fresh settings) turns last
+pub runs-show-board : UrlsDiffer → (meaning : Meaning) (settings : ConfigData) (turns : List Turn) (last : State)
+    → Runs meaning (fresh settings) turns last
     → HasBytePaths last.files.table → ShowsBoard turns last
 runs-show-board differ meaning settings turns last runs bytes =
     let base = first-based meaning settings in

@@ -1,7 +1,7 @@
 -- The jobs out behind a turn find diagnostics of no later generation than the last one, in files that have paths.
 use Rattle.std.proofs.Common.{◌≡◌, ℕ, zero, suc, ◌+◌, ◌≤◌, List, [], ◌∷◌, ◌++◌, Bool, true, false, refl, sym, ap, ◌∙◌, subst, arith}
 use Rattle.std.specs.Prelude.{map as each, Option, None, Some, is_some, cond, if◌then◌else◌}
-use Rattle.std.specs.List.{cons_option, filter, filter_map, flat_map}
+use Rattle.std.specs.List.{cons_option, filter_map, flat_map}
 use Rattle.std.specs.Cmp.{nat_cmp_total}
 use Rattle.std.specs.Ordering.{eq_by_cmp, nat_cmp}
 use Rattle.std.specs.FinMap as map
@@ -9,9 +9,7 @@ use Rattle.docs_vfs.specs.Files.{Files}
 use Rattle.docs_vfs.specs.declared.file_kinds.FileExcluded.{FileExcluded}
 use Rattle.docs_vfs.specs.declared.file_kinds.FileExcluded.TheVariants.{No, Yes}
 use Rattle.docs_vfs.specs.declared.file_kinds.FileId.{FileId}
-use Rattle.op_board.specs.Board.{Board, next_generation}
-use Rattle.op_board.specs.declared.diagnostic.NativePass.{NativePass}
-use Rattle.op_board.specs.declared.diagnostic.NativePass.TheVariants.{Syntax, Semantic}
+use Rattle.op_board.specs.Board.{next_generation}
 use Rattle.session_port.specs.Jobs.{Jobs, after_batch, jobs_after}
 use Rattle.session_port.specs.Kinds.{ticket_of_job}
 use Rattle.session_port.specs.Record.{with_jobs}
@@ -26,13 +24,14 @@ use Rattle.session_files.specs.Current.{IsSound}
 use Rattle.session_files.specs.SessionFiles.{SessionFiles}
 use Rattle.session_model.specs.Building.{build_due}
 use Rattle.session_model.specs.Crates.{file_of, loaded_as}
-use Rattle.session_model.specs.Diagnosing.{batch_kinds, is_local_path, list_kinds, lists_asked, shown_file, shows_diagnostics, slice_count, slice_kinds, slices, subscribed, tests_asked}
+use Rattle.session_model.specs.Diagnosing.{batch_kinds, is_local_path, list_kinds, lists_asked, shown_file, shows_diagnostics, slice_count}
+use Rattle.session_model.specs.Diagnosing.{slice_kinds, slices, subscribed, tests_asked}
 use Rattle.session_model.specs.Fetching.{with_fetches}
 use Rattle.session_model.specs.Loading.{MacroPaths, load_due, with_due_load}
 use Rattle.session_model.specs.Machine.{with_workspaces}
-use Rattle.session_model.specs.OwnJobs.{OwnJob, awaited_job, batch_jobs_if, build_job, checks_among_tasks, checks_back, fetch_job, jobs_due, load_job, numbered_behind, run_jobs, run_jobs_behind}
+use Rattle.session_model.specs.OwnJobs.{OwnJob, awaited_job, batch_jobs_if, build_job, checks_among_tasks, checks_back, fetch_job, jobs_due, load_job}
+use Rattle.session_model.specs.OwnJobs.{numbered_behind, run_jobs, run_jobs_behind}
 use Rattle.session_model.specs.State.{State, may_start}
-use Rattle.session_model.specs.declared.input.Event.{Event}
 use Rattle.session_model.specs.declared.input.Event.TheVariants.{Deferred, Lsp, News, Task, Timer, Vfs}
 use Rattle.session_model.specs.declared.input.Input.{Input}
 use Rattle.session_model.specs.declared.input.Input.TheVariants.{Next, Start}
@@ -76,7 +75,8 @@ kind-grown least most t u (kinds.LoadProcMacros paths ignored) more grows h = tt
 abbrev OutFit : ℕ → Files → Jobs → Type 0
 OutFit most table jobs = (number : ℕ) (job : Job) → map.get jobs number ≡ Some job → KindFits most table job.kind
 
-by-kind : (most : ℕ) (table : Files) (jobs : Jobs) (number : ℕ) (job : Job) (kind : JobKind) → JobsFit most table jobs → map.get jobs number ≡ Some job
+by-kind : (most : ℕ) (table : Files) (jobs : Jobs) (number : ℕ) (job : Job) (kind : JobKind) → JobsFit most table jobs
+    → map.get jobs number ≡ Some job
     → job.kind ≡ kind → KindFits most table kind
 by-kind most table jobs number job (kinds.Diagnostics g pass files) h is kind = h number job g pass files is kind
 by-kind most table jobs number job (kinds.Request ticket row params) h is kind = tt
@@ -120,7 +120,8 @@ numbered-fit : (most : ℕ) (table : Files) (given : ℕ) (own : List OwnJob) �
 numbered-fit most table given [] h = tt
 numbered-fit most table given (first ∷ own) h = (h.0, numbered-fit most table (given + 1) own h.1)
 
-awaited-fit : (most : ℕ) (table : Files) (s : State) (kinds : List JobKind) → KindsFit most table kinds → OwnFit most table (each (awaited_job s) kinds)
+awaited-fit : (most : ℕ) (table : Files) (s : State) (kinds : List JobKind) → KindsFit most table kinds
+    → OwnFit most table (each (awaited_job s) kinds)
 awaited-fit most table s [] h = tt
 awaited-fit most table s (kind ∷ kinds) h = (h.0, awaited-fit most table s kinds h.1)
 
@@ -279,7 +280,8 @@ load-fits most table s (Some paths) = (tt, tt)
 runs-fit : (most : ℕ) (table : Files) (s : State) → OwnFit most table (run_jobs s)
 runs-fit most table s =
     own-append most table (build_job s (build_due s.workspaces))
-    (load_job (with_workspaces (with_due_load (build_due s.workspaces) s.workspaces) s) (load_due (build_due s.workspaces) s.workspaces)) (build-fits most table s (build_due s.workspaces))
+    (load_job (with_workspaces (with_due_load (build_due s.workspaces) s.workspaces) s) (load_due (build_due s.workspaces) s.workspaces))
+    (build-fits most table s (build_due s.workspaces))
     (load-fits most table (with_workspaces (with_due_load (build_due s.workspaces) s.workspaces) s) (load_due (build_due s.workspaces) s.workspaces))
 
 behind-fit : (most : ℕ) (table : Files) (input : Input) (s : State) → OwnFit most table (run_jobs_behind input s)
@@ -302,7 +304,8 @@ own-fits most table input s before batch h =
     own-append most table (checks_back s input ++ batch) (jobs_due input before)
     (own-append most table (checks_back s input) batch (back-fits most table s input) h) (due-fit most table input before)
 
-put-by : (most : ℕ) (table : Files) (b : Bool) (old : Option Job) (new job : Job) → KindFits most table new.kind → (old ≡ Some job → KindFits most table job.kind)
+put-by : (most : ℕ) (table : Files) (b : Bool) (old : Option Job) (new job : Job) → KindFits most table new.kind
+    → (old ≡ Some job → KindFits most table job.kind)
     → cond b (Some new) old ≡ Some job → KindFits most table job.kind
 put-by most table true old new job fit h is = subst (λ (j : Job). KindFits most table j.kind) (some-is new job is) fit
 put-by most table false old new job fit h is = h is
@@ -320,13 +323,15 @@ batch-among [] out = λ number job is. is
 batch-among (message ∷ messages) out = λ number job is.
     after-among message out number job (batch-among messages (jobs_after message out) number job is)
 
-pub out-fits : (least most : ℕ) (t u : Files) (messages : List TaskMsg) (asked : List Job) (all : List Job) (given : ℕ) (own : List OwnJob) (out : Jobs)
+pub out-fits : (least most : ℕ) (t u : Files) (messages : List TaskMsg) (asked : List Job) (all : List Job) (given : ℕ) (own : List OwnJob)
+    (out : Jobs)
     → asked ≡ asked_among all → least ≤ most → Grows t u → JobsFit least t out → OwnFit most u own
     → JobsFit most u (with_jobs (asked ++ numbered_behind given own) (after_batch messages out))
 out-fits least most t u messages asked all given own out is more grows fit owns = λ number job g pass files there kind.
     subst (KindFits most u) kind
     (with-fit most u (asked ++ numbered_behind given own) (after_batch messages out)
-    (jobs-append most u asked (numbered_behind given own) (subst (AllJobsFit most u) (sym is) (asked-fit most u all)) (numbered-fit most u given own owns))
+    (jobs-append most u asked (numbered_behind given own) (subst (AllJobsFit most u) (sym is) (asked-fit most u all))
+    (numbered-fit most u given own owns))
     (λ number job there. kind-grown least most t u job.kind more grows
     (by-kind least t out number job job.kind fit (batch-among messages out number job there) refl))
     number job there)

@@ -35,7 +35,8 @@ abbrev pub AllFit : Files → ℕ → List Act → Type 0
 AllFit table most [] = Unit {0}
 AllFit table most (act ∷ acts) = Fits table most act × AllFit table most acts
 
-pub all-fit-on : (table : Files) (most : ℕ) (more acts : List Act) → AllFit table most more → AllFit table most acts → AllFit table most (more ++ acts)
+pub all-fit-on : (table : Files) (most : ℕ) (more acts : List Act) → AllFit table most more → AllFit table most acts
+    → AllFit table most (more ++ acts)
 all-fit-on table most [] acts h k = k
 all-fit-on table most (act ∷ more) acts h k = (h.0, all-fit-on table most more acts h.1 k)
 
@@ -88,9 +89,11 @@ put-low-by false most old new list low h is = h is
 
 put-low : (most : ℕ) (lists : Lists) (k : ℕ) (new : PassList) → new.accepted ≤ most → AreLow most lists → AreLow most (map.insert lists k new)
 put-low most lists k new low h = λ file list is.
-    put-low-by (eq_by_cmp nat_cmp file k) most (map.get lists file) new list low (h file list) (sym (map.get-insert nat_cmp_total lists k new file) ∙ is)
+    put-low-by (eq_by_cmp nat_cmp file k) most (map.get lists file) new list
+    low (h file list) (sym (map.get-insert nat_cmp_total lists k new file) ∙ is)
 
-set-low-by : (b : Bool) (most : ℕ) (x y : Lists) (u v : Marked) → AreLow most x → AreLow most y → AreLow most (cond {A = Lists × Marked} b (x, u) (y, v)).0
+set-low-by : (b : Bool) (most : ℕ) (x y : Lists) (u v : Marked) → AreLow most x → AreLow most y
+    → AreLow most (cond {A = Lists × Marked} b (x, u) (y, v)).0
 set-low-by true most x y u v h k = h
 set-low-by false most x y u v h k = k
 
@@ -119,7 +122,8 @@ one-more : (a n : ℕ) → a ≤ n → a ≤ n + 1
 one-more a n h = omega (arith, h)
 
 -- a board with the same lists, marks of clears and generation
-other-timely : (b c : Board) → c.syntax ≡ b.syntax → c.semantic ≡ b.semantic → c.cleared ≡ b.cleared → c.generation ≡ b.generation → IsTimely b → IsTimely c
+other-timely : (b c : Board) → c.syntax ≡ b.syntax → c.semantic ≡ b.semantic → c.cleared ≡ b.cleared → c.generation ≡ b.generation → IsTimely b
+    → IsTimely c
 other-timely b c syntax_is semantic_is cleared_is generation_is h = record {
   stored = λ pass. by-pass pass;
   cleared = λ file last is.
@@ -203,7 +207,8 @@ counts-timely b h = record {
   cleared = λ file last is. one-more last b.generation (h.cleared file last is);
 }
   where
-    by-pass : (pass : NativePass) (file : ℕ) (list : PassList) → map.get (lists_of pass (step Counts b)) file ≡ Some list → list.accepted ≤ b.generation + 1
+    by-pass : (pass : NativePass) (file : ℕ) (list : PassList) → map.get (lists_of pass (step Counts b)) file ≡ Some list
+        → list.accepted ≤ b.generation + 1
     by-pass Syntax = λ file list is. one-more list.accepted b.generation (h.stored Syntax file list is)
     by-pass Semantic = λ file list is. one-more list.accepted b.generation (h.stored Semantic file list is)
 

@@ -1,6 +1,6 @@
 -- Runs of the board: a file none of whose lists changed has the same diagnostics as before, and one that no act names has none.
 use Rattle.std.proofs.Common.{◌≡◌, ℕ, Bool, true, false, ◌&&◌, List, [], ◌∷◌, ◌++◌, inl, inr, refl, sym, ap, ◌∙◌}
-use Rattle.std.specs.Prelude.{◌≢◌, Option, None, Some, cond, map as each}
+use Rattle.std.specs.Prelude.{◌≢◌, Option, cond, map as each}
 use Rattle.std.specs.List.{flat_map, list_any}
 use Rattle.std.specs.Ordering.{nat_cmp}
 use Rattle.std.specs.Cmp.Lexicographic.{pointwise, pointwise_decides}
@@ -13,11 +13,11 @@ use Rattle.op_board.specs.Acts.{Act, after}
 use Rattle.op_board.specs.Acts.Act.{Adds, Clears, Counts, Forgets, ForgetsAll, ForgetsIn, ForgetsOlder, ForgetsOlderIn, Gives, Takes}
 use Rattle.op_board.specs.Board.{diagnostics_of, list_of}
 use Rattle.op_board.specs.Changes.{ChangedSince, Differs, OfPackage, OfPass, Place, said}
-use Rattle.op_board.specs.CheckRuns.{Came, as_told, came, entries, newest, of_generation, said_of, same_entry, same_id, same_name}
+use Rattle.op_board.specs.CheckRuns.{Came, as_told, came, newest, of_generation, said_of, same_entry, same_id, same_name}
 use Rattle.op_board.specs.Checks.{Packages, checks_of, lists_in}
 use Rattle.op_board.specs.declared.pass_list.PassList.{PassList}
 use Rattle.op_board.specs.Diagnostics.{in_order}
-use Rattle.op_board.specs.Runs.{accepts, last_list, same_file, same_pass, stored}
+use Rattle.op_board.specs.Runs.{accepts, last_list, same_file, same_pass}
 use Rattle.op_board.specs.declared.check_package.CheckEntry.{CheckEntry}
 use Rattle.op_board.specs.declared.diagnostic.NativePass.{NativePass}
 use Rattle.op_board.specs.declared.diagnostic.NativePass.TheVariants.{Syntax, Semantic}

@@ -4,4 +4,7 @@
 
 mod shown;
 
-pub use shown::{each_published_list_is_the_boards, generations_are_those_of_batches};
+pub use shown::{
+    each_published_list_is_the_boards, generations_are_those_of_batches,
+    what_a_batch_brought_stays_stored,
+};

@@ -4,7 +4,7 @@ ghost use Rattle.ra_config.specs.Config.{ConfigData};
 ghost use Rattle.desk.specs.Meaning.{Meaning};
 ghost use Rattle.session_model.specs.Run.{Runs, Steps, Turn};
 ghost use Rattle.session_model.specs.State.{State, fresh};
-ghost use Rattle.diagnostics_laws.specs.Batches.{HasGenerations};
+ghost use Rattle.diagnostics_laws.specs.Batches.{HasGenerations, StoresBrought};
 ghost use Rattle.diagnostics_laws.specs.Shown.{HasBytePaths, ShowsBoard};
 
 use docs_vfs::equal_urls_name_equal_paths;
@@ -30,4 +30,11 @@ pub fn generations_are_those_of_batches()
     ensures rise { (meaning : Meaning) (settings : ConfigData) (turns : List Turn) (last : State) (turn : Turn) (new : State)
         → Runs meaning (fresh settings) turns last → Steps meaning last turn new
         → (new.board.generation ≡ last.board.generation) ⊎ (new.board.generation ≡ last.board.generation + 1) }
+{}
+
+/// The list that the jobs of the last generation brought last for a file is the one that the board
+/// has of that pass, in order, unless the file was cleared since.
+pub fn what_a_batch_brought_stays_stored()
+    ensures { (meaning : Meaning) (settings : ConfigData) (turns : List Turn) (last : State)
+        → Runs meaning (fresh settings) turns last → StoresBrought turns last.board }
 {}
