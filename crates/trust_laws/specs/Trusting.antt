@@ -1,0 +1,33 @@
+-- The session behind its last batch.
+use Rattle.std.specs.Prelude.{◌≡◌, ℕ, ◌+◌, true, is_some, List, ◌++◌, Some}
+use Rattle.std.specs.FinMap as map
+use Rattle.docs_vfs.specs.FileUrls.{url_of}
+use Rattle.docs_vfs.specs.Files.{path_at}
+use Rattle.docs_vfs.specs.declared.file_kinds.FileId.{FileId}
+use Rattle.lsp_types.specs.declared.diagnostic.Diagnostic.{Diagnostic}
+use Rattle.op_board.specs.Board.{is_above}
+use Rattle.op_board.specs.Checks.{checks_of}
+use Rattle.op_board.specs.Diagnostics.{in_order}
+use Rattle.op_board.specs.declared.diagnostic.NativePass.TheVariants.{Syntax, Semantic}
+use Rattle.session_model.specs.Diagnosing.{subscribed}
+use Rattle.session_model.specs.Run.{Turn}
+use Rattle.session_model.specs.State.{State}
+use Rattle.diagnostics_laws.specs.Batches.{brought}
+use Rattle.diagnostics_laws.specs.Shown.{shown_at, told_list}
+
+-- the world, the open documents, those that are shown and whether a fetch has ended are as they were where a batch was
+-- asked for, and no file was cleared since the batch took its generation
+pub record IsAsAtBatch (at last : State) : Type 0 where
+  pub world : last.files.host.world ≡ at.files.host.world
+  pub documents : map.keys last.files.versions ≡ map.keys at.files.versions
+  pub files : subscribed last.files ≡ subscribed at.files
+  pub fetched : is_some last.workspaces.fetches.queue.last ≡ is_some at.workspaces.fetches.queue.last
+  pub uncleared : (file : ℕ) → is_above (map.get last.board.cleared file) (at.board.generation + 1) ≡ true
+
+-- at the URL of each file for which the jobs of the last generation have brought lists of both passes these are shown,
+-- in order, and then what checks have found
+abbrev pub ShowsBrought : List Turn → State → Type 0
+ShowsBrought turns s = (file : FileId) (path : List ℕ) (by_syntax by_meaning : List Diagnostic)
+    → path_at s.files.table file ≡ Some path
+    → brought turns Syntax s.board.generation file ≡ Some by_syntax → brought turns Semantic s.board.generation file ≡ Some by_meaning
+    → shown_at (url_of path) turns ≡ told_list (in_order by_syntax ++ in_order by_meaning ++ checks_of file s.board.checks)
