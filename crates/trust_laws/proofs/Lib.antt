@@ -1,2 +1,6 @@
+pub mod CameBack
+pub mod CameBackMessages
+pub mod CameBackOthers
+pub mod CameBackTurns
 pub mod Ending
 pub mod Since

@@ -1,1 +1,2 @@
+pub mod CameBack
 pub mod Trusting
