@@ -39,7 +39,7 @@ Lists = List (FileId × List Diagnostic)
 -- ---- what a job ends that is no batch's
 
 -- lists, if it ends some
-abbrev OnlyLists : (ℕ → NativePass → Lists → Type 0) → Option WorkEnd → Type 0
+abbrev pub OnlyLists : (ℕ → NativePass → Lists → Type 0) → Option WorkEnd → Type 0
 OnlyLists P (Some (Diagnosed generation pass lists)) = P generation pass lists
 OnlyLists P other = Unit {0}
 
@@ -101,7 +101,7 @@ module _ (P : ℕ → NativePass → Lists → Type 0) where
   tests-lists files (Cancelled saw) = tt
   tests-lists files NoMemory = tt
 
-  kind-lists : (kind : JobKind) (result : JobResult)
+  pub kind-lists : (kind : JobKind) (result : JobResult)
       → ((generation : ℕ) (pass : NativePass) (files : List FileId) → kind ≡ kinds.Diagnostics generation pass files → OnlyLists P (lists_end generation pass files result))
       → OnlyLists P (work_end_of kind result)
   kind-lists (kinds.Diagnostics g pass files) result h = h g pass files refl
@@ -119,7 +119,7 @@ module _ (P : ℕ → NativePass → Lists → Type 0) where
 -- ---- what an end brings
 
 module _ (Q : Option (List Diagnostic) → Type 0) (pass : NativePass) (g : ℕ) (file : FileId) (before : Option (List Diagnostic)) where
-  brought-of : (end : Option WorkEnd)
+  pub brought-of : (end : Option WorkEnd)
       → OnlyLists (λ of_generation of_pass lists. (same_pass pass of_pass && nat_eq g of_generation) ≡ true → Q (list_among file lists before)) end
       → Q before → Q (brought_by end pass g file before)
   brought-of None h q = q

@@ -45,11 +45,11 @@ module _ (g : ℕ) where
   NoneOf [] = Unit {0}
   NoneOf (job ∷ jobs) = (is_of g job.kind ≡ false) × NoneOf jobs
 
-  abbrev NoneOwn : List OwnJob → Type 0
+  abbrev pub NoneOwn : List OwnJob → Type 0
   NoneOwn [] = Unit {0}
   NoneOwn (own ∷ later) = (is_of g own.kind ≡ false) × NoneOwn later
 
-  none-append : (xs ys : List Job) → NoneOf xs → NoneOf ys → NoneOf (xs ++ ys)
+  pub none-append : (xs ys : List Job) → NoneOf xs → NoneOf ys → NoneOf (xs ++ ys)
   none-append [] ys a b = b
   none-append (x ∷ xs) ys a b = (a.0, none-append xs ys a.1 b)
 
@@ -57,7 +57,7 @@ module _ (g : ℕ) where
   own-append [] ys a b = b
   own-append (x ∷ xs) ys a b = (a.0, own-append xs ys a.1 b)
 
-  numbered-none : (last : ℕ) (own : List OwnJob) → NoneOwn own → NoneOf (numbered_behind last own)
+  pub numbered-none : (last : ℕ) (own : List OwnJob) → NoneOwn own → NoneOf (numbered_behind last own)
   numbered-none last [] none = tt
   numbered-none last (job ∷ later) none = (none.0, numbered-none (last + 1) later none.1)
 
@@ -76,7 +76,7 @@ module _ (g : ℕ) where
   request-none (kinds.FetchBuildData version) is = refl
   request-none (kinds.LoadProcMacros paths ignored) is = refl
 
-  asked-none : (jobs : List Job) → NoneOf (asked_among jobs)
+  pub asked-none : (jobs : List Job) → NoneOf (asked_among jobs)
   asked-none [] = tt
   asked-none (job ∷ jobs) = by_test (asked-none jobs) (is_for_request job) refl
     where
@@ -91,7 +91,7 @@ module _ (g : ℕ) where
   checks-none s (CheckIfIndexed path ∷ tasks) = checks-none s tasks
   checks-none s (CheckProcMacroSources files ∷ tasks) = (refl, checks-none s tasks)
 
-  back-none : (s : State) (input : Input) → NoneOwn (checks_back s input)
+  pub back-none : (s : State) (input : Input) → NoneOwn (checks_back s input)
   back-none s Start = tt
   back-none s (Next (Lsp message)) = tt
   back-none s (Next (Task batch)) = tt
@@ -119,7 +119,7 @@ module _ (g : ℕ) where
       let later = with_workspaces (with_due_load build s.workspaces) s in
       own-append (build_job s build) (load_job later (load_due build s.workspaces)) (build-none s build) (load-none later (load_due build s.workspaces))
 
-  due-none : (input : Input) (s : State) → NoneOwn (jobs_due input s)
+  pub due-none : (input : Input) (s : State) → NoneOwn (jobs_due input s)
   due-none input s =
       let may = may_start input s.client.settings in
       let later = with_workspaces (with_fetches (start_fetch may) s.workspaces) s in
@@ -129,7 +129,7 @@ module _ (g : ℕ) where
   batch-none Start t none = tt
   batch-none (Next event) t none = subst (λ b. NoneOwn (batch_jobs_if b t.state)) (sym none) tt
 
-  own-none : (meaning : Meaning) (input : Input) (s : State) → asks_batch meaning input s ≡ false → NoneOwn (own_jobs meaning input s)
+  pub own-none : (meaning : Meaning) (input : Input) (s : State) → asks_batch meaning input s ≡ false → NoneOwn (own_jobs meaning input s)
   own-none meaning input s none =
       own-append (checks_back s input ++ batch_jobs_due input (before_quiet meaning input s)) (jobs_due input (before_fetch meaning input s))
       (own-append (checks_back s input) (batch_jobs_due input (before_quiet meaning input s)) (back-none s input) (batch-none input (before_quiet meaning input s) none))

@@ -35,7 +35,7 @@ module _ (g : ℕ) (snapshot : SnapshotData) where
   work-past : (message : TaskMsg) (out : Jobs) → WorkOn g snapshot out → WorkOn g snapshot (jobs_after message out)
   work-past message out on number job there its = on number job (out-before message out number job there) its
 
-  work-past-all : (messages : List TaskMsg) (out : Jobs) → WorkOn g snapshot out → WorkOn g snapshot (after_batch messages out)
+  pub work-past-all : (messages : List TaskMsg) (out : Jobs) → WorkOn g snapshot out → WorkOn g snapshot (after_batch messages out)
   work-past-all [] out on = on
   work-past-all (message ∷ messages) out on = work-past-all messages (jobs_after message out) (work-past message out on)
 

@@ -1,6 +1,10 @@
 pub mod CameBack
+pub mod CameBackAsked
+pub mod CameBackBefore
+pub mod CameBackHanded
 pub mod CameBackMessages
 pub mod CameBackOthers
 pub mod CameBackTurns
 pub mod Ending
+pub mod Present
 pub mod Since

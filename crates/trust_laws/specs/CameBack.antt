@@ -17,7 +17,8 @@ use Rattle.session_port.specs.declared.job.JobResult.{JobResult}
 use Rattle.session_port.specs.declared.job.JobResult.TheVariants.{Value}
 use Rattle.desk.specs.Meaning.{Meaning}
 use Rattle.session_model.specs.Inputs.{batch_of}
-use Rattle.session_model.specs.Run.{Turn, out_after}
+use Rattle.session_model.specs.Run.{Turn, out_after, out_after_all}
+use Rattle.session_laws.specs.Invariant.{IsNoneOut}
 
 -- the list in what a question comes to
 abbrev pub found_in : OutcomeSpec → List Diagnostic
@@ -59,3 +60,8 @@ AllEndWell generation (turn ∷ turns) out = EndWell generation (batch_of turn.i
 abbrev pub WorkOn : ℕ → SnapshotData → Jobs → Type 0
 WorkOn generation snapshot out = (number : ℕ) (job : Job) → map.get out number ≡ Some job → is_of generation job.kind ≡ true
     → job.snapshot ≡ snapshot
+
+-- none is out any more, and each has ended with a value
+pub record AllCameBack (generation : ℕ) (turns : List Turn) : Type 0 where
+  pub well : AllEndWell generation turns map.empty
+  pub none : IsNoneOut (is_of generation) (out_after_all turns map.empty)
