@@ -1,22 +1,16 @@
 -- An honest job that ends with a value brings what the analysis finds.
-use Rattle.std.proofs.Common.{◌≡◌, ℕ, List, [], ◌∷◌, Bool, true, false, cond, refl, sym, ap, ◌∙◌, subst}
-use Rattle.std.specs.Prelude.{◌&&◌, ◌||◌, nat_eq, not, map as each, Option, None, Some, IfSome, is_some, option_and_then, Result, Ok, Err, if◌then◌else◌}
-use Rattle.std.specs.List.{filter_map, list_any}
-use Rattle.std.specs.FinMap as map
+use Rattle.std.proofs.Common.{◌≡◌, ℕ, List, [], ◌∷◌, Bool, true, false, cond, refl, sym, ap, ◌∙◌}
+use Rattle.std.specs.Prelude.{◌||◌, map as each, Option, None, Some, is_some}
+use Rattle.std.specs.List.{list_any}
 use Rattle.std.proofs.lemmas.Bool.{eqb-true, false≢true}
 use Rattle.docs_vfs.specs.declared.file_kinds.FileId.{FileId}
 use Rattle.lsp_types.specs.declared.diagnostic.Diagnostic.{Diagnostic}
-use Rattle.op_board.specs.Runs.{same_file, same_pass}
-use Rattle.op_board.specs.declared.diagnostic.NativePass.{NativePass}
-use Rattle.op_board.specs.declared.diagnostic.NativePass.TheVariants.{Syntax, Semantic}
+use Rattle.op_board.specs.Runs.{same_file}
 use Rattle.analysis_host.specs.Answers.{OutcomeSpec, answer, fault}
-use Rattle.analysis_host.specs.SnapshotData.{SnapshotData}
-use Rattle.analysis_host.specs.declared.ask.Answer.{Answer}
-use Rattle.session_port.specs.Results.{answers_in, lists_of, or_fault, result_of}
+use Rattle.session_port.specs.Results.{answers_in, lists_of, or_fault}
 use Rattle.session_port.specs.declared.job.JobResult.{JobResult}
-use Rattle.session_port.specs.declared.job.JobResult.TheVariants.{Value, Fault, Cancelled, NoMemory}
+use Rattle.session_port.specs.declared.job.JobResult.TheVariants.{Value, Fault}
 use Rattle.session_port.specs.declared.job.JobValue.{JobValue}
-use Rattle.session_port.specs.declared.job.JobValue.TheVariants as values
 use Rattle.diagnostics_laws.specs.Batches.{list_among}
 use Rattle.trust_laws.specs.CameBack.{found_in}
 

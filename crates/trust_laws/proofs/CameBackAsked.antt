@@ -1,40 +1,21 @@
 -- A turn that asks for a batch hands over a job that has each file which is shown, in each pass.
-use Rattle.std.proofs.Common.{◌≡◌, ◌<◌, ◌≤◌, ◌+◌, ◌++◌, ◌⊎◌, ℕ, suc, zero, List, [], ◌∷◌, Bool, true, false, cond, length, inl, inr, refl, sym, ap, ◌∙◌, subst, arith}
-use Rattle.std.specs.Prelude.{◌||◌, ◌==◌, max, map as each, Option, None, Some, is_some, if◌then◌else◌}
+use Rattle.std.proofs.Common.{◌≡◌, ◌+◌, ◌++◌, ◌⊎◌, ℕ, suc, zero, List, [], ◌∷◌, Bool, true, false, inl, inr, refl, sym, ap, ◌∙◌, subst, arith}
+use Rattle.std.specs.Prelude.{◌||◌, max, map as each, Some, is_some, if◌then◌else◌}
 use Rattle.std.specs.List.{flat_map, list_any}
-use Rattle.std.specs.FinMap as map
-use Rattle.std.specs.Cmp.{nat_cmp_total, unsigned_tied}
-use Rattle.std.proofs.lemmas.Bool.{false≢true, ne_eqb}
+use Rattle.std.proofs.lemmas.Bool.{false≢true}
 use Rattle.docs_vfs.specs.declared.file_kinds.FileId.{FileId}
 use Rattle.op_board.specs.Board.{next_generation}
 use Rattle.op_board.specs.Runs.{same_file}
 use Rattle.op_board.specs.declared.diagnostic.NativePass.{NativePass}
 use Rattle.op_board.specs.declared.diagnostic.NativePass.TheVariants.{Syntax, Semantic}
 use Rattle.analysis_host.specs.SnapshotData.{SnapshotData}
-use Rattle.session_port.specs.Jobs.{Jobs}
-use Rattle.session_port.specs.Record.{spawned, with_jobs}
 use Rattle.session_port.specs.declared.job.Job.{Job}
 use Rattle.session_port.specs.declared.job.JobKind.{JobKind}
 use Rattle.session_port.specs.declared.job.JobKind.TheVariants as kinds
-use Rattle.desk.specs.Folds.{asked_among}
-use Rattle.desk.specs.Meaning.{Meaning}
-use Rattle.desk_laws.specs.Numbers.{AreNumbered}
 use Rattle.session_model.specs.Diagnosing.{batch_kinds, list_kinds, lists_asked, shows_diagnostics, slice_count, slice_kinds, slices, subscribed, tests_asked}
-use Rattle.session_model.specs.Machine.{Turning}
-use Rattle.session_model.specs.OwnJobs.{OwnJob, awaited_job, batch_jobs, batch_jobs_due, batch_jobs_if, before_fetch, before_quiet, checks_back, jobs_due, numbered_behind, own_jobs}
-use Rattle.session_model.specs.Rows.{turn_row}
-use Rattle.session_model.specs.Run.{Steps, Turn}
+use Rattle.session_model.specs.OwnJobs.{OwnJob, awaited_job, batch_jobs, numbered_behind}
 use Rattle.session_model.specs.State.{State, snapshot_of}
-use Rattle.session_model.specs.declared.input.Input.{Input}
-use Rattle.session_model.specs.declared.input.Input.TheVariants.{Start, Next}
-use Rattle.session_laws.specs.Invariant.{StepFits, place_of_state}
-use Rattle.session_laws.proofs.Handing.{turns-over}
-use Rattle.session_laws.proofs.Rows.{steps-fit}
 use Rattle.session_laws.proofs.Slicing.{slices-join}
-use Rattle.quiet_laws.specs.Rest.{asks_batch, is_due_at}
-use Rattle.trust_laws.specs.CameBack.{WorkOn, is_of}
-use Rattle.trust_laws.proofs.CameBackOthers.{asked-none, back-none, due-none}
-use Rattle.trust_laws.proofs.CameBackOthers.{NoneOf, NoneOwn}
 
 module _ (g : ℕ) (pass : NativePass) (file : FileId) (snapshot : SnapshotData) where
   -- lists of the file are asked for, in the pass and the generation

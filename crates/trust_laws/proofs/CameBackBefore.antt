@@ -1,6 +1,6 @@
 -- Before a batch is asked for, nothing has come of it.
 use Rattle.std.proofs.Common.{◌≡◌, ◌<◌, ◌≤◌, ◌+◌, ◌++◌, ◌⊎◌, ℕ, List, [], ◌∷◌, Bool, true, false, inl, inr, refl, sym, ap, ◌∙◌, subst, arith, eqb-true}
-use Rattle.std.specs.Prelude.{◌&&◌, nat_eq, Option, None, Some, option_and_then, if◌then◌else◌}
+use Rattle.std.specs.Prelude.{◌&&◌, nat_eq, Option, None, Some, option_and_then}
 use Rattle.std.specs.FinMap as map
 use Rattle.std.proofs.lemmas.Bool.{false≢true}
 use Rattle.docs_vfs.specs.declared.file_kinds.FileId.{FileId}
@@ -20,10 +20,10 @@ use Rattle.desk.specs.Meaning.{Meaning}
 use Rattle.desk.specs.WorkEnds.{lists_end, work_end_of, work_ended, work_told}
 use Rattle.desk_laws.proofs.Fitting.{fit-out, out-before}
 use Rattle.session_model.specs.Inputs.{batch_of}
-use Rattle.session_model.specs.Places.{Place, place_after}
-use Rattle.session_model.specs.Run.{Runs, Steps, Turn, out_after, out_after_all}
+use Rattle.session_model.specs.Places.{Place}
+use Rattle.session_model.specs.Run.{Runs, Turn, out_after}
 use Rattle.session_model.specs.State.{State, fresh}
-use Rattle.session_laws.specs.Invariant.{IsNoneOut, StepFits, place_of_state}
+use Rattle.session_laws.specs.Invariant.{IsNoneOut, StepFits}
 use Rattle.session_laws.proofs.Rows.{steps-fit}
 use Rattle.session_laws.proofs.Stretches.{runs-append}
 use Rattle.diagnostics_laws.specs.Batches.{HasGenerations, brought_by, brought_in, brought_past, list_among}

@@ -1,6 +1,6 @@
 -- The jobs of a batch are out behind the turn that asks for it, on the snapshot of there.
-use Rattle.std.proofs.Common.{◌≡◌, ◌<◌, ◌≤◌, ◌+◌, ◌++◌, ◌⊎◌, ℕ, List, [], ◌∷◌, Bool, true, false, cond, length, inl, inr, refl, sym, ap, ◌∙◌, subst, arith, eq-eqb}
-use Rattle.std.specs.Prelude.{◌==◌, map as each, Option, None, Some, is_some}
+use Rattle.std.proofs.Common.{◌≡◌, ◌≤◌, ◌+◌, ◌++◌, ℕ, List, [], ◌∷◌, Bool, true, false, cond, length, inl, inr, refl, sym, ap, ◌∙◌, subst, arith, eq-eqb}
+use Rattle.std.specs.Prelude.{◌==◌, map as each, Some, is_some}
 use Rattle.std.specs.List.{list_any}
 use Rattle.std.specs.FinMap as map
 use Rattle.std.specs.Cmp.{nat_cmp_total, unsigned_tied}
@@ -20,7 +20,7 @@ use Rattle.session_model.specs.Diagnosing.{batch_kinds, shows_diagnostics, subsc
 use Rattle.session_model.specs.Inputs.{batch_of}
 use Rattle.session_model.specs.Machine.{Turning}
 use Rattle.session_model.specs.OwnJobs.{OwnJob, awaited_job, batch_jobs, batch_jobs_due, batch_jobs_if, before_fetch, before_quiet, checks_back, jobs_due, numbered_behind, own_jobs}
-use Rattle.session_model.specs.Places.{Place, place_after}
+use Rattle.session_model.specs.Places.{Place}
 use Rattle.session_model.specs.Rows.{turn_row}
 use Rattle.session_model.specs.Run.{Steps, Turn, out_after}
 use Rattle.session_model.specs.State.{State, snapshot_of}

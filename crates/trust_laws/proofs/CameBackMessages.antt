@@ -24,7 +24,7 @@ use Rattle.session_port.specs.declared.job.JobResult.TheVariants.{Value, Fault, 
 use Rattle.session_port.specs.declared.job.JobValue.{JobValue}
 use Rattle.session_port.specs.declared.job.JobValue.TheVariants as values
 use Rattle.desk.specs.Meaning.{Meaning}
-use Rattle.desk.specs.WorkEnds.{build_end, check_end, empty_lists, fetch_end, lists_end, load_end, tests_end, value_or_reason, work_end_of, work_ended, work_told}
+use Rattle.desk.specs.WorkEnds.{build_end, check_end, fetch_end, lists_end, load_end, tests_end, value_or_reason, work_end_of, work_ended, work_told}
 use Rattle.desk.specs.declared.state.ends.WorkEnd.{WorkEnd}
 use Rattle.desk.specs.declared.state.ends.WorkEnd.TheVariants.{Fetched, Built, Checked, Loaded, Diagnosed, Tested}
 use Rattle.desk_laws.proofs.Fitting.{after_message-going, after_message-none, after_message-some}

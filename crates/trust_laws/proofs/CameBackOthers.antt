@@ -1,8 +1,7 @@
 -- Turns that ask for no batch hand over no job of one.
-use Rattle.std.proofs.Common.{◌≡◌, ◌<◌, ◌≤◌, ◌+◌, ℕ, List, [], ◌∷◌, ◌++◌, Bool, true, false, length, refl, sym, ap, ◌∙◌, subst, arith}
-use Rattle.std.specs.Prelude.{Option, None, Some, is_some, Result, Ok, if◌then◌else◌}
+use Rattle.std.proofs.Common.{◌≡◌, ◌≤◌, ◌+◌, ℕ, List, [], ◌∷◌, ◌++◌, Bool, true, false, length, refl, sym, ap, subst, arith}
+use Rattle.std.specs.Prelude.{Option, None, Some, is_some, Result, if◌then◌else◌}
 use Rattle.std.specs.Result.{result_unwrap_or}
-use Rattle.std.specs.List.{filter}
 use Rattle.std.proofs.lemmas.Bool.{false≢true}
 use Rattle.analysis_host.specs.SnapshotData.{SnapshotData}
 use Rattle.session_port.specs.Kinds.{ticket_of_job}
@@ -23,9 +22,9 @@ use Rattle.session_model.specs.Building.{build_due}
 use Rattle.session_model.specs.Fetching.{with_fetches}
 use Rattle.session_model.specs.Loading.{MacroPaths, load_due, with_due_load}
 use Rattle.session_model.specs.OwnJobs.{OwnJob, batch_jobs_due, batch_jobs_if, before_fetch, before_quiet, build_job, checks_among_tasks, checks_back, fetch_job}
-use Rattle.session_model.specs.OwnJobs.{fetch_jobs, jobs_due, load_job, numbered_behind, own_jobs, run_jobs, run_jobs_behind}
+use Rattle.session_model.specs.OwnJobs.{fetch_jobs, jobs_due, load_job, numbered_behind, own_jobs, run_jobs_behind}
 use Rattle.session_model.specs.Machine.{Turning, with_workspaces}
-use Rattle.session_model.specs.Places.{Place, place_after, rest_after}
+use Rattle.session_model.specs.Places.{Place, rest_after}
 use Rattle.session_model.specs.Rows.{turn_row}
 use Rattle.session_model.specs.Run.{Runs, Steps, Turn, turn_start}
 use Rattle.session_model.specs.State.{State, may_start}

@@ -8,3 +8,5 @@ pub mod CameBackTurns
 pub mod Ending
 pub mod Present
 pub mod Since
+pub mod Trusted
+pub mod Urls

@@ -1,5 +1,5 @@
 -- A quiescent session shows what the analysis finds on the present world.
-use Rattle.std.proofs.Common.{◌≡◌, ◌<◌, ◌≤◌, ◌+◌, ◌++◌, ℕ, List, [], ◌∷◌, Bool, true, false, refl, sym, ap, ◌∙◌, subst, arith}
+use Rattle.std.proofs.Common.{◌≡◌, ◌<◌, ◌+◌, ◌++◌, ℕ, List, [], ◌∷◌, Bool, true, false, refl, sym, ap, ◌∙◌, subst, arith}
 use Rattle.std.specs.Prelude.{Option, None, Some, is_some, nat_lt, if◌then◌else◌}
 use Rattle.std.specs.List.{list_any}
 use Rattle.std.specs.FinMap as map
@@ -14,17 +14,16 @@ use Rattle.op_board.specs.declared.diagnostic.NativePass.TheVariants.{Syntax, Se
 use Rattle.ra_config.specs.Config.{ConfigData}
 use Rattle.session_port.specs.Jobs.{Jobs}
 use Rattle.desk.specs.Meaning.{Meaning}
-use Rattle.session_model.specs.Diagnosing.{shows_diagnostics, subscribed}
+use Rattle.session_model.specs.Diagnosing.{shows_diagnostics}
 use Rattle.session_model.specs.Inputs.{batch_of}
 use Rattle.session_model.specs.Machine.{Turning, step}
 use Rattle.session_model.specs.OwnJobs.{before_quiet}
-use Rattle.session_model.specs.Places.{Place, place_after}
+use Rattle.session_model.specs.Places.{Place}
 use Rattle.session_model.specs.Run.{AreHonestTurns, Runs, Steps, Turn, out_after, out_after_all, turn_start}
 use Rattle.session_model.specs.State.{State, fresh, snapshot_of}
-use Rattle.session_model.specs.declared.input.Event.{Event}
 use Rattle.session_model.specs.declared.input.Input.{Input}
 use Rattle.session_model.specs.declared.input.Input.TheVariants.{Next, Start}
-use Rattle.session_laws.specs.Invariant.{IsNoneOut, StepFits, place_of_state}
+use Rattle.session_laws.specs.Invariant.{IsNoneOut, StepFits}
 use Rattle.session_laws.proofs.Rows.{steps-fit}
 use Rattle.quiet_laws.specs.Rest.{AsksNone, asks_batch, is_quiet}
 use Rattle.diagnostics_laws.specs.Batches.{brought_in, brought_past}

@@ -1,2 +1,3 @@
 pub mod CameBack
+pub mod Resting
 pub mod Trusting

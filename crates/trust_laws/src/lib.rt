@@ -6,5 +6,5 @@ mod trust;
 
 pub use trust::{
     quiet_sessions_are_as_at_their_last_batch, quiet_sessions_show_the_present,
-    quiet_sessions_show_what_the_last_batch_brought,
+    quiet_sessions_show_what_the_last_batch_brought, runs_show_the_present,
 };

@@ -1,12 +1,15 @@
 // What a quiescent session is, and shows, since its last batch.
-ghost use Rattle.std.specs.Prelude.{◌≡◌, ◌+◌, ◌++◌, ◌∷◌, List, true, Some, is_some};
+ghost use Rattle.std.specs.Prelude.{◌≡◌, ◌+◌, ◌++◌, ◌∷◌, Bool, List, Result, true, Some, is_some};
+ghost use Rattle.lsp_frame.specs.Reader.{Reader};
 ghost use Rattle.std.specs.FinMap as map;
 ghost use Rattle.ra_config.specs.Config.{ConfigData};
 ghost use Rattle.desk.specs.Meaning.{Meaning};
 ghost use Rattle.op_board.specs.Board.{next_generation};
 ghost use Rattle.session_model.specs.Diagnosing.{shows_diagnostics};
 ghost use Rattle.session_model.specs.OwnJobs.{before_quiet};
-ghost use Rattle.session_model.specs.Run.{AreHonestTurns, Runs, Steps, Turn};
+ghost use Rattle.session_model.specs.Run.{AreHonestTurns, IsRun, Runs, Steps, Told, Turn};
+ghost use Rattle.session_model.specs.declared.fault.SessionError.{SessionError};
+ghost use Rattle.trust_laws.specs.Resting.{IsTrusted};
 ghost use Rattle.session_model.specs.State.{State, fresh, snapshot_of};
 ghost use Rattle.quiet_laws.specs.Rest.{AsksNone, asks_batch, is_quiet};
 ghost use Rattle.diagnostics_laws.specs.Shown.{HasBytePaths};
@@ -54,3 +57,9 @@ pub fn quiet_sessions_show_the_present()
 {
     equal_urls_name_equal_paths();
 }
+
+/// The turns of a run show the present wherever the session rests, with an honest host.
+pub fn runs_show_the_present()
+    ensures { (meaning : Meaning) (config : ConfigData) (reader : Reader) (old new : Told) (honest : Bool) (result : Result (Unit {0}) SessionError)
+        → IsRun meaning config reader old new honest result → IsTrusted meaning config old new honest }
+{}
