@@ -7,6 +7,7 @@ use Rattle.session_port.specs.Record.{HostCall, Rose}
 use Rattle.session.specs.Course.{stop_of}
 use Rattle.session.specs.Headline.{EndsByCause, IsAnswered, IsComplete}
 use Rattle.session.specs.Run.{Told, IsRun}
+use Rattle.session.proofs.Trusted.{run-trusted}
 use Rattle.session.specs.Meaning.{Meaning}
 use Rattle.session.specs.SessionError.{SessionError}
 use Rattle.session.specs.SessionError.TheVariants.{HostFault, WriteFault}
@@ -39,16 +40,19 @@ module _ (info : ServerInfo) (meaning : Meaning) (old middle new : Told) (honest
   welcomed-begun honest_now HostFails SinkFails config reader outcome opens same run end complete headline host sink host_fault write_fault =
       let answered : IsAnswered meaning config reader middle new honest outcome =
       subst (λ (h : Bool). IsAnswered meaning config reader middle new h outcome) same headline in
+      let whole_run : IsRun meaning config reader middle new honest outcome =
+      subst (λ (h : Bool). IsRun meaning config reader middle new h outcome) same run in
       let whole = whole-begun (setup_of info) old middle new meaning config reader honest outcome opens answered end in
       record {
         opening = Ok (Begun config reader);
         middle = middle;
         opens = opens;
         follows = record {
-          run = subst (λ (h : Bool). IsRun meaning config reader middle new h outcome) same run;
+          run = whole_run;
           end = end;
           complete = complete-later meaning config reader middle.calls new.calls HostFailed SinkFailed HostFails SinkFails outcome host sink complete;
           headline = answered;
+          quiet = run-trusted ⊤ meaning config reader middle new honest outcome whole_run;
         };
         end = whole;
         complete = completes old.calls new.calls HostFailed SinkFailed outcome whole (λ e. host (host_fault e)) (λ e. sink (write_fault e));

@@ -7,3 +7,4 @@ pub mod Unstarted
 pub use Rattle.session_laws.proofs.Answered
 pub use Rattle.session_laws.proofs.Asking
 pub use Rattle.session_laws.proofs.Causes
+pub use Rattle.trust_laws.proofs.Trusted

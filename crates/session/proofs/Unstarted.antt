@@ -8,6 +8,7 @@ use Rattle.session_laws.specs.Run.{Told, empty_reader, IsRun}
 use Rattle.session_laws.specs.SessionError.TheVariants.{NoMemory}
 use Rattle.session_laws.proofs.Answered.{run-answered}
 use Rattle.session_laws.proofs.Causes.{answered-caused, answered-complete}
+use Rattle.trust_laws.proofs.Trusted.{run-trusted}
 use Rattle.session.proofs.Advancing.{run-none}
 use Rattle.session.specs.Ran.{RanSession}
 
@@ -25,4 +26,5 @@ unstarted meaning config told honest HostFailed SinkFailed =
       complete = answered-complete ⊤ meaning config empty_reader told told honest HostFailed SinkFailed (Err NoMemory) headline
           end (λ e. absurd cc) (λ e. absurd cc);
       headline = headline;
+      quiet = run-trusted ⊤ meaning config empty_reader told told honest (Err NoMemory) run;
     }

@@ -11,6 +11,7 @@ ghost use Rattle.session_port.specs.Refines.{Refines};
 ghost use Rattle.session_laws.specs.Run.{IsRun, empty_reader, told_of, turn_error_of};
 ghost use Rattle.session.specs.Looping.{Advances, AdvancesByEvent, RunsOn, TurnDone};
 ghost use Rattle.session_laws.specs.State.{fresh};
+ghost use Rattle.trust_laws.specs.Resting.{IsTrusted};
 ghost use Rattle.ra_config.specs.Config.{ConfigData};
 
 use crate::bringing::{Brought, brought_by};
@@ -294,6 +295,9 @@ pub fn main_loop_from<H: Host<A>, S: Sink, A: Analysis>(
     // Each request gets the response of its row and no other; between turns exactly one job holds each pending request.
     ensures headline { IsAnswered (meaning_of A.decodes A.answer) config reader (told_of (H.calls host.old) (S.turns sink.old)) (told_of (H.calls host.new) (S.turns sink.new)) (H.honest host.old) result }
 
+    // Wherever the session rests, the diagnostics that are shown are those of the present.
+    ensures quiet { IsTrusted (meaning_of A.decodes A.answer) config (told_of (H.calls host.old) (S.turns sink.old)) (told_of (H.calls host.new) (S.turns sink.new)) (H.honest host.old) }
+
     // What no call of the host changes is as it was.
     ensures origin_stays { H.origin host.new ≡ H.origin host.old }
 
@@ -328,6 +332,9 @@ pub fn main_loop<H: Host<A>, S: Sink, A: Analysis>(
 
     // Each request gets the response of its row and no other; between turns exactly one job holds each pending request.
     ensures headline { IsAnswered (meaning_of A.decodes A.answer) config empty_reader (told_of (H.calls host.old) (S.turns sink.old)) (told_of (H.calls host.new) (S.turns sink.new)) (H.honest host.old) result }
+
+    // Wherever the session rests, the diagnostics that are shown are those of the present.
+    ensures quiet { IsTrusted (meaning_of A.decodes A.answer) config (told_of (H.calls host.old) (S.turns sink.old)) (told_of (H.calls host.new) (S.turns sink.new)) (H.honest host.old) }
 
     // What no call of the host changes is as it was.
     ensures origin_stays { H.origin host.new ≡ H.origin host.old }

@@ -12,6 +12,7 @@ use Rattle.session_laws.specs.SessionError.{SessionError}
 use Rattle.session_laws.specs.SessionError.TheVariants.{HostFault, WriteFault, NoMemory}
 use Rattle.session_laws.proofs.Answered.{run-answered}
 use Rattle.session_laws.proofs.Causes.{answered-caused, answered-complete}
+use Rattle.trust_laws.proofs.Trusted.{run-trusted}
 use Rattle.session.specs.Ran.{RanSession}
 use Rattle.session.proofs.Unstarted.{unstarted}
 use Rattle.session_record.specs.declared.start.StartConfig.{StartConfig}
@@ -34,6 +35,7 @@ ran-session meaning config old new honest HostFailed SinkFailed outcome run host
       end = end;
       complete = answered-complete ⊤ meaning config empty_reader old new honest HostFailed SinkFailed outcome headline end host sink;
       headline = headline;
+      quiet = run-trusted ⊤ meaning config empty_reader old new honest outcome run;
     }
 
 -- a host that never fails has no fault

@@ -5,9 +5,12 @@ use Rattle.std.specs.List.{list_any}
 use Rattle.std.specs.FinMap as map
 use Rattle.std.proofs.lemmas.Bool.{false≢true}
 use Rattle.std.proofs.lemmas.Result.{IfOk-at_ok}
+use Rattle.docs_vfs.specs.FileUrls.{url_of}
 use Rattle.docs_vfs.specs.declared.file_kinds.FileId.{FileId}
 use Rattle.lsp_types.specs.declared.diagnostic.Diagnostic.{Diagnostic}
-use Rattle.op_board.specs.Board.{Board, most_generations, next_generation}
+use Rattle.op_board.specs.Board.{Board, list_of, most_generations, next_generation}
+use Rattle.op_board.specs.Checks.{checks_of}
+use Rattle.op_board.specs.Diagnostics.{in_order}
 use Rattle.op_board.specs.Runs.{same_file}
 use Rattle.op_board.specs.declared.diagnostic.NativePass.{NativePass}
 use Rattle.op_board.specs.declared.diagnostic.NativePass.TheVariants.{Syntax, Semantic}
@@ -27,7 +30,7 @@ use Rattle.session_laws.specs.Invariant.{IsNoneOut, StepFits}
 use Rattle.session_laws.proofs.Rows.{steps-fit}
 use Rattle.quiet_laws.specs.Rest.{AsksNone, asks_batch, is_quiet}
 use Rattle.diagnostics_laws.specs.Batches.{brought_in, brought_past}
-use Rattle.diagnostics_laws.specs.Shown.{HasBytePaths}
+use Rattle.diagnostics_laws.specs.Shown.{HasBytePaths, shown_at, told_list}
 use Rattle.diagnostics_laws.proofs.Publishing.{Took, step-took}
 use Rattle.diagnostics_laws.proofs.Standing.{Based, first-based, generations-known, runs-reach}
 use Rattle.diagnostics_laws.proofs.StandingShown.{UrlsDiffer}
@@ -39,7 +42,7 @@ use Rattle.trust_laws.proofs.CameBackBefore.{low-none, messages-bring-none, run-
 use Rattle.trust_laws.proofs.CameBackHanded.{HoldsFile, batch-holds, batch-works}
 use Rattle.trust_laws.proofs.CameBackOthers.{others-none}
 use Rattle.trust_laws.proofs.CameBackTurns.{turns-bring}
-use Rattle.trust_laws.proofs.Ending.{shows-brought}
+use Rattle.trust_laws.proofs.Ending.{shows-brought, shows-syntax}
 use Rattle.trust_laws.proofs.Since.{as-at-batch}
 
 -- ---- turns, cut in two
@@ -102,7 +105,7 @@ module _ (meaning : Meaning) (settings : ConfigData) (before : List Turn) (s : S
   Last = last.board.generation
 
   module _ (shows : shows_diagnostics At.client.settings ≡ true) (next : next_generation At.board ≡ Some Last)
-      (fetched : is_some last.workspaces.fetches.queue.last ≡ true) (honest : AreHonestTurns meaning map.empty All) (came : AllCameBack Last All) where
+      (honest : AreHonestTurns meaning map.empty All) (came : AllCameBack Last All) where
     as-at : IsAsAtBatch At last
     as-at = as-at-batch meaning settings before s turn mid after last ran steps runs asks none quiet
 
@@ -121,15 +124,12 @@ module _ (meaning : Meaning) (settings : ConfigData) (before : List Turn) (s : S
     mid-is : out_after turn (out_after_all before map.empty) ≡ mid.desk.jobs
     mid-is = ap (out_after turn) out-is ∙ sym (turn-out meaning s turn mid steps)
 
-    asked : (pass : NativePass) (file : FileId) → IsAsked Last pass file (snapshot_of At) (is_some At.workspaces.fetches.queue.last) pass
-    asked Syntax file = tt
-    asked Semantic file = sym as-at.fetched ∙ fetched
-
-    brings : (pass : NativePass) (file : FileId) → is_shown last file ≡ true
+    brings : (pass : NativePass) (file : FileId) → IsAsked Last pass file (snapshot_of At) (is_some At.workspaces.fetches.queue.last) pass
+        → is_shown last file ≡ true
         → brought_in All map.empty pass Last file None ≡ Some (found meaning (snapshot_of At) pass file)
-    brings pass file shown =
+    brings pass file asked shown =
         let holds : HoldsFile Last pass file (snapshot_of At) mid.desk.jobs mid.desk.last_job =
-        batch-holds meaning Last s turn mid steps pass file asks shows next (asked pass file) (ap (list_any (same_file file)) (sym as-at.files) ∙ shown) in
+        batch-holds meaning Last s turn mid steps pass file asks shows next asked (ap (list_any (same_file file)) (sym as-at.files) ∙ shown) in
         brought-append before (turn ∷ after) map.empty pass Last file None
         ∙ ap (brought_in (turn ∷ after) (out_after_all before map.empty) pass Last file) (run-brings-none meaning settings Last pass file before s ran low)
         ∙ ap (brought_in after (out_after turn (out_after_all before map.empty)) pass Last file)
@@ -146,6 +146,17 @@ module _ (meaning : Meaning) (settings : ConfigData) (before : List Turn) (s : S
         (subst (λ o. IsNoneOut (is_of Last) o) (out-append before (turn ∷ after) map.empty ∙ ap (out_after_all after) mid-is) came.none)
 
     pub shows-found : UrlsDiffer → HasBytePaths last.files.table → ShowsFound meaning (snapshot_of At) All last
-    shows-found differ bytes file path is shown =
-        shows-brought differ meaning settings before s turn mid after last ran steps runs asks none quiet (next-is At.board Last next) bytes
-        file path (found meaning (snapshot_of At) Syntax file) (found meaning (snapshot_of At) Semantic file) is (brings Syntax file shown) (brings Semantic file shown)
+    shows-found differ bytes file path is shown = by_fetched (is_some last.workspaces.fetches.queue.last) refl
+      where
+        by_fetched : (b : Bool) → is_some last.workspaces.fetches.queue.last ≡ b
+            → shown_at (url_of path) All
+            ≡ told_list (in_order (found meaning (snapshot_of At) Syntax file)
+            ++ (if b then in_order (found meaning (snapshot_of At) Semantic file) else list_of (map.get last.board.semantic file.0))
+            ++ checks_of file last.board.checks)
+        by_fetched true fetched =
+            shows-brought differ meaning settings before s turn mid after last ran steps runs asks none quiet (next-is At.board Last next) bytes
+            file path (found meaning (snapshot_of At) Syntax file) (found meaning (snapshot_of At) Semantic file) is (brings Syntax file tt shown)
+            (brings Semantic file (sym as-at.fetched ∙ fetched) shown)
+        by_fetched false unfetched =
+            shows-syntax differ meaning settings before s turn mid after last ran steps runs asks none quiet (next-is At.board Last next) bytes
+            file path (found meaning (snapshot_of At) Syntax file) is (brings Syntax file tt shown)

@@ -21,6 +21,7 @@ use Rattle.trust_laws.specs.CameBack.{AllCameBack}
 use Rattle.trust_laws.specs.Resting.{IsTrusted, ShowsPresent}
 use Rattle.trust_laws.specs.Trusting.{ShowsFound}
 use Rattle.trust_laws.proofs.Present.{shows-found}
+use Rattle.trust_laws.proofs.Since.{as-at-batch}
 use Rattle.trust_laws.proofs.Urls.{urls-differ}
 
 honest-front : (meaning : Meaning) (xs ys : List Turn) (out : Jobs) → AreHonestTurns meaning out (xs ++ ys) → AreHonestTurns meaning out xs
@@ -29,10 +30,12 @@ honest-front meaning (x ∷ xs) ys out honest = (honest.0, honest-front meaning 
 
 -- where the session rests behind honest turns
 rests-shows : (meaning : Meaning) (settings : ConfigData) (turns : List Turn) → AreHonestTurns meaning maps.empty turns → ShowsPresent meaning settings turns
-rests-shows meaning settings turns honest r =
-    subst (λ (ts : List Turn). ShowsFound meaning (snapshot_of (before_quiet meaning r.turn.input r.first).state) ts r.last) (sym r.split)
-    (shows-found meaning settings r.before r.first r.turn r.second r.after r.last r.ran r.steps r.runs r.asks r.none r.quiet r.shown r.next r.fetched
-    (subst (AreHonestTurns meaning maps.empty) r.split honest) (subst (λ ts. AllCameBack r.last.board.generation ts) r.split r.came) urls-differ r.bytes)
+rests-shows meaning settings turns honest r = record {
+  as_at = as-at-batch meaning settings r.before r.first r.turn r.second r.after r.last r.ran r.steps r.runs r.asks r.none r.quiet;
+  found = subst (λ (ts : List Turn). ShowsFound meaning (snapshot_of (before_quiet meaning r.turn.input r.first).state) ts r.last) (sym r.split)
+      (shows-found meaning settings r.before r.first r.turn r.second r.after r.last r.ran r.steps r.runs r.asks r.none r.quiet r.shown r.next
+      (subst (AreHonestTurns meaning maps.empty) r.split honest) (subst (λ ts. AllCameBack r.last.board.generation ts) r.split r.came) urls-differ r.bytes);
+}
 
 module _ (meaning : Meaning) (config : ConfigData) (old new : Told) (honest : Bool) where
   trusted : (calls : List HostCall) (turns : List Turn) (last : State) → new ≡ telling_more calls turns old → Runs meaning (fresh config) turns last

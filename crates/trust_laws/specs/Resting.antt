@@ -1,5 +1,5 @@
 -- What a run shows of diagnostics wherever it rests.
-use Rattle.std.specs.Prelude.{◌≡◌, ◌++◌, ◌∷◌, Bool, true, IsTrue, List, Some, is_some}
+use Rattle.std.specs.Prelude.{◌≡◌, ◌++◌, ◌∷◌, Bool, true, IsTrue, List, Some}
 use Rattle.op_board.specs.Board.{next_generation}
 use Rattle.ra_config.specs.Config.{ConfigData}
 use Rattle.session_port.specs.Record.{HostCall}
@@ -11,10 +11,10 @@ use Rattle.session_model.specs.State.{State, fresh, snapshot_of}
 use Rattle.quiet_laws.specs.Rest.{AsksNone, asks_batch, is_quiet}
 use Rattle.diagnostics_laws.specs.Shown.{HasBytePaths}
 use Rattle.trust_laws.specs.CameBack.{AllCameBack}
-use Rattle.trust_laws.specs.Trusting.{ShowsFound}
+use Rattle.trust_laws.specs.Trusting.{IsAsAtBatch, ShowsFound}
 
--- behind these turns the session rests: it is quiescent, a fetch has ended, and all jobs of the last batch, which was asked
--- for with diagnostics shown, have come back with values
+-- behind these turns the session rests: it is quiescent, and all jobs of the last batch, which was asked for with
+-- diagnostics shown, have come back with values
 pub record Rests (meaning : Meaning) (settings : ConfigData) (turns : List Turn) : Type 0 where
   -- the turns before the batch's, that one, and those since, with the states of the machine between them
   pub before : List Turn
@@ -35,13 +35,18 @@ pub record Rests (meaning : Meaning) (settings : ConfigData) (turns : List Turn)
   pub came : AllCameBack last.board.generation turns
   -- at rest
   pub quiet : is_quiet last ≡ true
-  pub fetched : is_some last.workspaces.fetches.queue.last ≡ true
   pub bytes : HasBytePaths last.files.table
 
--- then each file that is shown has at its URL what the analysis finds in it, on the snapshot of the batch
+-- the world and the open documents are those of the batch, and each file that is shown has at its URL what the analysis
+-- finds in it, on the snapshot of the batch
+pub record IsPresent (meaning : Meaning) (turns : List Turn) (at last : State) : Type 0 where
+  pub as_at : IsAsAtBatch at last
+  pub found : ShowsFound meaning (snapshot_of at) turns last
+
+-- so it is wherever the session rests
 abbrev pub ShowsPresent : Meaning → ConfigData → List Turn → Type 0
 ShowsPresent meaning settings turns = (r : Rests meaning settings turns)
-    → ShowsFound meaning (snapshot_of (before_quiet meaning r.turn.input r.first).state) turns r.last
+    → IsPresent meaning turns (before_quiet meaning r.turn.input r.first).state r.last
 
 -- the turns that were written are the machine's, and of an honest host they show the present wherever the session rests
 pub record IsTrusted (meaning : Meaning) (config : ConfigData) (old new : Told) (honest : Bool) : Type 0 where

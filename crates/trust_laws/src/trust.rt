@@ -1,5 +1,5 @@
 // What a quiescent session is, and shows, since its last batch.
-ghost use Rattle.std.specs.Prelude.{◌≡◌, ◌+◌, ◌++◌, ◌∷◌, Bool, List, Result, true, Some, is_some};
+ghost use Rattle.std.specs.Prelude.{◌≡◌, ◌+◌, ◌++◌, ◌∷◌, Bool, List, Result, true, Some};
 ghost use Rattle.lsp_frame.specs.Reader.{Reader};
 ghost use Rattle.std.specs.FinMap as map;
 ghost use Rattle.ra_config.specs.Config.{ConfigData};
@@ -40,10 +40,10 @@ pub fn quiet_sessions_show_what_the_last_batch_brought()
     equal_urls_name_equal_paths();
 }
 
-/// Let a turn have asked for a batch, with diagnostics shown, and no turn since. Let the session be quiescent, a fetch have
-/// ended, the host be honest, and all jobs of the batch have come back with values. Then at the URL of each file that is
-/// shown stands what the analysis finds in it, by its syntax and by its meaning, and then what checks have found. The
-/// snapshot is that of the batch: its world is the present one (`quiet_sessions_are_as_at_their_last_batch`), and its
+/// Let a turn have asked for a batch, with diagnostics shown, and no turn since. Let the session be quiescent, the host be
+/// honest, and all jobs of the batch have come back with values. Then at the URL of each file that is shown stands what
+/// the analysis finds in it, by its syntax and, once a fetch has ended, by its meaning, and then what checks have found.
+/// The snapshot is that of the batch: its world is the present one (`quiet_sessions_are_as_at_their_last_batch`), and its
 /// settings are those of the batch's turn.
 pub fn quiet_sessions_show_the_present()
     ensures { (meaning : Meaning) (settings : ConfigData) (before : List Turn) (s : State) (turn : Turn) (mid : State) (after : List Turn) (last : State)
@@ -51,7 +51,7 @@ pub fn quiet_sessions_show_the_present()
         → asks_batch meaning turn.input s ≡ true → AsksNone meaning mid after → is_quiet last ≡ true
         → let at = (before_quiet meaning turn.input s).state in
         shows_diagnostics at.client.settings ≡ true → next_generation at.board ≡ Some last.board.generation
-        → is_some last.workspaces.fetches.queue.last ≡ true → HasBytePaths last.files.table
+        → HasBytePaths last.files.table
         → AreHonestTurns meaning map.empty (before ++ turn ∷ after) → AllCameBack last.board.generation (before ++ turn ∷ after)
         → ShowsFound meaning (snapshot_of at) (before ++ turn ∷ after) last }
 {

@@ -19,5 +19,6 @@ returns-clause-run g c = record {
     end = c.main_loop.ensures.end;
     complete = rw c.in_ok-config.ensures at c.main_loop.ensures.complete;
     headline = rw c.in_ok-config.ensures at c.main_loop.ensures.headline;
+    quiet = rw c.in_ok-config.ensures at c.main_loop.ensures.quiet;
   };
 }
