@@ -18,4 +18,4 @@ pub record RanSession (meaning : Meaning) (config : ConfigData) (reader : Reader
   pub end : EndsByCause reader old.calls new.calls outcome
   pub complete : IsComplete meaning config reader old.calls new.calls HostFailed SinkFailed outcome
   pub headline : IsAnswered meaning config reader old new honest outcome
-  pub quiet : IsTrusted meaning config old new honest
+  pub quiet : IsTrusted meaning config reader old new honest

@@ -296,7 +296,7 @@ pub fn main_loop_from<H: Host<A>, S: Sink, A: Analysis>(
     ensures headline { IsAnswered (meaning_of A.decodes A.answer) config reader (told_of (H.calls host.old) (S.turns sink.old)) (told_of (H.calls host.new) (S.turns sink.new)) (H.honest host.old) result }
 
     // Wherever the session rests, the diagnostics that are shown are those of the present.
-    ensures quiet { IsTrusted (meaning_of A.decodes A.answer) config (told_of (H.calls host.old) (S.turns sink.old)) (told_of (H.calls host.new) (S.turns sink.new)) (H.honest host.old) }
+    ensures quiet { IsTrusted (meaning_of A.decodes A.answer) config reader (told_of (H.calls host.old) (S.turns sink.old)) (told_of (H.calls host.new) (S.turns sink.new)) (H.honest host.old) }
 
     // What no call of the host changes is as it was.
     ensures origin_stays { H.origin host.new ≡ H.origin host.old }
@@ -334,7 +334,7 @@ pub fn main_loop<H: Host<A>, S: Sink, A: Analysis>(
     ensures headline { IsAnswered (meaning_of A.decodes A.answer) config empty_reader (told_of (H.calls host.old) (S.turns sink.old)) (told_of (H.calls host.new) (S.turns sink.new)) (H.honest host.old) result }
 
     // Wherever the session rests, the diagnostics that are shown are those of the present.
-    ensures quiet { IsTrusted (meaning_of A.decodes A.answer) config (told_of (H.calls host.old) (S.turns sink.old)) (told_of (H.calls host.new) (S.turns sink.new)) (H.honest host.old) }
+    ensures quiet { IsTrusted (meaning_of A.decodes A.answer) config empty_reader (told_of (H.calls host.old) (S.turns sink.old)) (told_of (H.calls host.new) (S.turns sink.new)) (H.honest host.old) }
 
     // What no call of the host changes is as it was.
     ensures origin_stays { H.origin host.new ≡ H.origin host.old }

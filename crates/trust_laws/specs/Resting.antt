@@ -1,12 +1,14 @@
 -- What a run shows of diagnostics wherever it rests.
 use Rattle.std.specs.Prelude.{◌≡◌, ◌++◌, ◌∷◌, Bool, true, IsTrue, List, Some}
 use Rattle.op_board.specs.Board.{next_generation}
+use Rattle.lsp_frame.specs.Reader.{Reader}
 use Rattle.ra_config.specs.Config.{ConfigData}
-use Rattle.session_port.specs.Record.{HostCall}
+use Rattle.session_port.specs.Record.{HostCall, given_in}
 use Rattle.desk.specs.Meaning.{Meaning}
 use Rattle.session_model.specs.Diagnosing.{shows_diagnostics}
 use Rattle.session_model.specs.OwnJobs.{before_quiet}
-use Rattle.session_model.specs.Run.{Runs, Steps, Told, Turn, telling_more}
+use Rattle.session_model.specs.Course.{Course, session_course}
+use Rattle.session_model.specs.Run.{AllRead, Runs, Steps, Told, Turn, taking, telling_more}
 use Rattle.session_model.specs.State.{State, fresh, snapshot_of}
 use Rattle.quiet_laws.specs.Rest.{AsksNone, asks_batch, is_quiet}
 use Rattle.diagnostics_laws.specs.Shown.{HasBytePaths}
@@ -48,11 +50,16 @@ abbrev pub ShowsPresent : Meaning → ConfigData → List Turn → Type 0
 ShowsPresent meaning settings turns = (r : Rests meaning settings turns)
     → IsPresent meaning turns (before_quiet meaning r.turn.input r.first).state r.last
 
--- the turns that were written are the machine's, and of an honest host they show the present wherever the session rests
-pub record IsTrusted (meaning : Meaning) (config : ConfigData) (old new : Told) (honest : Bool) : Type 0 where
+-- the turns that were written are the machine's, over the inputs of the bytes held and of the events given, and of an
+-- honest host they show the present wherever the session rests
+pub record IsTrusted (meaning : Meaning) (config : ConfigData) (reader : Reader) (old new : Told) (honest : Bool) : Type 0 where
   pub calls : List HostCall
   pub turns : List Turn
-  pub last : State
   pub told : new ≡ telling_more calls turns old
+  pub left : Course
+  pub inputs : session_course reader.place reader.held (given_in calls) ≡ taking turns left
+  -- each turn's bytes are frames whose bodies read as its messages
+  pub read : AllRead turns
+  pub last : State
   pub runs : Runs meaning (fresh config) turns last
   pub shows : IsTrue honest → (before after : List Turn) → turns ≡ before ++ after → ShowsPresent meaning config before

@@ -61,5 +61,5 @@ pub fn quiet_sessions_show_the_present()
 /// The turns of a run show the present wherever the session rests, with an honest host.
 pub fn runs_show_the_present()
     ensures { (meaning : Meaning) (config : ConfigData) (reader : Reader) (old new : Told) (honest : Bool) (result : Result (Unit {0}) SessionError)
-        → IsRun meaning config reader old new honest result → IsTrusted meaning config old new honest }
+        → IsRun meaning config reader old new honest result → IsTrusted meaning config reader old new honest }
 {}
