@@ -1,0 +1,4 @@
+pub mod Draws
+pub mod Drafts
+pub mod Messages
+pub mod Stream
